@@ -1,0 +1,3 @@
+-- Laws of the definitions, each once, for the theorem and for the code.
+pub mod Computes
+pub mod Cases

@@ -1,0 +1,159 @@
+-- The card's state: empty values, what is read of it, and parts of it replaced.
+-- Reading past the end of an array gives the empty value; replacing there changes nothing.
+use Prim.Native.Nat.{ℕ, _+_, _-_}
+use mathlib.Core.List.{List, map}
+use mathlib.Core.Bool.{Bool, true, false, cond, _&&_}
+use lib.ListN.{take, length, getD, set, replicate}
+use lib.Dec.{eqb}
+use Rattle.model.specs.Lists.{any}
+use Rattle.model.specs.Shape.{clamped}
+use Rattle.model.specs.declared.Phase.{Phase}
+use Rattle.model.specs.declared.Phase.the-variants.{Blank, Up, Down}
+use Rattle.model.specs.declared.Shape.{Shape}
+use Rattle.model.specs.declared.Tail.{Tail}
+use Rattle.model.specs.declared.Name.{Name}
+use Rattle.model.specs.declared.Transaction.{Transaction}
+use Rattle.model.specs.declared.Core.{Core}
+use Rattle.model.specs.declared.Holder.{Holder}
+use Rattle.model.specs.declared.Card.{Card}
+
+-- 'The card is blank, up or down.'
+abbrev pub isBlank : Phase → Bool
+isBlank Blank = true
+isBlank Up = false
+isBlank Down = false
+
+abbrev pub isUp : Phase → Bool
+isUp Blank = false
+isUp Up = true
+isUp Down = false
+
+abbrev pub isDown : Phase → Bool
+isDown Blank = false
+isDown Up = false
+isDown Down = true
+
+-- ---- names and tails
+abbrev pub newTail : ℕ → ℕ → Tail
+newTail k p = record { number = k; position = p }
+
+-- 'A transaction is a core and a number'
+abbrev pub newName : ℕ → ℕ → Name
+newName c k = record { core = c; number = k }
+
+unfoldable pub sameName : Name → Name → Bool
+sameName a b = eqb (a .core) (b .core) && eqb (a .number) (b .number)
+
+-- ---- transactions
+abbrev pub noTransaction : Transaction
+noTransaction = record { live = false; stamp = 0; count = 0; blocks = replicate 8 0; named = 0; names = replicate 12 (newName 0 0) }
+
+-- one just opened: no block, no name
+abbrev pub opened : Transaction
+opened = record { live = true; stamp = 0; count = 0; blocks = replicate 8 0; named = 0; names = replicate 12 (newName 0 0) }
+
+-- the blocks that it took, in the order taken
+unfoldable pub taken : Transaction → List ℕ
+taken t = take (t .count) (t .blocks)
+
+-- the names in its list, in the order first named
+unfoldable pub listed : Transaction → List Name
+listed t = take (t .named) (t .names)
+
+unfoldable pub lists : Transaction → Name → Bool
+lists t n = any (sameName n) (listed t)
+
+abbrev pub withBlock : Transaction → ℕ → Transaction
+withBlock t b =
+    record { live = t .live; stamp = t .stamp; count = t .count + 1; blocks = set (t .blocks) (t .count) b; named = t .named; names = t .names }
+
+-- 'A name stands once in a list.'
+unfoldable pub withName : Transaction → Name → Transaction
+withName t n =
+    cond (lists t n) t
+    (record { live = t .live; stamp = t .stamp; count = t .count; blocks = t .blocks; named = t .named + 1; names = set (t .names) (t .named) n })
+
+abbrev pub stamped : Transaction → ℕ → Transaction
+stamped t s = record { live = t .live; stamp = s; count = t .count; blocks = t .blocks; named = t .named; names = t .names }
+
+-- ---- cores
+abbrev pub freshCore : ℕ → Core
+freshCore k = record { next = k; used = 0; stored = 0; homed = 0; running = noTransaction; closed = noTransaction }
+
+abbrev pub withRunning : Core → Transaction → Core
+withRunning k t = record { next = k .next; used = k .used; stored = k .stored; homed = k .homed; running = t; closed = k .closed }
+
+-- the blocks of a record: descriptor, data, commit
+unfoldable pub recordSize : Transaction → ℕ
+recordSize t = length (taken t) + 2
+
+-- ---- the card
+abbrev pub noHolder : Holder
+noHolder = record { held = false; name = newName 0 0 }
+
+-- a card with empty journals
+unfoldable pub freshCard : Phase → Shape → List Tail → Card
+freshCard p s ts =
+    record {
+      phase = p;
+      shape = s;
+      closes = 0;
+      recovered = 0;
+      tails = ts;
+      cores = map (λ (t : Tail). freshCore (t .number)) ts;
+      holders = replicate 64 noHolder;
+    }
+
+unfoldable pub emptyCard : Phase → Card
+emptyCard p = freshCard p (record { cores = 0; blocks = 0; journal = 0 }) (replicate 8 (newTail 0 0))
+
+unfoldable pub blankCard : Card
+blankCard = emptyCard Blank
+
+-- A card that is down keeps only that, and how far recovery is: all else is read from the master.
+unfoldable pub downCard : Card
+downCard = emptyCard Down
+
+unfoldable pub shapeOf : Card → Shape
+shapeOf x = clamped (x .shape)
+
+unfoldable pub tailOf : Card → ℕ → Tail
+tailOf x c = getD (x .tails) c (newTail 0 0)
+
+unfoldable pub coreOf : Card → ℕ → Core
+coreOf x c = getD (x .cores) c (freshCore 0)
+
+unfoldable pub holderOf : Card → ℕ → Holder
+holderOf x b = getD (x .holders) b noHolder
+
+-- The card's own count of core c's committed unretired transactions: those from the tail to the next number, without
+-- the one that is closed and still uncommitted.
+unfoldable pub committedCount : Card → ℕ → ℕ
+committedCount x c = let k = coreOf x c in k .next - (tailOf x c) .number - cond (k .closed .live) 1 0
+
+abbrev pub withCores : Card → List Core → Card
+withCores x ks =
+    record {
+      phase = x .phase;
+      shape = x .shape;
+      closes = x .closes;
+      recovered = x .recovered;
+      tails = x .tails;
+      cores = ks;
+      holders = x .holders;
+    }
+
+abbrev pub withCore : Card → ℕ → Core → Card
+withCore x c k = withCores x (set (x .cores) c k)
+
+abbrev pub withHolder : Card → ℕ → Name → Card
+withHolder x b n =
+    record {
+      phase = x .phase;
+      shape = x .shape;
+      closes = x .closes;
+      recovered = x .recovered;
+      tails = x .tails;
+      cores = x .cores;
+      holders = set (x .holders) b (record { held = true; name = n });
+    }

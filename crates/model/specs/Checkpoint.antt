@@ -1,0 +1,104 @@
+-- CHECKPOINT: 'takes the core's oldest committed transaction, stores its images home in the order taken,
+-- then the master with the tail moved past it, which retires it'.
+use Prim.Native.Nat.{ℕ, _+_, _-_, _%_}
+use mathlib.Core.List.{List, [], _∷_, map}
+use mathlib.Core.Bool.{Bool, true, false, cond, not, _&&_, _||_}
+use lib.ListN.{length, getD, set}
+use lib.Dec.{ltb, eqb}
+use Rattle.model.specs.Lists.{below, any}
+use Rattle.model.specs.Bytes.{Bytes}
+use Rattle.model.specs.Shape.{homeBlock}
+use Rattle.model.specs.Card.{newTail, sameName, noHolder, taken, shapeOf, tailOf, coreOf, committedCount, withCore}
+use Rattle.model.specs.Layout.{masterBlock}
+use Rattle.model.specs.Journal.{journal, journals, nameOf, blocksOf, imageOf}
+use Rattle.model.specs.Valid.{isIn, validSet}
+use Rattle.model.specs.Command.{World, Outcome, storing, unless, notUp, noCore}
+use Rattle.model.specs.declared.Tail.{Tail}
+use Rattle.model.specs.declared.Name.{Name}
+use Rattle.model.specs.declared.Transaction.{Transaction}
+use Rattle.model.specs.declared.Holder.{Holder}
+use Rattle.model.specs.declared.Core.{Core}
+use Rattle.model.specs.declared.Card.{Card}
+use Rattle.model.specs.declared.Committed.{Committed}
+
+-- the committed unretired transactions of a card that is up: of each journal, as many as the card counts
+unfoldable pub committedNow : World → List Committed
+committedNow w = journals (shapeOf (w .card)) (w .disk) (tailOf (w .card)) (committedCount (w .card))
+
+unfoldable pub validNow : World → List Committed
+validNow w = validSet (shapeOf (w .card)) (w .disk) (tailOf (w .card)) (committedNow w)
+
+-- the core's committed unretired transactions; the oldest comes first
+unfoldable pub committedOf : World → ℕ → List Committed
+committedOf w c = journal (shapeOf (w .card)) (w .disk) c (tailOf (w .card) c) (committedCount (w .card) c)
+
+-- the first of a list, the empty one where there is none
+unfoldable pub oldest : List Committed → Committed
+oldest [] = record { core = 0; number = 0; position = 0; count = 0; stamp = 0; named = 0 }
+oldest (e ∷ es) = e
+
+-- two transactions share a block
+unfoldable pub share : List ℕ → List ℕ → Bool
+share bs cs = any (λ (b : ℕ). any (eqb b) cs) bs
+
+-- '33 a lower-stamped unretired transaction shares a block (both took it)': a committed one, or a closed one
+unfoldable pub sharesLower : World → Committed → Bool
+sharesLower w e =
+    let s = shapeOf (w .card) in
+    let bs = blocksOf s (w .disk) e in
+    let lowerClosed : Transaction → Bool = λ t. t .live && ltb (t .stamp) (e .stamp) && share bs (taken t) in
+    any (λ (f : Committed). ltb (f .stamp) (e .stamp) && share bs (blocksOf s (w .disk) f)) (committedNow w)
+    || any (λ (c : ℕ). lowerClosed ((coreOf (w .card) c) .closed)) (below (s .cores))
+
+unfoldable pub checkpointConditions : ℕ → World → List (Bool × ℕ)
+checkpointConditions c w =
+    let e = oldest (committedOf w c) in
+    notUp w
+    ((noCore w c, 5)
+    ∷ (eqb (length (committedOf w c)) 0, 31)
+    ∷ (not (isIn (validNow w) (nameOf e)), 32)
+    ∷ (sharesLower w e, 33)
+    ∷ [])
+
+-- a home store: 'A block's home image comes from the journal, never from later memory.'
+unfoldable pub storedHome : ℕ → Committed → World → Outcome
+storedHome c e w =
+    let x = w .card in
+    let s = shapeOf x in
+    let k = coreOf x c in
+    storing w
+    (withCore x c (record { next = k .next; used = k .used; stored = k .stored; homed = k .homed + 1; running = k .running; closed = k .closed }))
+    (homeBlock (getD (blocksOf s (w .disk) e) (k .homed) 0))
+    (imageOf s (w .disk) e (k .homed))
+
+-- 'until that one is retired': its blocks have no holder any more
+unfoldable pub released : Name → List Holder → List Holder
+released n hs = map (λ (h : Holder). cond (h .held && sameName (h .name) n) noHolder h) hs
+
+-- the master store
+unfoldable pub retiredCard : ℕ → Committed → Card → Card
+retiredCard c e x =
+    let k = coreOf x c in
+    let n = e .count + 2 in
+    record {
+      phase = x .phase;
+      shape = x .shape;
+      closes = x .closes;
+      recovered = x .recovered;
+      tails = set (x .tails) c (newTail (e .number + 1) ((e .position + n) % (shapeOf x) .journal));
+      cores = set (x .cores) c (record { next = k .next; used = k .used - n; stored = k .stored; homed = 0; running = k .running; closed = k .closed });
+      holders = released (nameOf e) (x .holders);
+    }
+
+unfoldable pub storedMaster : ℕ → Committed → World → Outcome
+storedMaster c e w =
+    let x = retiredCard c e (w .card) in
+    storing w x 0 (masterBlock (shapeOf x) (tailOf x))
+
+unfoldable pub checkpointed : ℕ → World → Outcome
+checkpointed c w =
+    let e = oldest (committedOf w c) in
+    cond (ltb ((coreOf (w .card) c) .homed) (e .count)) (storedHome c e w) (storedMaster c e w)
+
+unfoldable pub checkpoint : ℕ → World → Outcome
+checkpoint c w = unless (checkpointConditions c w) w (checkpointed c w)

@@ -1,0 +1,32 @@
+-- FORMAT: 'disk slice zeroed, master written with tail number 1 and position 0 for each core, card up'.
+use Prim.Native.Nat.{ℕ}
+use mathlib.Core.List.{List, [], _∷_}
+use mathlib.Core.Bool.{Bool, not}
+use lib.ListN.{replicate}
+use Rattle.model.specs.Bytes.{store, zeroDisk, zeroMemory}
+use Rattle.model.specs.Shape.{inRange}
+use Rattle.model.specs.Card.{isBlank, newTail, freshCard}
+use Rattle.model.specs.Layout.{masterBlock}
+use Rattle.model.specs.Command.{World, Outcome, unless, wrongLength}
+use Rattle.model.specs.declared.Phase.the-variants.{Up}
+use Rattle.model.specs.declared.Shape.{Shape}
+
+unfoldable pub formatConditions : ℕ → ℕ → ℕ → World → List (Bool × ℕ)
+formatConditions c b j w = (wrongLength w, 1) ∷ (not (isBlank (w .card .phase)), 21) ∷ (not (inRange c b j), 4) ∷ []
+
+-- FORMAT counts no store, and zeroes memory too
+unfoldable pub formatted : Shape → Outcome
+formatted s =
+    record {
+      answer = 0;
+      world =
+          record {
+            card = freshCard Up s (replicate 8 (newTail 1 0));
+            disk = store zeroDisk 0 (masterBlock s (λ (c : ℕ). newTail 1 0));
+            memory = zeroMemory;
+          };
+      stores = 0;
+    }
+
+unfoldable pub format : ℕ → ℕ → ℕ → World → Outcome
+format c b j w = unless (formatConditions c b j w) w (formatted (record { cores = c; blocks = b; journal = j }))

@@ -1,0 +1,18 @@
+-- Paper 01 as definitions, in its order. All that a reader must believe of the card stands in these files.
+pub mod Lists
+pub mod Bytes
+pub mod Shape
+pub mod Card
+pub mod Layout
+pub mod Journal
+pub mod Shrink
+pub mod Valid
+pub mod Command
+pub mod Format
+pub mod Write
+pub mod Commit
+pub mod Checkpoint
+pub mod Recovery
+pub mod Reading
+pub mod Tape
+pub mod Cases

@@ -1,0 +1,46 @@
+-- The valid set, and the newest image of a block in it.
+use Prim.Native.Nat.{ℕ}
+use mathlib.Core.List.{List, [], _∷_, flatMap}
+use mathlib.Core.Bool.{Bool, true, false, cond, _||_}
+use lib.ListN.{length}
+use lib.Dec.{ltb, leb, eqb}
+use Rattle.model.specs.Lists.{below, all, any, select}
+use Rattle.model.specs.Bytes.{Bytes}
+use Rattle.model.specs.Card.{sameName}
+use Rattle.model.specs.Journal.{nameOf, namesOf, blocksOf, took}
+use Rattle.model.specs.Shrink.{shrink}
+use Rattle.model.specs.declared.Shape.{Shape}
+use Rattle.model.specs.declared.Tail.{Tail}
+use Rattle.model.specs.declared.Name.{Name}
+use Rattle.model.specs.declared.Committed.{Committed}
+use Rattle.model.specs.declared.Found.{Found}
+use Rattle.model.specs.declared.Found.the-variants.{Whole, Miss}
+
+-- the transaction of this name is in the set
+unfoldable pub isIn : List Committed → Name → Bool
+isIn es n = any (λ (e : Committed). sameName n (nameOf e)) es
+
+-- 'each name listed is in the set or lies below its core's tail number'
+unfoldable pub isMet : (ℕ → Tail) → List Committed → Name → Bool
+isMet tailAt es n = ltb (n .number) ((tailAt (n .core)) .number) || isIn es n
+
+unfoldable pub namesMet : Shape → Bytes → (ℕ → Tail) → List Committed → Committed → Bool
+namesMet s d tailAt es e = all (isMet tailAt es) (namesOf s d e)
+
+-- 'The valid set is the largest set of committed, unretired transactions in which each name listed is ..'
+unfoldable pub validSet : Shape → Bytes → (ℕ → Tail) → List Committed → List Committed
+validSet s d tailAt es = shrink (namesMet s d tailAt) es
+
+-- the home blocks that a set holds, from the lowest to the highest
+unfoldable pub blocksHeld : Shape → Bytes → List Committed → List ℕ
+blocksHeld s d es = let bs = flatMap (blocksOf s d) es in select (λ (b : ℕ). any (eqb b) bs) (below (s .blocks))
+
+-- 'the image of highest stamp (equal stamps ..: the last in order of core and number)': of two, the later
+unfoldable pub later : Found → Committed → Committed
+later Miss e = e
+later (Whole a) e = cond (leb (a .stamp) (e .stamp)) e a
+
+-- of those that took block b, in their order, the one of highest stamp
+unfoldable pub newest : Shape → Bytes → ℕ → Found → List Committed → Found
+newest s d b best [] = best
+newest s d b best (e ∷ es) = newest s d b (cond (took s d b e) (Whole (later best e)) best) es

@@ -1,0 +1,123 @@
+-- WRITE: 'four bytes replaced in the block's memory image', and the four rules of section 'Transactions'.
+use Prim.Native.Nat.{ℕ, _+_, _*_}
+use mathlib.Core.List.{List, [], _∷_}
+use mathlib.Core.Bool.{Bool, true, false, cond, not, _&&_, _||_}
+use lib.ListN.{length, set}
+use lib.Dec.{ltb, leb, eqb}
+use Rattle.model.specs.Bytes.{Bytes, blockAt, store, replaced}
+use Rattle.model.specs.Shape.{homeBlock}
+use Rattle.model.specs.Card.{newName, sameName, opened, taken, lists, withBlock, withName, withRunning, recordSize, shapeOf, coreOf, holderOf, withCore, withHolder}
+use Rattle.model.specs.Layout.{maxNumber}
+use Rattle.model.specs.Command.{World, Outcome, unstored, unless, notUp, noCore, noBlock}
+use Rattle.model.specs.declared.Name.{Name}
+use Rattle.model.specs.declared.Transaction.{Transaction}
+use Rattle.model.specs.declared.Core.{Core}
+use Rattle.model.specs.declared.Card.{Card}
+use Rattle.model.specs.declared.Rule.{Rule}
+use Rattle.model.specs.declared.Rule.the-variants.{Free, Own, Running, Closed}
+
+-- 'WRITE opens one if the core has none': the transaction that writes, and its name
+unfoldable pub writer : Card → ℕ → Transaction
+writer x c = cond ((coreOf x c) .running .live) ((coreOf x c) .running) opened
+
+unfoldable pub writerName : Card → ℕ → Name
+writerName x c = newName c ((coreOf x c) .next)
+
+-- the transaction of this name is running
+unfoldable pub isRunning : Card → Name → Bool
+isRunning x n = (coreOf x (n .core)) .running .live && eqb ((coreOf x (n .core)) .next) (n .number)
+
+-- 'When T writes a block': which rule it meets
+unfoldable pub ruleFor : Card → ℕ → ℕ → Rule
+ruleFor x c b =
+    let h = holderOf x b in
+    cond (not (h .held)) Free
+    (cond (sameName (h .name) (writerName x c)) Own
+    (cond (isRunning x (h .name)) Running Closed))
+
+-- T takes the block: 'no holder', 'a closed U holds it'
+abbrev pub takesBlock : Rule → Bool
+takesBlock Free = true
+takesBlock Own = false
+takesBlock Running = false
+takesBlock Closed = true
+
+-- T's list names U: 'another running U holds it', 'a closed U holds it'
+abbrev pub namesHolder : Rule → Bool
+namesHolder Free = false
+namesHolder Own = false
+namesHolder Running = true
+namesHolder Closed = true
+
+-- U's list names T: 'another running U holds it'
+abbrev pub isNamedBack : Rule → Bool
+isNamedBack Free = false
+isNamedBack Own = false
+isNamedBack Running = true
+isNamedBack Closed = false
+
+-- 'loaded from home when taken without a holder'
+abbrev pub loadsImage : Rule → Bool
+loadsImage Free = true
+loadsImage Own = false
+loadsImage Running = false
+loadsImage Closed = false
+
+-- T as the WRITE leaves it
+unfoldable pub writerAfter : Card → ℕ → ℕ → Transaction
+writerAfter x c b =
+    let r = ruleFor x c b in
+    let t = cond (namesHolder r) (withName (writer x c) ((holderOf x b) .name)) (writer x c) in
+    cond (takesBlock r) (withBlock t b) t
+
+-- '24 a list, the writer's or the holder's, would pass 12 names'
+unfoldable pub passesTwelve : Transaction → Name → Bool
+passesTwelve t n = not (lists t n) && leb 12 (t .named)
+
+unfoldable pub listsFull : Card → ℕ → ℕ → Bool
+listsFull x c b =
+    let r = ruleFor x c b in
+    let n = (holderOf x b) .name in
+    namesHolder r && passesTwelve (writer x c) n || isNamedBack r && passesTwelve ((coreOf x (n .core)) .running) (writerName x c)
+
+-- '26 journal full: blocks of the records of closed unretired transactions, stored yet or not,
+-- plus 2 and the blocks of the running one, would pass J'
+unfoldable pub closedBlocks : Core → ℕ
+closedBlocks k = k .used + cond (k .closed .live) (recordSize (k .closed)) 0
+
+unfoldable pub journalFull : Card → ℕ → ℕ → Bool
+journalFull x c b = ltb ((shapeOf x) .journal) (closedBlocks (coreOf x c) + recordSize (writerAfter x c b))
+
+unfoldable pub writeConditions : ℕ → ℕ → ℕ → World → List (Bool × ℕ)
+writeConditions c b o w =
+    let x = w .card in
+    notUp w
+    ((noCore w c, 5)
+    ∷ (noBlock w b, 6)
+    ∷ (ltb 124 o, 7)
+    ∷ (listsFull x c b, 24)
+    ∷ (takesBlock (ruleFor x c b) && leb 8 ((writer x c) .count), 25)
+    ∷ (journalFull x c b, 26)
+    ∷ (not ((coreOf x c) .running .live) && ltb maxNumber ((coreOf x c) .next), 27)
+    ∷ [])
+
+-- the card afterwards: U's list, T, the block's holder
+unfoldable pub writtenCard : Card → ℕ → ℕ → Card
+writtenCard x c b =
+    let r = ruleFor x c b in
+    let u = ((holderOf x b) .name) .core in
+    let x₁ = cond (isNamedBack r) (withCore x u (withRunning (coreOf x u) (withName ((coreOf x u) .running) (writerName x c)))) x in
+    let x₂ = withCore x₁ c (withRunning (coreOf x₁ c) (writerAfter x c b)) in
+    cond (takesBlock r) (withHolder x₂ b (writerName x c)) x₂
+
+-- memory afterwards: v at the offset of the block's image
+unfoldable pub writtenMemory : World → ℕ → ℕ → ℕ → Bytes → Bytes
+writtenMemory w c b o v =
+    let m = cond (loadsImage (ruleFor (w .card) c b)) (store (w .memory) b (blockAt (w .disk) (homeBlock b))) (w .memory) in
+    replaced (128 * b + o) 4 m v
+
+unfoldable pub written : ℕ → ℕ → ℕ → Bytes → World → Outcome
+written c b o v w = unstored w (writtenCard (w .card) c b) (writtenMemory w c b o v)
+
+unfoldable pub write : ℕ → ℕ → ℕ → Bytes → World → Outcome
+write c b o v w = unless (writeConditions c b o w) w (written c b o v w)

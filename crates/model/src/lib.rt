@@ -1,0 +1,255 @@
+// The types of the revision D card, shared by definitions and code: the disk's shape, tails, transactions, the card itself.
+ghost use mathlib.Core.Path.{_≡_};
+ghost use Rattle.model.specs.Shape.{checked, nearest, clamped, homeBlock, journalBlock};
+ghost use Rattle.model.specs.Card.{noTransaction, freshCore, emptyCard, blankCard, downCard};
+
+// Blank until FORMAT; up while it takes writes; down from a cut until recovery is done.
+pub enum Phase {
+    Blank,
+    Up,
+    Down,
+}
+
+// The disk's shape: C cores, B home blocks, J journal blocks for each core.
+pub struct Shape {
+    pub cores: u8,
+    pub blocks: u8,
+    pub journal: u8,
+}
+
+// What the constructor of a shape answers.
+pub enum Checked {
+    Fits(Shape),
+    OutOfRange,
+}
+
+// Where a core's journal begins: the number of its oldest unretired transaction, and the position of its record.
+pub struct Tail {
+    pub number: u32,
+    pub position: u8,
+}
+
+// The name of a transaction: a core and a number.
+pub struct Name {
+    pub core: u8,
+    pub number: u32,
+}
+
+// A transaction that is not committed: the blocks that it took, in order, and the names of those that it depends on.
+// Its stamp is given at CLOSE.
+pub struct Transaction {
+    pub live: bool,
+    pub stamp: u64,
+    pub count: u8,
+    pub blocks: [u8; 8],
+    pub named: u8,
+    pub names: [Name; 12],
+}
+
+// A core: the number of its running transaction, or of the next one to open; the blocks of its committed unretired
+// records; the stores done of the closed transaction and of the checkpoint under way.
+pub struct Core {
+    pub next: u32,
+    pub used: u8,
+    pub stored: u8,
+    pub homed: u8,
+    pub running: Transaction,
+    pub closed: Transaction,
+}
+
+// The transaction that holds a block, if one does.
+pub struct Holder {
+    pub held: bool,
+    pub name: Name,
+}
+
+// Which of the four rules a WRITE meets at a block: no holder, its own transaction, another running one, a closed one.
+pub enum Rule {
+    Free,
+    Own,
+    Running,
+    Closed,
+}
+
+// The card's state: a few KB, by value. `closes` counts the closes since the card came up; recovery has passed the home
+// blocks below `recovered`. What is committed stands on the disk alone.
+pub struct Card {
+    pub phase: Phase,
+    pub shape: Shape,
+    pub closes: u64,
+    pub recovered: u8,
+    pub tails: [Tail; 8],
+    pub cores: [Core; 8],
+    pub holders: [Holder; 64],
+}
+
+// A committed transaction as its record gives it: its name, where its descriptor stands, how many blocks it took, its
+// stamp and how many names it lists.
+pub struct Committed {
+    pub core: u8,
+    pub number: u32,
+    pub position: u8,
+    pub count: u8,
+    pub stamp: u64,
+    pub named: u8,
+}
+
+// What reading one record finds.
+pub enum Found {
+    Whole(Committed),
+    Miss,
+}
+
+impl Shape {
+    pub const MIN_CORES: u32 = 1;
+
+    pub const MAX_CORES: u32 = 8;
+
+    pub const MIN_BLOCKS: u32 = 1;
+
+    pub const MAX_BLOCKS: u32 = 64;
+
+    pub const MIN_JOURNAL: u32 = 4;
+
+    pub const MAX_JOURNAL: u32 = 24;
+
+    // The shape of these numbers, if each is within its limits.
+    pub fn new(cores: u32, blocks: u32, journal: u32) -> Checked
+        ensures { λ r. ⌜ r ≡ checked cores blocks journal ⌝ }
+    {
+        if cores < Self::MIN_CORES {
+            return Checked::OutOfRange;
+        }
+        if Self::MAX_CORES < cores {
+            return Checked::OutOfRange;
+        }
+        if blocks < Self::MIN_BLOCKS {
+            return Checked::OutOfRange;
+        }
+        if Self::MAX_BLOCKS < blocks {
+            return Checked::OutOfRange;
+        }
+        if journal < Self::MIN_JOURNAL {
+            return Checked::OutOfRange;
+        }
+        if Self::MAX_JOURNAL < journal {
+            return Checked::OutOfRange;
+        }
+        Checked::Fits(Shape {
+            cores: cores as u8,
+            blocks: blocks as u8,
+            journal: journal as u8,
+        })
+    }
+
+    // The nearest shape within the limits: a card that no run made may hold any numbers.
+    pub fn clamped(self) -> Shape
+        ensures { λ r. ⌜ r ≡ clamped self ⌝ }
+    {
+        Shape {
+            cores: within(1, self.cores, 8),
+            blocks: within(1, self.blocks, 64),
+            journal: within(4, self.journal, 24),
+        }
+    }
+
+    // The disk block of home block b.
+    pub fn home_block(self, b: u8) -> usize
+        ensures { λ r. ⌜ r ≡ homeBlock b ⌝ }
+    {
+        1 + b as usize
+    }
+
+    // The disk block of position p of core c's journal.
+    pub fn journal_block(self, c: u8, p: usize) -> usize
+        ensures { λ r. ⌜ r ≡ journalBlock (clamped self) c p ⌝ }
+    {
+        let s = self.clamped();
+        let j = s.journal as usize;
+        1 + s.blocks as usize + c as usize * j + p % j
+    }
+}
+
+// The number between the limits that is nearest to x.
+fn within(low: u8, x: u8, high: u8) -> u8
+    ensures { λ r. ⌜ r ≡ nearest low x high ⌝ }
+{
+    if x < low {
+        return low;
+    }
+    if high < x {
+        return high;
+    }
+    x
+}
+
+// No transaction.
+pub fn no_transaction() -> Transaction
+    ensures { λ r. ⌜ r ≡ noTransaction ⌝ }
+{
+    Transaction {
+        live: false,
+        stamp: 0,
+        count: 0,
+        blocks: [0; 8],
+        named: 0,
+        names: [Name { core: 0, number: 0 }; 12],
+    }
+}
+
+// A core with an empty journal, whose next transaction has the number given.
+pub fn fresh_core(next: u32) -> Core
+    ensures { λ r. ⌜ r ≡ freshCore next ⌝ }
+{
+    let none = no_transaction();
+    Core {
+        next,
+        used: 0,
+        stored: 0,
+        homed: 0,
+        running: none,
+        closed: none,
+    }
+}
+
+// A card with nothing in it.
+fn empty_card(phase: Phase) -> Card
+    ensures { λ r. ⌜ r ≡ emptyCard phase ⌝ }
+{
+    let core = fresh_core(0);
+    Card {
+        phase,
+        shape: Shape {
+            cores: 0,
+            blocks: 0,
+            journal: 0,
+        },
+        closes: 0,
+        recovered: 0,
+        tails: [Tail {
+            number: 0,
+            position: 0,
+        }; 8],
+        cores: [core; 8],
+        holders: [Holder {
+            held: false,
+            name: Name { core: 0, number: 0 },
+        }; 64],
+    }
+}
+
+impl Card {
+    // A card before its FORMAT.
+    pub fn blank() -> Card
+        ensures { λ r. ⌜ r ≡ blankCard ⌝ }
+    {
+        empty_card(Phase::Blank)
+    }
+
+    // A card that is down, over a disk written elsewhere or after a cut.
+    pub fn down() -> Card
+        ensures { λ r. ⌜ r ≡ downCard ⌝ }
+    {
+        empty_card(Phase::Down)
+    }
+}
