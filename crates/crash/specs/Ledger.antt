@@ -1,0 +1,241 @@
+-- The ledger: the history of transactions with the card's own numbers, kept from commands and answers alone. It is no
+-- part of paper 01; in its words the conditions 24 to 33, the content of the journals and the course of recovery are
+-- stated without the card's state.
+use Prim.Native.Nat.{ℕ, zero, suc, _+_, _-_, min}
+use mathlib.Core.List.{List, [], _∷_, _++_, map}
+use mathlib.Core.Bool.{Bool, true, false, cond, not, _&&_, _||_}
+use lib.ListN.{length, getD}
+use lib.Dec.{ltb, leb, eqb}
+use Rattle.model.specs.Lists.{below, all, any, select}
+use Rattle.model.specs.Bytes.{Bytes, number, part}
+use Rattle.model.specs.Card.{newName, sameName, isBlank, isUp, isDown}
+use Rattle.model.specs.Shape.{inRange}
+use Rattle.model.specs.Checkpoint.{share}
+use Rattle.model.specs.Layout.{maxNumber}
+use Rattle.model.specs.Shrink.{shrink}
+use Rattle.model.specs.declared.Name.{Name}
+use Rattle.model.specs.declared.Phase.{Phase}
+use Rattle.model.specs.declared.Phase.the-variants.{Blank, Up, Down}
+use Rattle.model.specs.declared.Shape.{Shape}
+use Rattle.crash.specs.Book.{Book, Write, Stage, Entry, isRunning, isClosed, isCommitted, isRetired, emptyBook, holderIn, Meeting, no-holder, own, running-holder, closed-holder, meets, wrote, close, keptWrites, image, blank}
+use Rattle.crash.specs.Service.{noted}
+
+pub record Ledger : Type 0 where
+  pub shape : Shape
+  -- the kept writes of the time before the card came up, the newest first
+  pub saved : List Write
+  -- the transactions since the card came up
+  pub book : Book
+  -- the closes since then, and of each closed one its stamp and its images in the order taken
+  pub closes : ℕ
+  pub stamp : Name → ℕ
+  pub images : Name → List Bytes
+  -- blank, up or down; down, the blocks that recovery has still to store home
+  pub phase : Phase
+  pub left : List ℕ
+
+-- a card that has come up
+unfoldable pub freshLedger : Shape → List Write → (ℕ → ℕ) → Ledger
+freshLedger s saved first =
+    record {
+      shape = s;
+      saved = saved;
+      book = emptyBook first;
+      closes = 0;
+      stamp = λ (t : Name). 0;
+      images = λ (t : Name). [];
+      phase = Up;
+      left = [];
+    }
+
+-- before the opening FORMAT
+unfoldable pub blankLedger : Ledger
+blankLedger =
+    record {
+      shape = record { cores = 0; blocks = 0; journal = 0 };
+      saved = [];
+      book = emptyBook (λ (c : ℕ). 1);
+      closes = 0;
+      stamp = λ (t : Name). 0;
+      images = λ (t : Name). [];
+      phase = Blank;
+      left = [];
+    }
+
+abbrev pub withBook : Ledger → Book → Ledger
+withBook l k =
+    record {
+      shape = l .shape;
+      saved = l .saved;
+      book = k;
+      closes = l .closes;
+      stamp = l .stamp;
+      images = l .images;
+      phase = l .phase;
+      left = l .left;
+    }
+
+-- the current image of a block: the area as the card came up, with all writes since
+unfoldable pub imageNow : Ledger → ℕ → Bytes
+imageNow l b = image (image blank (l .saved)) (l .book .writes) b
+
+-- CLOSE: images and stamp are fixed
+unfoldable pub closeLedger : ℕ → Ledger → Ledger
+closeLedger c l =
+    let t = newName c (l .book .next c) in
+    record {
+      shape = l .shape;
+      saved = l .saved;
+      book = close c (l .book);
+      closes = suc (l .closes);
+      stamp = λ (u : Name). cond (sameName u t) (suc (l .closes)) (l .stamp u);
+      images = λ (u : Name). cond (sameName u t) (map (imageNow l) ((l .book .entry t) .blocks)) (l .images u);
+      phase = l .phase;
+      left = l .left;
+    }
+
+-- ---- the valid set, of the ledger's committed unretired transactions
+unfoldable pub unretired : Book → List Name
+unretired k = select (λ (t : Name). isCommitted ((k .entry t) .stage) && not (isRetired ((k .entry t) .stage))) (k .opened)
+
+-- 'each name listed is in the set or lies below its core's tail number'
+unfoldable pub metIn : Book → List Name → Name → Bool
+metIn k ts t = all (λ (n : Name). ltb (n .number) (k .oldest (n .core)) || any (sameName n) ts) ((k .entry t) .names)
+
+unfoldable pub validIn : Book → List Name
+validIn k = shrink (metIn k) (unretired k)
+
+-- the home blocks held in it, from the lowest to the highest
+unfoldable pub blocksIn : ℕ → Book → List ℕ
+blocksIn n k = select (λ (b : ℕ). any (λ (t : Name). any (eqb b) ((k .entry t) .blocks)) (validIn k)) (below n)
+
+-- CUT: 'a recovery under way starts over'
+unfoldable pub cutLedger : Ledger → Ledger
+cutLedger l =
+    record {
+      shape = l .shape;
+      saved = l .saved;
+      book = l .book;
+      closes = l .closes;
+      stamp = l .stamp;
+      images = l .images;
+      phase = Down;
+      left = blocksIn (l .shape .blocks) (l .book);
+    }
+
+-- RECOVER: a home store of the lowest block left; then the master store, and numbers go on 'two above the last
+-- committed one'
+unfoldable pub recoverLedger : List ℕ → Ledger → Ledger
+recoverLedger [] l = freshLedger (l .shape) (keptWrites (l .book) ++ l .saved) (λ (c : ℕ). min (l .book .uncommitted c + 1) (suc maxNumber))
+recoverLedger (b ∷ bs) l =
+    record {
+      shape = l .shape;
+      saved = l .saved;
+      book = l .book;
+      closes = l .closes;
+      stamp = l .stamp;
+      images = l .images;
+      phase = Down;
+      left = bs;
+    }
+
+-- command byte, operands and answer
+unfoldable pub entered : ℕ → Bytes → ℕ → Ledger → Ledger
+entered k a zero l =
+    cond (eqb k 1) (freshLedger (record { cores = getD a 0 0; blocks = getD a 1 0; journal = getD a 2 0 }) [] (λ (c : ℕ). 1))
+    (cond (eqb k 3) (closeLedger (getD a 0 0) l)
+    (cond (eqb k 6) (cutLedger l)
+    (cond (eqb k 7) (recoverLedger (l .left) l) (withBook l (noted k a (l .book))))))
+entered k a (suc n) l = l
+
+-- ---- what the journals hold
+-- a transaction stored whole
+pub record Stored : Type 0 where
+  pub name : Name
+  pub blocks : List ℕ
+  pub images : List Bytes
+  pub stamp : ℕ
+  pub names : List Name
+
+unfoldable pub storedOf : Ledger → Name → Stored
+storedOf l t =
+    let e = l .book .entry t in
+    record { name = t; blocks = e .blocks; images = l .images t; stamp = l .stamp t; names = e .names }
+
+-- core c's transactions stored whole since its tail, in order of number
+unfoldable pub storedSince : Ledger → ℕ → List Stored
+storedSince l c = map (λ (i : ℕ). storedOf l (newName c (l .book .oldest c + i))) (below (l .book .uncommitted c - l .book .oldest c))
+
+-- ---- the conditions of the refusals, in the order of section 'Refusals'
+-- '24 a list, the writer's or the holder's, would pass 12 names'
+unfoldable pub namesCount : Book → Name → ℕ
+namesCount k t = length ((k .entry t) .names)
+
+unfoldable pub holderNames : Book → Meeting → ℕ
+holderNames k no-holder = 0
+holderNames k own = 0
+holderNames k (running-holder u) = namesCount k u
+holderNames k (closed-holder u) = 0
+
+-- 'blocks of the records of closed unretired transactions, stored yet or not': of n of core c, from number i on
+unfoldable pub recordBlocks : Book → ℕ → ℕ → ℕ → ℕ
+recordBlocks k c i zero = 0
+recordBlocks k c i (suc n) = length ((k .entry (newName c i)) .blocks) + 2 + recordBlocks k c (suc i) n
+
+-- '20 blank', '22 down', '5 core not below C'
+abbrev pub notUpFor : ℕ → Ledger → List (Bool × ℕ) → List (Bool × ℕ)
+notUpFor c l rest = (isBlank (l .phase), 20) ∷ (isDown (l .phase), 22) ∷ (leb (l .shape .cores) c, 5) ∷ rest
+
+unfoldable pub formatRefusals : ℕ → ℕ → ℕ → Ledger → List (Bool × ℕ)
+formatRefusals c b j l = (not (isBlank (l .phase)), 21) ∷ (not (inRange c b j), 4) ∷ []
+
+unfoldable pub writeRefusals : ℕ → ℕ → ℕ → Bytes → Ledger → List (Bool × ℕ)
+writeRefusals c b o v l =
+    let k = l .book in
+    let t = newName c (k .next c) in
+    let after = wrote c b o v k in
+    let n = length ((after .entry t) .blocks) in
+    notUpFor c l
+    ((leb (l .shape .blocks) b, 6)
+    ∷ (ltb 124 o, 7)
+    ∷ (ltb 12 (namesCount after t) || ltb 12 (holderNames after (meets k t (holderIn k b (k .writes)))), 24)
+    ∷ (ltb 8 n, 25)
+    ∷ (ltb (l .shape .journal) (recordBlocks k c (k .oldest c) (k .next c - k .oldest c) + 2 + n), 26)
+    ∷ (not (isRunning ((k .entry t) .stage)) && ltb maxNumber (k .next c), 27)
+    ∷ [])
+
+unfoldable pub closeRefusals : ℕ → Ledger → List (Bool × ℕ)
+closeRefusals c l =
+    let k = l .book in
+    notUpFor c l ((not (isRunning ((k .entry (newName c (k .next c))) .stage)), 28) ∷ (ltb (k .uncommitted c) (k .next c), 29) ∷ [])
+
+unfoldable pub storeRefusals : ℕ → Ledger → List (Bool × ℕ)
+storeRefusals c l = notUpFor c l ((not (ltb (l .book .uncommitted c) (l .book .next c)), 30) ∷ [])
+
+-- '33 a lower-stamped unretired transaction shares a block (both took it)'
+unfoldable pub sharesLowerIn : Ledger → Name → Bool
+sharesLowerIn l t =
+    let k = l .book in
+    let isLower : Name → Bool = λ u. isClosed ((k .entry u) .stage) && not (isRetired ((k .entry u) .stage)) && ltb (l .stamp u) (l .stamp t) in
+    any (λ (u : Name). isLower u && share ((k .entry t) .blocks) ((k .entry u) .blocks)) (k .opened)
+
+unfoldable pub checkpointRefusals : ℕ → Ledger → List (Bool × ℕ)
+checkpointRefusals c l =
+    let k = l .book in
+    let t = newName c (k .oldest c) in
+    notUpFor c l
+    ((not (ltb (k .oldest c) (k .uncommitted c)), 31)
+    ∷ (not (any (sameName t) (validIn k)), 32)
+    ∷ (sharesLowerIn l t, 33)
+    ∷ [])
+
+-- by command byte; 'On such a tape no RECOVER meets 8.'
+unfoldable pub refusalsOf : ℕ → Bytes → Ledger → List (Bool × ℕ)
+refusalsOf k a l =
+    let c = getD a 0 0 in
+    cond (eqb k 1) (formatRefusals c (getD a 1 0) (getD a 2 0) l)
+    (cond (eqb k 2) (writeRefusals c (number 0 (part 1 2 a)) (getD a 3 0) (part 4 4 a) l)
+    (cond (eqb k 3) (closeRefusals c l)
+    (cond (eqb k 4) (storeRefusals c l)
+    (cond (eqb k 5) (checkpointRefusals c l)
+    (cond (eqb k 6) ((isBlank (l .phase), 20) ∷ []) ((isBlank (l .phase), 20) ∷ (isUp (l .phase), 23) ∷ []))))))
