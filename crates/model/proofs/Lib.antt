@@ -1,3 +1,7 @@
 -- Laws of the definitions, each once, for the theorem and for the code.
 pub mod Computes
 pub mod Cases
+pub mod Lists
+pub mod Store
+pub mod Words
+pub mod Layout
