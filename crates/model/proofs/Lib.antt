@@ -4,4 +4,4 @@ pub mod Cases
 pub mod Lists
 pub mod Store
 pub mod Words
-pub mod Layout
+pub mod Encoding

@@ -58,4 +58,8 @@ module _ {A : Type 0} (f g : A → ℕ) where
     -- all of them
     pub pairs-of : pairsIn make (block ws) (4 * j) (length xs) ≡ xs
     unfolding pairsIn
-    pairs-of = ?
+    pairs-of =
+        let d = make 0 0 in
+        let l : length (map (pairAt make (block ws) (4 * j)) (below (length xs))) ≡ length xs = length-map (below (length xs)) (pairAt make (block ws) (4 * j)) ∙ length-below (length xs) in
+        ext-getD d (map (pairAt make (block ws) (4 * j)) (below (length xs))) xs l
+        (λ i h. getD-map-below (pairAt make (block ws) (4 * j)) (length xs) i d (omega arith) ∙ pair-of i d (omega arith))
