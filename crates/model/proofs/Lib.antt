@@ -5,3 +5,4 @@ pub mod Lists
 pub mod Store
 pub mod Words
 pub mod Encoding
+pub mod Journal

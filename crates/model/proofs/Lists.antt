@@ -79,6 +79,10 @@ module _ {A : Type 0} where
   getD-mem (x ∷ xs) zero d h = List·Memᴰ·head refl
   getD-mem (x ∷ xs) (suc i) d h = List·Memᴰ·tail (getD-mem xs i d (omega arith))
 
+  pub mem-getD : {x : A} {xs : List A} → List·Memᴰ x xs → (d : A) → (i : ℕ) × (i < length xs) × (getD xs i d ≡ x)
+  mem-getD (List·Memᴰ·head e) d = (0, omega arith, sym e)
+  mem-getD (List·Memᴰ·tail m) d = let r = mem-getD m d in (suc (r .0), omega (arith, r .1), r .2)
+
 -- ---- the numbers below a count
 pub length-below : (n : ℕ) → length (below n) ≡ n
 unfolding below
