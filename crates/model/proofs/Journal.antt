@@ -23,7 +23,7 @@ use Rattle.model.specs.declared.Name.{Name}
 use Rattle.model.specs.declared.Committed.{Committed}
 use Rattle.model.specs.declared.Found.{Found}
 use Rattle.model.specs.declared.Found.the-variants.{Whole, Miss}
-use Rattle.model.proofs.Lists.{cases, and-left, and-right, Each, each-append}
+use Rattle.model.proofs.Lists.{cases, and-left, and-right, Each, each-append, each-getD}
 use Rattle.model.proofs.Store.{length-store, block-stored, block-other}
 use Rattle.model.proofs.Words.{IsByte}
 use Rattle.model.proofs.Encoding.{Limits, Sound, length-descriptor, length-commit, descriptor-count, descriptor-held, descriptor-read, commit-stamp, commit-count, commit-names, commit-read, length-escaped, unescaped-escaped}
@@ -125,10 +125,45 @@ pub record Images (hs : List Held) (images : List Bytes) : Type 0 where
   pub sizes : Each IsBlock images
   pub bytes : Each (Each IsByte) images
 
+images-length : {hs : List Held} {images : List Bytes} → Images hs images → length images ≡ length hs
+images-length {hs} {images} z =
+    sym (length-map images flagOf) ∙ ap length (sym (z .flags)) ∙ length-map hs (λ (h : Held). h .flag)
+
+image-flag : {hs : List Held} {images : List Bytes} → Images hs images → (i : ℕ) → (getD hs i (newHeld 0 0)) .flag ≡ flagOf (getD images i [])
+unfolding flagOf be4 part number
+image-flag {hs} {images} z i =
+    sym (List·getD-map (λ (h : Held). h .flag) hs i (newHeld 0 0)) ∙ ap (λ (l : List ℕ). getD l i 0) (z .flags) ∙ List·getD-map flagOf images i []
+
 pub record Stands (s : Shape) (d : Bytes) (c p k : ℕ) (hs : List Held) (stamp : ℕ) (ns : List Name) (images : List Bytes) : Type 0 where
   pub descriptor : journalAt s d c p ≡ descriptorBlock k hs
   pub data-blocks : (i : ℕ) → i < length hs → journalAt s d c (p + (i + 1)) ≡ escaped (getD images i [])
   pub commit : journalAt s d c (p + (length hs + 1)) ≡ commitBlock k stamp ns
+
+each-escaped : (images : List Bytes) → Each IsBlock images → Each IsBlock (map escaped images)
+each-escaped [] z = tt
+each-escaped (b ∷ bs) z = (length-escaped b (omega (arith, z .0)) ∙ z .0, each-escaped bs (z .1))
+
+-- a record stored block by block stands
+pub stored-stands : {s : Shape} {k : ℕ} {hs : List Held} {stamp : ℕ} {ns : List Name} {images : List Bytes} → Sound s k hs stamp ns → Images hs images
+    → (d : Bytes) (c p : ℕ) → c < s .cores → length d ≡ 32896 → length hs + 2 ≤ s .journal
+    → Stands s (storesAt s c p (recordBlocks k hs stamp ns images) d) c p k hs stamp ns images
+unfolding recordBlocks
+stored-stands {s} {k} {hs} {stamp} {ns} {images} g z d c p h n j =
+    let bs = recordBlocks k hs stamp ns images in
+    let m : length (map escaped images) ≡ length hs = length-map images escaped ∙ images-length z in
+    let size : length bs ≡ length hs + 2 = simp length-append (omega arith) in
+    let whole : Each IsBlock bs =
+        (length-descriptor k hs (g .few),
+        each-append IsBlock (map escaped images) (commitBlock k stamp ns ∷ []) (each-escaped images (z .sizes)) (length-commit k stamp ns (g .short), tt)) in
+    let read = stores-in (g .shape) c h bs p d whole n (omega arith) in
+    record {
+      descriptor = rw add-zero at (read 0 (omega arith));
+      data-blocks =
+        λ i hi.
+          read (i + 1) (omega arith)
+          ∙ rw add-one (List·getD-append (map escaped images) (commitBlock k stamp ns ∷ []) [] i (omega arith) ∙ (unfold escaped be4 part number in List·getD-map escaped images i []));
+      commit = read (length hs + 1) (omega arith) ∙ rw add-one (getD-at (map escaped images) (commitBlock k stamp ns) [] [] (length hs) m);
+    }
 
 -- ---- the record at a position
 -- the record as it is read
@@ -152,7 +187,10 @@ module _ {s : Shape} {d : Bytes} {c p k : ℕ} {hs : List Held} {stamp : ℕ} {n
 
   pub image-read : (i : ℕ) → i < length hs → imageOf s d (asRead c p k hs stamp ns) i ≡ getD images i []
   unfolding imageOf
-  image-read i h = ?
+  image-read i h =
+      let n : i < length images = omega (arith, images-length z) in
+      let size : length (getD images i []) ≡ 128 = each-getD IsBlock images (z .sizes) i [] n in
+      rw (held-read, st .data-blocks i h, image-flag z i) (unescaped-escaped (getD images i []) (omega arith) (each-getD (Each IsByte) images (z .bytes) i [] n))
 
 -- ---- a step of the reading
 module _ (s : Shape) (d : Bytes) (c k p left : ℕ) where
@@ -175,3 +213,33 @@ module _ (s : Shape) (d : Bytes) (c k p left : ℕ) where
   pub miss-commit : isCommit s k (journalAt s d c (p + (blockCount (journalAt s d c p) + 1))) ≡ false → recordAt s d c k p left ≡ Miss
   unfolding recordAt
   miss-commit h = rw (h, and-false) refl
+
+-- ---- a record that was read
+-- what is known of a record of core c with number k
+pub record Known (s : Shape) (d : Bytes) (c k : ℕ) (e : Committed) : Type 0 where
+  pub core : e .core ≡ c
+  pub number : e .number ≡ k
+  pub few : e .count ≤ 8
+  pub short : e .named ≤ 12
+  pub descriptor : isDescriptor s k (journalAt s d c (e .position)) ≡ true
+  pub count : blockCount (journalAt s d c (e .position)) ≡ e .count
+  pub commit : isCommit s k (journalAt s d c (e .position + (e .count + 1))) ≡ true
+  pub stamp : stampIn (journalAt s d c (e .position + (e .count + 1))) ≡ e .stamp
+  pub named : nameCount (journalAt s d c (e .position + (e .count + 1))) ≡ e .named
+
+descriptor-few : (s : Shape) (k : ℕ) (b : Bytes) → isDescriptor s k b ≡ true → blockCount b ≤ 8
+unfolding isDescriptor
+descriptor-few s k b h = leb-true (blockCount b) 8 (and-right (hasHead 1 k b && leb k maxNumber) _ (and-left _ _ (and-left _ _ h)))
+
+commit-short : (s : Shape) (k : ℕ) (b : Bytes) → isCommit s k b ≡ true → nameCount b ≤ 12
+unfolding isCommit
+commit-short s k b h = leb-true (nameCount b) 12 (and-right (hasHead 2 k b && leb 1 (stampIn b)) _ (and-left _ _ h))
+
+found-cases : {A : Type 0} (r : Found) → (r ≡ Miss → A) → ((e : Committed) → r ≡ Whole e → A) → A
+found-cases (Whole e) f g = g e refl
+found-cases Miss f g = f refl
+
+module _ (s : Shape) (d : Bytes) (c : ℕ) where
+  pub record-known : (k p left : ℕ) (e : Committed) → recordAt s d c k p left ≡ Whole e → Known s d c k e × (e .position ≡ p) × (e .count + 2 ≤ left)
+  unfolding recordAt
+  record-known k p left e h = ?
