@@ -174,7 +174,7 @@ stored-stands {s} {k} {hs} {stamp} {ns} {images} g z d c p h n j =
 abbrev pub asRead : ℕ → ℕ → ℕ → List Held → ℕ → List Name → Committed
 asRead c p k hs stamp ns = record { core = c; number = k; position = p; count = length hs; stamp = stamp; named = length ns }
 
-module _ {s : Shape} {d : Bytes} {c p k : ℕ} {hs : List Held} {stamp : ℕ} {ns : List Name} {images : List Bytes} (g : Sound s k hs stamp ns) (z : Images hs images)
+module _ {s : Shape} {d : Bytes} {c p k : ℕ} {hs : List Held} {stamp : ℕ} {ns : List Name} {images : List Bytes} (g : Sound s k hs stamp ns)
     (st : Stands s d c p k hs stamp ns images) where
   pub record-read : (left : ℕ) → length hs + 2 ≤ left → recordAt s d c k p left ≡ Whole (asRead c p k hs stamp ns)
   unfolding recordAt
@@ -189,9 +189,9 @@ module _ {s : Shape} {d : Bytes} {c p k : ℕ} {hs : List Held} {stamp : ℕ} {n
   unfolding namesOf
   names-read = rw (st .commit) (commit-names g)
 
-  pub image-read : (i : ℕ) → i < length hs → imageOf s d (asRead c p k hs stamp ns) i ≡ getD images i []
+  pub image-read : Images hs images → (i : ℕ) → i < length hs → imageOf s d (asRead c p k hs stamp ns) i ≡ getD images i []
   unfolding imageOf
-  image-read i h =
+  image-read z i h =
       let n : i < length images = omega (arith, images-length z) in
       let size : length (getD images i []) ≡ 128 = each-getD IsBlock images (z .sizes) i [] n in
       rw (held-read, st .data-blocks i h, image-flag z i) (unescaped-escaped (getD images i []) (omega arith) (each-getD (Each IsByte) images (z .bytes) i [] n))
