@@ -16,7 +16,7 @@ module _ (at n : ℕ) (d b : Bytes) (fits : at + n ≤ length d) (size : length 
   unfolding replaced
   length-replaced = simp (length-append, length-take, length-drop) (omega arith)
 
-  pub drop-replaced : drop (at + n) (replaced at n d b) ≡ drop (at + n) d
+  drop-replaced : drop (at + n) (replaced at n d b) ≡ drop (at + n) d
   unfolding replaced
   drop-replaced =
       sym (drop-drop n at (replaced at n d b))
@@ -36,10 +36,6 @@ module _ (at n : ℕ) (d b : Bytes) (fits : at + n ≤ length d) (size : length 
       let e : at + n + (i - (at + n)) ≡ i = omega arith in
       let go : (l : Bytes) → drop i l ≡ drop (i - (at + n)) (drop (at + n) l) = λ l. sym (drop-drop (i - (at + n)) (at + n) l ∙ ap (λ (k : ℕ). drop k l) e) in
       ap (take m) (go (replaced at n d b) ∙ ap (drop (i - (at + n))) drop-replaced ∙ sym (go d))
-
-  pub take-replaced : take at (replaced at n d b) ≡ take at d
-  unfolding replaced
-  take-replaced = take-at (take at d) (b ++ drop n (drop at d)) at (length-take-le at d (omega arith))
 
 front : (i m : ℕ) (x y : Bytes) → i + m ≤ length x → part i m (x ++ y) ≡ part i m x
 unfolding part
@@ -97,14 +93,14 @@ ext-blocks (suc n) d e p q h =
     (λ k l. block-suc d k ∙ h (suc k) (omega arith) ∙ sym (block-suc e k)))
     ∙ take-append-drop 128 e
 
--- ---- two stores
+-- ---- what is there stored again, and two stores
+pub store-same : (d : Bytes) (k : ℕ) → store d k (blockAt d k) ≡ d
+unfolding store blockAt replaced part
+store-same d k = ap (λ (l : Bytes). take (128 * k) d ++ l) (take-append-drop 128 (drop (128 * k) d)) ∙ take-append-drop (128 * k) d
+
 module _ (n : ℕ) (d : Bytes) (len : length d ≡ 128 * n) (k : ℕ) (a : Bytes) (ka : k < n) (sa : length a ≡ 128) where
   fits : 128 * k + 128 ≤ length d
   fits = omega arith
-
-  pub store-same : store d k (blockAt d k) ≡ d
-  unfolding store blockAt replaced part
-  store-same = ap (λ (l : Bytes). take (128 * k) d ++ l) (take-append-drop 128 (drop (128 * k) d)) ∙ take-append-drop (128 * k) d
 
   pub store-twice : (b : Bytes) → length b ≡ 128 → store (store d k a) k b ≡ store d k b
   store-twice b sb =
