@@ -2,3 +2,8 @@
 pub mod Computes
 pub mod Limits
 pub mod Cases
+pub mod Lists
+pub mod Store
+pub mod Words
+pub mod Encoding
+pub mod Journal
