@@ -1,0 +1,14 @@
+// lib.rs: an independent model of the revision D storage card, with a service book, a ledger, tapes and checks.
+
+pub mod book;
+pub mod card;
+pub mod command;
+pub mod few;
+pub mod journal;
+pub mod layout;
+pub mod ledger;
+pub mod program;
+pub mod wrong;
+
+mod recovery;
+mod transaction;
