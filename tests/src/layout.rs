@@ -49,6 +49,15 @@ impl Shape {
         fits.then_some(Shape { cores: cores as u8, blocks: blocks as u8, journal: journal as u8 })
     }
 
+    /// A shape that can be worked with: the smallest one where none is known yet.
+    pub fn or_smallest(self) -> Shape {
+        if self.cores == 0 {
+            Shape { cores: 1, blocks: 1, journal: 4 }
+        } else {
+            self
+        }
+    }
+
     /// The disk block of home block `block`.
     pub fn home(&self, block: u8) -> usize {
         1 + block as usize

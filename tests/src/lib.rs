@@ -2,12 +2,16 @@
 
 pub mod book;
 pub mod card;
+pub mod checks;
 pub mod command;
 pub mod few;
+pub mod foreign;
+pub mod generator;
 pub mod journal;
 pub mod layout;
 pub mod ledger;
 pub mod program;
+pub mod random;
 pub mod wrong;
 
 mod recovery;
