@@ -4,10 +4,10 @@ use crate::card::{Card, Outcome, Phase};
 use crate::command::{self, Command};
 use crate::foreign;
 use crate::generator::Generator;
-use crate::journal::Journals;
-use crate::layout::{block_at, read_master, Name, BLOCK, CORES, DISK, HOMES, MEMORY};
-use crate::ledger::{Ledger, Stored};
+use crate::layout::{block_at, read_master, Shape, Tail, BLOCK, DISK, HOMES, MEMORY};
+use crate::ledger::{Entry, Ledger, Line, Stored};
 use crate::random::Random;
+use crate::second_reader::read_journal;
 use crate::book::Book;
 use crate::wrong::Wrong;
 
@@ -84,6 +84,8 @@ pub struct Bench<'w> {
     recovers: usize,
     tape: Vec<u8>,
     random: Random,
+    /// Chooses the extra looks alone, so that the tapes are the same whatever is checked.
+    probe: Random,
     watcher: Option<&'w mut dyn Watcher>,
     pub tally: Tally,
 }
@@ -125,6 +127,7 @@ impl<'w> Bench<'w> {
             recovers: 0,
             tape: Vec::new(),
             random: Random::new(1),
+            probe: Random::new(2),
             watcher,
             tally,
         }
@@ -153,14 +156,7 @@ impl<'w> Bench<'w> {
     }
 
     fn generated_tape(&mut self, generator: &mut Generator) -> Result<(), Failure> {
-        let mut length = match self.is_foreign {
-            true => generator.begin_with(self.ledger.shape.or_smallest()),
-            false => generator.begin(),
-        };
-        if self.is_foreign && self.ledger.restores.is_none() {
-            length = 4;
-        }
-        for _ in 0..length {
+        for _ in 0..self.tape_length(generator) {
             let offset = self.tape.len();
             generator.command(&self.card).write_to(&mut self.tape);
             self.try_wrong_lengths(offset)?;
@@ -171,6 +167,15 @@ impl<'w> Bench<'w> {
             self.tape.extend(generator.garbage());
         }
         self.run_from(offset)
+    }
+
+    /// Foreign disks get short tapes, and the shortest where every RECOVER is refused, so that many are seen.
+    fn tape_length(&self, generator: &mut Generator) -> usize {
+        if !self.is_foreign {
+            return generator.begin();
+        }
+        let most = if self.ledger.restores.is_some() { 200 } else { 4 };
+        generator.begin_with(self.ledger.shape.or_smallest()).min(most)
     }
 
     /// Runs the rest of the tape and looks at the whole slices at its end.
@@ -230,13 +235,13 @@ impl<'w> Bench<'w> {
 
     /// Now and then the same command with slices of a wrong length: refusal 1, and nothing changes.
     fn try_wrong_lengths(&mut self, offset: usize) -> Result<(), Failure> {
-        if !self.checks.has(Checks::ANSWER) || !self.random.chance(10) {
+        if !self.checks.has(Checks::ANSWER) || !self.probe.chance(10) {
             return Ok(());
         }
         let before = self.card;
-        let (disk, memory) = match self.random.below(3) {
-            0 => (self.random.below(DISK), MEMORY),
-            1 => (DISK, self.random.below(MEMORY)),
+        let (disk, memory) = match self.probe.below(3) {
+            0 => (self.probe.below(DISK), MEMORY),
+            1 => (DISK, self.probe.below(MEMORY)),
             _ => (DISK - 1, MEMORY - 1),
         };
         let outcome = self.card.command(&mut self.disk[..disk], &mut self.memory[..memory], &self.tape, offset);
@@ -349,7 +354,7 @@ impl<'w> Bench<'w> {
             self.check_recovery(came_up, owed, &stored, changed)?;
         }
         self.check_bytes(command, &stored)?;
-        if self.checks.has(Checks::READING) && self.random.chance(60) {
+        if self.checks.has(Checks::READING) && self.probe.chance(60) {
             self.check_reading()?;
         }
         if self.is_foreign && command == Command::Cut {
@@ -402,31 +407,23 @@ impl<'w> Bench<'w> {
             let was_bad = self.is_foreign && self.ledger.phase == Phase::Down;
             return require(was_bad, "journal", || "the master is bad".into());
         };
-        let whole = std::array::from_fn(|core| self.ledger.lines[core].committed().count());
-        let limits = if self.is_foreign { whole } else { [usize::MAX; CORES] };
-        let journals = Journals::read(&self.disk, shape, &tails, &limits);
-        self.tally.most_records = self.tally.most_records.max(journals.records.len());
         for core in 0..shape.cores {
             if command == Command::Cut || self.ledger.phase == Phase::Up {
-                self.check_journal(&journals, core)?;
+                self.check_journal(shape, core, tails[core as usize])?;
             }
         }
         Ok(())
     }
 
-    fn check_journal(&mut self, journals: &Journals, core: u8) -> Checked {
+    fn check_journal(&mut self, shape: Shape, core: u8, tail: Tail) -> Checked {
         let line = &self.ledger.lines[core as usize];
-        let read = journals.of_core(core);
-        let mut same = read.len() == line.committed().count() && journals.tails[core as usize] == line.tail;
-        for (record, entry) in read.iter().zip(line.committed()) {
-            let names: &[Name] = &record.names;
-            self.tally.longest_list = self.tally.longest_list.max(names.len());
-            same &= record.number == entry.number && record.stamp == entry.stamp && names == entry.names;
-            same &= record.blocks[..] == entry.blocks;
-            same &= entry.images.iter().enumerate().all(|(i, image)| {
-                i < record.blocks.len() && record.image(&self.disk, self.ledger.shape, i) == *image
-            });
-        }
+        // After recovery a foreign disk may still have stale records behind the card's own.
+        let limit = if self.is_foreign { line.committed().count() } else { usize::MAX };
+        let read = read_journal(&self.disk, shape, core, tail, limit);
+        let same = shape == self.ledger.shape && tail == line.tail && is_told(&read, line);
+        let longest = read.iter().map(|entry| entry.names.len()).max().unwrap_or(0);
+        self.tally.longest_list = self.tally.longest_list.max(longest);
+        self.tally.most_records = self.tally.most_records.max(read.len());
         require(same, "journal", || format!("the journal of core {core} does not read as the ledger has it"))
     }
 
@@ -491,6 +488,15 @@ impl<'w> Bench<'w> {
         };
         part.len() == BLOCK && part.as_ptr() == place.as_ptr()
     }
+}
+
+/// Whether records read are the ledger's committed transactions: number, blocks, images, stamp and names.
+fn is_told(read: &[Entry], line: &Line) -> bool {
+    let same = |(one, other): (&Entry, &Entry)| {
+        let bytes = one.blocks == other.blocks && one.images == other.images;
+        bytes && one.number == other.number && one.stamp == other.stamp && one.names == other.names
+    };
+    read.len() == line.committed().count() && read.iter().zip(line.committed()).all(same)
 }
 
 /// The right card beside the one under test: tells where answers, counts or bytes first differ.

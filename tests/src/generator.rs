@@ -121,10 +121,16 @@ impl Generator {
             left = left.saturating_sub(*weight);
             hit
         });
-        match kind {
-            Some(1) => Command::Close { core: self.core_where(card, aimed, |core| core.running.is_some() && core.closed.is_none()) },
-            Some(2) => Command::Store { core: self.core_where(card, aimed, |core| core.closed.is_some()) },
-            Some(3) => Command::Checkpoint { core: self.core_where(card, aimed, |core| core.committed > 0) },
+        let core = match kind {
+            Some(1) => self.core_where(card, |core| core.running.is_some() && core.closed.is_none()),
+            Some(2) => self.core_where(card, |core| core.closed.is_some()),
+            Some(3) => self.core_where(card, |core| core.committed > 0),
+            _ => None,
+        };
+        match (kind, core.or((!aimed).then(|| self.hot_core()))) {
+            (Some(1), Some(core)) => Command::Close { core },
+            (Some(2), Some(core)) => Command::Store { core },
+            (Some(3), Some(core)) => Command::Checkpoint { core },
             _ => self.write(),
         }
     }
@@ -141,14 +147,13 @@ impl Generator {
         self.random.below(most) as u16
     }
 
-    /// A core that fits, looked for from a random one on; any core where none fits.
-    fn core_where(&mut self, card: &Card, aimed: bool, fits: impl Fn(&Core) -> bool) -> u8 {
+    /// A core that fits, looked for from a random one on; the slow core is mostly spared.
+    fn core_where(&mut self, card: &Card, fits: impl Fn(&Core) -> bool) -> Option<u8> {
         let first = self.hot_core();
         let cores = self.shape.cores;
         let spared = self.mood.slow_core.filter(|_| self.random.chance(970));
-        let mut found = (0..cores).map(|i| (first + i) % cores);
-        let fitting = found.find(|core| Some(*core) != spared && fits(&card.cores[*core as usize]));
-        fitting.filter(|_| aimed).unwrap_or(first)
+        let mut order = (0..cores).map(|i| (first + i) % cores);
+        order.find(|core| Some(*core) != spared && fits(&card.cores[*core as usize]))
     }
 
     fn write(&mut self) -> Command {
@@ -204,9 +209,9 @@ impl Generator {
     /// Writes that make a block look like a descriptor or a commit of a number near the next one.
     fn queue_forgery(&mut self, card: &Card) {
         let (core, block) = (self.hot_core(), self.hot_block());
-        let number = (card.cores[core as usize].next + self.random.below(3) as u32).saturating_sub(1);
-        let kind = self.random.pick(&[DESCRIPTOR, COMMIT]);
-        let words = [(0, MARK), (4, kind), (8, number), (12, 0), (16, self.random.below(3) as u32), (20, 0)];
+        let number = (card.cores[core as usize].next + self.random.below(5) as u32).saturating_sub(1);
+        let kind = self.random.pick(&[DESCRIPTOR, COMMIT, COMMIT]);
+        let words = [(0, MARK), (4, kind), (8, number), (12, 0), (16, 1), (20, 0)];
         for (offset, word) in words {
             self.queue.push_back(Command::Write { core, block, offset, data: word.to_be_bytes() });
         }
@@ -214,41 +219,48 @@ impl Generator {
 
     /// CLOSE and all stores of a core's running transaction, or some of them.
     fn queue_commit(&mut self, card: &Card) {
-        let core = self.core_where(card, true, |core| core.running.is_some());
+        if let Some(core) = self.core_where(card, |core| core.running.is_some()) {
+            self.queue_commit_of(card, core);
+        }
+    }
+
+    fn queue_commit_of(&mut self, card: &Card, core: u8) {
         let state = &card.cores[core as usize];
         let waiting = state.closed.map_or(0, |closed| closed.blocks.len() + 2 - state.stored as usize);
         let stores = state.running.map_or(2, |running| running.blocks.len() + 2);
         self.queue.extend((0..waiting).map(|_| Command::Store { core }));
         self.queue.push_back(Command::Close { core });
-        let most = if self.random.chance(700) { stores } else { self.random.below(stores) };
+        let most = if self.random.chance(750) { stores } else { self.random.below(stores) };
         self.queue.extend((0..most).map(|_| Command::Store { core }));
     }
 
     fn queue_drain(&mut self, card: &Card) {
-        let core = self.core_where(card, true, |core| core.committed > 0);
+        let Some(core) = self.core_where(card, |core| core.committed > 0) else { return };
         for _ in 0..self.random.between(1, 12) {
             self.queue.push_back(Command::Checkpoint { core });
         }
     }
 
     /// Another core writes into a block that the slow core holds, then closes and is stored, so that both lists grow.
+    /// Once the slow core's list is long it may commit at last, with a cut soon after.
     fn queue_visit(&mut self, card: &Card, slow: u8) {
-        let held = card.cores[slow as usize].running.and_then(|running| running.blocks.first().copied());
-        let core = (slow + self.random.between(1, self.shape.cores as usize - 1) as u8) % self.shape.cores;
+        let running = card.cores[slow as usize].running;
+        let held = running.and_then(|running| running.blocks.first().copied());
+        let is_long = running.is_some_and(|running| running.names.len() >= 11);
+        if is_long && self.random.chance(150) {
+            self.queue_commit_of(card, slow);
+            self.queue.push_back(Command::Cut);
+            return;
+        }
+        let other = (slow + self.random.between(1, self.shape.cores as usize - 1) as u8) % self.shape.cores;
+        let core = if held.is_some() { other } else { slow };
+        let block = held.map_or(self.hot_block(), |block| block as u16);
         let offset = self.random.below(125) as u8;
         let data = self.data(offset);
-        let writer = if held.is_some() { core } else { slow };
-        let block = held.map_or(self.hot_block(), |block| block as u16);
-        self.queue.push_back(Command::Write { core: writer, block, offset, data });
+        self.queue.push_back(Command::Write { core, block, offset, data });
         if held.is_some() {
             self.queue_commit_of(card, core);
         }
-    }
-
-    fn queue_commit_of(&mut self, card: &Card, core: u8) {
-        let blocks = card.cores[core as usize].running.map_or(0, |running| running.blocks.len());
-        self.queue.push_back(Command::Close { core });
-        self.queue.extend((0..blocks + 2).map(|_| Command::Store { core }));
     }
 }
 

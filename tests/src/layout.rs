@@ -119,7 +119,7 @@ pub fn master(shape: Shape, tails: &Tails) -> Block {
 pub fn descriptor(number: u32, blocks: &[u8], flags: &[bool]) -> Block {
     let mut block = header(DESCRIPTOR, number);
     put_word(&mut block, 12, blocks.len() as u32);
-    for (i, (home, flag)) in blocks.iter().zip(flags).enumerate() {
+    for (i, (home, flag)) in blocks.iter().zip(flags).enumerate().take(TAKEN) {
         put_word(&mut block, 16 + 8 * i, *home as u32);
         put_word(&mut block, 20 + 8 * i, *flag as u32);
     }
@@ -130,7 +130,7 @@ pub fn commit(number: u32, stamp: u64, names: &[Name]) -> Block {
     let mut block = header(COMMIT, number);
     block[12..20].copy_from_slice(&stamp.to_be_bytes());
     put_word(&mut block, 20, names.len() as u32);
-    for (i, name) in names.iter().enumerate() {
+    for (i, name) in names.iter().enumerate().take(NAMES) {
         put_word(&mut block, 24 + 8 * i, name.core as u32);
         put_word(&mut block, 28 + 8 * i, name.number);
     }

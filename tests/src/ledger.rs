@@ -2,11 +2,11 @@
 
 use crate::card::Phase;
 use crate::command::Command;
-use crate::journal::Journals;
 use crate::layout::{
     begins_with_mark, block_at, commit, copy_of, descriptor, escaped, master, read_master, Block, Name, Shape, Tail,
     Tails, BLOCK, CORES, HOMES, LAST_NUMBER, LAST_TAIL, MEMORY, NAMES, TAKEN, ZERO,
 };
+use crate::second_reader::read_journal;
 use std::collections::VecDeque;
 
 /// One unretired transaction.
@@ -113,21 +113,10 @@ impl Ledger {
         for block in 0..shape.blocks {
             ledger.home[block as usize] = copy_of(disk, shape.home(block));
         }
-        let journals = Journals::read(disk, shape, &tails, &[usize::MAX; CORES]);
         for core in 0..shape.cores {
-            let line = &mut ledger.lines[core as usize];
-            line.tail = tails[core as usize];
-            for record in journals.of_core(core) {
-                line.entries.push_back(Entry {
-                    number: record.number,
-                    blocks: record.blocks.to_vec(),
-                    names: record.names.to_vec(),
-                    stamp: record.stamp,
-                    images: (0..record.blocks.len()).map(|i| record.image(disk, shape, i)).collect(),
-                    stored: record.length(),
-                    home_stores: 0,
-                });
-            }
+            let tail = tails[core as usize];
+            let entries = read_journal(disk, shape, core, tail, usize::MAX).into();
+            ledger.lines[core as usize] = Line { tail, next: tail.number, entries };
         }
         ledger.restores = Some(ledger.plan_recovery());
         ledger

@@ -12,6 +12,7 @@ pub mod layout;
 pub mod ledger;
 pub mod program;
 pub mod random;
+pub mod second_reader;
 pub mod wrong;
 
 mod recovery;

@@ -162,6 +162,8 @@ impl Card {
         let reused = self.is(Wrong::NumbersReused);
         let above = 2 - (reused || self.is(Wrong::TailOneAbove)) as u32;
         let number = match journals.of_core(core).last() {
+            _ if self.is(Wrong::NumbersFromOne) => 1,
+            _ if self.is(Wrong::TailUnchanged) => journals.tails[core as usize].number,
             Some(record) => record.number + above,
             None if reused || self.is(Wrong::TailKept) => journals.tails[core as usize].number,
             None => journals.tails[core as usize].number + 1,

@@ -18,6 +18,8 @@ wrong_cards! {
     TailOneAbove = "tail only one above the last committed one read",
     TailKept = "tail kept where none was read",
     NumbersReused = "numbers used again after recovery (both of the above)",
+    TailUnchanged = "tail number unchanged by recovery, whatever was read",
+    NumbersFromOne = "numbers from 1 again after recovery",
     CapMissing = "tail number after recovery without the cap",
     NoEscape = "no escape of the mark",
     FlagIgnored = "flag 1 not looked at when an image is read",
