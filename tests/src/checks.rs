@@ -1,5 +1,6 @@
 // checks.rs: runs tapes on a card and holds every command against the book and the ledger.
 
+use crate::book::Book;
 use crate::card::{Card, Outcome, Phase};
 use crate::command::{self, Command};
 use crate::foreign;
@@ -8,7 +9,6 @@ use crate::layout::{block_at, read_master, Shape, Tail, BLOCK, DISK, HOMES, MEMO
 use crate::ledger::{Entry, Ledger, Line, Stored};
 use crate::random::Random;
 use crate::second_reader::read_journal;
-use crate::book::Book;
 use crate::wrong::Wrong;
 
 /// Which checks are made; a wrong card can be tried against one demand alone.
@@ -80,6 +80,8 @@ pub struct Bench<'w> {
     book: Book,
     ledger: Ledger,
     is_foreign: bool,
+    /// Share of foreign disks in a thousand starts.
+    foreign_share: usize,
     /// RECOVERs carried out since the last cut or start.
     recovers: usize,
     tape: Vec<u8>,
@@ -124,6 +126,7 @@ impl<'w> Bench<'w> {
             book: Book::default(),
             ledger: Ledger::blank(&[0; MEMORY]),
             is_foreign: false,
+            foreign_share: 300,
             recovers: 0,
             tape: Vec::new(),
             random: Random::new(1),
@@ -133,12 +136,16 @@ impl<'w> Bench<'w> {
         }
     }
 
+    pub fn without_foreign_disks(&mut self) {
+        self.foreign_share = 0;
+    }
+
     /// Runs generated tapes until so many commands are done.
     pub fn soak(&mut self, commands: u64, seed: u64) -> Result<(), Failure> {
         let mut generator = Generator::new(seed);
         self.random = Random::new(seed ^ 0x5EED);
         while self.tally.commands < commands {
-            if self.random.chance(150) {
+            if self.random.chance(self.foreign_share) {
                 self.start_foreign();
             } else {
                 self.start_blank();
@@ -497,35 +504,4 @@ fn is_told(read: &[Entry], line: &Line) -> bool {
         bytes && one.number == other.number && one.stamp == other.stamp && one.names == other.names
     };
     read.len() == line.committed().count() && read.iter().zip(line.committed()).all(same)
-}
-
-/// The right card beside the one under test: tells where answers, counts or bytes first differ.
-pub struct Twin {
-    card: Card,
-    disk: Vec<u8>,
-    memory: Vec<u8>,
-}
-
-impl Default for Twin {
-    fn default() -> Self {
-        Twin { card: Card::blank(), disk: vec![0; DISK], memory: vec![0; MEMORY] }
-    }
-}
-
-impl Watcher for Twin {
-    fn start(&mut self, is_down: bool, disk: &[u8], memory: &[u8]) {
-        self.card = if is_down { Card::down() } else { Card::blank() };
-        self.disk.copy_from_slice(disk);
-        self.memory.copy_from_slice(memory);
-    }
-
-    fn command(&mut self, tape: &[u8], offset: usize, outcome: Outcome, disk: &[u8], memory: &[u8]) -> Result<(), String> {
-        let right = self.card.command(&mut self.disk, &mut self.memory, tape, offset);
-        match () {
-            _ if right != outcome => Err(format!("{outcome:?}, the right card {right:?}")),
-            _ if self.disk != disk => Err("the disk differs".into()),
-            _ if self.memory != memory => Err("the memory differs".into()),
-            _ => Ok(()),
-        }
-    }
 }

@@ -1,4 +1,4 @@
-// generator.rs: tapes meant to hurt: heavy sharing, long lists, wraps, cuts inside recovery, data that looks like records.
+// generator.rs: tapes meant to hurt: heavy sharing, long lists, wraps, cuts in recovery, data that looks like records.
 
 use crate::card::{Card, Core, Phase};
 use crate::command::Command;

@@ -13,6 +13,8 @@ pub mod ledger;
 pub mod program;
 pub mod random;
 pub mod second_reader;
+pub mod shrink;
+pub mod twin;
 pub mod wrong;
 
 mod recovery;

@@ -1,4 +1,4 @@
-// program.rs: what the tape program prints for a tape: a line for each command, then the home blocks that are not all zero.
+// program.rs: what the tape program prints: a line for each command, then the home blocks that are not all zero.
 
 use crate::card::Card;
 use crate::layout::{block_at, read_master, DISK, MEMORY};

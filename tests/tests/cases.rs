@@ -5,8 +5,8 @@ use card_tests::command::from_hex;
 use card_tests::layout::{DISK, MEMORY};
 use card_tests::program::print_tape;
 
-const FIRST: &str = "01 02 04 0C | 02 00 0003 00 41424344 | 02 01 0003 04 45464748 | 03 00 | 04 00 | 04 00 | 04 00 | 05 00 \
-    | 03 01 | 04 01 | 04 01 | 06 | 07 | 07";
+const FIRST: &str = "01 02 04 0C | 02 00 0003 00 41424344 | 02 01 0003 04 45464748 | 03 00 | 04 00 | 04 00 | 04 00 \
+    | 05 00 | 03 01 | 04 01 | 04 01 | 06 | 07 | 07";
 
 fn prints(tape: &str, lines: &[&str]) {
     let printed = print_tape(&from_hex(tape));

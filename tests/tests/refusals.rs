@@ -106,8 +106,10 @@ fn refusal_8_looks_at_the_fields_named_and_no_other() {
     };
     let unread = [8, 11, 40, 43, 44, 127].map(|at| with(at, 0xFF));
     assert_eq!(unread, [0; 6]);
-    let spoiled = [(0, 0), (3, 0), (7, 1), (15, 0), (15, 9), (19, 0), (19, 65), (23, 3), (23, 25), (12, 1), (27, 0xFF), (31, 24)];
-    assert_eq!(spoiled.map(|(at, byte)| with(at, byte)), [8; 12]);
+    let header = [(0, 0), (3, 0), (7, 1), (12, 1), (15, 0), (15, 9)];
+    let others = [(19, 0), (19, 65), (23, 3), (23, 25), (27, 0xFF), (31, 24)];
+    assert_eq!(header.map(|(at, byte)| with(at, byte)), [8; 6]);
+    assert_eq!(others.map(|(at, byte)| with(at, byte)), [8; 6]);
     let mut none = good;
     none[32..36].fill(0);
     assert_eq!(Run::down_over(&none).answers("07 06 07"), [8, 0, 8]);

@@ -1,6 +1,7 @@
 // wrong_cards.rs: every wrong card is caught by the book or the ledger, and the equivalent one is not.
 
-use card_tests::checks::{Bench, Checks, Twin};
+use card_tests::checks::{Bench, Checks};
+use card_tests::twin::Twin;
 use card_tests::wrong::{words, Wrong, ALL};
 
 fn is_caught(wrong: Wrong, checks: Checks, commands: u64) -> bool {

@@ -1,6 +1,7 @@
 // wrong_cards: tries every wrong card and says after how many commands it is caught, and by which check.
 
-use card_tests::checks::{Bench, Checks, Failure, Twin, Watcher};
+use card_tests::checks::{Bench, Checks, Failure, Watcher};
+use card_tests::twin::Twin;
 use card_tests::wrong::{Wrong, ALL};
 
 fn main() {
@@ -8,7 +9,8 @@ fn main() {
     let commands = arguments.next().unwrap_or(1_000_000);
     let seed = arguments.next().unwrap_or(1);
     println!("commands until a wrong card is caught, at most {commands}; '-' is not caught");
-    println!("{:<56} {:>17} {:>9} {:>9} {:>9} {:>9}", "wrong card", "all checks", "demand 1", "demand 2", "demand 3", "differs");
+    let heads = ["all checks", "demand 1", "demand 2", "demand 3", "differs"];
+    println!("{:<56} {:>17} {:>9} {:>9} {:>9} {:>9}", "wrong card", heads[0], heads[1], heads[2], heads[3], heads[4]);
     for (wrong, words) in ALL {
         let all = run(*wrong, Checks::ALL, None, commands, seed);
         let by = all.as_ref().map_or("-".into(), |failure| format!("{} {}", failure.check, failure.commands));
