@@ -52,8 +52,14 @@ pub struct Failure {
 /// Another card beside the one under test, told of every start and every command.
 pub trait Watcher {
     fn start(&mut self, is_down: bool, disk: &[u8], memory: &[u8]);
-    fn command(&mut self, tape: &[u8], offset: usize, outcome: Outcome, disk: &[u8], memory: &[u8])
-        -> Result<(), String>;
+    fn command(
+        &mut self,
+        tape: &[u8],
+        offset: usize,
+        outcome: Outcome,
+        disk: &[u8],
+        memory: &[u8],
+    ) -> Result<(), String>;
 }
 
 #[derive(Clone, Debug)]
@@ -310,7 +316,11 @@ impl<'w> Bench<'w> {
     }
 
     fn used_bytes(&self) -> usize {
-        if self.card.phase == Phase::Blank { DISK } else { self.ledger.shape.or_smallest().used() * BLOCK }
+        if self.card.phase == Phase::Blank {
+            DISK
+        } else {
+            self.ledger.shape.or_smallest().used() * BLOCK
+        }
     }
 
     /// Compares the parts of memory that this shape can use; the rest is looked at when the tape ends.

@@ -169,7 +169,7 @@ impl Generator {
 
     /// Four bytes, often the mark or a part of it at its place, or a small number as headers have them.
     fn data(&mut self, offset: u8) -> [u8; 4] {
-        let word = self.random.next() as u32;
+        let word = self.random.draw() as u32;
         let chosen = match self.random.below(6) {
             0 | 1 if offset < 4 => MARK << (8 * offset),
             2 => self.random.pick(&[0, 1, 2, 4, MARK]),

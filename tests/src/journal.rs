@@ -55,10 +55,10 @@ impl Journals {
     /// Reads at most `limits[core]` records of each core, from its tail on.
     pub fn read(disk: &[u8], shape: Shape, tails: &Tails, limits: &[usize; CORES]) -> Journals {
         let mut all = Journals { records: Vec::new(), tails: *tails, starts: [0; CORES + 1] };
-        for core in 0..CORES {
+        for (core, limit) in limits.iter().enumerate() {
             all.starts[core] = all.records.len();
             if core < shape.cores as usize {
-                read_journal(disk, shape, core as u8, tails, limits[core], &mut all.records);
+                read_journal(disk, shape, core as u8, tails, *limit, &mut all.records);
             }
         }
         all.starts[CORES] = all.records.len();

@@ -167,12 +167,12 @@ pub fn read_master(disk: &[u8]) -> Option<(Shape, Tails)> {
     }
     let shape = Shape::new(word(block, 12), word(block, 16), word(block, 20))?;
     let mut tails = Tails::default();
-    for core in 0..shape.cores as usize {
+    for (core, tail) in tails.iter_mut().enumerate().take(shape.cores as usize) {
         let (number, position) = (word(block, 24 + 8 * core), word(block, 28 + 8 * core));
-        if number < 1 || number > LAST_TAIL || position >= shape.journal as u32 {
+        if !(1..=LAST_TAIL).contains(&number) || position >= shape.journal as u32 {
             return None;
         }
-        tails[core] = Tail { number, position: position as u8 };
+        *tail = Tail { number, position: position as u8 };
     }
     Some((shape, tails))
 }

@@ -139,14 +139,24 @@ impl Ledger {
         match command {
             Command::Format { cores, blocks, journal } => {
                 let fits = Shape::new(cores as u32, blocks as u32, journal as u32).is_some();
-                if fits { 0 } else { 4 }
+                if fits {
+                    0
+                } else {
+                    4
+                }
             }
             Command::Write { core, block, offset, .. } => self.write_answer(core, block, offset),
             Command::Close { core } => self.close_answer(core),
             Command::Store { core } => self.store_answer(core),
             Command::Checkpoint { core } => self.checkpoint_answer(core),
             Command::Cut => 0,
-            Command::Recover => if self.restores.is_some() { 0 } else { 8 },
+            Command::Recover => {
+                if self.restores.is_some() {
+                    0
+                } else {
+                    8
+                }
+            }
         }
     }
 
@@ -196,7 +206,11 @@ impl Ledger {
 
     fn store_answer(&self, core: u8) -> u8 {
         let Some(line) = self.line(core) else { return 5 };
-        if line.waiting().is_none() { 30 } else { 0 }
+        if line.waiting().is_none() {
+            30
+        } else {
+            0
+        }
     }
 
     fn checkpoint_answer(&self, core: u8) -> u8 {
@@ -406,7 +420,7 @@ fn is_older_sharer(entry: &Entry, oldest: &Entry) -> bool {
 fn offer_images(newest: &mut [Option<(u64, Block)>; HOMES], entry: &Entry) {
     for (block, image) in entry.blocks.iter().zip(&entry.images) {
         let best = &mut newest[*block as usize];
-        if best.map_or(true, |(stamp, _)| entry.stamp >= stamp) {
+        if best.is_none_or(|(stamp, _)| entry.stamp >= stamp) {
             *best = Some((entry.stamp, *image));
         }
     }

@@ -112,7 +112,7 @@ impl Card {
     /// Refusals 24 to 27, judged on what the WRITE would leave.
     fn refuse_write(&self, plan: &Plan) -> Result<(), u8> {
         let (_, writer_fits) = self.with_name(&plan.transaction.names, plan.names);
-        let holder_fits = self.holders_list(plan).map_or(true, |(_, fits)| fits);
+        let holder_fits = self.holders_list(plan).is_none_or(|(_, fits)| fits);
         if !writer_fits || !holder_fits && !self.is(Wrong::HolderListUnlimited) {
             return Err(24);
         }
