@@ -1,0 +1,2 @@
+-- Laws of books and ledgers, each once, for the claims.
+pub mod Rename

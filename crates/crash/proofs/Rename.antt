@@ -1,0 +1,118 @@
+-- Two books that differ in the numbers of the transactions alone: the service book numbers from 1 since the last cut, the
+-- ledger goes on with the card's numbers. Every command keeps such a pair one, and a cut keeps the same writes of both:
+-- whatever a book does with names, it only compares them, and a shift of each core's numbers changes no comparison.
+use Prim.Native.Nat.{ℕ, zero, suc, _+_}
+use native.Mathlib.Nat.{suc-add}
+use native.Mathlib.Omega.{arith}
+use mathlib.Core.Path.{_≡_, refl, sym, _∙_, ap}
+use mathlib.Core.List.{List, [], _∷_, _++_, map, map-map, map-append}
+use mathlib.Core.Option.{Option, none, some}
+use mathlib.Core.Bool.{Bool, true, false, cond, _&&_, _||_}
+use lib.ListN.{length, getD, length-map}
+use lib.Dec.{eqb, leb}
+use borrow.Author.Tests.{eqb-true, eqb-false, eq-eqb, ne-eqb}
+use Rattle.model.specs.Lists.{all, any, select}
+use Rattle.model.specs.Bytes.{Bytes}
+use Rattle.model.specs.Card.{newName, sameName}
+use Rattle.model.specs.Shrink.{strike, shrinkIn, shrink}
+use Rattle.model.specs.declared.Name.{Name}
+use Rattle.crash.specs.Book.{Stage, running, closed, committed, retired, isRunning, isClosed, isCommitted, isRetired, counted, Entry, Write, Book, emptyBook, change, raise, staged, taking, naming, begin, holderIn, Meeting, no-holder, own, running-holder, closed-holder, meets, ruled, holderAfter, note, wrote, close, store, checkpoint, committedIn, namesIn, kept, keptWrites, image}
+use Rattle.crash.specs.Service.{noted}
+
+-- ---- lists renamed
+-- a test by its two cases
+cases : {A : Type 0} (t : Bool) → (t ≡ true → A) → (t ≡ false → A) → A
+cases true f g = f refl
+cases false f g = g refl
+
+cond-apply : {A B : Type 0} (f : A → B) (t : Bool) (x y : A) → cond t (f x) (f y) ≡ f (cond t x y)
+cond-apply f true x y = refl
+cond-apply f false x y = refl
+
+module _ {A B : Type 0} (f : A → B) (p : A → Bool) (q : B → Bool) (h : (x : A) → q (f x) ≡ p x) where
+  select-map : (xs : List A) → select q (map f xs) ≡ map f (select p xs)
+  unfolding select
+  select-map [] = refl
+  select-map (x ∷ xs) = rw (h x, select-map xs) (cond-apply (map f) (p x) (x ∷ select p xs) (select p xs))
+
+  all-map : (xs : List A) → all q (map f xs) ≡ all p xs
+  unfolding all
+  all-map [] = refl
+  all-map (x ∷ xs) = rw (h x, all-map xs) refl
+
+  any-map : (xs : List A) → any q (map f xs) ≡ any p xs
+  unfolding any
+  any-map [] = refl
+  any-map (x ∷ xs) = rw (h x, any-map xs) refl
+
+shrinkIn-suc : {A : Type 0} (n : ℕ) (stays : List A → A → Bool) (es : List A)
+    → shrinkIn (suc n) stays es ≡ cond (eqb (length (strike stays es)) (length es)) es (shrinkIn n stays (strike stays es))
+unfolding shrinkIn
+shrinkIn-suc n stays es = cases (eqb (length (strike stays es)) (length es)) (λ e. rw (e, shrinkIn) refl) (λ e. rw (e, shrinkIn) refl)
+
+module _ {A B : Type 0} (f : A → B) (stays : List A → A → Bool) (stays′ : List B → B → Bool) (h : (es : List A) (e : A) → stays′ (map f es) (f e) ≡ stays es e) where
+  strike-map : (es : List A) → strike stays′ (map f es) ≡ map f (strike stays es)
+  unfolding strike
+  strike-map es = select-map f (stays es) (stays′ (map f es)) (h es) es
+
+  shrinkIn-map : (n : ℕ) (es : List A) → shrinkIn n stays′ (map f es) ≡ map f (shrinkIn n stays es)
+  unfolding shrinkIn
+  shrinkIn-map zero es = refl
+  shrinkIn-map (suc n) es =
+      rw (shrinkIn-suc n stays′ (map f es), shrinkIn-suc n stays es, strike-map es, length-map (strike stays es) f, length-map es f, shrinkIn-map n (strike stays es))
+      (cond-apply (map f) (eqb (length (strike stays es)) (length es)) es (shrinkIn n stays (strike stays es)))
+
+  shrink-map : (es : List A) → shrink stays′ (map f es) ≡ map f (shrink stays es)
+  unfolding shrink
+  shrink-map es = rw (length-map es f) (shrinkIn-map (length es) es)
+
+-- ---- names, entries and writes renamed
+unfoldable pub renamed : (ℕ → ℕ) → Name → Name
+renamed first t = newName (t .core) (t .number + first (t .core))
+
+abbrev pub renamedEntry : (ℕ → ℕ) → Entry → Entry
+renamedEntry first e = record { blocks = e .blocks; names = map (renamed first) (e .names); stage = e .stage }
+
+abbrev pub renamedWrite : (ℕ → ℕ) → Write → Write
+renamedWrite first w = record { writer = renamed first (w .writer); holder = renamed first (w .holder); block = w .block; offset = w .offset; bytes = w .bytes }
+
+-- the second book is the first with each core's numbers shifted
+pub record Renamed (first : ℕ → ℕ) (k k′ : Book) : Type 0 where
+  pub opened : k′ .opened ≡ map (renamed first) (k .opened)
+  pub entry : (t : Name) → k′ .entry (renamed first t) ≡ renamedEntry first (k .entry t)
+  pub writes : k′ .writes ≡ map (renamedWrite first) (k .writes)
+  pub oldest : (c : ℕ) → k′ .oldest c ≡ k .oldest c + first c
+  pub uncommitted : (c : ℕ) → k′ .uncommitted c ≡ k .uncommitted c + first c
+  pub next : (c : ℕ) → k′ .next c ≡ k .next c + first c
+
+eqb-shift : (a b n : ℕ) → eqb (a + n) (b + n) ≡ eqb a b
+eqb-shift a b n =
+    cases (eqb a b) (λ e. rw (e, eqb-true a b e) (eq-eqb (b + n) (b + n) refl))
+    (λ e. rw e (ne-eqb (a + n) (b + n) (λ q. eqb-false a b e (omega arith))))
+
+module _ (first : ℕ → ℕ) where
+  pub same-renamed : (t u : Name) → sameName (renamed first t) (renamed first u) ≡ sameName t u
+  unfolding sameName renamed
+  same-renamed t u =
+      cases (eqb (t .core) (u .core)) (λ e. rw (e, eqb-true (t .core) (u .core) e) (eqb-shift (t .number) (u .number) (first (u .core))))
+      (λ e. rw e refl)
+
+  any-renamed : (t : Name) (us : List Name) → any (sameName (renamed first t)) (map (renamed first) us) ≡ any (sameName t) us
+  any-renamed t us = any-map (renamed first) (sameName t) (sameName (renamed first t)) (same-renamed t) us
+
+  -- ---- what the commands are made of
+  change-renamed : (t : Name) (g g′ : Entry → Entry) → ((e : Entry) → g′ (renamedEntry first e) ≡ renamedEntry first (g e))
+      → (entry entry′ : Name → Entry) → ((u : Name) → entry′ (renamed first u) ≡ renamedEntry first (entry u))
+      → (u : Name) → change (renamed first t) g′ entry′ (renamed first u) ≡ renamedEntry first (change t g entry u)
+  unfolding change
+  change-renamed t g g′ h entry entry′ e u = rw (e u, same-renamed u t, h (entry u)) (cond-apply (renamedEntry first) (sameName u t) (g (entry u)) (entry u))
+
+  raise-renamed : (c : ℕ) (n n′ : ℕ → ℕ) → ((i : ℕ) → n′ i ≡ n i + first i) → (i : ℕ) → raise c n′ i ≡ raise c n i + first i
+  unfolding raise
+  raise-renamed c n n′ h i = rw (h i, ← suc-add (n i) (first i)) (cond-apply (λ (x : ℕ). x + first i) (eqb i c) (suc (n i)) (n i))
+
+  naming-renamed : (t : Name) (e : Entry) → naming (renamed first t) (renamedEntry first e) ≡ renamedEntry first (naming t e)
+  naming-renamed t e =
+      rw (any-renamed t (e .names))
+      (ap (λ (ns : List Name). record { blocks = e .blocks; names = ns; stage = e .stage })
+      (rw (← map-append (renamed first) (e .names) (t ∷ [])) (cond-apply (map (renamed first)) (any (sameName t) (e .names)) (e .names) (e .names ++ (t ∷ [])))))
