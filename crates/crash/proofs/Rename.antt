@@ -12,7 +12,7 @@ use lib.ListN.{length, getD, length-map}
 use lib.Dec.{eqb, leb}
 use borrow.Author.Tests.{eqb-true, eqb-false, eq-eqb, ne-eqb}
 use Rattle.model.specs.Lists.{all, any, select}
-use Rattle.model.specs.Bytes.{Bytes}
+use Rattle.model.specs.Bytes.{Bytes, number, part}
 use Rattle.model.specs.Card.{newName, sameName}
 use Rattle.model.specs.Shrink.{strike, shrinkIn, shrink}
 use Rattle.model.specs.declared.Name.{Name}
@@ -76,6 +76,16 @@ renamedEntry first e = record { blocks = e .blocks; names = map (renamed first) 
 abbrev pub renamedWrite : (ℕ → ℕ) → Write → Write
 renamedWrite first w = record { writer = renamed first (w .writer); holder = renamed first (w .holder); block = w .block; offset = w .offset; bytes = w .bytes }
 
+abbrev renamedHolder : (ℕ → ℕ) → Option Name → Option Name
+renamedHolder first none = none
+renamedHolder first (some t) = some (renamed first t)
+
+abbrev renamedMeeting : (ℕ → ℕ) → Meeting → Meeting
+renamedMeeting first no-holder = no-holder
+renamedMeeting first own = own
+renamedMeeting first (running-holder u) = running-holder (renamed first u)
+renamedMeeting first (closed-holder u) = closed-holder (renamed first u)
+
 -- the second book is the first with each core's numbers shifted
 pub record Renamed (first : ℕ → ℕ) (k k′ : Book) : Type 0 where
   pub opened : k′ .opened ≡ map (renamed first) (k .opened)
@@ -97,6 +107,10 @@ module _ (first : ℕ → ℕ) where
       cases (eqb (t .core) (u .core)) (λ e. rw (e, eqb-true (t .core) (u .core) e) (eqb-shift (t .number) (u .number) (first (u .core))))
       (λ e. rw e refl)
 
+  shifted : (c n n′ : ℕ) → n′ ≡ n + first c → newName c n′ ≡ renamed first (newName c n)
+  unfolding renamed
+  shifted c n n′ e = rw e refl
+
   any-renamed : (t : Name) (us : List Name) → any (sameName (renamed first t)) (map (renamed first) us) ≡ any (sameName t) us
   any-renamed t us = any-map (renamed first) (sameName t) (sameName (renamed first t)) (same-renamed t) us
 
@@ -111,8 +125,145 @@ module _ (first : ℕ → ℕ) where
   unfolding raise
   raise-renamed c n n′ h i = rw (h i, ← suc-add (n i) (first i)) (cond-apply (λ (x : ℕ). x + first i) (eqb i c) (suc (n i)) (n i))
 
+  -- raised where the count is full
+  counted-renamed : (last : Bool) (c : ℕ) (n n′ : ℕ → ℕ) → ((i : ℕ) → n′ i ≡ n i + first i) → (i : ℕ) → cond last (raise c n′) n′ i ≡ cond last (raise c n) n i + first i
+  counted-renamed true c n n′ h i = raise-renamed c n n′ h i
+  counted-renamed false c n n′ h i = h i
+
   naming-renamed : (t : Name) (e : Entry) → naming (renamed first t) (renamedEntry first e) ≡ renamedEntry first (naming t e)
   naming-renamed t e =
       rw (any-renamed t (e .names))
       (ap (λ (ns : List Name). record { blocks = e .blocks; names = ns; stage = e .stage })
       (rw (← map-append (renamed first) (e .names) (t ∷ [])) (cond-apply (map (renamed first)) (any (sameName t) (e .names)) (e .names) (e .names ++ (t ∷ [])))))
+
+  ruled-renamed : (m : Meeting) (t : Name) (b : ℕ) (entry entry′ : Name → Entry) → ((u : Name) → entry′ (renamed first u) ≡ renamedEntry first (entry u))
+      → (u : Name) → ruled (renamedMeeting first m) (renamed first t) b entry′ (renamed first u) ≡ renamedEntry first (ruled m t b entry u)
+  unfolding ruled
+  ruled-renamed no-holder t b entry entry′ e u = change-renamed t (taking b) (taking b) (λ x. refl) entry entry′ e u
+  ruled-renamed own t b entry entry′ e u = e u
+  ruled-renamed (running-holder w) t b entry entry′ e u =
+      change-renamed w (naming t) (naming (renamed first t)) (naming-renamed t) (change t (naming w) entry) (change (renamed first t) (naming (renamed first w)) entry′)
+      (change-renamed t (naming w) (naming (renamed first w)) (naming-renamed w) entry entry′ e) u
+  ruled-renamed (closed-holder w) t b entry entry′ e u =
+      change-renamed t (λ x. taking b (naming w x)) (λ x. taking b (naming (renamed first w) x)) (λ x. ap (taking b) (naming-renamed w x)) entry entry′ e u
+
+  holderAfter-renamed : (m : Meeting) (t : Name) → holderAfter (renamedMeeting first m) (renamed first t) ≡ renamed first (holderAfter m t)
+  unfolding holderAfter
+  holderAfter-renamed no-holder t = refl
+  holderAfter-renamed own t = refl
+  holderAfter-renamed (running-holder u) t = refl
+  holderAfter-renamed (closed-holder u) t = refl
+
+-- ---- the commands
+pub empty-renamed : (first n n′ : ℕ → ℕ) → ((c : ℕ) → n′ c ≡ n c + first c) → Renamed first (emptyBook n) (emptyBook n′)
+unfolding emptyBook
+empty-renamed first n n′ h = record { opened = refl; entry = λ t. refl; writes = refl; oldest = h; uncommitted = h; next = h }
+
+cond-renamed : {first : ℕ → ℕ} {k k′ j j′ : Book} (t : Bool) → Renamed first k k′ → Renamed first j j′ → Renamed first (cond t k j) (cond t k′ j′)
+cond-renamed true r s = r
+cond-renamed false r s = s
+
+module _ {first : ℕ → ℕ} {k k′ : Book} (r : Renamed first k k′) where
+  begin-renamed : (t : Name) → Renamed first (begin t k) (begin (renamed first t) k′)
+  unfolding begin
+  begin-renamed t =
+      record {
+        opened = ap (λ (ts : List Name). renamed first t ∷ ts) (r .opened);
+        entry = change-renamed first t (staged running) (staged running) (λ e. refl) (k .entry) (k′ .entry) (r .entry);
+        writes = r .writes;
+        oldest = r .oldest;
+        uncommitted = r .uncommitted;
+        next = r .next;
+      }
+
+  holderIn-renamed : (b : ℕ) (ws : List Write) → holderIn k′ b (map (renamedWrite first) ws) ≡ renamedHolder first (holderIn k b ws)
+  unfolding holderIn
+  holderIn-renamed b [] = refl
+  holderIn-renamed b (w ∷ ws) =
+      rw (holderIn-renamed b ws, r .entry (w .holder), cond-apply (renamedHolder first) (isRetired (k .entry (w .holder) .stage)) none (some (w .holder)))
+      (cond-apply (renamedHolder first) (eqb b (w .block)) (cond (isRetired (k .entry (w .holder) .stage)) none (some (w .holder))) (holderIn k b ws))
+
+  meets-renamed : (t : Name) (o : Option Name) → meets k′ (renamed first t) (renamedHolder first o) ≡ renamedMeeting first (meets k t o)
+  unfolding meets
+  meets-renamed t none = refl
+  meets-renamed t (some u) =
+      rw (same-renamed first u t, r .entry u, cond-apply (renamedMeeting first) (isClosed (k .entry u .stage)) (closed-holder u) (running-holder u))
+      (cond-apply (renamedMeeting first) (sameName u t) own (cond (isClosed (k .entry u .stage)) (closed-holder u) (running-holder u)))
+
+  note-renamed : (t : Name) (b o : ℕ) (v : Bytes) → Renamed first (note t b o v k) (note (renamed first t) b o v k′)
+  unfolding note
+  note-renamed t b o v =
+      let m = meets k t (holderIn k b (k .writes)) in
+      let e : meets k′ (renamed first t) (holderIn k′ b (k′ .writes)) ≡ renamedMeeting first m =
+            ap (meets k′ (renamed first t)) (ap (holderIn k′ b) (r .writes) ∙ holderIn-renamed b (k .writes)) ∙ meets-renamed t (holderIn k b (k .writes)) in
+      record {
+        opened = r .opened;
+        entry = rw e (ruled-renamed first m t b (k .entry) (k′ .entry) (r .entry));
+        writes = rw (e, holderAfter-renamed first m t, r .writes) refl;
+        oldest = r .oldest;
+        uncommitted = r .uncommitted;
+        next = r .next;
+      }
+
+module _ {first : ℕ → ℕ} {k k′ : Book} (r : Renamed first k k′) where
+  pub wrote-renamed : (c b o : ℕ) (v : Bytes) → Renamed first (wrote c b o v k) (wrote c b o v k′)
+  unfolding wrote
+  wrote-renamed c b o v =
+      let t = newName c (k .next c) in
+      rw (shifted first c (k .next c) (k′ .next c) (r .next c), r .entry t)
+      (note-renamed (cond-renamed (isRunning (k .entry t .stage)) r (begin-renamed r t)) t b o v)
+
+  pub close-renamed : (c : ℕ) → Renamed first (close c k) (close c k′)
+  unfolding close
+  close-renamed c =
+      record {
+        opened = r .opened;
+        entry = rw (shifted first c (k .next c) (k′ .next c) (r .next c)) (change-renamed first (newName c (k .next c)) (staged (closed 0)) (staged (closed 0)) (λ e. refl) (k .entry) (k′ .entry) (r .entry));
+        writes = r .writes;
+        oldest = r .oldest;
+        uncommitted = r .uncommitted;
+        next = raise-renamed first c (k .next) (k′ .next) (r .next);
+      }
+
+  pub store-renamed : (c : ℕ) → Renamed first (store c k) (store c k′)
+  unfolding store
+  store-renamed c =
+      let t = newName c (k .uncommitted c) in
+      let e = k .entry t in
+      let n = suc (counted (e .stage)) in
+      let last = leb (length (e .blocks) + 2) n in
+      let g = staged (cond last (committed 0) (closed n)) in
+      let p : newName c (k′ .uncommitted c) ≡ renamed first t = shifted first c (k .uncommitted c) (k′ .uncommitted c) (r .uncommitted c) in
+      record {
+        opened = r .opened;
+        entry = rw (p, r .entry t) (change-renamed first t g g (λ x. refl) (k .entry) (k′ .entry) (r .entry));
+        writes = r .writes;
+        oldest = r .oldest;
+        uncommitted = rw (p, r .entry t) (counted-renamed first last c (k .uncommitted) (k′ .uncommitted) (r .uncommitted));
+        next = r .next;
+      }
+
+  pub checkpoint-renamed : (c : ℕ) → Renamed first (checkpoint c k) (checkpoint c k′)
+  unfolding checkpoint
+  checkpoint-renamed c =
+      let t = newName c (k .oldest c) in
+      let e = k .entry t in
+      let n = suc (counted (e .stage)) in
+      let last = leb (length (e .blocks) + 1) n in
+      let g = staged (cond last retired (committed n)) in
+      let p : newName c (k′ .oldest c) ≡ renamed first t = shifted first c (k .oldest c) (k′ .oldest c) (r .oldest c) in
+      record {
+        opened = r .opened;
+        entry = rw (p, r .entry t) (change-renamed first t g g (λ x. refl) (k .entry) (k′ .entry) (r .entry));
+        writes = r .writes;
+        oldest = rw (p, r .entry t) (counted-renamed first last c (k .oldest) (k′ .oldest) (r .oldest));
+        uncommitted = r .uncommitted;
+        next = r .next;
+      }
+
+  pub noted-renamed : (n : ℕ) (a : Bytes) → Renamed first (noted n a k) (noted n a k′)
+  unfolding noted
+  noted-renamed n a =
+      let c = getD a 0 0 in
+      cond-renamed (eqb n 2) (wrote-renamed c (number 0 (part 1 2 a)) (getD a 3 0) (part 4 4 a))
+      (cond-renamed (eqb n 3) (close-renamed c) (cond-renamed (eqb n 4) (store-renamed c) (cond-renamed (eqb n 5) (checkpoint-renamed c) r)))
