@@ -21,7 +21,7 @@ use Rattle.crash.specs.Service.{noted}
 
 -- ---- lists renamed
 -- a test by its two cases
-cases : {A : Type 0} (t : Bool) → (t ≡ true → A) → (t ≡ false → A) → A
+pub cases : {A : Type 0} (t : Bool) → (t ≡ true → A) → (t ≡ false → A) → A
 cases true f g = f refl
 cases false f g = g refl
 
@@ -267,3 +267,60 @@ module _ {first : ℕ → ℕ} {k k′ : Book} (r : Renamed first k k′) where
       let c = getD a 0 0 in
       cond-renamed (eqb n 2) (wrote-renamed c (number 0 (part 1 2 a)) (getD a 3 0) (part 4 4 a))
       (cond-renamed (eqb n 3) (close-renamed c) (cond-renamed (eqb n 4) (store-renamed c) (cond-renamed (eqb n 5) (checkpoint-renamed c) r)))
+
+-- ---- what a cut keeps
+-- writes that are the same but for the names of transactions
+abbrev pub nameless : Write → Write
+nameless w = record { writer = newName 0 0; holder = newName 0 0; block = w .block; offset = w .offset; bytes = w .bytes }
+
+abbrev pub SameWrites : List Write → List Write → Type 0
+SameWrites s s′ = map nameless s ≡ map nameless s′
+
+nameless-image : (base : ℕ → Bytes) (s : List Write) (b : ℕ) → image base (map nameless s) b ≡ image base s b
+unfolding image
+nameless-image base [] b = refl
+nameless-image base (w ∷ ws) b = rw (nameless-image base ws b) refl
+
+pub same-image : (base : ℕ → Bytes) (s s′ : List Write) → SameWrites s s′ → (b : ℕ) → image base s b ≡ image base s′ b
+same-image base s s′ p b = sym (nameless-image base s b) ∙ ap (λ (ws : List Write). image base ws b) p ∙ nameless-image base s′ b
+
+module _ {first : ℕ → ℕ} {k k′ : Book} (r : Renamed first k k′) where
+  committed-renamed : committedIn k′ ≡ map (renamed first) (committedIn k)
+  unfolding committedIn
+  committed-renamed =
+      rw (r .opened)
+      (select-map (renamed first) (λ t. isCommitted (k .entry t .stage)) (λ t. isCommitted (k′ .entry t .stage)) (λ t. rw (r .entry t) refl) (k .opened))
+
+  names-renamed : (ts : List Name) (t : Name) → namesIn k′ (map (renamed first) ts) (renamed first t) ≡ namesIn k ts t
+  unfolding namesIn
+  names-renamed ts t =
+      rw (r .entry t)
+      (all-map (renamed first) (λ n. any (sameName n) ts) (λ n. any (sameName n) (map (renamed first) ts)) (λ n. any-renamed first n ts) (k .entry t .names))
+
+  kept-renamed : kept k′ ≡ map (renamed first) (kept k)
+  unfolding kept
+  kept-renamed = rw committed-renamed (shrink-map (renamed first) (namesIn k) (namesIn k′) names-renamed (committedIn k))
+
+  -- A cut keeps the same transactions,
+  pub kept-same : (t : Name) → any (sameName (renamed first t)) (kept k′) ≡ any (sameName t) (kept k)
+  kept-same t = rw kept-renamed (any-renamed first t (kept k))
+
+  -- and the same writes of them,
+  pub kept-writes-same : SameWrites (keptWrites k) (keptWrites k′)
+  unfolding keptWrites
+  kept-writes-same =
+      let p : Write → Bool = λ w. any (sameName (w .writer)) (kept k) in
+      let q : Write → Bool = λ w. any (sameName (w .writer)) (kept k′) in
+      let e : select q (k′ .writes) ≡ map (renamedWrite first) (select p (k .writes)) =
+            ap (select q) (r .writes) ∙ select-map (renamedWrite first) p q (λ w. kept-same (w .writer)) (k .writes) in
+      sym (ap (map nameless) e ∙ map-map nameless (renamedWrite first) (select p (k .writes)))
+
+  -- so that both give the same images, after saved writes too.
+  pub kept-writes : (base : ℕ → Bytes) (b : ℕ) → image base (keptWrites k) b ≡ image base (keptWrites k′) b
+  kept-writes base b = same-image base (keptWrites k) (keptWrites k′) kept-writes-same b
+
+  pub kept-saved : (s s′ : List Write) → SameWrites s s′ → SameWrites (keptWrites k ++ s) (keptWrites k′ ++ s′)
+  kept-saved s s′ p = rw (map-append nameless (keptWrites k) s, map-append nameless (keptWrites k′) s′, kept-writes-same, p) refl
+
+  pub kept-saved-image : (base : ℕ → Bytes) (s s′ : List Write) → SameWrites s s′ → (b : ℕ) → image base (keptWrites k ++ s) b ≡ image base (keptWrites k′ ++ s′) b
+  kept-saved-image base s s′ p b = same-image base (keptWrites k ++ s) (keptWrites k′ ++ s′) (kept-saved s s′ p) b
