@@ -3,18 +3,17 @@
 -- has saved what the ledger still keeps in its book. So at every coming up both give the same area.
 use Prim.Native.Nat.{ℕ, zero, suc, _+_, _-_, _≤_, min}
 use native.Mathlib.Omega.{arith}
-use mathlib.Core.Path.{_≡_, refl, sym, _∙_, ap}
+use mathlib.Core.Path.{_≡_, refl, sym, _∙_}
 use mathlib.Core.List.{List, [], _∷_, _++_}
-use mathlib.Core.Bool.{Bool, true, false, true≢false, cond}
+use mathlib.Core.Bool.{true, false, true≢false}
 use lib.ListN.{getD}
 use lib.Dec.{eqb}
-use borrow.Author.Tests.{eqb-true, eqb-false, ne-eqb}
+use borrow.Author.Tests.{eqb-true, ne-eqb}
 use Rattle.model.specs.Lists.{select}
 use Rattle.model.specs.Bytes.{Bytes}
 use Rattle.model.specs.Card.{isDown}
 use Rattle.model.specs.Layout.{maxNumber}
 use Rattle.model.specs.declared.Phase.{Phase}
-use Rattle.model.specs.declared.Phase.the-variants.{Blank, Up, Down}
 use Rattle.model.specs.declared.Shape.{Shape}
 use Rattle.crash.specs.Book.{Book, emptyBook, keptWrites, image, blank}
 use Rattle.crash.specs.Service.{Service, emptyService, noted, cutService, fed}
@@ -22,8 +21,9 @@ use Rattle.crash.specs.Ledger.{Ledger, freshLedger, blankLedger, withBoo
 use Rattle.crash.specs.Claims.{downLedger}
 use Rattle.crash.proofs.Rename.{cases, Renamed, SameWrites, empty-renamed, close-renamed, noted-renamed, same-image, kept-saved}
 
+-- a blank card is as one just come up, with nothing written
 pub data Agrees (v : Service) (l : Ledger) : Type 0 where
-  not-down : (first : ℕ → ℕ) → isDown (l .phase) ≡ false → Renamed first (v .book) (l .book) → SameWrites (v .saved) (l .saved) → Agrees v l
+  not-down : (shift : ℕ → ℕ) → isDown (l .phase) ≡ false → Renamed shift (v .book) (l .book) → SameWrites (v .saved) (l .saved) → Agrees v l
   down : isDown (l .phase) ≡ true → v .book ≡ emptyBook (λ (c : ℕ). 1) → SameWrites (v .saved) (keptWrites (l .book) ++ l .saved) → Agrees v l
 
 -- the phase that each command needs to be carried out, as far as the books need it
@@ -52,18 +52,22 @@ down-agrees s = down refl refl (rw (empty-kept (λ (c : ℕ). 1)) refl)
 noted-other : (k : ℕ) (a : Bytes) (b : Book) → (2 ≤ k → k ≤ 5 → ⊥) → noted k a b ≡ b
 unfolding noted
 noted-other k a b h =
-    rw (ne-eqb k 2 (λ e. h (omega arith) (omega arith)), ne-eqb k 3 (λ e. h (omega arith) (omega arith)),
-      ne-eqb k 4 (λ e. h (omega arith) (omega arith)), ne-eqb k 5 (λ e. h (omega arith) (omega arith))) refl
+    rw (
+      ne-eqb k 2 (λ e. h (omega arith) (omega arith)),
+      ne-eqb k 3 (λ e. h (omega arith) (omega arith)),
+      ne-eqb k 4 (λ e. h (omega arith) (omega arith)),
+      ne-eqb k 5 (λ e. h (omega arith) (omega arith)),
+    ) refl
 
 module _ (v : Service) (l : Ledger) where
   cut-agrees : Agrees v l → Agrees (cutService v) (cutLedger l)
   unfolding cutService cutLedger
-  cut-agrees (not-down first p r s) = down refl refl (kept-saved r (v .saved) (l .saved) s)
+  cut-agrees (not-down shift p r s) = down refl refl (kept-saved r (v .saved) (l .saved) s)
   cut-agrees (down p e s) = down refl refl (rw (e, empty-kept (λ (c : ℕ). 1)) s)
 
   recover-agrees : isDown (l .phase) ≡ true → Agrees v l → (bs : List ℕ) → Agrees v (recoverLedger bs l)
   unfolding recoverLedger freshLedger
-  recover-agrees d (not-down first p r s) bs = absurd (true≢false (sym d ∙ p))
+  recover-agrees d (not-down shift p r s) bs = absurd (true≢false (sym d ∙ p))
   recover-agrees d (down p e s) [] =
       let n : ℕ → ℕ = λ c. min (l .book .uncommitted c + 1) (suc maxNumber) in
       not-down (λ c. n c - 1) refl (rw e (empty-renamed (λ c. n c - 1) (λ c. 1) n (λ c. omega arith))) s
@@ -72,12 +76,12 @@ module _ (v : Service) (l : Ledger) where
   close-agrees : (a : Bytes) → isDown (l .phase) ≡ false → Agrees v l
       → Agrees (record { saved = v .saved; book = noted 3 a (v .book) }) (closeLedger (getD a 0 0) l)
   unfolding closeLedger noted
-  close-agrees a d (not-down first p r s) = not-down first p (close-renamed r (getD a 0 0)) s
+  close-agrees a d (not-down shift p r s) = not-down shift p (close-renamed r (getD a 0 0)) s
   close-agrees a d (down p e s) = absurd (true≢false (sym p ∙ d))
 
   noted-agrees : (k : ℕ) (a : Bytes) → (2 ≤ k → k ≤ 5 → isDown (l .phase) ≡ false) → Agrees v l
       → Agrees (record { saved = v .saved; book = noted k a (v .book) }) (withBook l (noted k a (l .book)))
-  noted-agrees k a h (not-down first p r s) = not-down first p (noted-renamed r k a) s
+  noted-agrees k a h (not-down shift p r s) = not-down shift p (noted-renamed r k a) s
   noted-agrees k a h (down p e s) =
       let other : (2 ≤ k → k ≤ 5 → ⊥) = λ x y. true≢false (sym p ∙ h x y) in
       rw (noted-other k a (v .book) other, noted-other k a (l .book) other) (down p e s)
@@ -99,5 +103,5 @@ fed-agrees k a (suc n) v l h g = g
 
 -- ---- the areas
 pub area-same : (v : Service) (l : Ledger) → isDown (l .phase) ≡ false → Agrees v l → (b : ℕ) → image blank (v .saved) b ≡ image blank (l .saved) b
-area-same v l d (not-down first p r s) b = same-image blank (v .saved) (l .saved) s b
+area-same v l d (not-down shift p r s) b = same-image blank (v .saved) (l .saved) s b
 area-same v l d (down p e s) b = absurd (true≢false (sym p ∙ d))

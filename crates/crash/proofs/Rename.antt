@@ -7,7 +7,7 @@ use native.Mathlib.Omega.{arith}
 use mathlib.Core.Path.{_≡_, refl, sym, _∙_, ap}
 use mathlib.Core.List.{List, [], _∷_, _++_, map, map-map, map-append}
 use mathlib.Core.Option.{Option, none, some}
-use mathlib.Core.Bool.{Bool, true, false, cond, _&&_, _||_}
+use mathlib.Core.Bool.{Bool, true, false, cond}
 use lib.ListN.{length, getD, length-map}
 use lib.Dec.{eqb, leb}
 use borrow.Author.Tests.{eqb-true, eqb-false, eq-eqb, ne-eqb}
@@ -16,11 +16,10 @@ use Rattle.model.specs.Bytes.{Bytes, number, part}
 use Rattle.model.specs.Card.{newName, sameName}
 use Rattle.model.specs.Shrink.{strike, shrinkIn, shrink}
 use Rattle.model.specs.declared.Name.{Name}
-use Rattle.crash.specs.Book.{Stage, running, closed, committed, retired, isRunning, isClosed, isCommitted, isRetired, counted, Entry, Write, Book, emptyBook, change, raise, staged, taking, naming, begin, holderIn, Meeting, no-holder, own, running-holder, closed-holder, meets, ruled, holderAfter, note, wrote, close, store, checkpoint, committedIn, namesIn, kept, keptWrites, image}
+use Rattle.crash.specs.Book.{running, closed, committed, retired, isRunning, isClosed, isCommitted, isRetired, counted, Entry, Write, Book, emptyBook, change, raise, staged, taking, naming, begin, holderIn, Meeting, no-holder, own, running-holder, closed-holder, meets, ruled, holderAfter, note, wrote, close, store, checkpoint, committedIn, namesIn, kept, keptWrites, image}
 use Rattle.crash.specs.Service.{noted}
 
--- ---- lists renamed
--- a test by its two cases
+-- ---- tests: by their two cases, and under a function
 pub cases : {A : Type 0} (t : Bool) → (t ≡ true → A) → (t ≡ false → A) → A
 cases true f g = f refl
 cases false f g = g refl
@@ -29,6 +28,7 @@ cond-apply : {A B : Type 0} (f : A → B) (t : Bool) (x y : A) → cond t (f x) 
 cond-apply f true x y = refl
 cond-apply f false x y = refl
 
+-- ---- lists renamed
 module _ {A B : Type 0} (f : A → B) (p : A → Bool) (q : B → Bool) (h : (x : A) → q (f x) ≡ p x) where
   select-map : (xs : List A) → select q (map f xs) ≡ map f (select p xs)
   unfolding select
@@ -68,86 +68,86 @@ module _ {A B : Type 0} (f : A → B) (stays : List A → A → Bool) (stays′ 
 
 -- ---- names, entries and writes renamed
 unfoldable pub renamed : (ℕ → ℕ) → Name → Name
-renamed first t = newName (t .core) (t .number + first (t .core))
+renamed shift t = newName (t .core) (t .number + shift (t .core))
 
 abbrev pub renamedEntry : (ℕ → ℕ) → Entry → Entry
-renamedEntry first e = record { blocks = e .blocks; names = map (renamed first) (e .names); stage = e .stage }
+renamedEntry shift e = record { blocks = e .blocks; names = map (renamed shift) (e .names); stage = e .stage }
 
 abbrev pub renamedWrite : (ℕ → ℕ) → Write → Write
-renamedWrite first w = record { writer = renamed first (w .writer); holder = renamed first (w .holder); block = w .block; offset = w .offset; bytes = w .bytes }
+renamedWrite shift w = record { writer = renamed shift (w .writer); holder = renamed shift (w .holder); block = w .block; offset = w .offset; bytes = w .bytes }
 
 abbrev renamedHolder : (ℕ → ℕ) → Option Name → Option Name
-renamedHolder first none = none
-renamedHolder first (some t) = some (renamed first t)
+renamedHolder shift none = none
+renamedHolder shift (some t) = some (renamed shift t)
 
 abbrev renamedMeeting : (ℕ → ℕ) → Meeting → Meeting
-renamedMeeting first no-holder = no-holder
-renamedMeeting first own = own
-renamedMeeting first (running-holder u) = running-holder (renamed first u)
-renamedMeeting first (closed-holder u) = closed-holder (renamed first u)
+renamedMeeting shift no-holder = no-holder
+renamedMeeting shift own = own
+renamedMeeting shift (running-holder u) = running-holder (renamed shift u)
+renamedMeeting shift (closed-holder u) = closed-holder (renamed shift u)
 
--- the second book is the first with each core's numbers shifted
-pub record Renamed (first : ℕ → ℕ) (k k′ : Book) : Type 0 where
-  pub opened : k′ .opened ≡ map (renamed first) (k .opened)
-  pub entry : (t : Name) → k′ .entry (renamed first t) ≡ renamedEntry first (k .entry t)
-  pub writes : k′ .writes ≡ map (renamedWrite first) (k .writes)
-  pub oldest : (c : ℕ) → k′ .oldest c ≡ k .oldest c + first c
-  pub uncommitted : (c : ℕ) → k′ .uncommitted c ≡ k .uncommitted c + first c
-  pub next : (c : ℕ) → k′ .next c ≡ k .next c + first c
+-- the second book is the shift with each core's numbers shifted
+pub record Renamed (shift : ℕ → ℕ) (k k′ : Book) : Type 0 where
+  pub opened : k′ .opened ≡ map (renamed shift) (k .opened)
+  pub entry : (t : Name) → k′ .entry (renamed shift t) ≡ renamedEntry shift (k .entry t)
+  pub writes : k′ .writes ≡ map (renamedWrite shift) (k .writes)
+  pub oldest : (c : ℕ) → k′ .oldest c ≡ k .oldest c + shift c
+  pub uncommitted : (c : ℕ) → k′ .uncommitted c ≡ k .uncommitted c + shift c
+  pub next : (c : ℕ) → k′ .next c ≡ k .next c + shift c
 
 eqb-shift : (a b n : ℕ) → eqb (a + n) (b + n) ≡ eqb a b
 eqb-shift a b n =
     cases (eqb a b) (λ e. rw (e, eqb-true a b e) (eq-eqb (b + n) (b + n) refl))
     (λ e. rw e (ne-eqb (a + n) (b + n) (λ q. eqb-false a b e (omega arith))))
 
-module _ (first : ℕ → ℕ) where
-  pub same-renamed : (t u : Name) → sameName (renamed first t) (renamed first u) ≡ sameName t u
+module _ (shift : ℕ → ℕ) where
+  pub same-renamed : (t u : Name) → sameName (renamed shift t) (renamed shift u) ≡ sameName t u
   unfolding sameName renamed
   same-renamed t u =
-      cases (eqb (t .core) (u .core)) (λ e. rw (e, eqb-true (t .core) (u .core) e) (eqb-shift (t .number) (u .number) (first (u .core))))
+      cases (eqb (t .core) (u .core)) (λ e. rw (e, eqb-true (t .core) (u .core) e) (eqb-shift (t .number) (u .number) (shift (u .core))))
       (λ e. rw e refl)
 
-  shifted : (c n n′ : ℕ) → n′ ≡ n + first c → newName c n′ ≡ renamed first (newName c n)
+  renamed-number : (c n n′ : ℕ) → n′ ≡ n + shift c → newName c n′ ≡ renamed shift (newName c n)
   unfolding renamed
-  shifted c n n′ e = rw e refl
+  renamed-number c n n′ e = rw e refl
 
-  any-renamed : (t : Name) (us : List Name) → any (sameName (renamed first t)) (map (renamed first) us) ≡ any (sameName t) us
-  any-renamed t us = any-map (renamed first) (sameName t) (sameName (renamed first t)) (same-renamed t) us
+  any-renamed : (t : Name) (us : List Name) → any (sameName (renamed shift t)) (map (renamed shift) us) ≡ any (sameName t) us
+  any-renamed t us = any-map (renamed shift) (sameName t) (sameName (renamed shift t)) (same-renamed t) us
 
   -- ---- what the commands are made of
-  change-renamed : (t : Name) (g g′ : Entry → Entry) → ((e : Entry) → g′ (renamedEntry first e) ≡ renamedEntry first (g e))
-      → (entry entry′ : Name → Entry) → ((u : Name) → entry′ (renamed first u) ≡ renamedEntry first (entry u))
-      → (u : Name) → change (renamed first t) g′ entry′ (renamed first u) ≡ renamedEntry first (change t g entry u)
+  change-renamed : (t : Name) (g g′ : Entry → Entry) → ((e : Entry) → g′ (renamedEntry shift e) ≡ renamedEntry shift (g e))
+      → (entry entry′ : Name → Entry) → ((u : Name) → entry′ (renamed shift u) ≡ renamedEntry shift (entry u))
+      → (u : Name) → change (renamed shift t) g′ entry′ (renamed shift u) ≡ renamedEntry shift (change t g entry u)
   unfolding change
-  change-renamed t g g′ h entry entry′ e u = rw (e u, same-renamed u t, h (entry u)) (cond-apply (renamedEntry first) (sameName u t) (g (entry u)) (entry u))
+  change-renamed t g g′ h entry entry′ e u = rw (e u, same-renamed u t, h (entry u)) (cond-apply (renamedEntry shift) (sameName u t) (g (entry u)) (entry u))
 
-  raise-renamed : (c : ℕ) (n n′ : ℕ → ℕ) → ((i : ℕ) → n′ i ≡ n i + first i) → (i : ℕ) → raise c n′ i ≡ raise c n i + first i
+  raise-renamed : (c : ℕ) (n n′ : ℕ → ℕ) → ((i : ℕ) → n′ i ≡ n i + shift i) → (i : ℕ) → raise c n′ i ≡ raise c n i + shift i
   unfolding raise
-  raise-renamed c n n′ h i = rw (h i, ← suc-add (n i) (first i)) (cond-apply (λ (x : ℕ). x + first i) (eqb i c) (suc (n i)) (n i))
+  raise-renamed c n n′ h i = rw (h i, ← suc-add (n i) (shift i)) (cond-apply (λ (x : ℕ). x + shift i) (eqb i c) (suc (n i)) (n i))
 
   -- raised where the count is full
-  counted-renamed : (last : Bool) (c : ℕ) (n n′ : ℕ → ℕ) → ((i : ℕ) → n′ i ≡ n i + first i) → (i : ℕ) → cond last (raise c n′) n′ i ≡ cond last (raise c n) n i + first i
+  counted-renamed : (last : Bool) (c : ℕ) (n n′ : ℕ → ℕ) → ((i : ℕ) → n′ i ≡ n i + shift i) → (i : ℕ) → cond last (raise c n′) n′ i ≡ cond last (raise c n) n i + shift i
   counted-renamed true c n n′ h i = raise-renamed c n n′ h i
   counted-renamed false c n n′ h i = h i
 
-  naming-renamed : (t : Name) (e : Entry) → naming (renamed first t) (renamedEntry first e) ≡ renamedEntry first (naming t e)
+  naming-renamed : (t : Name) (e : Entry) → naming (renamed shift t) (renamedEntry shift e) ≡ renamedEntry shift (naming t e)
   naming-renamed t e =
       rw (any-renamed t (e .names))
       (ap (λ (ns : List Name). record { blocks = e .blocks; names = ns; stage = e .stage })
-      (rw (← map-append (renamed first) (e .names) (t ∷ [])) (cond-apply (map (renamed first)) (any (sameName t) (e .names)) (e .names) (e .names ++ (t ∷ [])))))
+      (rw (← map-append (renamed shift) (e .names) (t ∷ [])) (cond-apply (map (renamed shift)) (any (sameName t) (e .names)) (e .names) (e .names ++ (t ∷ [])))))
 
-  ruled-renamed : (m : Meeting) (t : Name) (b : ℕ) (entry entry′ : Name → Entry) → ((u : Name) → entry′ (renamed first u) ≡ renamedEntry first (entry u))
-      → (u : Name) → ruled (renamedMeeting first m) (renamed first t) b entry′ (renamed first u) ≡ renamedEntry first (ruled m t b entry u)
+  ruled-renamed : (m : Meeting) (t : Name) (b : ℕ) (entry entry′ : Name → Entry) → ((u : Name) → entry′ (renamed shift u) ≡ renamedEntry shift (entry u))
+      → (u : Name) → ruled (renamedMeeting shift m) (renamed shift t) b entry′ (renamed shift u) ≡ renamedEntry shift (ruled m t b entry u)
   unfolding ruled
   ruled-renamed no-holder t b entry entry′ e u = change-renamed t (taking b) (taking b) (λ x. refl) entry entry′ e u
   ruled-renamed own t b entry entry′ e u = e u
   ruled-renamed (running-holder w) t b entry entry′ e u =
-      change-renamed w (naming t) (naming (renamed first t)) (naming-renamed t) (change t (naming w) entry) (change (renamed first t) (naming (renamed first w)) entry′)
-      (change-renamed t (naming w) (naming (renamed first w)) (naming-renamed w) entry entry′ e) u
+      change-renamed w (naming t) (naming (renamed shift t)) (naming-renamed t) (change t (naming w) entry) (change (renamed shift t) (naming (renamed shift w)) entry′)
+      (change-renamed t (naming w) (naming (renamed shift w)) (naming-renamed w) entry entry′ e) u
   ruled-renamed (closed-holder w) t b entry entry′ e u =
-      change-renamed t (λ x. taking b (naming w x)) (λ x. taking b (naming (renamed first w) x)) (λ x. ap (taking b) (naming-renamed w x)) entry entry′ e u
+      change-renamed t (λ x. taking b (naming w x)) (λ x. taking b (naming (renamed shift w) x)) (λ x. ap (taking b) (naming-renamed w x)) entry entry′ e u
 
-  holderAfter-renamed : (m : Meeting) (t : Name) → holderAfter (renamedMeeting first m) (renamed first t) ≡ renamed first (holderAfter m t)
+  holderAfter-renamed : (m : Meeting) (t : Name) → holderAfter (renamedMeeting shift m) (renamed shift t) ≡ renamed shift (holderAfter m t)
   unfolding holderAfter
   holderAfter-renamed no-holder t = refl
   holderAfter-renamed own t = refl
@@ -155,77 +155,77 @@ module _ (first : ℕ → ℕ) where
   holderAfter-renamed (closed-holder u) t = refl
 
 -- ---- the commands
-pub empty-renamed : (first n n′ : ℕ → ℕ) → ((c : ℕ) → n′ c ≡ n c + first c) → Renamed first (emptyBook n) (emptyBook n′)
+pub empty-renamed : (shift n n′ : ℕ → ℕ) → ((c : ℕ) → n′ c ≡ n c + shift c) → Renamed shift (emptyBook n) (emptyBook n′)
 unfolding emptyBook
-empty-renamed first n n′ h = record { opened = refl; entry = λ t. refl; writes = refl; oldest = h; uncommitted = h; next = h }
+empty-renamed shift n n′ h = record { opened = refl; entry = λ t. refl; writes = refl; oldest = h; uncommitted = h; next = h }
 
-cond-renamed : {first : ℕ → ℕ} {k k′ j j′ : Book} (t : Bool) → Renamed first k k′ → Renamed first j j′ → Renamed first (cond t k j) (cond t k′ j′)
+cond-renamed : {shift : ℕ → ℕ} {k k′ j j′ : Book} (t : Bool) → Renamed shift k k′ → Renamed shift j j′ → Renamed shift (cond t k j) (cond t k′ j′)
 cond-renamed true r s = r
 cond-renamed false r s = s
 
-module _ {first : ℕ → ℕ} {k k′ : Book} (r : Renamed first k k′) where
-  begin-renamed : (t : Name) → Renamed first (begin t k) (begin (renamed first t) k′)
+module _ {shift : ℕ → ℕ} {k k′ : Book} (r : Renamed shift k k′) where
+  begin-renamed : (t : Name) → Renamed shift (begin t k) (begin (renamed shift t) k′)
   unfolding begin
   begin-renamed t =
       record {
-        opened = ap (λ (ts : List Name). renamed first t ∷ ts) (r .opened);
-        entry = change-renamed first t (staged running) (staged running) (λ e. refl) (k .entry) (k′ .entry) (r .entry);
+        opened = ap (λ (ts : List Name). renamed shift t ∷ ts) (r .opened);
+        entry = change-renamed shift t (staged running) (staged running) (λ e. refl) (k .entry) (k′ .entry) (r .entry);
         writes = r .writes;
         oldest = r .oldest;
         uncommitted = r .uncommitted;
         next = r .next;
       }
 
-  holderIn-renamed : (b : ℕ) (ws : List Write) → holderIn k′ b (map (renamedWrite first) ws) ≡ renamedHolder first (holderIn k b ws)
+  holderIn-renamed : (b : ℕ) (ws : List Write) → holderIn k′ b (map (renamedWrite shift) ws) ≡ renamedHolder shift (holderIn k b ws)
   unfolding holderIn
   holderIn-renamed b [] = refl
   holderIn-renamed b (w ∷ ws) =
-      rw (holderIn-renamed b ws, r .entry (w .holder), cond-apply (renamedHolder first) (isRetired (k .entry (w .holder) .stage)) none (some (w .holder)))
-      (cond-apply (renamedHolder first) (eqb b (w .block)) (cond (isRetired (k .entry (w .holder) .stage)) none (some (w .holder))) (holderIn k b ws))
+      rw (holderIn-renamed b ws, r .entry (w .holder), cond-apply (renamedHolder shift) (isRetired (k .entry (w .holder) .stage)) none (some (w .holder)))
+      (cond-apply (renamedHolder shift) (eqb b (w .block)) (cond (isRetired (k .entry (w .holder) .stage)) none (some (w .holder))) (holderIn k b ws))
 
-  meets-renamed : (t : Name) (o : Option Name) → meets k′ (renamed first t) (renamedHolder first o) ≡ renamedMeeting first (meets k t o)
+  meets-renamed : (t : Name) (o : Option Name) → meets k′ (renamed shift t) (renamedHolder shift o) ≡ renamedMeeting shift (meets k t o)
   unfolding meets
   meets-renamed t none = refl
   meets-renamed t (some u) =
-      rw (same-renamed first u t, r .entry u, cond-apply (renamedMeeting first) (isClosed (k .entry u .stage)) (closed-holder u) (running-holder u))
-      (cond-apply (renamedMeeting first) (sameName u t) own (cond (isClosed (k .entry u .stage)) (closed-holder u) (running-holder u)))
+      rw (same-renamed shift u t, r .entry u, cond-apply (renamedMeeting shift) (isClosed (k .entry u .stage)) (closed-holder u) (running-holder u))
+      (cond-apply (renamedMeeting shift) (sameName u t) own (cond (isClosed (k .entry u .stage)) (closed-holder u) (running-holder u)))
 
-  note-renamed : (t : Name) (b o : ℕ) (v : Bytes) → Renamed first (note t b o v k) (note (renamed first t) b o v k′)
+  note-renamed : (t : Name) (b o : ℕ) (v : Bytes) → Renamed shift (note t b o v k) (note (renamed shift t) b o v k′)
   unfolding note
   note-renamed t b o v =
       let m = meets k t (holderIn k b (k .writes)) in
-      let e : meets k′ (renamed first t) (holderIn k′ b (k′ .writes)) ≡ renamedMeeting first m =
-            ap (meets k′ (renamed first t)) (ap (holderIn k′ b) (r .writes) ∙ holderIn-renamed b (k .writes)) ∙ meets-renamed t (holderIn k b (k .writes)) in
+      let h : holderIn k′ b (k′ .writes) ≡ renamedHolder shift (holderIn k b (k .writes)) = ap (holderIn k′ b) (r .writes) ∙ holderIn-renamed b (k .writes) in
+      let e : meets k′ (renamed shift t) (holderIn k′ b (k′ .writes)) ≡ renamedMeeting shift m = ap (meets k′ (renamed shift t)) h ∙ meets-renamed t (holderIn k b (k .writes)) in
       record {
         opened = r .opened;
-        entry = rw e (ruled-renamed first m t b (k .entry) (k′ .entry) (r .entry));
-        writes = rw (e, holderAfter-renamed first m t, r .writes) refl;
+        entry = rw e (ruled-renamed shift m t b (k .entry) (k′ .entry) (r .entry));
+        writes = rw (e, holderAfter-renamed shift m t, r .writes) refl;
         oldest = r .oldest;
         uncommitted = r .uncommitted;
         next = r .next;
       }
 
-module _ {first : ℕ → ℕ} {k k′ : Book} (r : Renamed first k k′) where
-  pub wrote-renamed : (c b o : ℕ) (v : Bytes) → Renamed first (wrote c b o v k) (wrote c b o v k′)
+module _ {shift : ℕ → ℕ} {k k′ : Book} (r : Renamed shift k k′) where
+  pub wrote-renamed : (c b o : ℕ) (v : Bytes) → Renamed shift (wrote c b o v k) (wrote c b o v k′)
   unfolding wrote
   wrote-renamed c b o v =
       let t = newName c (k .next c) in
-      rw (shifted first c (k .next c) (k′ .next c) (r .next c), r .entry t)
+      rw (renamed-number shift c (k .next c) (k′ .next c) (r .next c), r .entry t)
       (note-renamed (cond-renamed (isRunning (k .entry t .stage)) r (begin-renamed r t)) t b o v)
 
-  pub close-renamed : (c : ℕ) → Renamed first (close c k) (close c k′)
+  pub close-renamed : (c : ℕ) → Renamed shift (close c k) (close c k′)
   unfolding close
   close-renamed c =
       record {
         opened = r .opened;
-        entry = rw (shifted first c (k .next c) (k′ .next c) (r .next c)) (change-renamed first (newName c (k .next c)) (staged (closed 0)) (staged (closed 0)) (λ e. refl) (k .entry) (k′ .entry) (r .entry));
+        entry = rw (renamed-number shift c (k .next c) (k′ .next c) (r .next c)) (change-renamed shift (newName c (k .next c)) (staged (closed 0)) (staged (closed 0)) (λ e. refl) (k .entry) (k′ .entry) (r .entry));
         writes = r .writes;
         oldest = r .oldest;
         uncommitted = r .uncommitted;
-        next = raise-renamed first c (k .next) (k′ .next) (r .next);
+        next = raise-renamed shift c (k .next) (k′ .next) (r .next);
       }
 
-  pub store-renamed : (c : ℕ) → Renamed first (store c k) (store c k′)
+  pub store-renamed : (c : ℕ) → Renamed shift (store c k) (store c k′)
   unfolding store
   store-renamed c =
       let t = newName c (k .uncommitted c) in
@@ -233,17 +233,17 @@ module _ {first : ℕ → ℕ} {k k′ : Book} (r : Renamed first k k′) where
       let n = suc (counted (e .stage)) in
       let last = leb (length (e .blocks) + 2) n in
       let g = staged (cond last (committed 0) (closed n)) in
-      let p : newName c (k′ .uncommitted c) ≡ renamed first t = shifted first c (k .uncommitted c) (k′ .uncommitted c) (r .uncommitted c) in
+      let p : newName c (k′ .uncommitted c) ≡ renamed shift t = renamed-number shift c (k .uncommitted c) (k′ .uncommitted c) (r .uncommitted c) in
       record {
         opened = r .opened;
-        entry = rw (p, r .entry t) (change-renamed first t g g (λ x. refl) (k .entry) (k′ .entry) (r .entry));
+        entry = rw (p, r .entry t) (change-renamed shift t g g (λ x. refl) (k .entry) (k′ .entry) (r .entry));
         writes = r .writes;
         oldest = r .oldest;
-        uncommitted = rw (p, r .entry t) (counted-renamed first last c (k .uncommitted) (k′ .uncommitted) (r .uncommitted));
+        uncommitted = rw (p, r .entry t) (counted-renamed shift last c (k .uncommitted) (k′ .uncommitted) (r .uncommitted));
         next = r .next;
       }
 
-  pub checkpoint-renamed : (c : ℕ) → Renamed first (checkpoint c k) (checkpoint c k′)
+  pub checkpoint-renamed : (c : ℕ) → Renamed shift (checkpoint c k) (checkpoint c k′)
   unfolding checkpoint
   checkpoint-renamed c =
       let t = newName c (k .oldest c) in
@@ -251,17 +251,17 @@ module _ {first : ℕ → ℕ} {k k′ : Book} (r : Renamed first k k′) where
       let n = suc (counted (e .stage)) in
       let last = leb (length (e .blocks) + 1) n in
       let g = staged (cond last retired (committed n)) in
-      let p : newName c (k′ .oldest c) ≡ renamed first t = shifted first c (k .oldest c) (k′ .oldest c) (r .oldest c) in
+      let p : newName c (k′ .oldest c) ≡ renamed shift t = renamed-number shift c (k .oldest c) (k′ .oldest c) (r .oldest c) in
       record {
         opened = r .opened;
-        entry = rw (p, r .entry t) (change-renamed first t g g (λ x. refl) (k .entry) (k′ .entry) (r .entry));
+        entry = rw (p, r .entry t) (change-renamed shift t g g (λ x. refl) (k .entry) (k′ .entry) (r .entry));
         writes = r .writes;
-        oldest = rw (p, r .entry t) (counted-renamed first last c (k .oldest) (k′ .oldest) (r .oldest));
+        oldest = rw (p, r .entry t) (counted-renamed shift last c (k .oldest) (k′ .oldest) (r .oldest));
         uncommitted = r .uncommitted;
         next = r .next;
       }
 
-  pub noted-renamed : (n : ℕ) (a : Bytes) → Renamed first (noted n a k) (noted n a k′)
+  pub noted-renamed : (n : ℕ) (a : Bytes) → Renamed shift (noted n a k) (noted n a k′)
   unfolding noted
   noted-renamed n a =
       let c = getD a 0 0 in
@@ -284,36 +284,37 @@ nameless-image base (w ∷ ws) b = rw (nameless-image base ws b) refl
 pub same-image : (base : ℕ → Bytes) (s s′ : List Write) → SameWrites s s′ → (b : ℕ) → image base s b ≡ image base s′ b
 same-image base s s′ p b = sym (nameless-image base s b) ∙ ap (λ (ws : List Write). image base ws b) p ∙ nameless-image base s′ b
 
-module _ {first : ℕ → ℕ} {k k′ : Book} (r : Renamed first k k′) where
-  committed-renamed : committedIn k′ ≡ map (renamed first) (committedIn k)
+module _ {shift : ℕ → ℕ} {k k′ : Book} (r : Renamed shift k k′) where
+  committed-renamed : committedIn k′ ≡ map (renamed shift) (committedIn k)
   unfolding committedIn
   committed-renamed =
       rw (r .opened)
-      (select-map (renamed first) (λ t. isCommitted (k .entry t .stage)) (λ t. isCommitted (k′ .entry t .stage)) (λ t. rw (r .entry t) refl) (k .opened))
+      (select-map (renamed shift) (λ t. isCommitted (k .entry t .stage)) (λ t. isCommitted (k′ .entry t .stage)) (λ t. rw (r .entry t) refl) (k .opened))
 
-  names-renamed : (ts : List Name) (t : Name) → namesIn k′ (map (renamed first) ts) (renamed first t) ≡ namesIn k ts t
+  names-renamed : (ts : List Name) (t : Name) → namesIn k′ (map (renamed shift) ts) (renamed shift t) ≡ namesIn k ts t
   unfolding namesIn
   names-renamed ts t =
       rw (r .entry t)
-      (all-map (renamed first) (λ n. any (sameName n) ts) (λ n. any (sameName n) (map (renamed first) ts)) (λ n. any-renamed first n ts) (k .entry t .names))
+      (all-map (renamed shift) (λ n. any (sameName n) ts) (λ n. any (sameName n) (map (renamed shift) ts)) (λ n. any-renamed shift n ts) (k .entry t .names))
 
-  kept-renamed : kept k′ ≡ map (renamed first) (kept k)
+  kept-renamed : kept k′ ≡ map (renamed shift) (kept k)
   unfolding kept
-  kept-renamed = rw committed-renamed (shrink-map (renamed first) (namesIn k) (namesIn k′) names-renamed (committedIn k))
+  kept-renamed = rw committed-renamed (shrink-map (renamed shift) (namesIn k) (namesIn k′) names-renamed (committedIn k))
 
   -- A cut keeps the same transactions,
-  pub kept-same : (t : Name) → any (sameName (renamed first t)) (kept k′) ≡ any (sameName t) (kept k)
-  kept-same t = rw kept-renamed (any-renamed first t (kept k))
+  pub kept-same : (t : Name) → any (sameName (renamed shift t)) (kept k′) ≡ any (sameName t) (kept k)
+  kept-same t = rw kept-renamed (any-renamed shift t (kept k))
 
   -- and the same writes of them,
-  pub kept-writes-same : SameWrites (keptWrites k) (keptWrites k′)
+  kept-writes-renamed : keptWrites k′ ≡ map (renamedWrite shift) (keptWrites k)
   unfolding keptWrites
-  kept-writes-same =
+  kept-writes-renamed =
       let p : Write → Bool = λ w. any (sameName (w .writer)) (kept k) in
       let q : Write → Bool = λ w. any (sameName (w .writer)) (kept k′) in
-      let e : select q (k′ .writes) ≡ map (renamedWrite first) (select p (k .writes)) =
-            ap (select q) (r .writes) ∙ select-map (renamedWrite first) p q (λ w. kept-same (w .writer)) (k .writes) in
-      sym (ap (map nameless) e ∙ map-map nameless (renamedWrite first) (select p (k .writes)))
+      ap (select q) (r .writes) ∙ select-map (renamedWrite shift) p q (λ w. kept-same (w .writer)) (k .writes)
+
+  pub kept-writes-same : SameWrites (keptWrites k) (keptWrites k′)
+  kept-writes-same = sym (ap (map nameless) kept-writes-renamed ∙ map-map nameless (renamedWrite shift) (keptWrites k))
 
   -- so that both give the same images, after saved writes too.
   pub kept-writes : (base : ℕ → Bytes) (b : ℕ) → image base (keptWrites k) b ≡ image base (keptWrites k′) b
