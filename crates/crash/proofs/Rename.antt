@@ -86,7 +86,8 @@ renamedMeeting shift own = own
 renamedMeeting shift (running-holder u) = running-holder (renamed shift u)
 renamedMeeting shift (closed-holder u) = closed-holder (renamed shift u)
 
--- the second book is the shift with each core's numbers shifted
+-- the second book is the first with each core's numbers shifted; what it says of names that are none of the first's
+-- does not matter
 pub record Renamed (shift : ℕ → ℕ) (k k′ : Book) : Type 0 where
   pub opened : k′ .opened ≡ map (renamed shift) (k .opened)
   pub entry : (t : Name) → k′ .entry (renamed shift t) ≡ renamedEntry shift (k .entry t)
