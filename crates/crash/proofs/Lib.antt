@@ -1,2 +1,4 @@
 -- Why the claims are true. Layer A: one block's history. Layer B: the bytes. Layer C: from one coming up to the next.
+pub mod Rename
+pub mod Agreement
 pub mod Relation
