@@ -1,3 +1,9 @@
 -- Laws of the definitions, each once, for the theorem and for the code.
 pub mod Computes
 pub mod Cases
+pub mod Lists
+pub mod Logic
+pub mod Select
+pub mod Shrink
+pub mod Valid
+pub mod Command
