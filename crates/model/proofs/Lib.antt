@@ -2,6 +2,9 @@
 pub mod Computes
 pub mod Cases
 pub mod Lists
+pub mod Store
+pub mod Words
+pub mod Encoding
 pub mod Logic
 pub mod Select
 pub mod Shrink
