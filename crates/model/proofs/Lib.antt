@@ -10,3 +10,4 @@ pub mod Select
 pub mod Shrink
 pub mod Valid
 pub mod Command
+pub mod Tape
