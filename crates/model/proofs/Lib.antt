@@ -5,6 +5,7 @@ pub mod Lists
 pub mod Store
 pub mod Words
 pub mod Encoding
+pub mod Journal
 pub mod Logic
 pub mod Select
 pub mod Shrink

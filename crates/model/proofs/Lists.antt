@@ -7,11 +7,15 @@ use mathlib.Core.Path.{_≡_, refl, ap, _∙_, sym, subst}
 use mathlib.Core.Bool.{Bool, true, false, false≢true, _&&_, _||_, and-assoc, or-assoc}
 use mathlib.Core.Logic.{_⊎_, inl, inr}
 use mathlib.Core.List.{List, [], _∷_, _++_, map, List·Memᴰ, List·Memᴰ·head, List·Memᴰ·tail, List·Memᴰ·not-nil, List·Memᴰ·cases-cons, List·Memᴰ·append-cases, List·Memᴰ·eq-of-singleton, Memᴰ·append-left, Memᴰ·append-right, map-append}
-use lib.ListN.{length, getD, replicate, length-append, length-map, List·getD-append, List·getD-map}
+use lib.ListN.{length, take, getD, replicate, length-append, length-map, List·getD-append, List·getD-map}
 use lib.Seq.{getD-at}
 use Rattle.model.specs.Lists.{below, all, any}
 
--- ---- and, or
+-- ---- Bool: both cases with what is known in each, and, or
+pub cases : {A : Type 0} (t : Bool) → (t ≡ true → A) → (t ≡ false → A) → A
+cases true f g = f refl
+cases false f g = g refl
+
 pub and-both : {a b : Bool} → a ≡ true → b ≡ true → (a && b) ≡ true
 and-both p q = rw (p, q)
 
@@ -68,6 +72,16 @@ module _ {A : Type 0} (p : A → Bool) where
   unfolding any
   any-append [] ys = refl
   any-append (x ∷ xs) ys = ap (λ (b : Bool). p x || b) (any-append xs ys) ∙ sym (or-assoc (p x) (any p xs) (any p ys))
+
+module _ {A : Type 0} where
+  pub getD-mem : (xs : List A) (i : ℕ) (d : A) → i < length xs → List·Memᴰ (getD xs i d) xs
+  getD-mem [] i d h = absurd (omega arith)
+  getD-mem (x ∷ xs) zero d h = List·Memᴰ·head refl
+  getD-mem (x ∷ xs) (suc i) d h = List·Memᴰ·tail (getD-mem xs i d (omega arith))
+
+  pub mem-getD : {x : A} {xs : List A} → List·Memᴰ x xs → (d : A) → (i : ℕ) × (i < length xs) × (getD xs i d ≡ x)
+  mem-getD (List·Memᴰ·head e) d = (0, omega arith, sym e)
+  mem-getD (List·Memᴰ·tail m) d = let r = mem-getD m d in (suc (r .0), omega (arith, r .1), r .2)
 
 -- ---- the numbers below a count
 pub length-below : (n : ℕ) → length (below n) ≡ n
@@ -134,3 +148,8 @@ module _ {A : Type 0} where
   pub each-replicate : (P : A → Type 0) (n : ℕ) (x : A) → P x → Each P (replicate n x)
   each-replicate P zero x h = tt
   each-replicate P (suc n) x h = (h, each-replicate P n x h)
+
+  pub each-take : (P : A → Type 0) (n : ℕ) (xs : List A) → Each P xs → Each P (take n xs)
+  each-take P zero xs a = tt
+  each-take P (suc n) [] a = tt
+  each-take P (suc n) (x ∷ xs) a = (a .0, each-take P n xs (a .1))
