@@ -12,3 +12,4 @@ pub mod Valid
 pub mod Command
 pub mod Tape
 pub mod Arrays
+pub mod OneStore
