@@ -7,19 +7,21 @@ use mathlib.Core.Bool.{Bool, true, false, true≢false, cond, _&&_}
 use mathlib.Core.List.{List, [], _∷_, map, List·Memᴰ, List·Memᴰ·head, List·Memᴰ·tail, Memᴰ·of-map}
 use lib.ListN.{length, take, getD, length-map, length-take}
 use lib.Dec.{ltb, leb, eqb}
-use borrow.Author.Tests.{ltb-true, ltb-false, leb-true, leb-false, eqb-true}
+use borrow.Author.Tests.{ltb-true, ltb-false, leb-true, leb-false, eqb-true, not-false}
 use Rattle.model.specs.Lists.{below, all}
 use Rattle.model.specs.Bytes.{Bytes, be4, blockAt, store}
-use Rattle.model.specs.Shape.{nearest, clamped, homeBlock, journalBlock}
+use Rattle.model.specs.Shape.{inRange, nearest, clamped, homeBlock, journalBlock}
 use Rattle.model.specs.Card.{taken, listed, shapeOf, coreOf}
 use Rattle.model.specs.Layout.{Held, mark, pairsIn, hasHead, maxNumber, blockCount, heldIn, distinct, isHeld, isDescriptor, isMaster, shapeIn}
-use Rattle.model.specs.Journal.{journalAt, journal, journals, heldBy, blocksOf, imageOf}
+use Rattle.model.specs.Journal.{journalAt, journal, journals, heldBy, blocksOf, took, imageOf}
 use Rattle.model.specs.Valid.{blocksHeld, later, newest}
 use Rattle.model.specs.Command.{World, Outcome, wrongLength, noCore}
+use Rattle.model.specs.Format.{formatConditions, formatted, format}
 use Rattle.model.specs.Write.{written}
 use Rattle.model.specs.Commit.{closed, copyBlock, heldCopies, closedNumber, storeConditions, stored, nextStored, nextPosition}
 use Rattle.model.specs.Checkpoint.{committedOf, oldest, checkpointConditions, storedHome, storedMaster, retiredCard, checkpointed}
 use Rattle.model.specs.Recovery.{shapeOn, tailOn, committedOn, validOn, recoverConditions, blocksLeft, imageFound, newestImage, emptiedTail, recoverStep, recovered}
+use Rattle.model.specs.Tape.{step, commandByte, operandsAt, commandAt}
 use Rattle.model.specs.declared.Shape.{Shape}
 use Rattle.model.specs.declared.Tail.{Tail}
 use Rattle.model.specs.declared.Transaction.{Transaction}
@@ -34,7 +36,7 @@ use Rattle.model.proofs.Encoding.{Limits, range-limits, length-master, 
 use Rattle.model.proofs.Journal.{journal-low, Known, records-known}
 use Rattle.model.proofs.Select.{select-mem}
 use Rattle.model.proofs.Valid.{valid-within}
-use Rattle.model.proofs.Command.{Clear, byCommand, each-command, of-cond, Order, orderOf}
+use Rattle.model.proofs.Command.{Clear, clear-refusal, refusedWith, unless-done, Decided, turned-down, carried-out, byCommand, each-command, of-cond, Order, orderOf, command-decided}
 use Rattle.model.proofs.Arrays.{FitsTransaction, FitsCore, Arrays, core-fits}
 
 -- ---- shapes within the limits
@@ -137,7 +139,7 @@ stored-low l (home h) = omega arith
 stored-low l (position h p) = journal-low l _ p h
 
 -- ---- STORE
-few-taken : (t : Transaction) → FitsTransaction t → length (taken t) ≤ 8
+pub few-taken : (t : Transaction) → FitsTransaction t → length (taken t) ≤ 8
 unfolding taken
 few-taken t f = simp length-take (omega arith)
 
@@ -189,3 +191,103 @@ module _ (c : ℕ) (w : World) where
         (one-stored (home (known-below s (w .disk) c (r .0) e (r .1) i b)) (imageOf s (w .disk) e i)
         (length-imageOf l (w .disk) (right-lengths w (cl .0) .0) e i (omega (arith, r .1 .core))) refl refl))
       (λ h. rw h (one-stored master _ (length-master (shape-limits (retiredCard c e (w .card))) _) refl refl))
+
+-- ---- RECOVER
+abbrev IfFound : (Committed → Type 0) → Found → Type 0
+IfFound P Miss = Unit {0}
+IfFound P (Whole e) = P e
+
+-- the newest of some is one of them
+module _ (P : Committed → Type 0) where
+  later-holds : (best : Found) (e : Committed) → IfFound P best → P e → P (later best e)
+  unfolding later
+  later-holds Miss e f p = p
+  later-holds (Whole a) e f p = of-cond P (leb (a .stamp) (e .stamp)) p f
+
+  newest-holds : (s : Shape) (d : Bytes) (b : ℕ) (es : List Committed) (best : Found) → IfFound P best → Each P es → IfFound P (newest s d b best es)
+  unfolding newest
+  newest-holds s d b [] best f p = f
+  newest-holds s d b (e ∷ es) best f p = newest-holds s d b es _ (of-cond (IfFound P) (took s d b e) (later-holds best e f (p .0)) f) (p .1)
+
+module _ (d : Bytes) (l : Limits (shapeOn d)) (n : length d ≡ 32896) where
+  valid-cores : Each (λ (e : Committed). e .core < (shapeOn d) .cores) (validOn d)
+  unfolding validOn committedOn
+  valid-cores =
+      mem-each (λ (e : Committed). e .core < (shapeOn d) .cores) (validOn d)
+      (λ e m. journals-known (shapeOn d) d (tailOn d) _ e (valid-within (shapeOn d) d (tailOn d) (committedOn d) e m) .0)
+
+  length-imageFound : (b : ℕ) (f : Found) → b < (shapeOn d) .blocks → IfFound (λ (e : Committed). e .core < (shapeOn d) .cores) f → length (imageFound d b f) ≡ 128
+  unfolding imageFound
+  length-imageFound b Miss h p = length-blockAt 257 d n (homeBlock b) (omega (arith, l .blocks))
+  length-imageFound b (Whole e) h p = length-imageOf l d n e _ p
+
+  pub length-newestImage : (b : ℕ) → b < (shapeOn d) .blocks → length (newestImage d b) ≡ 128
+  unfolding newestImage
+  length-newestImage b h = length-imageFound b _ h (newest-holds _ (shapeOn d) d b (validOn d) Miss tt valid-cores)
+
+-- the blocks left to recovery are below B
+pub left-below : (w : World) {b : ℕ} → List·Memᴰ b (blocksLeft w) → b < (shapeOn (w .disk)) .blocks
+unfolding blocksLeft blocksHeld
+left-below w {b} m = mem-below _ (select-mem _ _ b (select-mem _ _ b m .0) .0)
+
+module _ (w : World) where
+  recoverStep-store : Limits (shapeOn (w .disk)) → length (w .disk) ≡ 32896 → (bs : List ℕ) → ((b : ℕ) → List·Memᴰ b bs → b < (shapeOn (w .disk)) .blocks)
+      → OneStore (shapeOn (w .disk)) (w .disk) (recoverStep bs w)
+  unfolding recoverStep
+  recoverStep-store l n [] f = one-stored master _ (length-master l (emptiedTail (w .disk))) refl refl
+  recoverStep-store l n (b ∷ bs) f =
+      let h = f b (List·Memᴰ·head refl) in
+      one-stored (home h) (newestImage (w .disk) b) (length-newestImage (w .disk) l n b h) refl refl
+
+  recover-limits : Clear (recoverConditions w) → Limits (shapeOn (w .disk))
+  unfolding recoverConditions shapeOn
+  recover-limits cl = master-limits (blockAt (w .disk) 0) (not-false (isMaster (blockAt (w .disk) 0)) (cl .1 .1 .1 .0))
+
+  recover-store : Clear (recoverConditions w) → OneStore (shapeOn (w .disk)) (w .disk) (recovered w)
+  unfolding recovered
+  recover-store cl =
+      recoverStep-store (recover-limits cl) (right-lengths w (unfold recoverConditions in cl .0) .0) (blocksLeft w) (λ b m. left-below w m)
+
+-- ---- every command but FORMAT
+-- the shape that a command stores by: that of the card, and for RECOVER that of the disk's master
+unfoldable pub storedShape : ℕ → World → Shape
+storedShape k w =
+    let s = shapeOf (w .card) in
+    byCommand k s s s s s s (shapeOn (w .disk))
+
+pub order-store : (k : ℕ) (a : Bytes) (w : World) → Arrays (w .card) → eqb k 1 ≡ false → Clear ((orderOf k a w) .conditions)
+    → OneStore (storedShape k w) (w .disk) ((orderOf k a w) .done)
+unfolding orderOf storedShape written closed
+order-store k a w f h =
+    let c = getD a 0 0 in
+    each-command (λ (r : Order) (s : Shape). Clear (r .conditions) → OneStore s (w .disk) (r .done)) k
+    (λ e. absurd (true≢false (sym e ∙ h))) (λ e cl. none-stored refl refl) (λ cl. none-stored refl refl)
+    (store-store c w f) (checkpoint-store c w) (λ cl. none-stored refl refl) (recover-store w)
+
+pub order-limits : (k : ℕ) (a : Bytes) (w : World) → Clear ((orderOf k a w) .conditions) → Limits (storedShape k w)
+unfolding orderOf storedShape
+order-limits k a w =
+    let l = shape-limits (w .card) in
+    each-command (λ (r : Order) (s : Shape). Clear (r .conditions) → Limits s) k (λ e cl. l) (λ e cl. l) (λ cl. l) (λ cl. l) (λ cl. l) (λ cl. l) (recover-limits w)
+
+one-refused : (s : Shape) (w : World) (n : ℕ) → OneStore s (w .disk) (refusedWith n w)
+one-refused s w n = none-stored refl refl
+
+decided-store : {ts : List (Bool × ℕ)} {w : World} {done o : Outcome} (s : Shape) → Decided ts w done o → (Clear ts → OneStore s (w .disk) done) → OneStore s (w .disk) o
+decided-store {w = w} s (turned-down n p f e) h = rw e (one-refused s w n)
+decided-store s (carried-out c e) h = rw e (h c)
+
+-- a command, refused or carried out, stores one block at most
+pub command-store : (t : Bytes) (at : ℕ) (w : World) → Arrays (w .card) → eqb (commandByte t at) 1 ≡ false
+    → OneStore (storedShape (commandByte t at) w) (w .disk) (commandAt step t at w)
+command-store t at w f h =
+    decided-store (storedShape (commandByte t at) w) (command-decided t at w) (λ cl. order-store (commandByte t at) (operandsAt t at) w f h (cl .1 .1 .1))
+
+-- FORMAT carried out
+pub format-done : (c b j : ℕ) (w : World) → Clear (formatConditions c b j w) → format c b j w ≡ formatted (record { cores = c; blocks = b; journal = j })
+unfolding format
+format-done c b j w cl = unless-done (formatConditions c b j w) w _ (clear-refusal (formatConditions c b j w) cl)
+
+pub format-limits : (c b j : ℕ) (w : World) → Clear (formatConditions c b j w) → Limits (record { cores = c; blocks = b; journal = j })
+unfolding formatConditions
+format-limits c b j w cl = range-limits (record { cores = c; blocks = b; journal = j }) (not-false (inRange c b j) (cl .1 .1 .0))
