@@ -1,20 +1,19 @@
 -- Each command carried out, save FORMAT, leaves the disk as it was or replaces one block: the master, a home block below
 -- B, or a position of the journal of a core below C. What is stored is a block, for slices and arrays of their lengths.
-use Prim.Native.Nat.{ℕ, zero, suc, _+_, _-_, _≤_, _<_}
+use Prim.Native.Nat.{ℕ, _-_, _≤_, _<_}
 use native.Mathlib.Omega.{arith}
-use mathlib.Core.Path.{_≡_, refl, sym, ap, _∙_, subst}
-use mathlib.Core.Bool.{Bool, true, false, true≢false, cond, _&&_}
-use mathlib.Core.List.{List, [], _∷_, map, List·Memᴰ, List·Memᴰ·head, List·Memᴰ·tail, Memᴰ·of-map}
-use lib.ListN.{length, take, getD, length-map, length-take}
+use mathlib.Core.Path.{_≡_, refl, sym, _∙_}
+use mathlib.Core.Bool.{Bool, true, false, true≢false, _&&_}
+use mathlib.Core.List.{List, [], _∷_, List·Memᴰ, List·Memᴰ·head}
+use lib.ListN.{length, getD, length-map, length-take}
 use lib.Dec.{ltb, leb, eqb}
 use borrow.Author.Tests.{ltb-true, ltb-false, leb-true, leb-false, eqb-true, not-false}
-use Rattle.model.specs.Lists.{below, all}
 use Rattle.model.specs.Bytes.{Bytes, be4, blockAt, store}
 use Rattle.model.specs.Shape.{inRange, nearest, clamped, homeBlock, journalBlock}
 use Rattle.model.specs.Card.{taken, listed, shapeOf, coreOf}
-use Rattle.model.specs.Layout.{Held, mark, pairsIn, hasHead, maxNumber, blockCount, heldIn, distinct, isHeld, isDescriptor, isMaster, shapeIn}
-use Rattle.model.specs.Journal.{journalAt, journal, journals, heldBy, blocksOf, took, imageOf}
-use Rattle.model.specs.Valid.{blocksHeld, later, newest}
+use Rattle.model.specs.Layout.{mark, isMaster, shapeIn}
+use Rattle.model.specs.Journal.{journal, imageOf}
+use Rattle.model.specs.Valid.{blocksHeld}
 use Rattle.model.specs.Command.{World, Outcome, wrongLength, noCore}
 use Rattle.model.specs.Format.{formatConditions, formatted, format}
 use Rattle.model.specs.Write.{written}
@@ -23,20 +22,20 @@ use Rattle.model.specs.Checkpoint.{committedOf, oldest, checkpointCondit
 use Rattle.model.specs.Recovery.{shapeOn, tailOn, committedOn, validOn, recoverConditions, blocksLeft, imageFound, newestImage, emptiedTail, recoverStep, recovered}
 use Rattle.model.specs.Tape.{step, commandByte, operandsAt, commandAt}
 use Rattle.model.specs.declared.Shape.{Shape}
-use Rattle.model.specs.declared.Tail.{Tail}
 use Rattle.model.specs.declared.Transaction.{Transaction}
 use Rattle.model.specs.declared.Core.{Core}
 use Rattle.model.specs.declared.Card.{Card}
 use Rattle.model.specs.declared.Committed.{Committed}
 use Rattle.model.specs.declared.Found.{Found}
 use Rattle.model.specs.declared.Found.the-variants.{Whole, Miss}
-use Rattle.model.proofs.Lists.{cases, and-left, and-right, all-mem, getD-mem, mem-getD, mem-flatMap, mem-below, length-below, Each, mem-each}
+use Rattle.model.proofs.Lists.{cases, and-left, and-right, mem-below, length-below, Each, mem-each}
 use Rattle.model.proofs.Store.{length-blockAt}
-use Rattle.model.proofs.Encoding.{Limits, range-limits, length-master, length-descriptor, length-commit, length-escaped, length-unescaped}
-use Rattle.model.proofs.Journal.{journal-low, Known, records-known}
+use Rattle.model.proofs.Encoding.{Limits, range-limits, length-master, length-descriptor, length-commit, length-escaped}
+use Rattle.model.proofs.Journal.{journal-low, Known}
+use Rattle.model.proofs.Records.{known-below, journal-known, journals-known, oldest-mem, length-imageOf, IfFound, newest-holds}
 use Rattle.model.proofs.Select.{select-mem}
 use Rattle.model.proofs.Valid.{valid-within}
-use Rattle.model.proofs.Command.{Clear, clear-refusal, refusedWith, unless-done, Decided, turned-down, carried-out, byCommand, each-command, of-cond, Order, orderOf, command-decided}
+use Rattle.model.proofs.Command.{Clear, clear-refusal, refusedWith, unless-done, Decided, refused, carried-out, byCommand, each-command, of-cond, Row, rowOf, command-decided}
 use Rattle.model.proofs.Arrays.{FitsTransaction, FitsCore, Arrays, core-fits}
 
 -- ---- shapes within the limits
@@ -71,57 +70,6 @@ right-lengths w h =
       (λ b. (eqb-true _ _ a, eqb-true _ _ b))
       (λ b. let z : true ≡ false = rw (a, b) at h in absurd (true≢false z)))
     (λ a. let z : true ≡ false = rw a at h in absurd (true≢false z))
-
--- ---- records read
-pub length-blocksOf : (s : Shape) (d : Bytes) (e : Committed) → length (blocksOf s d e) ≡ e .count
-unfolding blocksOf heldBy heldIn pairsIn
-length-blocksOf s d e = simp (length-map, length-below)
-
--- a block of a record read is below B
-pub known-below : (s : Shape) (d : Bytes) (c k : ℕ) (e : Committed) → Known s d c k e → (i : ℕ) → i < e .count → getD (blocksOf s d e) i 0 < s .blocks
-unfolding isDescriptor blocksOf heldBy isHeld
-known-below s d c k e r i h =
-    let b = journalAt s d c (e .position) in
-    let n = blockCount b in
-    let a : all (isHeld s) (heldIn b n) ≡ true =
-        and-right (hasHead 1 k b && leb k maxNumber && leb n 8) (all (isHeld s) (heldIn b n)) (and-left _ (distinct (heldIn b n)) (r .descriptor)) in
-    let a₂ : all (isHeld s) (heldBy s d e) ≡ true = rw (r .core, ← r .count) a in
-    let l : i < length (blocksOf s d e) = rw length-blocksOf h in
-    let m = Memᴰ·of-map (λ (x : Held). x .block) (heldBy s d e) (getD-mem (blocksOf s d e) i 0 l) in
-    rw (← m .2) (ltb-true ((m .0) .block) (s .blocks) (and-left (ltb ((m .0) .block) (s .blocks)) _ (all-mem (isHeld s) (heldBy s d e) a₂ (m .1))))
-
-pub journal-known : (s : Shape) (d : Bytes) (c : ℕ) (t : Tail) (most : ℕ) (e : Committed) → List·Memᴰ e (journal s d c t most) → (k : ℕ) × Known s d c k e
-unfolding journal
-journal-known s d c t most e m =
-    let i = mem-getD m (oldest []) in
-    (t .number + i .0, subst (λ (e : Committed). Known s d c (t .number + i .0) e) (i .2) (records-known s d c most (t .number) (t .position) (s .journal) (i .0) (oldest []) (i .1) .0))
-
-pub journals-known : (s : Shape) (d : Bytes) (tailAt : ℕ → Tail) (most : ℕ → ℕ) (e : Committed) → List·Memᴰ e (journals s d tailAt most)
-    → (e .core < s .cores) × ((k : ℕ) × Known s d (e .core) k e)
-unfolding journals
-journals-known s d tailAt most e m =
-    let r = mem-flatMap (λ (c : ℕ). journal s d c (tailAt c) (most c)) (below (s .cores)) m in
-    let i = journal-known s d (r .0) (tailAt (r .0)) (most (r .0)) e (r .2) in
-    let q : r .0 ≡ e .core = sym (i .1 .core) in
-    (subst (λ (c : ℕ). c < s .cores) q (mem-below (s .cores) (r .1)), (i .0, subst (λ (c : ℕ). Known s d c (i .0) e) q (i .1)))
-
--- one with a block is one of the list
-oldest-mem : (es : List Committed) (i : ℕ) → i < (oldest es) .count → List·Memᴰ (oldest es) es
-unfolding oldest
-oldest-mem [] i h = absurd (omega arith)
-oldest-mem (e ∷ es) i h = List·Memᴰ·head refl
-
--- ---- blocks read are blocks
-module _ {s : Shape} (l : Limits s) (d : Bytes) (n : length d ≡ 32896) where
-  pub length-journalAt : (c p : ℕ) → c < s .cores → length (journalAt s d c p) ≡ 128
-  unfolding journalAt
-  length-journalAt c p h = length-blockAt 257 d n (journalBlock s c p) (journal-low l c p h)
-
-  pub length-imageOf : (e : Committed) (i : ℕ) → e .core < s .cores → length (imageOf s d e i) ≡ 128
-  unfolding imageOf
-  length-imageOf e i h =
-      let q = length-journalAt (e .core) (e .position + (i + 1)) h in
-      length-unescaped (journalAt s d (e .core) (e .position + (i + 1))) (omega arith) _ ∙ q
 
 -- ---- what a command stores
 pub data Stored (s : Shape) : ℕ → Type 0 where
@@ -193,22 +141,6 @@ module _ (c : ℕ) (w : World) where
       (λ h. rw h (one-stored master _ (length-master (shape-limits (retiredCard c e (w .card))) _) refl refl))
 
 -- ---- RECOVER
-abbrev IfFound : (Committed → Type 0) → Found → Type 0
-IfFound P Miss = Unit {0}
-IfFound P (Whole e) = P e
-
--- the newest of some is one of them
-module _ (P : Committed → Type 0) where
-  later-holds : (best : Found) (e : Committed) → IfFound P best → P e → P (later best e)
-  unfolding later
-  later-holds Miss e f p = p
-  later-holds (Whole a) e f p = of-cond P (leb (a .stamp) (e .stamp)) p f
-
-  newest-holds : (s : Shape) (d : Bytes) (b : ℕ) (es : List Committed) (best : Found) → IfFound P best → Each P es → IfFound P (newest s d b best es)
-  unfolding newest
-  newest-holds s d b [] best f p = f
-  newest-holds s d b (e ∷ es) best f p = newest-holds s d b es _ (of-cond (IfFound P) (took s d b e) (later-holds best e f (p .0)) f) (p .1)
-
 module _ (d : Bytes) (l : Limits (shapeOn d)) (n : length d ≡ 32896) where
   valid-cores : Each (λ (e : Committed). e .core < (shapeOn d) .cores) (validOn d)
   unfolding validOn committedOn
@@ -255,33 +187,33 @@ storedShape k w =
     let s = shapeOf (w .card) in
     byCommand k s s s s s s (shapeOn (w .disk))
 
-pub order-store : (k : ℕ) (a : Bytes) (w : World) → Arrays (w .card) → eqb k 1 ≡ false → Clear ((orderOf k a w) .conditions)
-    → OneStore (storedShape k w) (w .disk) ((orderOf k a w) .done)
-unfolding orderOf storedShape written closed
-order-store k a w f h =
+pub row-store : (k : ℕ) (a : Bytes) (w : World) → Arrays (w .card) → eqb k 1 ≡ false → Clear ((rowOf k a w) .conditions)
+    → OneStore (storedShape k w) (w .disk) ((rowOf k a w) .done)
+unfolding rowOf storedShape written closed
+row-store k a w f h =
     let c = getD a 0 0 in
-    each-command (λ (r : Order) (s : Shape). Clear (r .conditions) → OneStore s (w .disk) (r .done)) k
+    each-command (λ (r : Row) (s : Shape). Clear (r .conditions) → OneStore s (w .disk) (r .done)) k
     (λ e. absurd (true≢false (sym e ∙ h))) (λ e cl. none-stored refl refl) (λ cl. none-stored refl refl)
     (store-store c w f) (checkpoint-store c w) (λ cl. none-stored refl refl) (recover-store w)
 
-pub order-limits : (k : ℕ) (a : Bytes) (w : World) → Clear ((orderOf k a w) .conditions) → Limits (storedShape k w)
-unfolding orderOf storedShape
-order-limits k a w =
+pub row-limits : (k : ℕ) (a : Bytes) (w : World) → Clear ((rowOf k a w) .conditions) → Limits (storedShape k w)
+unfolding rowOf storedShape
+row-limits k a w =
     let l = shape-limits (w .card) in
-    each-command (λ (r : Order) (s : Shape). Clear (r .conditions) → Limits s) k (λ e cl. l) (λ e cl. l) (λ cl. l) (λ cl. l) (λ cl. l) (λ cl. l) (recover-limits w)
+    each-command (λ (r : Row) (s : Shape). Clear (r .conditions) → Limits s) k (λ e cl. l) (λ e cl. l) (λ cl. l) (λ cl. l) (λ cl. l) (λ cl. l) (recover-limits w)
 
 one-refused : (s : Shape) (w : World) (n : ℕ) → OneStore s (w .disk) (refusedWith n w)
 one-refused s w n = none-stored refl refl
 
 decided-store : {ts : List (Bool × ℕ)} {w : World} {done o : Outcome} (s : Shape) → Decided ts w done o → (Clear ts → OneStore s (w .disk) done) → OneStore s (w .disk) o
-decided-store {w = w} s (turned-down n p f e) h = rw e (one-refused s w n)
+decided-store {w = w} s (refused n p f e) h = rw e (one-refused s w n)
 decided-store s (carried-out c e) h = rw e (h c)
 
 -- a command, refused or carried out, stores one block at most
 pub command-store : (t : Bytes) (at : ℕ) (w : World) → Arrays (w .card) → eqb (commandByte t at) 1 ≡ false
     → OneStore (storedShape (commandByte t at) w) (w .disk) (commandAt step t at w)
 command-store t at w f h =
-    decided-store (storedShape (commandByte t at) w) (command-decided t at w) (λ cl. order-store (commandByte t at) (operandsAt t at) w f h (cl .1 .1 .1))
+    decided-store (storedShape (commandByte t at) w) (command-decided t at w) (λ cl. row-store (commandByte t at) (operandsAt t at) w f h (cl .1 .1 .1))
 
 -- FORMAT carried out
 pub format-done : (c b j : ℕ) (w : World) → Clear (formatConditions c b j w) → format c b j w ≡ formatted (record { cores = c; blocks = b; journal = j })

@@ -1,18 +1,17 @@
 -- The disk keeps its 32,896 bytes, memory its 16,384, and the card's arrays their lengths, through every command.
 -- So no command of a tape that starts with such slices meets refusal 1.
-use Prim.Native.Nat.{ℕ, zero, suc, _+_, _*_, _≤_, _<_, _%_}
+use Prim.Native.Nat.{ℕ, suc, _+_, _*_, _≤_, _<_, _%_}
 use native.Mathlib.Omega.{arith}
 use native.Mathlib.Nat.{mod-lt}
 use mathlib.Core.Path.{_≡_, refl, sym, ap, _∙_, subst}
 use mathlib.Core.Bool.{Bool, true, false, cond}
 use mathlib.Core.List.{List, [], _∷_}
-use lib.ListN.{length, take, drop, getD, replicate, length-take, length-drop, length-replicate}
-use lib.Dec.{ltb, leb, eqb}
+use lib.ListN.{length, getD, replicate, length-take, length-drop, length-replicate}
+use lib.Dec.{ltb, eqb}
 use borrow.Author.Tests.{ltb-false, leb-false, eqb-true, eq-eqb}
-use Rattle.model.specs.Bytes.{Bytes, number, part, replaced, blockAt, store, zeroDisk, zeroMemory}
+use Rattle.model.specs.Bytes.{Bytes, number, part, blockAt, store, zeroDisk, zeroMemory}
 use Rattle.model.specs.Shape.{homeBlock}
 use Rattle.model.specs.Card.{taken, shapeOf, coreOf, blankCard}
-use Rattle.model.specs.Layout.{masterBlock}
 use Rattle.model.specs.Command.{World, Outcome, wrongLength, noCore, noBlock}
 use Rattle.model.specs.Format.{formatConditions, formatted}
 use Rattle.model.specs.Write.{writeConditions, loadsImage, ruleFor, writtenMemory, written}
@@ -25,10 +24,10 @@ use Rattle.model.specs.declared.Phase.the-variants.{Blank}
 use Rattle.model.proofs.Lists.{cases, Each}
 use Rattle.model.proofs.Store.{length-replaced, length-store, length-blockAt}
 use Rattle.model.proofs.Encoding.{Limits, length-master}
-use Rattle.model.proofs.Command.{Clear, Decided, turned-down, carried-out, of-cond, of-command, Order, order, orderOf, step-decided, command-decided}
+use Rattle.model.proofs.Command.{Clear, Decided, refused, carried-out, of-cond, of-command, Row, row, rowOf, step-decided, command-decided}
 use Rattle.model.proofs.Tape.{Runs, at-end, one-more}
-use Rattle.model.proofs.Arrays.{Arrays, core-fits, empty-arrays, order-arrays}
-use Rattle.model.proofs.OneStore.{shape-limits, right-lengths, few-taken, OneStore, none-stored, one-stored, stored-low, order-store, order-limits, format-limits}
+use Rattle.model.proofs.Arrays.{Arrays, core-fits, empty-arrays, row-arrays}
+use Rattle.model.proofs.OneStore.{shape-limits, right-lengths, few-taken, OneStore, none-stored, one-stored, stored-low, row-store, row-limits, format-limits}
 
 pub record Sized (w : World) : Type 0 where
   pub disk : length (w .disk) ≡ 32896
@@ -93,18 +92,18 @@ write-data : (k : ℕ) (a : Bytes) → operandLength k ≤ length a → eqb k 2 
 unfolding operandLength operandLengths part
 write-data k a h e = let l : 8 ≤ length a = rw (eqb-true k 2 e) at h in simp (length-take, length-drop) (omega arith)
 
-format-order : (k : ℕ) (a : Bytes) (w : World) → eqb k 1 ≡ true
-    → orderOf k a w
-      ≡ order (formatConditions (getD a 0 0) (getD a 1 0) (getD a 2 0) w) (formatted (record { cores = getD a 0 0; blocks = getD a 1 0; journal = getD a 2 0 }))
-unfolding orderOf
-format-order k a w e = rw e
+format-row : (k : ℕ) (a : Bytes) (w : World) → eqb k 1 ≡ true
+    → rowOf k a w
+      ≡ row (formatConditions (getD a 0 0) (getD a 1 0) (getD a 2 0) w) (formatted (record { cores = getD a 0 0; blocks = getD a 1 0; journal = getD a 2 0 }))
+unfolding rowOf
+format-row k a w e = rw e
 
 module _ (k : ℕ) (a : Bytes) (w : World) (whole : operandLength k ≤ length a) (z : Sized w) where
-  order-memory : Clear ((orderOf k a w) .conditions) → length ((orderOf k a w) .done .world .memory) ≡ 16384
-  unfolding orderOf formatted stored recovered
-  order-memory =
+  row-memory : Clear ((rowOf k a w) .conditions) → length ((rowOf k a w) .done .world .memory) ≡ 16384
+  unfolding rowOf formatted stored recovered
+  row-memory =
       let c = getD a 0 0 in
-      of-command (λ (r : Order). Clear (r .conditions) → length (r .done .world .memory) ≡ 16384) k
+      of-command (λ (r : Row). Clear (r .conditions) → length (r .done .world .memory) ≡ 16384) k
       (λ cl. length-zeroMemory)
       (λ e. length-written c (number 0 (part 1 2 a)) (getD a 3 0) (part 4 4 a) w (write-data k a whole e))
       (length-closed c w (z .arrays))
@@ -113,22 +112,22 @@ module _ (k : ℕ) (a : Bytes) (w : World) (whole : operandLength k ≤ length a
       (λ cl. length-zeroMemory)
       (λ cl. rw (recoverStep-memory (blocksLeft w) w) (z .memory))
 
-  order-disk : Clear ((orderOf k a w) .conditions) → length ((orderOf k a w) .done .world .disk) ≡ 32896
-  order-disk cl =
+  row-disk : Clear ((rowOf k a w) .conditions) → length ((rowOf k a w) .done .world .disk) ≡ 32896
+  row-disk cl =
       cases (eqb k 1)
-      (λ e. let q = format-order k a w e in
+      (λ e. let q = format-row k a w e in
         rw q (formatted-disk _ (format-limits (getD a 0 0) (getD a 1 0) (getD a 2 0) w (rw q at cl))))
-      (λ e. one-length (order-limits k a w cl) (z .disk) (order-store k a w (z .arrays) e cl))
+      (λ e. one-length (row-limits k a w cl) (z .disk) (row-store k a w (z .arrays) e cl))
 
-  pub order-sized : Clear ((orderOf k a w) .conditions) → Sized ((orderOf k a w) .done .world)
-  order-sized cl = record { disk = order-disk cl; memory = order-memory cl; arrays = order-arrays k a w (z .arrays) }
+  pub row-sized : Clear ((rowOf k a w) .conditions) → Sized ((rowOf k a w) .done .world)
+  row-sized cl = record { disk = row-disk cl; memory = row-memory cl; arrays = row-arrays k a w (z .arrays) }
 
 decided-sized : {ts : List (Bool × ℕ)} {w : World} {done o : Outcome} → Decided ts w done o → Sized w → (Clear ts → Sized (done .world)) → Sized (o .world)
-decided-sized {w = w} (turned-down n p f e) z h = subst (λ (o : Outcome). Sized (o .world)) (sym e) z
+decided-sized {w = w} (refused n p f e) z h = subst (λ (o : Outcome). Sized (o .world)) (sym e) z
 decided-sized (carried-out c e) z h = subst (λ (o : Outcome). Sized (o .world)) (sym e) (h c)
 
 pub step-sized : (k : ℕ) (a : Bytes) (w : World) → operandLength k ≤ length a → Sized w → Sized ((step k a w) .world)
-step-sized k a w l z = decided-sized (step-decided k a w) z (order-sized k a w l z)
+step-sized k a w l z = decided-sized (step-decided k a w) z (row-sized k a w l z)
 
 -- operands that do not end early are all there
 operands-whole : (t : Bytes) (at : ℕ) → endsEarly t at ≡ false → operandLength (commandByte t at) ≤ length (operandsAt t at)
@@ -139,7 +138,7 @@ pub command-sized : (t : Bytes) (at : ℕ) (w : World) → Sized w → Sized ((c
 command-sized t at w z =
     let k = commandByte t at in
     let a = operandsAt t at in
-    decided-sized (command-decided t at w) z (λ cl. order-sized k a w (operands-whole t at (cl .1 .1 .0)) z (cl .1 .1 .1))
+    decided-sized (command-decided t at w) z (λ cl. row-sized k a w (operands-whole t at (cl .1 .1 .0)) z (cl .1 .1 .1))
 
 -- ---- a whole tape
 pub run-sized : (t : Bytes) {at n : ℕ} {w : World} {ps : List Point} → Runs step t at n w ps → Sized w → Each (λ (p : Point). Sized (p .before) × Sized (p .outcome .world)) ps

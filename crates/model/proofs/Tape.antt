@@ -1,21 +1,21 @@
 -- A run of the tape by any card, without its bound: each point starts where the last one ended, in the world that it
 -- left, and the stores add up. Offsets grow, so the tape's length bounds the points; after 2 or 3 the tape ends.
-use Prim.Native.Nat.{ℕ, zero, suc, _+_, max, _≤_, _<_}
+use Prim.Native.Nat.{ℕ, zero, suc, _+_, _≤_, _<_}
 use native.Mathlib.Omega.{arith}
-use native.Mathlib.Nat.{le-max-left, le-max-right}
+use native.Mathlib.Nat.{le-max-right, max-le}
 use mathlib.Core.Path.{_≡_, refl, sym, ap, _∙_, subst}
 use mathlib.Core.Logic.{_⊎_, inl, inr}
-use mathlib.Core.Bool.{Bool, true, false, not, _&&_, _||_}
+use mathlib.Core.Bool.{Bool, true, not, _&&_, _||_}
 use mathlib.Core.List.{List, [], _∷_, _++_, map, List·Memᴰ}
 use lib.ListN.{length}
 use lib.Dec.{ltb, eqb}
 use borrow.Author.Tests.{ltb-true, ltb-false, lt-ltb, le-ltb, eqb-false, not-true}
 use Rattle.model.specs.Lists.{all}
 use Rattle.model.specs.Bytes.{Bytes}
-use Rattle.model.specs.Command.{World, Outcome, refusal, unless, wrongLength}
-use Rattle.model.specs.Tape.{Step, step, operandLength, commandByte, operandsAt, isUnknown, endsEarly, commandAt, nextOffset, Point, runFrom, run}
+use Rattle.model.specs.Command.{World}
+use Rattle.model.specs.Tape.{Step, step, commandByte, operandsAt, isUnknown, endsEarly, commandAt, nextOffset, Point, runFrom, run}
 use Rattle.model.proofs.Lists.{cases, Each, all-mem, and-left, and-right, or-left, or-right}
-use Rattle.model.proofs.Command.{First, here, later, refusalNumbers, of-command, orderOf, tapeConditions, decided-refused, command-decided, order-answer, order-numbers, first-number}
+use Rattle.model.proofs.Command.{First, here, later, refusalNumbers, of-command, rowOf, tapeConditions, decided-refused, command-decided, row-answer, row-numbers, first-number}
 
 -- the point of the command at an offset
 abbrev pub pointAt : Step → Bytes → ℕ → ℕ → World → Point
@@ -43,6 +43,13 @@ module _ (t : Bytes) (at : ℕ) where
       cases (isUnknown t at)
       (λ k. rw k (le-max-right at (length t)))
       (λ k. let e : endsEarly t at ≡ true = rw k at h in rw (k, e) (le-max-right at (length t)))
+
+  pub next-within : at ≤ length t → nextOffset t at ≤ length t
+  unfolding nextOffset endsEarly
+  next-within h =
+      cases (not (isUnknown t at) && not (endsEarly t at))
+      (λ k. rw k (ltb-false (length t) _ (not-true (endsEarly t at) (and-right (not (isUnknown t at)) (not (endsEarly t at)) k))))
+      (λ k. rw k (max-le h (omega arith)))
 
 -- ---- a run
 module _ (f : Step) (t : Bytes) where
@@ -123,7 +130,7 @@ answer-ends t at w n h two =
     let k = commandByte t at in
     let a = operandsAt t at in
     let p : 0 < n = elim two [ inl e ↦ omega arith | inr e ↦ omega arith ] in
-    let q : First ((commandAt step t at w) .answer) (tapeConditions t at w ++ (orderOf k a w) .conditions) =
-        (decided-refused (command-decided t at w) (order-answer k a w) (rw h p)) .0 in
-    next-end t at (first-ends (orderOf k a w .conditions) (rw h at q) two
-      (λ m. neither n (all-mem _ (refusalNumbers k) (step-neither k) (rw (order-numbers k a w) at m)) two))
+    let q : First ((commandAt step t at w) .answer) (tapeConditions t at w ++ (rowOf k a w) .conditions) =
+        (decided-refused (command-decided t at w) (row-answer k a w) (rw h p)) .0 in
+    next-end t at (first-ends (rowOf k a w .conditions) (rw h at q) two
+      (λ m. neither n (all-mem _ (refusalNumbers k) (step-neither k) (rw (row-numbers k a w) at m)) two))
