@@ -106,13 +106,13 @@ written-arrays x a c b =
     let u = ((holderOf x b) .name) .core in
     let x₁ = cond (isNamedBack r) (withCore x u (withRunning (coreOf x u) (withName ((coreOf x u) .running) (writerName x c)))) x in
     let a₁ : Arrays x₁ =
-        of-cond Arrays (isNamedBack r)
-        (core-kept x a u (withRunning (coreOf x u) (withName ((coreOf x u) .running) (writerName x c)))
-          (record { running = name-fits ((coreOf x u) .running) (writerName x c) ((core-fits x a u) .running); closed = (core-fits x a u) .closed }))
-        a in
+    of-cond Arrays (isNamedBack r)
+    (core-kept x a u (withRunning (coreOf x u) (withName ((coreOf x u) .running) (writerName x c)))
+    (record { running = name-fits ((coreOf x u) .running) (writerName x c) ((core-fits x a u) .running); closed = (core-fits x a u) .closed }))
+    a in
     let x₂ = withCore x₁ c (withRunning (coreOf x₁ c) (writerAfter x c b)) in
     let a₂ : Arrays x₂ =
-        core-kept x₁ a₁ c (withRunning (coreOf x₁ c) (writerAfter x c b)) (record { running = writer-fits x a c b; closed = (core-fits x₁ a₁ c) .closed }) in
+    core-kept x₁ a₁ c (withRunning (coreOf x₁ c) (writerAfter x c b)) (record { running = writer-fits x a c b; closed = (core-fits x₁ a₁ c) .closed }) in
     of-cond Arrays (takesBlock r) (record { tails = a₂ .tails; cores = a₂ .cores; holders = length-set (x₂ .holders) b _ ∙ a₂ .holders; each = a₂ .each }) a₂
 
 -- ---- CLOSE, STORE

@@ -10,7 +10,7 @@ use lib.Dec.{ltb, leb, eqb}
 use borrow.Author.Tests.{ltb-true, ltb-false, leb-true, leb-false, eqb-true, not-false}
 use Rattle.model.specs.Bytes.{Bytes, be4, blockAt, store}
 use Rattle.model.specs.Shape.{inRange, nearest, clamped, homeBlock, journalBlock}
-use Rattle.model.specs.Card.{taken, listed, shapeOf, coreOf}
+use Rattle.model.specs.Card.{taken, listed, shapeOf, tailOf, coreOf, committedCount}
 use Rattle.model.specs.Layout.{mark, isMaster, shapeIn}
 use Rattle.model.specs.Journal.{journal, imageOf}
 use Rattle.model.specs.Valid.{blocksHeld}
@@ -31,7 +31,7 @@ use Rattle.model.specs.declared.Found.the-variants.{Whole, Miss}
 use Rattle.model.proofs.Lists.{cases, and-left, and-right, mem-below, length-below, Each, mem-each}
 use Rattle.model.proofs.Store.{length-blockAt}
 use Rattle.model.proofs.Encoding.{Limits, range-limits, length-master, length-descriptor, length-commit, length-escaped}
-use Rattle.model.proofs.Journal.{journal-low, Known}
+use Rattle.model.proofs.Journal.{journal-low}
 use Rattle.model.proofs.Records.{known-below, journal-known, journals-known, oldest-mem, length-imageOf, IfFound, newest-holds}
 use Rattle.model.proofs.Select.{select-mem}
 use Rattle.model.proofs.Valid.{valid-within}
@@ -45,8 +45,8 @@ nearest-within low x high h =
     cases (ltb x low)
     (λ a. rw a (omega arith, omega arith))
     (λ a. cases (ltb high x)
-      (λ b. rw (a, b) (omega arith, omega arith))
-      (λ b. rw (a, b) (ltb-false x low a, ltb-false high x b)))
+    (λ b. rw (a, b) (omega arith, omega arith))
+    (λ b. rw (a, b) (ltb-false x low a, ltb-false high x b)))
 
 pub shape-limits : (x : Card) → Limits (shapeOf x)
 unfolding shapeOf clamped
@@ -67,8 +67,8 @@ unfolding wrongLength
 right-lengths w h =
     cases (eqb (length (w .disk)) 32896)
     (λ a. cases (eqb (length (w .memory)) 16384)
-      (λ b. (eqb-true _ _ a, eqb-true _ _ b))
-      (λ b. let z : true ≡ false = rw (a, b) at h in absurd (true≢false z)))
+    (λ b. (eqb-true _ _ a, eqb-true _ _ b))
+    (λ b. let z : true ≡ false = rw (a, b) at h in absurd (true≢false z)))
     (λ a. let z : true ≡ false = rw a at h in absurd (true≢false z))
 
 -- ---- what a command stores
@@ -107,12 +107,12 @@ length-nextStored c k m f h n =
     let g : length (heldCopies c (taken t) m) ≤ 8 = rw length-heldCopies l in
     of-cond (λ (b : Bytes). length b ≡ 128) (eqb (k .stored) 0) (length-descriptor (closedNumber k) (heldCopies c (taken t) m) g)
     (cases (leb (k .stored) (length (taken t)))
-      (λ a.
-        let j : k .stored ≤ length (taken t) = leb-true _ _ a in
-        let b = blockAt m (copyBlock c (k .stored - 1)) in
-        let q : length b ≡ 128 = length-blockAt 128 m n (copyBlock c (k .stored - 1)) (omega arith) in
-        rw a (length-escaped b (omega arith) ∙ q))
-      (λ a. rw a (length-commit (closedNumber k) (t .stamp) (listed t) (few-listed t (f .closed)))))
+    (λ a.
+    let j : k .stored ≤ length (taken t) = leb-true _ _ a in
+    let b = blockAt m (copyBlock c (k .stored - 1)) in
+    let q : length b ≡ 128 = length-blockAt 128 m n (copyBlock c (k .stored - 1)) (omega arith) in
+    rw a (length-escaped b (omega arith) ∙ q))
+    (λ a. rw a (length-commit (closedNumber k) (t .stamp) (listed t) (few-listed t (f .closed)))))
 
 module _ (c : ℕ) (w : World) where
   store-store : Arrays (w .card) → Clear (storeConditions c w) → OneStore (shapeOf (w .card)) (w .disk) (stored c w)
@@ -133,11 +133,11 @@ module _ (c : ℕ) (w : World) where
       let g : c < s .cores = leb-false (s .cores) c (cl .1 .1 .1 .0) in
       cases (ltb i (e .count))
       (λ h.
-        let b : i < e .count = ltb-true i (e .count) h in
-        let r : (k : ℕ) × Known s (w .disk) c k e = unfold committedOf in journal-known s (w .disk) c _ _ e (oldest-mem (committedOf w c) i b) in
-        rw h
-        (one-stored (home (known-below s (w .disk) c (r .0) e (r .1) i b)) (imageOf s (w .disk) e i)
-        (length-imageOf l (w .disk) (right-lengths w (cl .0) .0) e i (omega (arith, r .1 .core))) refl refl))
+      let b : i < e .count = ltb-true i (e .count) h in
+      let r = journal-known s (w .disk) c (tailOf (w .card) c) (committedCount (w .card) c) e (unfold committedOf in oldest-mem (committedOf w c) i b) in
+      rw h
+      (one-stored (home (known-below s (w .disk) c _ e (r .1) i b)) (imageOf s (w .disk) e i)
+      (length-imageOf l (w .disk) (right-lengths w (cl .0) .0) e i (omega (arith, r .1 .core))) refl refl))
       (λ h. rw h (one-stored master _ (length-master (shape-limits (retiredCard c e (w .card))) _) refl refl))
 
 -- ---- RECOVER

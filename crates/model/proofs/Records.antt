@@ -39,7 +39,7 @@ known-below s d c k e r i h =
     let b = journalAt s d c (e .position) in
     let n = blockCount b in
     let a : all (isHeld s) (heldIn b n) ≡ true =
-        and-right (hasHead 1 k b && leb k maxNumber && leb n 8) (all (isHeld s) (heldIn b n)) (and-left _ (distinct (heldIn b n)) (r .descriptor)) in
+    and-right (hasHead 1 k b && leb k maxNumber && leb n 8) (all (isHeld s) (heldIn b n)) (and-left _ (distinct (heldIn b n)) (r .descriptor)) in
     let a₂ : all (isHeld s) (heldBy s d e) ≡ true = rw (r .core, ← r .count) a in
     let l : i < length (blocksOf s d e) = rw length-blocksOf h in
     let m = Memᴰ·of-map (λ (x : Held). x .block) (heldBy s d e) (getD-mem (blocksOf s d e) i 0 l) in
@@ -51,19 +51,20 @@ journal-at : (s : Shape) (d : Bytes) (c : ℕ) (t : Tail) (most i : ℕ) → i <
 unfolding journal
 journal-at s d c t most i h = records-known s d c most (t .number) (t .position) (s .journal) i (oldest []) h .0
 
-pub journal-known : (s : Shape) (d : Bytes) (c : ℕ) (t : Tail) (most : ℕ) (e : Committed) → List·Memᴰ e (journal s d c t most) → (k : ℕ) × Known s d c k e
+pub journal-known : (s : Shape) (d : Bytes) (c : ℕ) (t : Tail) (most : ℕ) (e : Committed) → List·Memᴰ e (journal s d c t most)
+    → (i : ℕ) × Known s d c (t .number + i) e
 journal-known s d c t most e m =
     let i = mem-getD m (oldest []) in
-    (t .number + i .0, subst (λ (e : Committed). Known s d c (t .number + i .0) e) (i .2) (journal-at s d c t most (i .0) (i .1)))
+    (i .0, subst (λ (e : Committed). Known s d c (t .number + i .0) e) (i .2) (journal-at s d c t most (i .0) (i .1)))
 
 pub journals-known : (s : Shape) (d : Bytes) (tailAt : ℕ → Tail) (most : ℕ → ℕ) (e : Committed) → List·Memᴰ e (journals s d tailAt most)
-    → (e .core < s .cores) × ((k : ℕ) × Known s d (e .core) k e)
+    → (e .core < s .cores) × ((i : ℕ) × Known s d (e .core) ((tailAt (e .core)) .number + i) e)
 unfolding journals
 journals-known s d tailAt most e m =
     let r = mem-flatMap (λ (c : ℕ). journal s d c (tailAt c) (most c)) (below (s .cores)) m in
     let i = journal-known s d (r .0) (tailAt (r .0)) (most (r .0)) e (r .2) in
     let q : r .0 ≡ e .core = sym (i .1 .core) in
-    (subst (λ (c : ℕ). c < s .cores) q (mem-below (s .cores) (r .1)), (i .0, subst (λ (c : ℕ). Known s d c (i .0) e) q (i .1)))
+    (subst (λ (c : ℕ). c < s .cores) q (mem-below (s .cores) (r .1)), (i .0, subst (λ (c : ℕ). Known s d c ((tailAt c) .number + i .0) e) q (i .1)))
 
 -- one with a block is one of the list
 pub oldest-mem : (es : List Committed) (i : ℕ) → i < (oldest es) .count → List·Memᴰ (oldest es) es
@@ -99,7 +100,7 @@ journals-distinct s d tailAt most t u m n e =
     same c c₂ x y =
         let a : Known s d c ((tailAt c) .number + x .0) t = subst (λ (t : Committed). Known s d c ((tailAt c) .number + x .0) t) (x .2) (journal-at s d c (tailAt c) (most c) (x .0) (x .1)) in
         let b : Known s d c₂ ((tailAt c₂) .number + y .0) u =
-            subst (λ (u : Committed). Known s d c₂ ((tailAt c₂) .number + y .0) u) (y .2) (journal-at s d c₂ (tailAt c₂) (most c₂) (y .0) (y .1)) in
+        subst (λ (u : Committed). Known s d c₂ ((tailAt c₂) .number + y .0) u) (y .2) (journal-at s d c₂ (tailAt c₂) (most c₂) (y .0) (y .1)) in
         let g : c ≡ c₂ = sym (a .core) ∙ (ap (λ (n : Name). n .core) e ∙ b .core) in
         let k : (tailAt c) .number + x .0 ≡ (tailAt c₂) .number + y .0 = sym (a .number) ∙ (ap (λ (n : Name). n .number) e ∙ b .number) in
         let r : (tailAt c) .number ≡ (tailAt c₂) .number = rw g in
@@ -122,4 +123,3 @@ module _ (P : Committed → Type 0) where
   unfolding newest
   newest-holds s d b [] best f p = f
   newest-holds s d b (e ∷ es) best f p = newest-holds s d b es _ (of-cond (IfFound P) (took s d b e) (later-holds best e f (p .0)) f) (p .1)
-

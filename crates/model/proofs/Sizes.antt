@@ -69,8 +69,8 @@ length-written c b o v w z cl =
     let q : length (blockAt (w .disk) (homeBlock b)) ≡ 128 = length-blockAt 257 (w .disk) (n .0) (homeBlock b) (omega arith) in
     let m = cond (loadsImage (ruleFor (w .card) c b)) (store (w .memory) b (blockAt (w .disk) (homeBlock b))) (w .memory) in
     let e : length m ≡ 16384 =
-        of-cond (λ (m : Bytes). length m ≡ 16384) (loadsImage (ruleFor (w .card) c b))
-        (length-store (w .memory) b (blockAt (w .disk) (homeBlock b)) (omega arith) q ∙ n .1) (n .1) in
+    of-cond (λ (m : Bytes). length m ≡ 16384) (loadsImage (ruleFor (w .card) c b))
+    (length-store (w .memory) b (blockAt (w .disk) (homeBlock b)) (omega arith) q ∙ n .1) (n .1) in
     length-replaced (128 * b + o) 4 m v (omega arith) z ∙ e
 
 checkpointed-memory : (c : ℕ) (w : World) → (checkpointed c w) .world .memory ≡ w .memory
@@ -94,7 +94,7 @@ write-data k a h e = let l : 8 ≤ length a = rw (eqb-true k 2 e) at h in simp (
 
 format-row : (k : ℕ) (a : Bytes) (w : World) → eqb k 1 ≡ true
     → rowOf k a w
-      ≡ row (formatConditions (getD a 0 0) (getD a 1 0) (getD a 2 0) w) (formatted (record { cores = getD a 0 0; blocks = getD a 1 0; journal = getD a 2 0 }))
+    ≡ row (formatConditions (getD a 0 0) (getD a 1 0) (getD a 2 0) w) (formatted (record { cores = getD a 0 0; blocks = getD a 1 0; journal = getD a 2 0 }))
 unfolding rowOf
 format-row k a w e = rw e
 
@@ -116,7 +116,7 @@ module _ (k : ℕ) (a : Bytes) (w : World) (whole : operandLength k ≤ length a
   row-disk cl =
       cases (eqb k 1)
       (λ e. let q = format-row k a w e in
-        rw q (formatted-disk _ (format-limits (getD a 0 0) (getD a 1 0) (getD a 2 0) w (rw q at cl))))
+      rw q (formatted-disk _ (format-limits (getD a 0 0) (getD a 1 0) (getD a 2 0) w (rw q at cl))))
       (λ e. one-length (row-limits k a w cl) (z .disk) (row-store k a w (z .arrays) e cl))
 
   pub row-sized : Clear ((rowOf k a w) .conditions) → Sized ((rowOf k a w) .done .world)

@@ -60,7 +60,7 @@ module _ (f : Step) (t : Bytes) where
 
   run-more : (most at n : ℕ) (w : World) → at < length t
       → runFrom (suc most) f t at n w
-        ≡ pointAt f t at n w ∷ runFrom most f t (nextOffset t at) ((pointAt f t at n w) .stores) ((pointAt f t at n w) .outcome .world)
+      ≡ pointAt f t at n w ∷ runFrom most f t (nextOffset t at) ((pointAt f t at n w) .stores) ((pointAt f t at n w) .outcome .world)
   unfolding runFrom
   run-more most at n w h = rw (lt-ltb at (length t) h, runFrom)
 
@@ -69,8 +69,8 @@ module _ (f : Step) (t : Bytes) where
   runs-from (suc most) at n w h =
       cases (ltb at (length t))
       (λ k. let l : at < length t = ltb-true _ _ k in
-        rw (run-more most at n w l)
-        (one-more l refl (runs-from most (nextOffset t at) _ _ (omega (arith, next-past t at l)))))
+      rw (run-more most at n w l)
+      (one-more l refl (runs-from most (nextOffset t at) _ _ (omega (arith, next-past t at l)))))
       (λ k. let l : length t ≤ at = ltb-false _ _ k in rw (run-end (suc most) at n w l) (at-end l))
 
   pub run-runs : (w : World) → Runs f t 0 0 w (run f t w)
@@ -91,7 +91,7 @@ module _ (f : Step) (t : Bytes) where
   run-bound most w h = runs-same (runs-from most 0 0 w (omega arith)) (run-runs w)
 
   -- past the end no point follows
-  pub runs-ended : {at n : ℕ} {w : World} {ps : List Point} → Runs f t at n w ps → length t ≤ at → ps ≡ []
+  runs-ended : {at n : ℕ} {w : World} {ps : List Point} → Runs f t at n w ps → length t ≤ at → ps ≡ []
   runs-ended (at-end h) k = refl
   runs-ended (one-more l e r) k = absurd (omega arith)
 
@@ -125,12 +125,17 @@ step-neither : (k : ℕ) → all (λ (n : ℕ). not (eqb n 2) && not (eqb n 3)) 
 unfolding refusalNumbers all
 step-neither k = of-command (λ (ns : List ℕ). all (λ (n : ℕ). not (eqb n 2) && not (eqb n 3)) ns ≡ true) k refl (λ h. refl) refl refl refl refl refl
 
-pub answer-ends : (t : Bytes) (at : ℕ) (w : World) (n : ℕ) → (commandAt step t at w) .answer ≡ n → (n ≡ 2) ⊎ (n ≡ 3) → length t ≤ nextOffset t at
+answer-ends : (t : Bytes) (at : ℕ) (w : World) (n : ℕ) → (commandAt step t at w) .answer ≡ n → (n ≡ 2) ⊎ (n ≡ 3) → length t ≤ nextOffset t at
 answer-ends t at w n h two =
     let k = commandByte t at in
     let a = operandsAt t at in
     let p : 0 < n = elim two [ inl e ↦ omega arith | inr e ↦ omega arith ] in
     let q : First ((commandAt step t at w) .answer) (tapeConditions t at w ++ (rowOf k a w) .conditions) =
-        (decided-refused (command-decided t at w) (row-answer k a w) (rw h p)) .0 in
+    (decided-refused (command-decided t at w) (row-answer k a w) (rw h p)) .0 in
     next-end t at (first-ends (rowOf k a w .conditions) (rw h at q) two
-      (λ m. neither n (all-mem _ (refusalNumbers k) (step-neither k) (rw (row-numbers k a w) at m)) two))
+    (λ m. neither n (all-mem _ (refusalNumbers k) (step-neither k) (rw (row-numbers k a w) at m)) two))
+
+pub tape-ends : (t : Bytes) {at n : ℕ} {w : World} {p : Point} {ps : List Point} → Runs step t at n w (p ∷ ps)
+    → (p .outcome .answer ≡ 2) ⊎ (p .outcome .answer ≡ 3) → ps ≡ []
+tape-ends t (one-more {at} {w = w} {p = p} h e r) two =
+    runs-ended step t r (answer-ends t at w (p .outcome .answer) (ap (λ (p : Point). p .outcome .answer) (sym e)) two)
