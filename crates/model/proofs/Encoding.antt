@@ -8,7 +8,7 @@ use mathlib.Core.Bool.{true, false, _&&_}
 use mathlib.Core.List.{List, [], _∷_, _++_, map, flatMap}
 use lib.ListN.{length, take, drop, getD, length-map, length-drop, take-append-drop}
 use lib.Seq.{getD-drop, ext-getD, length-take-le}
-use lib.Dec.{eqb, leb, ltb}
+use lib.Dec.{eqb, ltb}
 use borrow.Author.Tests.{le-leb, eq-eqb, leb-true, ltb-true, eqb-true}
 use Rattle.model.specs.Lists.{below, all}
 use Rattle.model.specs.Bytes.{Bytes, bytes, number, part, be4, block}
