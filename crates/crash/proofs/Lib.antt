@@ -2,3 +2,4 @@
 pub mod Rename
 pub mod Agreement
 pub mod Relation
+pub mod Points
