@@ -4,20 +4,19 @@
 use Prim.Native.Nat.{ℕ, zero, suc, _+_, _-_, _*_, min, _≤_, _<_}
 use native.Mathlib.Omega.{arith}
 use mathlib.Core.Path.{_≡_, refl, sym, ap, _∙_, subst}
-use mathlib.Core.Logic.{_⊎_, inl, inr, _≢_}
-use mathlib.Core.Bool.{Bool, true, false, cond, not, _&&_, _||_, true≢false}
+use mathlib.Core.Bool.{Bool, true, false, not, true≢false}
 use mathlib.Core.List.{List, [], _∷_, _++_, flatMap, append-nil}
 use lib.ListN.{length, take, drop, length-take, length-drop}
 use lib.Seq.{take-add, drop-drop}
-use lib.Dec.{ltb, leb, eqb}
-use borrow.Author.Tests.{lt-ltb, le-ltb, ltb-true, ltb-false, eqb-true, eq-eqb, not-false}
+use lib.Dec.{ltb, eqb}
+use borrow.Author.Tests.{lt-ltb, le-ltb, ltb-true, ltb-false, not-false}
 use Rattle.model.specs.Lists.{below, all}
 use Rattle.model.specs.Bytes.{Bytes, part, blockAt}
 use Rattle.model.specs.Shape.{between, inRange, homeBlock}
 use Rattle.model.specs.Card.{isBlank, isUp, isDown, shapeOf}
-use Rattle.model.specs.Command.{World, Outcome, refusal, unless, wrongLength}
+use Rattle.model.specs.Command.{World, Outcome, refusal, wrongLength}
 use Rattle.model.specs.Reading.{readConditions, readNumber}
-use Rattle.model.specs.Tape.{Step, step, operandLength, commandByte, operandsAt, isUnknown, endsEarly, commandAt, nextOffset, Point, run}
+use Rattle.model.specs.Tape.{step, operandLength, commandByte, operandsAt, isUnknown, endsEarly, commandAt, Point}
 use Rattle.model.specs.declared.Phase.{Phase}
 use Rattle.model.specs.declared.Shape.{Shape}
 use Rattle.model.specs.declared.Phase.the-variants.{Blank, Up, Down}
@@ -25,10 +24,10 @@ use Rattle.model.proofs.Lists.{cases, and-left, and-right, and-both, flatMap-ap
 use Rattle.model.proofs.Command.{unless-done, unless-refused, refusedWith}
 use Rattle.model.proofs.Tape.{pointAt, Runs, at-end, one-more, run-runs}
 use Rattle.crash.specs.Book.{keptWrites, image, blank}
-use Rattle.crash.specs.Service.{Service, fed, bookArea}
+use Rattle.crash.specs.Service.{Service, bookArea}
 use Rattle.crash.specs.Ledger.{Ledger, freshLedger, blankLedger, recoverLedger, entered, writeRefusals, closeRefusals, storeRefusals, checkpointRefusals, refusalsOf}
 use Rattle.crash.proofs.Agreement.{Agrees, Suits, blank-agrees, down-agrees, fed-agrees, area-same}
-use Rattle.crash.specs.Claims.{IsBytes, answerOf, JournalsRead, recoverStore, Recovers, PointKept, LedgerKept, ComesUp, AreaKept, homeArea, fedPoint, blankStart, downStart, downLedger, Claim, Demands}
+use Rattle.crash.specs.Claims.{IsBytes, answerOf, JournalsRead, recoverStore, PointKept, LedgerKept, ComesUp, AreaKept, homeArea, fedPoint, blankStart, downStart, downLedger, Claim, Demands}
 
 -- ---- a command of the tape as a point: 2 and 3 by what stands on the tape
 module _ (t : Bytes) (at : ℕ) (on-tape : at < length t) where
