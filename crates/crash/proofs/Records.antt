@@ -205,3 +205,118 @@ record-stands {l} f t h d p z =
           ∙ rw add-one (List·getD-append (map escaped (l .images t)) (last ∷ []) [] i (omega arith) ∙ (unfold escaped be4 part number in List·getD-map escaped (l .images t) i []));
       commit = z (length (heldOf l t) + 1) (omega arith) ∙ rw add-one (getD-at (map escaped (l .images t)) last [] [] (length (heldOf l t)) m);
     }
+
+-- ---- the records of a journal
+records-snoc : (l : Ledger) (c i n : ℕ) → recordsOf l c i n ++ (recordOf l (newName c (i + n)) ++ []) ≡ recordsOf l c i (suc n)
+unfolding recordsOf
+records-snoc l c i zero = rw (add-zero i)
+records-snoc l c i (suc n) =
+    let e : i + suc n ≡ suc i + n = omega arith in
+    append-assoc (recordOf l (newName c i)) (recordsOf l c (suc i) n) (recordOf l (newName c (i + suc n)) ++ [])
+    ∙ ap (λ (x : List Bytes). recordOf l (newName c i) ++ x) (rw e (records-snoc l c (suc i) n))
+
+records-cons : (l : Ledger) (c i n : ℕ) → flatMap (λ (j : ℕ). recordOf l (newName c (i + j))) (below n) ≡ recordsOf l c i n
+unfolding below flatMap recordsOf
+records-cons l c i zero = refl
+records-cons l c i (suc n) =
+    flatMap-append (λ (j : ℕ). recordOf l (newName c (i + j))) (below n) (n ∷ [])
+    ∙ ap (λ (x : List Bytes). x ++ (recordOf l (newName c (i + n)) ++ [])) (records-cons l c i n)
+    ∙ records-snoc l c i n
+
+-- blocks of the records of closed transactions
+blocks-two : (k : Book) (c i n : ℕ) → 2 * n ≤ recordBlocks k c i n
+unfolding recordBlocks
+blocks-two k c i zero = omega arith
+blocks-two k c i (suc n) = omega (arith, blocks-two k c (suc i) n)
+
+blocks-more : (k : Book) (c i m n : ℕ) → m ≤ n → recordBlocks k c i m ≤ recordBlocks k c i n
+unfolding recordBlocks
+blocks-more k c i zero n h = omega arith
+blocks-more k c i (suc m) zero h = absurd (omega arith)
+blocks-more k c i (suc m) (suc n) h = omega (arith, blocks-more k c (suc i) m n (omega arith))
+
+-- the numbers from i on are of closed transactions
+abbrev ClosedFrom : Ledger → ℕ → ℕ → ℕ → Type 0
+ClosedFrom l c i n = (j : ℕ) → i ≤ j → j < i + n → isClosed ((l .book .entry (newName c j)) .stage) ≡ true
+
+module _ {l : Ledger} (f : Fine l) (d : Bytes) (c : ℕ) where
+  length-records : (i n : ℕ) → ClosedFrom l c i n → length (recordsOf l c i n) ≡ recordBlocks (l .book) c i n
+  unfolding recordsOf recordBlocks
+  length-records i zero g = refl
+  length-records i (suc n) g =
+      length-append (recordOf l (newName c i)) (recordsOf l c (suc i) n)
+      ∙ omega (arith, length-record f (newName c i) (g i (omega arith) (omega arith)), length-records (suc i) n (λ j a b. g j (omega arith) (omega arith)))
+
+  abbrev Standing : ℕ → ℕ → ℕ → Type 0
+  Standing i p n = ClosedFrom l c i n × BlocksStand (l .shape) d c p (recordsOf l c i n)
+
+  first-stands : (i p n : ℕ) → Standing i p (suc n)
+      → Stands (l .shape) d c p i (heldOf l (newName c i)) (l .stamp (newName c i)) ((l .book .entry (newName c i)) .names) (l .images (newName c i))
+  unfolding recordsOf
+  first-stands i p n z =
+      record-stands f (newName c i) (z .0 i (omega arith) (omega arith)) d p (stand-left (l .shape) d c p (recordOf l (newName c i)) (recordsOf l c (suc i) n) (z .1))
+
+  rest-stands : (i p n : ℕ) → Standing i p (suc n) → Standing (suc i) ((p + (length ((l .book .entry (newName c i)) .blocks) + 2)) % l .shape .journal) n
+  unfolding recordsOf
+  rest-stands i p n z = (
+    λ j a b. z .0 j (omega arith) (omega arith),
+    stand-wrap (l .shape) d c (p + (length ((l .book .entry (newName c i)) .blocks) + 2)) (recordsOf l c (suc i) n)
+    (rw (← (length-record f (newName c i) (z .0 i (omega arith) (omega arith)))) (stand-right (l .shape) d c p (recordOf l (newName c i)) (recordsOf l c (suc i) n) (z .1))),
+  )
+
+  -- the reading of n records, with none of the next number
+  records-are : (most i p left n : ℕ) → n ≤ most → Standing i p n → recordBlocks (l .book) c i n ≤ left
+      → ((q : ℕ) → isCommit (l .shape) (i + n) (journalAt (l .shape) d c q) ≡ false) → recordsFrom most (l .shape) d c i p left ≡ readFrom l c i p n
+  unfolding readFrom recordBlocks
+  records-are most i p left zero h z r g =
+      let none : (q : ℕ) → isCommit (l .shape) i (journalAt (l .shape) d c q) ≡ false = λ q. rw add-zero at (g q) in
+      records-miss (l .shape) d c i p left most (miss-commit (l .shape) d c i p left (none _))
+  records-are zero i p left (suc n) h z r g = absurd (omega arith)
+  records-are (suc most) i p left (suc n) h z r g =
+      let t = newName c i in
+      let x = z .0 i (omega arith) (omega arith) in
+      let e = length-held l t in
+      let hit : recordAt (l .shape) d c i p left ≡ Whole (readRecord l t p) =
+          record-read (record-sound f t x) (first-stands i p n z) left (omega arith) ∙ ap Whole (as-read f t x p) in
+      let s : i + suc n ≡ suc i + n = omega arith in
+      records-hit (l .shape) d c i p left most (readRecord l t p) hit
+      ∙ rw add-one
+      (ap (λ (r : List Committed). readRecord l t p ∷ r)
+      (records-are most (suc i) _ (left - (length ((l .book .entry t) .blocks) + 2)) n (omega arith) (rest-stands i p n z) (omega arith) (λ q. rw s at (g q))))
+
+-- ---- one record that is read
+-- what the ledger has for its transaction is what its record gives
+pub record IsRead (l : Ledger) (d : Bytes) (c : ℕ) (e : Committed) : Type 0 where
+  pub core : e .core ≡ c
+  pub low : l .book .oldest c ≤ e .number
+  pub high : e .number < l .book .uncommitted c
+  pub unretired : Unretired ((l .book .entry (nameOf e)) .stage)
+  pub count : e .count ≡ length ((l .book .entry (nameOf e)) .blocks)
+  pub stamp : e .stamp ≡ l .stamp (nameOf e)
+  pub named : e .named ≡ length ((l .book .entry (nameOf e)) .names)
+  pub held : heldBy (l .shape) d e ≡ heldOf l (nameOf e)
+  pub blocks : blocksOf (l .shape) d e ≡ (l .book .entry (nameOf e)) .blocks
+  pub names : namesOf (l .shape) d e ≡ (l .book .entry (nameOf e)) .names
+  pub images : (i : ℕ) → i < e .count → imageOf (l .shape) d e i ≡ getD (l .images (nameOf e)) i []
+
+blocks-held : (l : Ledger) (t : Name) → map (λ (h : Held). h .block) (heldOf l t) ≡ (l .book .entry t) .blocks
+blocks-held l t =
+    let n = length-held l t in
+    let m = length-map (heldOf l t) (λ (h : Held). h .block) in
+    ext-getD 0 (map (λ (h : Held). h .block) (heldOf l t)) ((l .book .entry t) .blocks) (m ∙ n)
+    (λ i h. List·getD-map (λ (h : Held). h .block) (heldOf l t) i (newHeld 0 0) ∙ ap (λ (h : Held). h .block) (getD-held l t i (omega arith)))
+
+module _ {l : Ledger} {d : Bytes} {tailAt : ℕ → Tail} (f : Fine l) (z : DiskStands l d tailAt) (c : ℕ) (in-range : c < l .shape .cores) where
+  abbrev count-of : ℕ
+  count-of = l .book .uncommitted c - l .book .oldest c
+
+  stored-closed : ClosedFrom l c (l .book .oldest c) count-of
+  stored-closed j a b = stored-unretired (f .ranks c in-range) j a (omega arith) .is-closed
+
+  journal-standing : Standing f d c (l .book .oldest c) ((tailAt c) .position) count-of
+  journal-standing = (
+    stored-closed,
+    (unfold contents in
+    stand-left (l .shape) d c ((tailAt c) .position) (recordsOf l c (l .book .oldest c) count-of) _
+    (rw (records-cons l c (l .book .oldest c) count-of) at (z .journals c in-range .stands))),
+  )
