@@ -306,6 +306,97 @@ blocks-held l t =
     ext-getD 0 (map (λ (h : Held). h .block) (heldOf l t)) ((l .book .entry t) .blocks) (m ∙ n)
     (λ i h. List·getD-map (λ (h : Held). h .block) (heldOf l t) i (newHeld 0 0) ∙ ap (λ (h : Held). h .block) (getD-held l t i (omega arith)))
 
+blocks-read : (l : Ledger) (t : Name) (d : Bytes) (e : Committed) → heldBy (l .shape) d e ≡ heldOf l t → blocksOf (l .shape) d e ≡ (l .book .entry t) .blocks
+unfolding blocksOf
+blocks-read l t d e h = ap (map (λ (h : Held). h .block)) h ∙ blocks-held l t
+
+module _ {l : Ledger} (f : Fine l) (d : Bytes) (c : ℕ) (in-range : c < l .shape .cores) where
+  record-is : (i p : ℕ) → l .book .oldest c ≤ i → i < l .book .uncommitted c
+      → Stands (l .shape) d c p i (heldOf l (newName c i)) (l .stamp (newName c i)) ((l .book .entry (newName c i)) .names) (l .images (newName c i))
+      → IsRead l d c (readRecord l (newName c i) p)
+  record-is i p a b st =
+      let t = newName c i in
+      let u = stored-unretired (f .ranks c in-range) i a b in
+      let x = record-sound f t (u .is-closed) in
+      let e = as-read f t (u .is-closed) p in
+      let held : heldBy (l .shape) d (readRecord l t p) ≡ heldOf l t = subst (λ (r : Committed). heldBy (l .shape) d r ≡ heldOf l t) e (held-read x st) in
+      record {
+        core = refl;
+        low = a;
+        high = b;
+        unretired = u;
+        count = refl;
+        stamp = refl;
+        named = refl;
+        held = held;
+        blocks = blocks-read l t d (readRecord l t p) held;
+        names = subst (λ (r : Committed). namesOf (l .shape) d r ≡ (l .book .entry t) .names) e (names-read x st);
+        images =
+            λ j h.
+            subst (λ (r : Committed). imageOf (l .shape) d r j ≡ getD (l .images t) j []) e
+            (image-read x st (record-images f t (u .is-closed)) j (omega (arith, length-held l t)));
+      }
+
+  each-is : (i p n : ℕ) → Standing f d c i p n → l .book .oldest c ≤ i → i + n ≤ l .book .uncommitted c
+      → (e : Committed) → List·Memᴰ e (readFrom l c i p n) → IsRead l d c e
+  unfolding readFrom
+  each-is i p zero st a b e m = absurd (List·Memᴰ·not-nil m)
+  each-is i p (suc n) st a b e m =
+      elim (List·Memᴰ·cases-cons m) [
+        | inl q ↦ subst (λ (r : Committed). IsRead l d c r) (sym q) (record-is i p a (omega arith) (first-stands f d c i p n st))
+        | inr r ↦ each-is (suc i) _ n (rest-stands f d c i p n st) (omega arith) (omega arith) e r
+      ]
+
+module _ (l : Ledger) (c : ℕ) where
+  length-from : (i p n : ℕ) → length (readFrom l c i p n) ≡ n
+  unfolding readFrom
+  length-from i p zero = refl
+  length-from i p (suc n) = ap suc (length-from (suc i) _ n)
+
+  from-at : (i p n j : ℕ) (e : Committed) → j < n → (getD (readFrom l c i p n) j e) .number ≡ i + j
+  unfolding readFrom
+  from-at i p zero j e h = absurd (omega arith)
+  from-at i p (suc n) zero e h = omega arith
+  from-at i p (suc n) (suc j) e h = from-at (suc i) _ n j e (omega arith) ∙ omega arith
+
+  from-has : (i p n j : ℕ) → i ≤ j → j < i + n → (e : Committed) × List·Memᴰ e (readFrom l c i p n) × (nameOf e ≡ newName c j)
+  unfolding readFrom
+  from-has i p zero j a b = absurd (omega arith)
+  from-has i p (suc n) j a b =
+      elim (ℕ-discrete i j) [
+        | yes e ↦ (readRecord l (newName c i) p, List·Memᴰ·head refl, ap (newName c) e)
+        | no ne ↦ (let r = from-has (suc i) ((p + (length ((l .book .entry (newName c i)) .blocks) + 2)) % l .shape .journal) n j (omega arith) (omega arith) in
+            (r .0, List·Memᴰ·tail (r .1), r .2))
+      ]
+
+  module _ (t : Tail) where
+    pub length-readList : length (readList l c t) ≡ l .book .uncommitted c - l .book .oldest c
+    unfolding readList
+    length-readList = length-from (l .book .oldest c) (t .position) (l .book .uncommitted c - l .book .oldest c)
+
+    -- the records are in order of number
+    pub readList-at : (j : ℕ) (e : Committed) → j < l .book .uncommitted c - l .book .oldest c → (getD (readList l c t) j e) .number ≡ l .book .oldest c + j
+    unfolding readList
+    readList-at j e h = from-at (l .book .oldest c) (t .position) (l .book .uncommitted c - l .book .oldest c) j e h
+
+    -- each transaction stored whole has its record
+    pub readList-has : (i : ℕ) → l .book .oldest c ≤ i → i < l .book .uncommitted c
+        → (e : Committed) × List·Memᴰ e (readList l c t) × (nameOf e ≡ newName c i)
+    unfolding readList
+    readList-has i a b = from-has (l .book .oldest c) (t .position) (l .book .uncommitted c - l .book .oldest c) i a (omega arith)
+
+    -- the oldest comes first
+    pub readList-first : l .book .oldest c < l .book .uncommitted c
+        → readList l c t
+        ≡ readRecord l (newName c (l .book .oldest c)) (t .position)
+        ∷ readFrom l c (suc (l .book .oldest c)) ((t .position + (length ((l .book .entry (newName c (l .book .oldest c))) .blocks) + 2)) % l .shape .journal)
+        (l .book .uncommitted c - suc (l .book .oldest c))
+    unfolding readList readFrom
+    readList-first h =
+        let e : l .book .uncommitted c - l .book .oldest c ≡ suc (l .book .uncommitted c - suc (l .book .oldest c)) = omega arith in
+        ap (readFrom l c (l .book .oldest c) (t .position)) e
+
+-- ---- the reading of a journal
 module _ {l : Ledger} {d : Bytes} {tailAt : ℕ → Tail} (f : Fine l) (z : DiskStands l d tailAt) (c : ℕ) (in-range : c < l .shape .cores) where
   abbrev count-of : ℕ
   count-of = l .book .uncommitted c - l .book .oldest c
@@ -320,3 +411,72 @@ module _ {l : Ledger} {d : Bytes} {tailAt : ℕ → Tail} (f : Fine l) (z : Disk
     stand-left (l .shape) d c ((tailAt c) .position) (recordsOf l c (l .book .oldest c) count-of) _
     (rw (records-cons l c (l .book .oldest c) count-of) at (z .journals c in-range .stands))),
   )
+
+  -- no record is shorter than two blocks, and all fit: J bounds their number
+  pub few-records : l .book .uncommitted c - l .book .oldest c ≤ l .shape .journal
+  few-records =
+      let k = l .book in
+      omega (
+        arith,
+        f .ranks c in-range .mid,
+        z .journals c in-range .room,
+        blocks-two k c (k .oldest c) count-of,
+        blocks-more k c (k .oldest c) count-of (k .next c - k .oldest c) (omega (arith, f .ranks c in-range .mid)),
+      )
+
+  pub journal-read : (most : ℕ) → l .book .uncommitted c - l .book .oldest c ≤ most → journal (l .shape) d c (tailAt c) most ≡ readList l c (tailAt c)
+  unfolding journal readList
+  journal-read most h =
+      let k = l .book in
+      let j = z .journals c in-range in
+      let r = f .ranks c in-range in
+      rw (j .number)
+      (records-are f d c most (k .oldest c) ((tailAt c) .position) (l .shape .journal) count-of h journal-standing
+      (omega (arith, r .mid, j .room, blocks-more k c (k .oldest c) count-of (k .next c - k .oldest c) (omega (arith, r .mid))))
+      (λ q. j .clear (k .oldest c + count-of) q (omega (arith, r .low))))
+
+  pub readList-is : (e : Committed) → List·Memᴰ e (readList l c (tailAt c)) → IsRead l d c e
+  unfolding readList
+  readList-is = each-is f d c in-range (l .book .oldest c) ((tailAt c) .position) count-of journal-standing (omega arith) (omega (arith, f .ranks c in-range .low))
+
+-- ---- demand 2
+stored-as : {l : Ledger} (f : Fine l) (d : Bytes) (c : ℕ) (e : Committed) → IsRead l d c e → readAs (l .shape) d e ≡ storedOf l (nameOf e)
+unfolding readAs storedOf
+stored-as {l} f d c e r =
+    let t = nameOf e in
+    let z = f .frozen t (r .unretired .is-closed) in
+    let n : length (map (imageOf (l .shape) d e) (below (e .count))) ≡ e .count = length-map (below (e .count)) (imageOf (l .shape) d e) ∙ length-below (e .count) in
+    let i : map (imageOf (l .shape) d e) (below (e .count)) ≡ l .images t =
+        ext-getD [] (map (imageOf (l .shape) d e) (below (e .count))) (l .images t) (n ∙ r .count ∙ sym (z .count))
+        (λ i h. getD-map-below (imageOf (l .shape) d e) (e .count) i [] (omega arith) ∙ r .images i (omega arith)) in
+    rw (r .blocks, i, r .names, r .stamp)
+
+module _ {l : Ledger} {d : Bytes} {tailAt : ℕ → Tail} (f : Fine l) (z : DiskStands l d tailAt) where
+  list-stored : (c : ℕ) → c < l .shape .cores → map (readAs (l .shape) d) (readList l c (tailAt c)) ≡ storedSince l c
+  unfolding storedSince
+  list-stored c h =
+      let none : Committed = record { core = 0; number = 0; position = 0; count = 0; stamp = 0; named = 0 } in
+      let es = readList l c (tailAt c) in
+      let o = l .book .oldest c in
+      let n = l .book .uncommitted c - o in
+      let k = length-readList l c (tailAt c) in
+      let m = length-map es (readAs (l .shape) d) in
+      ext-getD (readAs (l .shape) d none) (map (readAs (l .shape) d) es) (map (λ (i : ℕ). storedOf l (newName c (o + i))) (below n))
+      (m ∙ k ∙ sym (length-map (below n) (λ (i : ℕ). storedOf l (newName c (o + i))) ∙ length-below n))
+      (λ i g.
+      let b : i < n = omega arith in
+      let e = getD es i none in
+      let x = readList-is f z c h e (getD-mem es i none (omega arith)) in
+      let y : nameOf e ≡ newName c (o + i) = rw (x .core, readList-at l c (tailAt c) i none b) in
+      List·getD-map (readAs (l .shape) d) es i none
+      ∙ stored-as f d c e x
+      ∙ ap (storedOf l) y
+      ∙ sym (getD-map-below (λ (i : ℕ). storedOf l (newName c (o + i))) n i (readAs (l .shape) d none) b))
+
+  pub journals-read : JournalsRead l d
+  journals-read =
+      record {
+        shape = shape-read f z;
+        tails = λ c h. ap (λ (t : Tail). t .number) (tail-read f z c h) ∙ z .journals c h .number;
+        records = λ c h. rw (tail-read f z c h, journal-read f z c h (l .shape .journal) (few-records f z c h)) (list-stored c h);
+      }
