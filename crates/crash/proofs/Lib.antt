@@ -3,3 +3,4 @@ pub mod Relation
 pub mod Stages
 pub mod Master
 pub mod Records
+pub mod Valid
