@@ -4,3 +4,4 @@ pub mod Stages
 pub mod Master
 pub mod Records
 pub mod Valid
+pub mod Newest
