@@ -5,3 +5,4 @@ pub mod Master
 pub mod Records
 pub mod Valid
 pub mod Newest
+pub mod CheckpointRead

@@ -75,3 +75,8 @@ module _ {k : Book} {c : ℕ} (r : Ranks k c) (i : ℕ) where
         | inr b ↦ (let x = r .storing (omega arith) in
             clash h (ap (λ (j : ℕ). isCommitted ((k .entry (newName c j)) .stage)) (b .0) ∙ ap isCommitted (x .1)))
       ]
+
+-- the one that is being stored
+pub closing-stage : {k : Book} {c : ℕ} → Ranks k c → k .uncommitted c < k .next c
+    → (isClosed ((k .entry (newName c (k .uncommitted c))) .stage) ≡ true) × (isRetired ((k .entry (newName c (k .uncommitted c))) .stage) ≡ false)
+closing-stage r h = let x = r .storing h in (ap isClosed (x .1), ap isRetired (x .1))
