@@ -1,38 +1,34 @@
 -- On a card that is up, what CHECKPOINT reads is what the ledger says, and each of its conditions is the ledger's.
 -- The card's count of committed ones is the ledger's, so the journals are read whole; the closed ones that still store
 -- stand in the card. Every closed unretired transaction is one of these two: so 33 looks at the same transactions.
-use Prim.Native.Nat.{ℕ, zero, suc, _-_, _≤_, _<_}
+use Prim.Native.Nat.{ℕ, _-_, _≤_, _<_}
 use native.Mathlib.Omega.{arith}
 use native.Mathlib.Decide.{decLt, ℕ-discrete}
 use mathlib.Core.Path.{_≡_, refl, sym, ap, ap₂, _∙_, subst}
-use mathlib.Core.Logic.{_⊎_, inl, inr}
-use mathlib.Core.Bool.{Bool, true, false, not, cond, _&&_, _||_}
-use mathlib.Core.List.{List, [], _∷_, List·Memᴰ, List·Memᴰ·head}
+use mathlib.Core.Logic.{inl, inr}
+use mathlib.Core.Bool.{Bool, true, false, not, _&&_}
+use mathlib.Core.List.{List·Memᴰ, List·Memᴰ·head}
 use lib.ListN.{length}
 use lib.Dec.{ltb, eqb}
 use borrow.Author.Tests.{ltb-true, lt-ltb, le-ltb, le-leb, lt-leb, eq-eqb, ne-eqb, not-true}
 use Rattle.model.specs.Lists.{below, any}
-use Rattle.model.specs.Bytes.{Bytes}
 use Rattle.model.specs.Shape.{clamped}
 use Rattle.model.specs.Card.{newName, sameName, taken, shapeOf, tailOf, coreOf, committedCount}
-use Rattle.model.specs.Journal.{journal, journals, nameOf, blocksOf}
+use Rattle.model.specs.Journal.{journals, nameOf, blocksOf}
 use Rattle.model.specs.Valid.{isIn, validSet}
 use Rattle.model.specs.Command.{World, refusal, wrongLength, noCore}
 use Rattle.model.specs.Checkpoint.{committedNow, validNow, committedOf, oldest, share, sharesLower, checkpointConditions}
 use Rattle.model.specs.declared.Shape.{Shape}
-use Rattle.model.specs.declared.Tail.{Tail}
 use Rattle.model.specs.declared.Name.{Name}
-use Rattle.model.specs.declared.Core.{Core}
-use Rattle.model.specs.declared.Transaction.{Transaction}
 use Rattle.model.specs.declared.Committed.{Committed}
 use Rattle.model.proofs.Limits.{clamped-same}
 use Rattle.model.proofs.Lists.{and-both, and-left, and-right, or-left, or-right, or-cases, any-mem, mem-any, mem-below, below-mem}
 use Rattle.crash.specs.Book.{isClosed, isRetired}
 use Rattle.crash.specs.Ledger.{Ledger, validIn, sharesLowerIn, checkpointRefusals}
-use Rattle.crash.proofs.Relation.{Ranks, Fine, DiskStands, Matches, CoreUp, Up}
+use Rattle.crash.proofs.Relation.{Fine, Up}
 use Rattle.crash.proofs.Stages.{clash, closed-present, unretired-rank, closing-stage}
 use Rattle.crash.proofs.Records.{readRecord, readList, IsRead, length-readList, readList-has, readList-first, readList-is, journal-read}
-use Rattle.crash.proofs.Valid.{same-test, journals-are, journals-have, valid-same}
+use Rattle.crash.proofs.Valid.{same-test, journals-are, listed-journals, valid-same}
 
 -- ---- what is read
 module _ {l : Ledger} {w : World} (u : Up l w) where
@@ -102,8 +98,7 @@ in-lower l t h =
     let b = not (isRetired ((l .book .entry v) .stage)) in
     let m = ltb (l .stamp v) (l .stamp t) in
     let s = share ((l .book .entry t) .blocks) ((l .book .entry v) .blocks) in
-    let q = and-left (a && b && m) s (r .2) in
-    (
+    let q = and-left (a && b && m) s (r .2) in (
       v,
       record {
         is-closed = and-left a b (and-left (a && b) m q);
@@ -172,7 +167,7 @@ module _ {l : Ledger} {w : World} (u : Up l w) (c : ℕ) (e : Committed) (x : Is
         | yes h ↦ elim (unretired-rank (u .fine .ranks (v .core) h) (v .number) (r .is-closed) (r .not-retired)) [
           | inl i ↦ (let g = readList-has l (v .core) (tailOf (w .card) (v .core)) (v .number) (i .0) (i .1) in
               let y = readList-is (u .fine) (u .disk) (v .core) h (g .0) (g .1) in
-              let m = journals-have (u .fine) (u .disk) (committedCount (w .card)) (count-enough u) (g .0) in
+              let m = listed-journals (u .fine) (u .disk) (committedCount (w .card)) (count-enough u) (g .0) in
               let p = subst (λ (j : ℕ). (j < l .shape .cores) × List·Memᴰ (g .0) (readList l j (tailOf (w .card) j))) (sym (y .core)) (h, g .1) in
               or-left (any lowerClosed (below ((shapeOf (w .card)) .cores)))
               (mem-any lowerRead (rw (committed-now u) (m (p .0) (p .1))) (lower-read (g .0) (v .core) y (subst (Lower l (nameOf e)) (sym (g .2)) r))))
