@@ -170,9 +170,9 @@ module _ {l : Ledger} (f : Fine l) (t : Name) (h : isClosed ((l .book .entry t) 
   as-read : (p : ℕ) → asRead (t .core) p (t .number) (heldOf l t) (l .stamp t) ((l .book .entry t) .names) ≡ readRecord l t p
   as-read p = rw (length-held l t)
 
--- ---- blocks that stand one after the other
+-- ---- blocks that stand one after the other, from a position on
 module _ (s : Shape) (d : Bytes) (c : ℕ) where
-  abbrev BlocksStand : ℕ → List Bytes → Type 0
+  abbrev pub BlocksStand : ℕ → List Bytes → Type 0
   BlocksStand p xs = (q : ℕ) → q < length xs → journalAt s d c (p + q) ≡ getD xs q []
 
   stand-left : (p : ℕ) (xs ys : List Bytes) → BlocksStand p (xs ++ ys) → BlocksStand p xs
