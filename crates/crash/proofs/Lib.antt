@@ -2,4 +2,10 @@
 pub mod Rename
 pub mod Agreement
 pub mod Relation
+pub mod Stages
+pub mod Master
+pub mod Records
+pub mod Valid
+pub mod Newest
+pub mod CheckpointRead
 pub mod Points
