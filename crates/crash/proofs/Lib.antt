@@ -9,3 +9,4 @@ pub mod Valid
 pub mod Newest
 pub mod CheckpointRead
 pub mod Points
+pub mod Examples
