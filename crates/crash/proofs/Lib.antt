@@ -1,0 +1,4 @@
+-- Why the claims are true: one block's history, the invariant of a run between two cuts, what a cut brings back.
+pub mod Tests
+pub mod History
+pub mod Steps
