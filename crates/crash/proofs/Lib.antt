@@ -2,3 +2,4 @@
 pub mod Tests
 pub mod History
 pub mod Steps
+pub mod Largest

@@ -4,11 +4,14 @@
 use Prim.Native.Nat.{ℕ}
 use mathlib.Core.Path.{_≡_, refl, sym}
 use mathlib.Core.Bool.{Bool, true, false, So}
+use mathlib.Core.List.{List, List·Memᴰ, Memᴰ·cast}
 use lib.Dec.{eqb}
 use borrow.Author.Tests.{eqb-true, eq-eqb}
+use Rattle.model.specs.Lists.{any}
 use Rattle.model.specs.Card.{sameName}
 use Rattle.model.specs.declared.Name.{Name}
 use Rattle.model.proofs.Logic.{clash}
+use Rattle.model.proofs.Lists.{any-mem, mem-any}
 use Rattle.model.proofs.Valid.{sameName-true, sameName-refl}
 
 pub false-of : (b : Bool) → (So b → ⊥) → b ≡ false
@@ -27,6 +30,14 @@ pub record Equality (A : Type 0) : Type 0 where
 
 pub is-not : {A : Type 0} (E : Equality A) (a b : A) → E .is a b ≡ false → E .is b a ≡ false
 is-not E a b h = false-of _ (λ k. clash {b = E .is a b} (rw (E .is-true b a k) (E .is-refl a)) h)
+
+-- what `any` says of a list by the test for equality
+module _ {A : Type 0} (E : Equality A) where
+  pub any-in : (a : A) (xs : List A) → So (any (E .is a) xs) → List·Memᴰ a xs
+  any-in a xs h = let r = any-mem (E .is a) xs h in Memᴰ·cast (E .is-true a (r .0) (r .2)) (r .1)
+
+  pub in-any : {a : A} {xs : List A} → List·Memᴰ a xs → So (any (E .is a) xs)
+  in-any {a} m = mem-any (E .is a) m (E .is-refl a)
 
 abbrev pub nameEquality : Equality Name
 nameEquality = record { is = sameName; is-true = sameName-true; is-refl = sameName-refl }
