@@ -6,8 +6,10 @@ pub mod Lists
 pub mod Store
 pub mod Words
 pub mod Encoding
-pub mod Logic
+pub mod Journal
 pub mod Select
 pub mod Shrink
 pub mod Valid
 pub mod Command
+pub mod Tape
+pub mod Arrays
