@@ -8,8 +8,8 @@ use mathlib.Core.List.{List, [], _∷_}
 use mathlib.Core.Option.{Option, none, some}
 use Prim.Native.Nat.{ℕ, _≤_, _<_}
 use native.Mathlib.Omega.{arith}
-use Rattle.model.proofs.Logic.{clash, cases}
-use Rattle.crash.proofs.Tests.{false-of, agree, Equality}
+use Rattle.model.proofs.Lists.{cases}
+use Rattle.crash.proofs.Tests.{clash, false-of, agree, Equality}
 
 -- ---- a history
 -- a write of the block: its transaction, the one that holds the block after it, and what it makes of the image

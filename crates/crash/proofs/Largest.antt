@@ -10,15 +10,14 @@ use Rattle.model.specs.Lists.{any, select}
 use Rattle.model.specs.Card.{sameName}
 use Rattle.model.specs.Shrink.{shrink, lists-it}
 use Rattle.model.specs.declared.Name.{Name}
-use Rattle.model.proofs.Logic.{clash, cases}
-use Rattle.model.proofs.Lists.{and-left, and-right, and-both}
+use Rattle.model.proofs.Lists.{cases, and-left, and-right, and-both}
 use Rattle.model.proofs.Select.{mem-select, select-mem}
 use Rattle.model.proofs.Shrink.{allNamed, shrink-within, shrunk-names, depends-closed, depends-largest}
 use Rattle.model.proofs.Valid.{sameName-true, sameName-refl}
 use Rattle.crash.specs.Book.{Book, Stage, isCommitted, isRetired, committedIn, namesIn, kept}
 use Rattle.crash.specs.Ledger.{unretired, metIn, validIn}
 use Rattle.crash.specs.Claims.{Lists, HasAll, LargestKept}
-use Rattle.crash.proofs.Tests.{agree, any-in, in-any, nameEquality}
+use Rattle.crash.proofs.Tests.{clash, agree, any-in, in-any, nameEquality}
 
 -- `k` is the largest set of those in `from` in which each one listed is in the set, or is met without it
 pub record Largest {Txn : Type 0} (from : Txn → Bool) (lists : Txn → Txn → Bool) (met : Txn → Bool) (k : Txn → Bool) : Type 1 where

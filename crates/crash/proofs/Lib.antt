@@ -3,3 +3,4 @@ pub mod Tests
 pub mod History
 pub mod Steps
 pub mod Largest
+pub mod Invariant

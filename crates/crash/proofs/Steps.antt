@@ -6,9 +6,8 @@ use mathlib.Core.Bool.{Bool, true, false, So, _||_}
 use mathlib.Core.Logic.{_⊎_, inl, inr, ⊎-elim, ⊎-map}
 use mathlib.Core.List.{List, [], _∷_}
 use Prim.Native.Nat.{ℕ, _<_}
-use Rattle.model.proofs.Logic.{clash, cases}
-use Rattle.model.proofs.Lists.{or-cases, or-left, or-right}
-use Rattle.crash.proofs.Tests.{Equality, false-of}
+use Rattle.model.proofs.Lists.{cases, or-cases, or-left, or-right}
+use Rattle.crash.proofs.Tests.{clash, Equality, false-of}
 use Rattle.crash.proofs.History.{Event, value, upto, Took, Status, Sound, Older, Link, Own, Next, Chain, Good, older}
 
 -- ---- a command that leaves the block alone: marks are only added, and one that closes gets the highest stamp so far

@@ -2,17 +2,19 @@
 -- A set of transactions is given by a test throughout the proof, so that histories can be cut by it.
 -- The two equalities used are those of names and of block numbers.
 use Prim.Native.Nat.{ℕ}
-use mathlib.Core.Path.{_≡_, refl, sym}
-use mathlib.Core.Bool.{Bool, true, false, So}
+use mathlib.Core.Path.{_≡_, refl, sym, _∙_}
+use mathlib.Core.Bool.{Bool, true, false, So, true≢false}
 use mathlib.Core.List.{List, List·Memᴰ, Memᴰ·cast}
 use lib.Dec.{eqb}
 use borrow.Author.Tests.{eqb-true, eq-eqb}
 use Rattle.model.specs.Lists.{any}
 use Rattle.model.specs.Card.{sameName}
 use Rattle.model.specs.declared.Name.{Name}
-use Rattle.model.proofs.Logic.{clash}
 use Rattle.model.proofs.Lists.{any-mem, mem-any}
 use Rattle.model.proofs.Valid.{sameName-true, sameName-refl}
+
+pub clash {ℓ} : {A : Type ℓ} {b : Bool} → b ≡ true → b ≡ false → A
+clash p q = absurd (true≢false (sym p ∙ q))
 
 pub false-of : (b : Bool) → (So b → ⊥) → b ≡ false
 false-of true f = absurd (f refl)
