@@ -4,3 +4,4 @@ pub mod History
 pub mod Steps
 pub mod Largest
 pub mod Invariant
+pub mod Commands
