@@ -5,3 +5,4 @@ pub mod Steps
 pub mod Largest
 pub mod Invariant
 pub mod Commands
+pub mod Write
