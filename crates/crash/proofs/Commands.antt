@@ -90,7 +90,7 @@ module _ {t : Name} {g : Stage} {l l′ : Ledger} (m : Moved t g l l′) where
   moved-other u h = m .entry u ∙ change-other t (staged g) (l .book .entry) u h
 
   -- what holds of t as it is now, and of the others as they were, holds of each
-  moved-each : (P : Name → Entry → Type 0) → P t (staged g (l .book .entry t)) → ((u : Name) → sameName u t ≡ false → P u (l .book .entry u))
+  pub moved-each : (P : Name → Entry → Type 0) → P t (staged g (l .book .entry t)) → ((u : Name) → sameName u t ≡ false → P u (l .book .entry u))
       → (u : Name) → P u (l′ .book .entry u)
   moved-each P a b u =
       cases (sameName u t) (λ h. rw (sameName-true u t h, moved-t) a) (λ h. rw (moved-other u h) (b u h))

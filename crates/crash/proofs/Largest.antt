@@ -133,17 +133,17 @@ largest-kept k =
             t m);
     }
 
+-- of the names that committed ones list, those below their core's oldest number are those of the retired
+abbrev pub Numbered : Book → Type 0
+Numbered k = (t u : Name) → So (isCommitted (stageOf k t)) → So (listsName k t u) → ltb (u .number) (k .oldest (u .core)) ≡ isRetired (stageOf k u)
+
 module _ (k : Book) (opened : (t : Name) → So (isCommitted (stageOf k t)) → List·Memᴰ t (k .opened)) where
   pub kept-largest : Largest (λ t. isCommitted (stageOf k t)) (listsName k) (λ t. false) (memberOf (kept k))
   unfolding committedIn
   kept-largest =
       largest-same _ _ _ _ _ _ (member-select (λ t. isCommitted (stageOf k t)) (k .opened) opened) (λ t u h n. refl) (committed-largest k)
 
-  -- among the names listed, those below their core's oldest number are those of the retired ones
-  abbrev pub Numbered : Type 0
-  Numbered = (t u : Name) → So (isCommitted (stageOf k t)) → So (listsName k t u) → ltb (u .number) (k .oldest (u .core)) ≡ isRetired (stageOf k u)
-
-  module _ (numbered : Numbered) where
+  module _ (numbered : Numbered k) where
     pub valid-largest : Largest (λ t. isCommitted (stageOf k t) && not (isRetired (stageOf k t))) (listsName k) (λ t. isRetired (stageOf k t)) (memberOf (validIn k))
     unfolding validIn metIn unretired
     valid-largest =

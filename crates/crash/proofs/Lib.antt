@@ -6,3 +6,5 @@ pub mod Largest
 pub mod Invariant
 pub mod Commands
 pub mod Write
+pub mod Images
+pub mod Cut

@@ -73,7 +73,7 @@ edits-homed b x y d =
     (λ h. open-not-homed b (x .blocks) (x .stage) h ∙ sym (open-not-homed b (y .blocks) (y .stage) (rw (d .stage) h)))
 
 -- ---- a write noted, with transactions edited
-abbrev withWrite : Ledger → Write → (Name → Entry) → Ledger
+abbrev pub withWrite : Ledger → Write → (Name → Entry) → Ledger
 withWrite l w entry =
     withBook l
     (record {
@@ -152,7 +152,7 @@ module _ {home : ℕ → Bytes} {l : Ledger} (v : Inv home l) (w : Write) (entry
         }
 
 -- ---- the holder before the write
-abbrev lastHolder : List (Event Name Bytes) → Option Name
+abbrev pub lastHolder : List (Event Name Bytes) → Option Name
 lastHolder [] = none
 lastHolder (e ∷ es) = some (e .holder)
 
@@ -174,13 +174,13 @@ holder-last k b [] = refl
 holder-last k b (w ∷ ws) = cases (eqb b (w .block)) (λ h. rw h refl) (λ h. rw h (holder-last k b ws))
 
 -- what each rule goes by
-abbrev Ruled : Ledger → Name → ℕ → Meeting → Type 0
+abbrev pub Ruled : Ledger → Name → ℕ → Meeting → Type 0
 Ruled l t b no-holder = (u : Name) → lastHolder (historyOf l b) ≡ some u → So (isRetired (stageOf (l .book) u))
 Ruled l t b own = lastHolder (historyOf l b) ≡ some t
 Ruled l t b (running-holder u) = (lastHolder (historyOf l b) ≡ some u) × (isClosed (stageOf (l .book) u) ≡ false) × (sameName u t ≡ false)
 Ruled l t b (closed-holder u) = (lastHolder (historyOf l b) ≡ some u) × So (isClosed (stageOf (l .book) u))
 
-meets-ruled : (l : Ledger) (t : Name) (b : ℕ) → Ruled l t b (meets (l .book) t (holderIn (l .book) b (l .book .writes)))
+pub meets-ruled : (l : Ledger) (t : Name) (b : ℕ) → Ruled l t b (meets (l .book) t (holderIn (l .book) b (l .book .writes)))
 unfolding meets
 meets-ruled l t b = rw (holder-last (l .book) b (l .book .writes)) (by-last (lastHolder (historyOf l b)) refl)
   where
