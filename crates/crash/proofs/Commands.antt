@@ -82,6 +82,14 @@ pub change-other : (t : Name) (f : Entry → Entry) (entry : Name → Entry) (u 
 unfolding change
 change-other t f entry u h = rw h refl
 
+-- what holds of t as it is changed, and of the others as they are, holds of each
+pub change-each : (P : Name → Entry → Type 0) (t : Name) (f : Entry → Entry) (entry : Name → Entry) → P t (f (entry t))
+    → ((u : Name) → sameName u t ≡ false → P u (entry u)) → (u : Name) → P u (change t f entry u)
+change-each P t f entry a b u =
+    cases (sameName u t)
+    (λ h. rw (sameName-true u t h, change-same t f entry) a)
+    (λ h. rw (change-other t f entry u h) (b u h))
+
 module _ {t : Name} {g : Stage} {l l′ : Ledger} (m : Moved t g l l′) where
   moved-t : l′ .book .entry t ≡ staged g (l .book .entry t)
   moved-t = m .entry t ∙ change-same t (staged g) (l .book .entry)
@@ -89,11 +97,9 @@ module _ {t : Name} {g : Stage} {l l′ : Ledger} (m : Moved t g l l′) where
   moved-other : (u : Name) → sameName u t ≡ false → l′ .book .entry u ≡ l .book .entry u
   moved-other u h = m .entry u ∙ change-other t (staged g) (l .book .entry) u h
 
-  -- what holds of t as it is now, and of the others as they were, holds of each
   pub moved-each : (P : Name → Entry → Type 0) → P t (staged g (l .book .entry t)) → ((u : Name) → sameName u t ≡ false → P u (l .book .entry u))
       → (u : Name) → P u (l′ .book .entry u)
-  moved-each P a b u =
-      cases (sameName u t) (λ h. rw (sameName-true u t h, moved-t) a) (λ h. rw (moved-other u h) (b u h))
+  moved-each P a b u = rw (m .entry u) (change-each P t (staged g) (l .book .entry) a b u)
 
   pub moved-blocks : (u : Name) → (l′ .book .entry u) .blocks ≡ (l .book .entry u) .blocks
   moved-blocks = moved-each (λ u e. e .blocks ≡ (l .book .entry u) .blocks) refl (λ u h. refl)
@@ -136,6 +142,14 @@ module _ {t : Name} {g : Stage} {l l′ : Ledger} (m : Moved t g l l′) where
         (λ h. moved-each (λ u e. isClosed (stageOf (l .book) u) ≡ false → So (isClosed (e .stage)) → l′ .stamp u ≤ l′ .closes)
           (λ h q. omega (arith, m .stamp-new h q .0)) (λ u n h q. clash q h) u h q)
 
+    -- a history good with h as those that stored home stays good, where the ledger says then of each that it is in h
+    moved-good : (b : ℕ) (image : Bytes) (h : Name → Bool) → Good (status l) h (areaBefore l b) image (historyOf l b)
+        → ((u : Name) → Took u (historyOf l b) → So (isRetired (stageOf (l′ .book) u)) → So (h u))
+        → h t ≡ homedBy b ((l .book .entry t) .blocks) g → ((u : Name) → sameName u t ≡ false → h u ≡ homed l b u)
+        → Good (status l′) (homed l′ b) (areaBefore l b) image (historyOf l b)
+    moved-good b image h good stored at-t others =
+        good-grown v l′ (moved-known (v .known)) moved-grows b image h good stored (moved-each (λ u e. h u ≡ homedBy b (e .blocks) (e .stage)) at-t others)
+
     -- whoever retires is kept and has stored its blocks home
     module _ (retiring : So (isRetired g) → So (memberOf (kept (l .book)) t) × ((b : ℕ) → So (tookIn (l .book) b t) → So (homed l b t))) where
       moved-retired : (u : Name) → So (isRetired (stageOf (l′ .book) u)) → So (memberOf (kept (l .book)) u)
@@ -163,8 +177,7 @@ module _ {t : Name} {g : Stage} {l l′ : Ledger} (m : Moved t g l l′) where
 
       inv-moved : ((b : ℕ) → homedBy b ((l .book .entry t) .blocks) g ≡ homed l b t) → Inv home l′
       inv-moved homes =
-          inv-by-good (λ b. good-grown v l′ (moved-known (v .known)) moved-grows b (home b) (homed l b) (v .good b) (moved-stored b)
-            (moved-each (λ u e. homed l b u ≡ homedBy b (e .blocks) (e .stage)) (sym (homes b)) (λ u h. refl)))
+          inv-by-good (λ b. moved-good b (home b) (homed l b) (v .good b) (moved-stored b) (sym (homes b)) (λ u h. refl))
 
 -- a command that changes the book alone
 book-moved : (l : Ledger) (k : Book) (t : Name) (g : Stage) → Moves (stageOf (l .book) t) g → k .writes ≡ l .book .writes
@@ -185,126 +198,133 @@ book-moved l k t g moves writes opened opened-t entry was-closed =
       images = λ u h. refl;
     }
 
--- ---- the commands
-module _ {home : ℕ → Bytes} {l : Ledger} (v : Inv home l) where
-  pub begin-moved : (t : Name) → stageOf (l .book) t ≡ absent → Moved t running l (withBook l (begin t (l .book)))
-  unfolding begin
-  begin-moved t r =
-      book-moved l (begin t (l .book)) t running (rw r opens) refl (λ u h. List·Memᴰ·tail h) (List·Memᴰ·head refl) (λ u. refl) (λ h. clash h refl)
+-- ---- the transactions that the commands of core c act on
+abbrev pub nextName : Book → ℕ → Name
+nextName k c = newName c (k .next c)
 
-  pub inv-begin : (t : Name) → stageOf (l .book) t ≡ absent → Inv home (withBook l (begin t (l .book)))
-  inv-begin t r = inv-moved (begin-moved t r) v (λ h. clash h refl) (λ b. rw r refl)
+abbrev pub uncommittedName : Book → ℕ → Name
+uncommittedName k c = newName c (k .uncommitted c)
 
-  module _ (c : ℕ) where
-    pub close-moved : stageOf (l .book) (newName c (l .book .next c)) ≡ running → Moved (newName c (l .book .next c)) (closed 0) l (closeLedger c l)
+abbrev pub oldestName : Book → ℕ → Name
+oldestName k c = newName c (k .oldest c)
+
+-- ---- a WRITE that opens a transaction
+pub begin-moved : (l : Ledger) (t : Name) → stageOf (l .book) t ≡ absent → Moved t running l (withBook l (begin t (l .book)))
+unfolding begin
+begin-moved l t r =
+    book-moved l (begin t (l .book)) t running (rw r opens) refl (λ u h. List·Memᴰ·tail h) (List·Memᴰ·head refl) (λ u. refl) (λ h. clash h refl)
+
+pub inv-begin : {home : ℕ → Bytes} {l : Ledger} → Inv home l → (t : Name) → stageOf (l .book) t ≡ absent → Inv home (withBook l (begin t (l .book)))
+inv-begin {l = l} v t r = inv-moved (begin-moved l t r) v (λ h. clash h refl) (λ b. rw r refl)
+
+module _ {home : ℕ → Bytes} {l : Ledger} (v : Inv home l) (c : ℕ) where
+  -- ---- CLOSE
+  module _ (r : stageOf (l .book) (nextName (l .book) c) ≡ running) where
+    closed-other : (u : Name) → So (isClosed (stageOf (l .book) u)) → sameName u (nextName (l .book) c) ≡ false
+    closed-other u h = false-of _ (λ e. clash h (rw (sameName-true u (nextName (l .book) c) e, r) refl))
+
+    pub close-moved : Moved (nextName (l .book) c) (closed 0) l (closeLedger c l)
     unfolding closeLedger close
-    close-moved r =
+    close-moved =
         record {
           moves = rw r closes;
           saved = refl;
           writes = refl;
           opened = λ u h. h;
-          opened-t = v .known (newName c (l .book .next c)) (rw r refl);
+          opened-t = v .known (nextName (l .book) c) (rw r refl);
           entry = λ u. refl;
           closes = omega arith;
-          stamp = λ u h. rw (not-acting u h) refl;
-          stamp-new = λ p q. (rw (sameName-refl (newName c (l .book .next c))) refl, omega arith);
-          images = λ u h. rw (not-acting u h) refl;
+          stamp = λ u h. rw (closed-other u h) refl;
+          stamp-new = λ p q. (rw (sameName-refl (nextName (l .book) c)) refl, omega arith);
+          images = λ u h. rw (closed-other u h) refl;
         }
-      where
-        not-acting : (u : Name) → So (isClosed (stageOf (l .book) u)) → sameName u (newName c (l .book .next c)) ≡ false
-        not-acting u h = false-of _ (λ e. clash h (rw (sameName-true u (newName c (l .book .next c)) e, r) refl))
 
-    pub inv-close : stageOf (l .book) (newName c (l .book .next c)) ≡ running → Inv home (closeLedger c l)
-    inv-close r = inv-moved (close-moved r) v (λ h. clash h refl) (λ b. rw r refl)
+    pub inv-close : Inv home (closeLedger c l)
+    inv-close = inv-moved close-moved v (λ h. clash h refl) (λ b. rw r refl)
 
-    module _ (n : ℕ) (r : stageOf (l .book) (newName c (l .book .uncommitted c)) ≡ closed n) where
-      abbrev storer : Name
-      storer = newName c (l .book .uncommitted c)
+  -- ---- STORE: the last one commits
+  module _ (n : ℕ) (r : stageOf (l .book) (uncommittedName (l .book) c) ≡ closed n) where
+    abbrev isLastStore : Bool
+    isLastStore = leb (length ((l .book .entry (uncommittedName (l .book) c)) .blocks) + 2) (suc n)
 
-      -- the last store commits it
-      abbrev storeStage : Stage
-      storeStage = cond (leb (length ((l .book .entry storer) .blocks) + 2) (suc n)) (committed 0) (closed (suc n))
+    pub store-moved : Moved (uncommittedName (l .book) c) (cond isLastStore (committed 0) (closed (suc n))) l (withBook l (store c (l .book)))
+    unfolding store
+    store-moved =
+        book-moved l (store c (l .book)) (uncommittedName (l .book) c) (cond isLastStore (committed 0) (closed (suc n)))
+        (rw r (cases isLastStore (λ h. rw h commits) (λ h. rw h stores)))
+        refl (λ u h. h) (v .known (uncommittedName (l .book) c) (rw r refl)) (λ u. rw r refl) (λ h. rw r refl)
 
-      pub store-moved : Moved storer storeStage l (withBook l (store c (l .book)))
-      unfolding store
-      store-moved =
-          book-moved l (store c (l .book)) storer storeStage
-          (rw r (cases (leb (length ((l .book .entry storer) .blocks) + 2) (suc n)) (λ h. rw h commits) (λ h. rw h stores)))
-          refl (λ u h. h) (v .known storer (rw r refl)) (λ u. rw r refl) (λ h. rw r refl)
+    pub inv-store : Inv home (withBook l (store c (l .book)))
+    unfolding any
+    inv-store =
+        inv-moved store-moved v
+        (λ h. cases isLastStore (λ e. clash (rw e at h) refl) (λ e. clash (rw e at h) refl))
+        (λ b. rw r (cases isLastStore (λ h. rw h refl) (λ h. rw h refl)))
 
-      pub inv-store : Inv home (withBook l (store c (l .book)))
-      unfolding any
-      inv-store =
-          inv-moved store-moved v
-          (λ h. cases (leb (length ((l .book .entry storer) .blocks) + 2) (suc n)) (λ e. clash (rw e at h) refl) (λ e. clash (rw e at h) refl))
-          (λ b. rw r (cases (leb (length ((l .book .entry storer) .blocks) + 2) (suc n)) (λ h. rw h refl) (λ h. rw h refl)))
+  -- ---- CHECKPOINT
+  module _ (m : ℕ) (r : stageOf (l .book) (oldestName (l .book) c) ≡ committed m) where
+    abbrev oldestBlocks : List ℕ
+    oldestBlocks = (l .book .entry (oldestName (l .book) c)) .blocks
 
-    module _ (m : ℕ) (r : stageOf (l .book) (newName c (l .book .oldest c)) ≡ committed m) (is-kept : So (memberOf (kept (l .book)) (newName c (l .book .oldest c)))) where
-      abbrev oldestName : Name
-      oldestName = newName c (l .book .oldest c)
+    abbrev checkpointed : Ledger
+    checkpointed = withBook l (checkpoint c (l .book))
 
-      abbrev itsBlocks : List ℕ
-      itsBlocks = (l .book .entry oldestName) .blocks
+    checkpoint-moved : (g : Stage) → cond (leb (length oldestBlocks + 1) (suc m)) retired (committed (suc m)) ≡ g → Moves (committed m) g
+        → Moved (oldestName (l .book) c) g l checkpointed
+    unfolding checkpoint
+    checkpoint-moved g e moves =
+        book-moved l (checkpoint c (l .book)) (oldestName (l .book) c) g (rw r moves)
+        refl (λ u h. h) (v .known (oldestName (l .book) c) (rw r refl)) (λ u. rw (r, e) refl) (λ h. rw r refl)
 
-      checkpoint-moved : (g : Stage) → cond (leb (length itsBlocks + 1) (suc m)) retired (committed (suc m)) ≡ g → Moves (committed m) g
-          → Moved oldestName g l (withBook l (checkpoint c (l .book)))
-      unfolding checkpoint
-      checkpoint-moved g e moves =
-          book-moved l (checkpoint c (l .book)) oldestName g (rw r moves) refl (λ u h. h) (v .known oldestName (rw r refl)) (λ u. rw (r, e) refl) (λ h. rw r refl)
+    pub retire-moved : length oldestBlocks ≤ m → Moved (oldestName (l .book) c) retired l (withBook l (checkpoint c (l .book)))
+    retire-moved h = checkpoint-moved retired (rw (le-leb (length oldestBlocks + 1) (suc m) (omega arith)) refl) retires
 
-      -- the master store, after one home store for each block
-      pub retire-moved : length itsBlocks ≤ m → Moved oldestName retired l (withBook l (checkpoint c (l .book)))
-      retire-moved h = checkpoint-moved retired (rw (le-leb (length itsBlocks + 1) (suc m) (omega arith)) refl) retires
+    pub home-moved : m < length oldestBlocks → Moved (oldestName (l .book) c) (committed (suc m)) l (withBook l (checkpoint c (l .book)))
+    home-moved h = checkpoint-moved (committed (suc m)) (rw (lt-leb (length oldestBlocks + 1) (suc m) (omega arith)) refl) stores-home
 
-      pub inv-retire : length itsBlocks ≤ m → Inv home (withBook l (checkpoint c (l .book)))
+    module _ (is-kept : So (memberOf (kept (l .book)) (oldestName (l .book) c))) where
+      -- the master store, after the home stores of all its blocks
+      pub inv-retire : length oldestBlocks ≤ m → Inv home (withBook l (checkpoint c (l .book)))
       inv-retire h =
-          let whole : take m itsBlocks ≡ itsBlocks = take-all m itsBlocks h in
+          let whole : take m oldestBlocks ≡ oldestBlocks = take-all m oldestBlocks h in
           inv-moved (retire-moved h) v (λ q. (is-kept, λ b k. rw (r, whole) k)) (λ b. rw (r, whole) refl)
 
-      -- a home store, of the m-th block
-      module _ (less : m < length itsBlocks) where
-        abbrev storedBlock : ℕ
-        storedBlock = getD itsBlocks m 0
+      -- a home store, of its m-th block; 33 does not apply: each closed one that took the block with a lower stamp is retired
+      module _ (less : m < length oldestBlocks)
+          (lower-retired : (u : Name) → So (tookIn (l .book) (getD oldestBlocks m 0) u) → So (isClosed (stageOf (l .book) u))
+            → l .stamp u < l .stamp (oldestName (l .book) c) → So (isRetired (stageOf (l .book) u))) where
+        abbrev homeBlock : ℕ
+        homeBlock = getD oldestBlocks m 0
 
-        -- the home area with t's image of the block
-        abbrev pub homeStored : ℕ → Bytes
-        homeStored b = cond (eqb b storedBlock) (imageAt l oldestName storedBlock) (home b)
+        abbrev homeImage : Bytes
+        homeImage = imageAt l (oldestName (l .book) c) homeBlock
 
-        pub home-moved : Moved oldestName (committed (suc m)) l (withBook l (checkpoint c (l .book)))
-        home-moved = checkpoint-moved (committed (suc m)) (rw (lt-leb (length itsBlocks + 1) (suc m) (omega arith)) refl) stores-home
-
-        homed-next : (b : ℕ) → homedBy b itsBlocks (committed (suc m)) ≡ (homed l b oldestName || eqb b storedBlock)
+        homed-next : (b : ℕ) → homedBy b oldestBlocks (committed (suc m)) ≡ (homed l b (oldestName (l .book) c) || eqb b homeBlock)
         unfolding any
-        homed-next b =
-            rw (r, take-suc itsBlocks m 0 less, any-append (eqb b) (take m itsBlocks) (storedBlock ∷ []), or-false (eqb b storedBlock)) refl
+        homed-next b = rw (r, take-suc oldestBlocks m 0 less, any-append (eqb b) (take m oldestBlocks) (homeBlock ∷ []), or-false (eqb b homeBlock)) refl
 
-        good-other : (b : ℕ) → eqb b storedBlock ≡ false → Good (status (withBook l (checkpoint c (l .book)))) (homed (withBook l (checkpoint c (l .book))) b) (areaBefore l b) (home b) (historyOf l b)
+        good-other : (b : ℕ) → eqb b homeBlock ≡ false → Good (status checkpointed) (homed checkpointed b) (areaBefore l b) (home b) (historyOf l b)
         good-other b e =
-            good-grown v (withBook l (checkpoint c (l .book))) (moved-known home-moved (v .known)) (moved-grows home-moved) b (home b) (homed l b) (v .good b)
-            (moved-stored home-moved v (λ h. clash h refl) b)
-            (moved-each home-moved (λ u x. homed l b u ≡ homedBy b (x .blocks) (x .stage)) (sym (homed-next b ∙ rw e (or-false (homed l b oldestName)))) (λ u h. refl))
+            moved-good (home-moved less) v b (home b) (homed l b) (v .good b)
+            (moved-stored (home-moved less) v (λ h. clash h refl) b)
+            (sym (homed-next b ∙ rw e (or-false (homed l b (oldestName (l .book) c))))) (λ u h. refl)
 
-        -- 33 does not apply: each closed one that took the block with a lower stamp is retired
-        module _ (lower-retired : (u : Name) → So (tookIn (l .book) storedBlock u) → So (isClosed (stageOf (l .book) u)) → l .stamp u < l .stamp oldestName
-            → So (isRetired (stageOf (l .book) u))) where
-          good-here : Good (status (withBook l (checkpoint c (l .book)))) (homed (withBook l (checkpoint c (l .book))) storedBlock) (areaBefore l storedBlock) (imageAt l oldestName storedBlock) (historyOf l storedBlock)
-          good-here =
-              good-grown v (withBook l (checkpoint c (l .book))) (moved-known home-moved (v .known)) (moved-grows home-moved) storedBlock (imageAt l oldestName storedBlock)
-              (with-one nameEquality (homed l storedBlock) oldestName)
-              (store-home nameEquality (status l) (sound-of l (v .known) (v .retired-kept)) (homed l storedBlock) oldestName is-kept
-                (areaBefore l storedBlock) (home storedBlock) (historyOf l storedBlock) (rw r refl)
-                (v .took storedBlock oldestName (in-any blockEquality (getD-mem itsBlocks m 0 less)))
-                (λ u k. lower-retired u (v .taken storedBlock u k)) (v .good storedBlock))
-              (λ u k h. or-left _ (moved-stored home-moved v (λ q. clash q refl) storedBlock u k h))
-              (moved-each home-moved (λ u x. (homed l storedBlock u || sameName oldestName u) ≡ homedBy storedBlock (x .blocks) (x .stage))
-                (or-right (homed l storedBlock oldestName) (sameName-refl oldestName)
-                  ∙ sym (homed-next storedBlock ∙ or-right (homed l storedBlock oldestName) (blockEquality .is-refl storedBlock)))
-                (λ u h. rw (is-not nameEquality u oldestName h) (or-false (homed l storedBlock u))))
+        good-here : Good (status checkpointed) (homed checkpointed homeBlock) (areaBefore l homeBlock) homeImage (historyOf l homeBlock)
+        good-here =
+            let t : Name = oldestName (l .book) c in
+            moved-good (home-moved less) v homeBlock homeImage (with-one nameEquality (homed l homeBlock) t)
+            (store-home nameEquality (status l) (sound-of l (v .known) (v .retired-kept)) (homed l homeBlock) t is-kept
+              (areaBefore l homeBlock) (home homeBlock) (historyOf l homeBlock) (rw r refl)
+              (v .took homeBlock t (in-any blockEquality (getD-mem oldestBlocks m 0 less)))
+              (λ u k. lower-retired u (v .taken homeBlock u k)) (v .good homeBlock))
+            (λ u k h. or-left _ (moved-stored (home-moved less) v (λ q. clash q refl) homeBlock u k h))
+            (or-right (homed l homeBlock t) (sameName-refl t)
+              ∙ sym (homed-next homeBlock ∙ or-right (homed l homeBlock t) (blockEquality .is-refl homeBlock)))
+            (λ u h. rw (is-not nameEquality u t h) (or-false (homed l homeBlock u)))
 
-          pub inv-home-store : Inv homeStored (withBook l (checkpoint c (l .book)))
-          inv-home-store =
-              inv-by-good home-moved v (λ h. clash h refl)
-              (λ b. cases (eqb b storedBlock)
-                (λ e. rw (eqb-true b storedBlock e, blockEquality .is-refl storedBlock) good-here)
-                (λ e. rw e (good-other b e)))
+        pub inv-home-store : Inv (λ b. cond (eqb b (getD oldestBlocks m 0)) (imageAt l (oldestName (l .book) c) (getD oldestBlocks m 0)) (home b)) (withBook l (checkpoint c (l .book)))
+        inv-home-store =
+            inv-by-good (home-moved less) v (λ h. clash h refl)
+            (λ b. cases (eqb b homeBlock)
+              (λ e. rw (eqb-true b homeBlock e, blockEquality .is-refl homeBlock) good-here)
+              (λ e. rw e (good-other b e)))

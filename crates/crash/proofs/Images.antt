@@ -10,7 +10,7 @@ use native.Mathlib.Omega.{arith}
 use lib.ListN.{length, getD}
 use lib.Dec.{eqb}
 use Rattle.model.specs.Bytes.{Bytes}
-use Rattle.model.specs.Card.{newName, sameName}
+use Rattle.model.specs.Card.{sameName}
 use Rattle.model.specs.declared.Name.{Name}
 use Rattle.model.specs.declared.Shape.{Shape}
 use Rattle.model.proofs.Lists.{cases}
@@ -21,7 +21,7 @@ use Rattle.crash.proofs.Tests.{clash, false-of, in-any, nameEquality, b
 use Rattle.crash.proofs.History.{Event, value, upto, Took, Chain, older}
 use Rattle.crash.proofs.Largest.{memberOf, stageOf}
 use Rattle.crash.proofs.Invariant.{image-history, areaBefore, historyOf, imageAt, tookIn, homed, status, Inv}
-use Rattle.crash.proofs.Commands.{Moved, moved-each, moved-blocks, begin-moved, close-moved, store-moved, retire-moved, home-moved, inv-begin}
+use Rattle.crash.proofs.Commands.{Moved, moved-each, moved-blocks, begin-moved, close-moved, store-moved, retire-moved, home-moved, inv-begin, nextName, uncommittedName, oldestName}
 use Rattle.crash.proofs.Write.{Edits, withWrite, Ruled, meets-ruled, rule-edits, rule-open, begin-runs}
 
 abbrev pub Imaged : Ledger → Type 0
@@ -73,32 +73,29 @@ module _ {home : ℕ → Bytes} {l : Ledger} (v : Inv home l) (imaged : Imaged l
       image-history (areaBefore l) (l .book .writes) b ∙ ap (value (areaBefore l b)) (sym (upto-open b t runs (historyOf l b) (v .good b .chain) (v .took b t k)))
 
   pub imaged-begin : (t : Name) → stageOf (l .book) t ≡ absent → Imaged (withBook l (begin t (l .book)))
-  imaged-begin t r = imaged-moved (begin-moved v t r) (λ p q. clash q refl) imaged
+  imaged-begin t r = imaged-moved (begin-moved l t r) (λ p q. clash q refl) imaged
 
   module _ (c : ℕ) where
-    abbrev closer : Name
-    closer = newName c (l .book .next c)
-
-    images-at-close : (closeLedger c l) .images closer ≡ map (imageNow l) ((l .book .entry closer) .blocks)
+    images-at-close : (closeLedger c l) .images (nextName (l .book) c) ≡ map (imageNow l) ((l .book .entry (nextName (l .book) c)) .blocks)
     unfolding closeLedger
-    images-at-close = rw (sameName-refl closer) refl
+    images-at-close = rw (sameName-refl (nextName (l .book) c)) refl
 
-    pub imaged-close : stageOf (l .book) (newName c (l .book .next c)) ≡ running → Imaged (closeLedger c l)
+    pub imaged-close : stageOf (l .book) (nextName (l .book) c) ≡ running → Imaged (closeLedger c l)
     imaged-close r =
         imaged-moved (close-moved v c r)
         (λ runs q. images-at-close
-          ∙ map-on (imageNow l) (imageAt l closer) ((l .book .entry closer) .blocks) (λ b m. image-now b closer runs (in-any blockEquality m)))
+          ∙ map-on (imageNow l) (imageAt l (nextName (l .book) c)) ((l .book .entry (nextName (l .book) c)) .blocks) (λ b m. image-now b (nextName (l .book) c) runs (in-any blockEquality m)))
         imaged
 
-    pub imaged-store : (n : ℕ) → stageOf (l .book) (newName c (l .book .uncommitted c)) ≡ closed n → Imaged (withBook l (store c (l .book)))
+    pub imaged-store : (n : ℕ) → stageOf (l .book) (uncommittedName (l .book) c) ≡ closed n → Imaged (withBook l (store c (l .book)))
     imaged-store n r = imaged-moved (store-moved v c n r) (λ p q. clash (rw r refl) p) imaged
 
-    module _ (m : ℕ) (r : stageOf (l .book) (newName c (l .book .oldest c)) ≡ committed m) (is-kept : So (memberOf (kept (l .book)) (newName c (l .book .oldest c)))) where
-      pub imaged-retire : length ((l .book .entry (newName c (l .book .oldest c))) .blocks) ≤ m → Imaged (withBook l (checkpoint c (l .book)))
-      imaged-retire h = imaged-moved (retire-moved v c m r is-kept h) (λ p q. clash (rw r refl) p) imaged
+    module _ (m : ℕ) (r : stageOf (l .book) (oldestName (l .book) c) ≡ committed m) where
+      pub imaged-retire : length ((l .book .entry (oldestName (l .book) c)) .blocks) ≤ m → Imaged (withBook l (checkpoint c (l .book)))
+      imaged-retire h = imaged-moved (retire-moved v c m r h) (λ p q. clash (rw r refl) p) imaged
 
-      pub imaged-home-store : m < length ((l .book .entry (newName c (l .book .oldest c))) .blocks) → Imaged (withBook l (checkpoint c (l .book)))
-      imaged-home-store h = imaged-moved (home-moved v c m r is-kept h) (λ p q. clash (rw r refl) p) imaged
+      pub imaged-home-store : m < length ((l .book .entry (oldestName (l .book) c)) .blocks) → Imaged (withBook l (checkpoint c (l .book)))
+      imaged-home-store h = imaged-moved (home-moved v c m r h) (λ p q. clash (rw r refl) p) imaged
 
 -- ---- WRITE
 module _ (l : Ledger) (w : Write) (entry : Name → Entry) (edits : (u : Name) → Edits (l .book .entry u) (entry u))
@@ -120,14 +117,14 @@ module _ {home : ℕ → Bytes} {l : Ledger} (v : Inv home l) (imaged : Imaged l
   imaged-note t runs b o bytes =
       let m : Meeting = meets (l .book) t (holderIn (l .book) b (l .book .writes)) in
       imaged-written l (record { writer = t; holder = holderAfter m t; block = b; offset = o; bytes = bytes }) (ruled m t b (l .book .entry))
-      (rule-edits v t runs b o bytes m (meets-ruled l t b)) (rule-open v t runs b o bytes m (meets-ruled l t b)) imaged
+      (rule-edits l t runs b m (meets-ruled l t b)) (rule-open l t runs b m (meets-ruled l t b)) imaged
 
 module _ {home : ℕ → Bytes} {l : Ledger} (v : Inv home l) (imaged : Imaged l) (c b o : ℕ) (bytes : Bytes) where
-  pub imaged-wrote : (stageOf (l .book) (newName c (l .book .next c)) ≡ running) ⊎ (stageOf (l .book) (newName c (l .book .next c)) ≡ absent)
+  pub imaged-wrote : (stageOf (l .book) (nextName (l .book) c) ≡ running) ⊎ (stageOf (l .book) (nextName (l .book) c) ≡ absent)
       → Imaged (withBook l (wrote c b o bytes (l .book)))
   unfolding wrote
-  imaged-wrote (inl r) = rw r (imaged-note v imaged (newName c (l .book .next c)) (rw r refl) b o bytes)
+  imaged-wrote (inl r) = rw r (imaged-note v imaged (nextName (l .book) c) (rw r refl) b o bytes)
   imaged-wrote (inr r) =
       rw r
-      (imaged-note (inv-begin v (newName c (l .book .next c)) r) (imaged-begin v imaged (newName c (l .book .next c)) r) (newName c (l .book .next c))
-        (rw (begin-runs (newName c (l .book .next c)) (l .book)) refl) b o bytes)
+      (imaged-note (inv-begin v (nextName (l .book) c) r) (imaged-begin v imaged (nextName (l .book) c) r) (nextName (l .book) c)
+        (rw (begin-runs (nextName (l .book) c) (l .book)) refl) b o bytes)

@@ -11,7 +11,7 @@ use lib.Dec.{eqb}
 use borrow.Author.Tests.{eqb-true}
 use Rattle.model.specs.Lists.{any}
 use Rattle.model.specs.Bytes.{Bytes}
-use Rattle.model.specs.Card.{newName, sameName}
+use Rattle.model.specs.Card.{sameName}
 use Rattle.model.specs.declared.Name.{Name}
 use Rattle.model.proofs.Lists.{cases, or-cases, or-left, or-right, any-append}
 use Rattle.model.proofs.Valid.{sameName-true, sameName-refl}
@@ -22,7 +22,7 @@ use Rattle.crash.proofs.History.{Event, value, Took, Status, Link, Own,
 use Rattle.crash.proofs.Steps.{write}
 use Rattle.crash.proofs.Largest.{memberOf, stageOf, listsName}
 use Rattle.crash.proofs.Invariant.{eventOf, history, image-history, areaBefore, historyOf, tookIn, homedBy, homed, status, retired-closed, open-not-homed, Known, Inv, sound-of, retired-homed, Grows, extends, good-grown}
-use Rattle.crash.proofs.Commands.{change-same, change-other, inv-begin}
+use Rattle.crash.proofs.Commands.{change-same, change-other, change-each, inv-begin, nextName}
 
 -- ---- what a write may do to a transaction: add to its names and, before it closes, to its blocks
 pub record Edits (x y : Entry) : Type 0 where
@@ -61,10 +61,7 @@ naming-lists n x =
     (λ k. rw (k, any-append (sameName n) (x .names) (n ∷ [])) (or-right (memberOf (x .names) n) (or-left _ (sameName-refl n))))
 
 edits-change : (t : Name) (f : Entry → Entry) (entry : Name → Entry) → Edits (entry t) (f (entry t)) → (u : Name) → Edits (entry u) (change t f entry u)
-edits-change t f entry d u =
-    cases (sameName u t)
-    (λ h. rw (sameName-true u t h, change-same t f entry) d)
-    (λ h. rw (change-other t f entry u h) (edits-none (entry u)))
+edits-change t f entry d = change-each (λ u e. Edits (entry u) e) t f entry d (λ u h. edits-none (entry u))
 
 edits-homed : (b : ℕ) (x y : Entry) → Edits x y → homedBy b (x .blocks) (x .stage) ≡ homedBy b (y .blocks) (y .stage)
 edits-homed b x y d =
@@ -194,7 +191,51 @@ meets-ruled l t b = rw (holder-last (l .book) b (l .book .writes)) (by-last (las
             (λ k. rw k (rw (sameName-true u t k) at q))
             (λ k. rw k (cases (isClosed (stageOf (l .book) u)) (λ c. rw c (q, c)) (λ c. rw c (q, c, k))))))
 
--- ---- the four rules
+-- ---- what the rules do to transactions
+module _ (l : Ledger) (t : Name) (runs : isClosed (stageOf (l .book) t) ≡ false) where
+  -- the writer takes the block from a closed holder u
+  edits-closed : (b : ℕ) (u : Name) → Edits (l .book .entry t) (taking b (naming u (l .book .entry t)))
+  edits-closed b u = edits-both (edits-naming u (l .book .entry t) runs) (edits-taking b (naming u (l .book .entry t)) runs)
+
+  -- writer and running holder u name each other
+  module _ (u : Name) (open-holder : isClosed (stageOf (l .book) u) ≡ false) (other : sameName u t ≡ false) where
+    abbrev writerNames : Name → Entry
+    writerNames = change t (naming u) (l .book .entry)
+
+    abbrev bothName : Name → Entry
+    bothName = change u (naming t) writerNames
+
+    both-edits : (x : Name) → Edits (l .book .entry x) (bothName x)
+    both-edits x =
+        edits-both (edits-change t (naming u) (l .book .entry) (edits-naming u (l .book .entry t) runs) x)
+        (edits-change u (naming t) writerNames (edits-naming t (writerNames u) (rw (change-other t (naming u) (l .book .entry) u other) open-holder)) x)
+
+    both-blocks : (x : Name) → (bothName x) .blocks ≡ (l .book .entry x) .blocks
+    both-blocks x =
+        change-each (λ x e. e .blocks ≡ (writerNames x) .blocks) u (naming t) writerNames refl (λ x h. refl) x
+        ∙ change-each (λ x e. e .blocks ≡ (l .book .entry x) .blocks) t (naming u) (l .book .entry) refl (λ x h. refl) x
+
+    both-names : So (memberOf ((bothName t) .names) u) × So (memberOf ((bothName u) .names) t)
+    both-names =
+        (rw (change-other u (naming t) writerNames t (is-not nameEquality u t other), change-same t (naming u) (l .book .entry)) (naming-lists u (l .book .entry t)),
+        rw (change-same u (naming t) writerNames) (naming-lists t (writerNames u)))
+
+  module _ (b : ℕ) where
+    pub rule-edits : (r : Meeting) → Ruled l t b r → (u : Name) → Edits (l .book .entry u) (ruled r t b (l .book .entry) u)
+    unfolding ruled
+    rule-edits no-holder p = edits-change t (taking b) (l .book .entry) (edits-taking b (l .book .entry t) runs)
+    rule-edits own p = λ u. edits-none (l .book .entry u)
+    rule-edits (running-holder u) p = both-edits u (p .1) (p .2)
+    rule-edits (closed-holder u) p = edits-change t (λ e. taking b (naming u e)) (l .book .entry) (edits-closed b u)
+
+    pub rule-open : (r : Meeting) → Ruled l t b r → isClosed (stageOf (l .book) (holderAfter r t)) ≡ false
+    unfolding holderAfter
+    rule-open no-holder p = runs
+    rule-open own p = runs
+    rule-open (running-holder u) p = p .1
+    rule-open (closed-holder u) p = runs
+
+-- ---- the rules keep the invariant
 module _ {home : ℕ → Bytes} {l : Ledger} (v : Inv home l) (t : Name) (runs : isClosed (stageOf (l .book) t) ≡ false) (b o : ℕ) (bytes : Bytes) where
   abbrev writeBy : Name → Write
   writeBy h = record { writer = t; holder = h; block = b; offset = o; bytes = bytes }
@@ -202,39 +243,41 @@ module _ {home : ℕ → Bytes} {l : Ledger} (v : Inv home l) (t : Name) (runs :
   -- the writer takes the block
   module _ (f : Entry → Entry) (edits-t : Edits (l .book .entry t) (f (l .book .entry t)))
       (blocks : (f (l .book .entry t)) .blocks ≡ (l .book .entry t) .blocks ++ (b ∷ [])) where
-    takes-edits : (u : Name) → Edits (l .book .entry u) (change t f (l .book .entry) u)
-    takes-edits = edits-change t f (l .book .entry) edits-t
+    abbrev entryTaken : Name → Entry
+    entryTaken = change t f (l .book .entry)
 
-    takes-t : (c : ℕ) → any (eqb c) ((change t f (l .book .entry) t) .blocks) ≡ (tookIn (l .book) c t || eqb c b)
+    taken-edits : (u : Name) → Edits (l .book .entry u) (entryTaken u)
+    taken-edits = edits-change t f (l .book .entry) edits-t
+
+    taken-t : (c : ℕ) → any (eqb c) ((f (l .book .entry t)) .blocks) ≡ (tookIn (l .book) c t || eqb c b)
     unfolding any
-    takes-t c = rw (change-same t f (l .book .entry), blocks, any-append (eqb c) ((l .book .entry t) .blocks) (b ∷ []), or-false (eqb c b)) refl
+    taken-t c = rw (blocks, any-append (eqb c) ((l .book .entry t) .blocks) (b ∷ []), or-false (eqb c b)) refl
 
-    takes-more : (c : ℕ) (u : Name) → So (any (eqb c) ((change t f (l .book .entry) u) .blocks)) → So (tookIn (l .book) c u) ⊎ ((c ≡ b) × (t ≡ u))
-    takes-more c u m =
-        cases (sameName u t)
-        (λ h. let e : u ≡ t = sameName-true u t h in
-          rw e (⊎-map (λ q. q) (λ q. (eqb-true c b q, refl)) (or-cases (tookIn (l .book) c t) (eqb c b) (rw (e, takes-t c) at m))))
-        (λ h. inl (rw (change-other t f (l .book .entry) u h) at m))
+    taken-more : (c : ℕ) (u : Name) → So (any (eqb c) ((entryTaken u) .blocks)) → So (tookIn (l .book) c u) ⊎ ((c ≡ b) × (t ≡ u))
+    taken-more c =
+        change-each (λ u e. So (any (eqb c) (e .blocks)) → So (tookIn (l .book) c u) ⊎ ((c ≡ b) × (t ≡ u))) t f (l .book .entry)
+        (λ m. ⊎-map (λ q. q) (λ q. (eqb-true c b q, refl)) (or-cases (tookIn (l .book) c t) (eqb c b) (rw (taken-t c) at m)))
+        (λ u h m. inl m)
 
-    takes-same : (c : ℕ) (u : Name) → So (tookIn (l .book) c u) → So (any (eqb c) ((change t f (l .book .entry) u) .blocks))
-    takes-same c u m =
-        cases (sameName u t)
-        (λ h. let e : u ≡ t = sameName-true u t h in rw (e, takes-t c) (or-left _ (rw e at m)))
-        (λ h. rw (change-other t f (l .book .entry) u h) m)
+    taken-same : (c : ℕ) (u : Name) → So (tookIn (l .book) c u) → So (any (eqb c) ((entryTaken u) .blocks))
+    taken-same c =
+        change-each (λ u e. So (tookIn (l .book) c u) → So (any (eqb c) (e .blocks))) t f (l .book .entry)
+        (λ m. rw (taken-t c) (or-left _ m)) (λ u h m. m)
 
-    inv-takes : ((u : Name) → lastHolder (historyOf l b) ≡ some u → So (isClosed (stageOf (l .book) u)) × (So (memberOf ((f (l .book .entry t)) .names) u) ⊎ So (isRetired (stageOf (l .book) u))))
-        → Inv home (withWrite l (writeBy t) (change t f (l .book .entry)))
-    inv-takes prior =
-        let after : Ledger = withWrite l (writeBy t) (change t f (l .book .entry)) in
-        let open-after : isClosed (stageOf (after .book) t) ≡ false = rw (takes-edits t .stage) runs in
-        inv-noted v (writeBy t) (change t f (l .book .entry)) takes-edits runs takes-more takes-same
-        (rw (takes-t b) (or-right (tookIn (l .book) b t) (blockEquality .is-refl b))) (inl refl)
+    inv-taken : ((u : Name) → lastHolder (historyOf l b) ≡ some u
+          → So (isClosed (stageOf (l .book) u)) × (So (memberOf ((f (l .book .entry t)) .names) u) ⊎ So (isRetired (stageOf (l .book) u))))
+        → Inv home (withWrite l (writeBy t) entryTaken)
+    inv-taken prior =
+        let after : Ledger = withWrite l (writeBy t) entryTaken in
+        let open-after : isClosed (stageOf (after .book) t) ≡ false = rw (taken-edits t .stage) runs in
+        inv-noted v (writeBy t) entryTaken taken-edits runs taken-more taken-same
+        (rw (change-same t f (l .book .entry), taken-t b) (or-right (tookIn (l .book) b t) (blockEquality .is-refl b))) (inl refl)
         (next-by (status after) (homed after b) t (historyOf l b) (λ u q. inr
           (record {
-            is-closed = rw (takes-edits u .stage) (prior u q .0);
+            is-closed = rw (taken-edits u .stage) (prior u q .0);
             lower = λ h. clash h open-after;
             retires-first = λ h. clash h (open-not-homed b ((after .book .entry t) .blocks) (stageOf (after .book) t) open-after);
-          }, ⊎-map (λ h. rw (change-same t f (l .book .entry)) h) (λ h. rw (takes-edits u .stage) h) (prior u q .1))))
+          }, ⊎-map (λ h. rw (change-same t f (l .book .entry)) h) (λ h. rw (taken-edits u .stage) h) (prior u q .1))))
 
   -- the holder stays
   inv-stays : (entry : Name → Entry) (edits : (u : Name) → Edits (l .book .entry u) (entry u)) → ((u : Name) → (entry u) .blocks ≡ (l .book .entry u) .blocks)
@@ -245,54 +288,16 @@ module _ {home : ℕ → Bytes} {l : Ledger} (v : Inv home l) (t : Name) (runs :
       (λ c u m. inl (rw (blocks u) at m)) (λ c u m. rw (blocks u) m) (rw (blocks h) (v .taken b h (took-last (historyOf l b) h last))) writer-holder
       (next-by (status (withWrite l (writeBy h) entry)) (homed (withWrite l (writeBy h) entry) b) h (historyOf l b) (λ u q. let same : h ≡ u = cc in inl same))
 
-  -- writer t and running holder u name each other
-  module _ (u : Name) (other : sameName u t ≡ false) where
-    abbrev eachOther : Name → Entry
-    eachOther = change u (naming t) (change t (naming u) (l .book .entry))
-
-    each-other-blocks : (x : Name) → (eachOther x) .blocks ≡ (l .book .entry x) .blocks
-    unfolding change
-    each-other-blocks x =
-        cases (sameName x u)
-        (λ h. rw h (cases (sameName x t) (λ k. rw k refl) (λ k. rw k refl)))
-        (λ h. rw h (cases (sameName x t) (λ k. rw k refl) (λ k. rw k refl)))
-
-    each-other-names : So (memberOf ((eachOther t) .names) u) × So (memberOf ((eachOther u) .names) t)
-    each-other-names =
-        (rw (change-other u (naming t) (change t (naming u) (l .book .entry)) t (is-not nameEquality u t other), change-same t (naming u) (l .book .entry)) (naming-lists u (l .book .entry t)),
-        rw (change-same u (naming t) (change t (naming u) (l .book .entry))) (naming-lists t (change t (naming u) (l .book .entry) u)))
-
-    each-other-edits : isClosed (stageOf (l .book) u) ≡ false → (x : Name) → Edits (l .book .entry x) (eachOther x)
-    each-other-edits open-u x =
-        edits-both (edits-change t (naming u) (l .book .entry) (edits-naming u (l .book .entry t) runs) x)
-        (edits-change u (naming t) (change t (naming u) (l .book .entry))
-          (edits-naming t (change t (naming u) (l .book .entry) u) (rw (change-other t (naming u) (l .book .entry) u other) open-u)) x)
-
-  edits-follow : (u : Name) → Edits (l .book .entry t) (taking b (naming u (l .book .entry t)))
-  edits-follow u = edits-both (edits-naming u (l .book .entry t) runs) (edits-taking b (naming u (l .book .entry t)) runs)
-
-  pub rule-edits : (r : Meeting) → Ruled l t b r → (u : Name) → Edits (l .book .entry u) (ruled r t b (l .book .entry) u)
-  unfolding ruled
-  rule-edits no-holder p = edits-change t (taking b) (l .book .entry) (edits-taking b (l .book .entry t) runs)
-  rule-edits own p = λ u. edits-none (l .book .entry u)
-  rule-edits (running-holder u) p = each-other-edits u (p .2) (p .1)
-  rule-edits (closed-holder u) p = edits-change t (λ e. taking b (naming u e)) (l .book .entry) (edits-follow u)
-
-  pub rule-open : (r : Meeting) → Ruled l t b r → isClosed (stageOf (l .book) (holderAfter r t)) ≡ false
-  unfolding holderAfter
-  rule-open no-holder p = runs
-  rule-open own p = runs
-  rule-open (running-holder u) p = p .1
-  rule-open (closed-holder u) p = runs
-
   inv-rule : (r : Meeting) → Ruled l t b r → Inv home (withWrite l (writeBy (holderAfter r t)) (ruled r t b (l .book .entry)))
   unfolding ruled holderAfter
   inv-rule no-holder p =
-      inv-takes (taking b) (edits-taking b (l .book .entry t) runs) refl (λ u q. (retired-closed (stageOf (l .book) u) (p u q), inr (p u q)))
+      inv-taken (taking b) (edits-taking b (l .book .entry t) runs) refl (λ u q. (retired-closed (stageOf (l .book) u) (p u q), inr (p u q)))
   inv-rule own p = inv-stays (l .book .entry) (λ u. edits-none (l .book .entry u)) (λ u. refl) t runs p (inl refl)
-  inv-rule (running-holder u) p = inv-stays (eachOther u (p .2)) (each-other-edits u (p .2) (p .1)) (each-other-blocks u (p .2)) u (p .1) (p .0) (inr (each-other-names u (p .2)))
+  inv-rule (running-holder u) p =
+      inv-stays (bothName l t runs u (p .1) (p .2)) (both-edits l t runs u (p .1) (p .2)) (both-blocks l t runs u (p .1) (p .2)) u (p .1) (p .0)
+      (inr (both-names l t runs u (p .1) (p .2)))
   inv-rule (closed-holder u) p =
-      inv-takes (λ e. taking b (naming u e)) (edits-follow u) refl
+      inv-taken (λ e. taking b (naming u e)) (edits-closed l t runs b u) refl
       (λ x q. let same : u ≡ x = cc in rw (← same) (p .1, inl (naming-lists u (l .book .entry t))))
 
   pub inv-note : Inv home (withBook l (note t b o bytes (l .book)))
@@ -305,12 +310,12 @@ begin-runs t k = ap (λ e. e .stage) (change-same t (staged running) (k .entry))
 
 -- WRITE by core c, whose transaction is running or opened by it
 module _ {home : ℕ → Bytes} {l : Ledger} (v : Inv home l) (c b o : ℕ) (bytes : Bytes) where
-  pub inv-wrote : (stageOf (l .book) (newName c (l .book .next c)) ≡ running) ⊎ (stageOf (l .book) (newName c (l .book .next c)) ≡ absent)
+  pub inv-wrote : (stageOf (l .book) (nextName (l .book) c) ≡ running) ⊎ (stageOf (l .book) (nextName (l .book) c) ≡ absent)
       → Inv home (withBook l (wrote c b o bytes (l .book)))
   unfolding wrote
-  inv-wrote (inl r) = rw r (inv-note v (newName c (l .book .next c)) (rw r refl) b o bytes)
+  inv-wrote (inl r) = rw r (inv-note v (nextName (l .book) c) (rw r refl) b o bytes)
   inv-wrote (inr r) =
-      rw r (inv-note (inv-begin v (newName c (l .book .next c)) r) (newName c (l .book .next c)) (rw (begin-runs (newName c (l .book .next c)) (l .book)) refl) b o bytes)
+      rw r (inv-note (inv-begin v (nextName (l .book) c) r) (nextName (l .book) c) (rw (begin-runs (nextName (l .book) c) (l .book)) refl) b o bytes)
 
 -- ---- a block without a holder
 module _ {home : ℕ → Bytes} {l : Ledger} (v : Inv home l) (b : ℕ) where
