@@ -112,27 +112,27 @@ module _ {t : Name} {g : Stage} {l l′ : Ledger} (m : Moved t g l l′) where
   moved-grows u =
       cases (sameName u t)
       (λ h. let g-is : stageOf (l′ .book) t ≡ g = ap (λ e. e .stage) moved-t in
-        rw (sameName-true u t h)
-        (record {
-          closed = λ h. rw g-is (onward (m .moves) .closed h);
-          committed = λ h. rw g-is (onward (m .moves) .committed h);
-          retired = λ h. rw g-is (onward (m .moves) .retired h);
-          names = λ u h. rw moved-t h;
-          names-fixed = λ h. rw moved-t refl;
-          stamp-fixed = m .stamp t;
-          stamp-new = λ p q. let n : (l′ .stamp t ≡ l′ .closes) × (l .closes < l′ .closes) = m .stamp-new p (rw g-is at q) in omega arith;
-        }))
+      rw (sameName-true u t h)
+      (record {
+        closed = λ h. rw g-is (onward (m .moves) .closed h);
+        committed = λ h. rw g-is (onward (m .moves) .committed h);
+        retired = λ h. rw g-is (onward (m .moves) .retired h);
+        names = λ u h. rw moved-t h;
+        names-fixed = λ h. rw moved-t refl;
+        stamp-fixed = m .stamp t;
+        stamp-new = λ p q. let n : (l′ .stamp t ≡ l′ .closes) × (l .closes < l′ .closes) = m .stamp-new p (rw g-is at q) in omega arith;
+      }))
       (λ h. let same : l′ .book .entry u ≡ l .book .entry u = moved-other u h in
-        let stage : stageOf (l′ .book) u ≡ stageOf (l .book) u = ap (λ e. e .stage) same in
-        record {
-          closed = λ h. rw stage h;
-          committed = λ h. rw stage h;
-          retired = λ h. rw stage h;
-          names = λ u h. rw same h;
-          names-fixed = λ h. rw same refl;
-          stamp-fixed = m .stamp u;
-          stamp-new = λ p q. clash (rw stage at q) p;
-        })
+      let stage : stageOf (l′ .book) u ≡ stageOf (l .book) u = ap (λ e. e .stage) same in
+      record {
+        closed = λ h. rw stage h;
+        committed = λ h. rw stage h;
+        retired = λ h. rw stage h;
+        names = λ u h. rw same h;
+        names-fixed = λ h. rw same refl;
+        stamp-fixed = m .stamp u;
+        stamp-new = λ p q. clash (rw stage at q) p;
+      })
 
   module _ {home : ℕ → Bytes} (v : Inv home l) where
     moved-stamps : (u : Name) → So (isClosed (stageOf (l′ .book) u)) → l′ .stamp u ≤ l′ .closes
@@ -140,7 +140,7 @@ module _ {t : Name} {g : Stage} {l l′ : Ledger} (m : Moved t g l l′) where
         cases (isClosed (stageOf (l .book) u))
         (λ h. omega (arith, m .closes, m .stamp u h, v .stamps u h))
         (λ h. moved-each (λ u e. isClosed (stageOf (l .book) u) ≡ false → So (isClosed (e .stage)) → l′ .stamp u ≤ l′ .closes)
-          (λ h q. omega (arith, m .stamp-new h q .0)) (λ u n h q. clash q h) u h q)
+        (λ h q. omega (arith, m .stamp-new h q .0)) (λ u n h q. clash q h) u h q)
 
     -- a history good with h as those that stored home stays good, where the ledger says then of each that it is in h
     moved-good : (b : ℕ) (image : Bytes) (h : Name → Bool) → Good (status l) h (areaBefore l b) image (historyOf l b)
@@ -166,7 +166,7 @@ module _ {t : Name} {g : Stage} {l l′ : Ledger} (m : Moved t g l l′) where
       inv-by-good {home′} good =
           record {
             good =
-              λ b. subst (λ (saved : List Write). Good (status l′) (homed l′ b) (image blank saved b) (home′ b) (historyOf l′ b)) (sym (m .saved))
+                λ b. subst (λ (saved : List Write). Good (status l′) (homed l′ b) (image blank saved b) (home′ b) (historyOf l′ b)) (sym (m .saved))
                 (subst (λ (ws : List Write). Good (status l′) (homed l′ b) (areaBefore l b) (home′ b) (history b ws)) (sym (m .writes)) (good b));
             took = λ b u h. rw (m .writes) (v .took b u (rw (moved-blocks u) at h));
             taken = λ b u k. rw (moved-blocks u) (v .taken b u (rw (m .writes) at k));
@@ -292,7 +292,7 @@ module _ {home : ℕ → Bytes} {l : Ledger} (v : Inv home l) (c : ℕ) where
       -- a home store, of its m-th block; 33 does not apply: each closed one that took the block with a lower stamp is retired
       module _ (less : m < length oldestBlocks)
           (lower-retired : (u : Name) → So (tookIn (l .book) (getD oldestBlocks m 0) u) → So (isClosed (stageOf (l .book) u))
-            → l .stamp u < l .stamp (oldestName (l .book) c) → So (isRetired (stageOf (l .book) u))) where
+          → l .stamp u < l .stamp (oldestName (l .book) c) → So (isRetired (stageOf (l .book) u))) where
         abbrev homeBlock : ℕ
         homeBlock = getD oldestBlocks m 0
 
@@ -314,17 +314,17 @@ module _ {home : ℕ → Bytes} {l : Ledger} (v : Inv home l) (c : ℕ) where
             let t : Name = oldestName (l .book) c in
             moved-good (home-moved less) v homeBlock homeImage (with-one nameEquality (homed l homeBlock) t)
             (store-home nameEquality (status l) (sound-of l (v .known) (v .retired-kept)) (homed l homeBlock) t is-kept
-              (areaBefore l homeBlock) (home homeBlock) (historyOf l homeBlock) (rw r refl)
-              (v .took homeBlock t (in-any blockEquality (getD-mem oldestBlocks m 0 less)))
-              (λ u k. lower-retired u (v .taken homeBlock u k)) (v .good homeBlock))
+            (areaBefore l homeBlock) (home homeBlock) (historyOf l homeBlock) (rw r refl)
+            (v .took homeBlock t (in-any blockEquality (getD-mem oldestBlocks m 0 less)))
+            (λ u k. lower-retired u (v .taken homeBlock u k)) (v .good homeBlock))
             (λ u k h. or-left _ (moved-stored (home-moved less) v (λ q. clash q refl) homeBlock u k h))
             (or-right (homed l homeBlock t) (sameName-refl t)
-              ∙ sym (homed-next homeBlock ∙ or-right (homed l homeBlock t) (blockEquality .is-refl homeBlock)))
+            ∙ sym (homed-next homeBlock ∙ or-right (homed l homeBlock t) (blockEquality .is-refl homeBlock)))
             (λ u h. rw (is-not nameEquality u t h) (or-false (homed l homeBlock u)))
 
         pub inv-home-store : Inv (λ b. cond (eqb b (getD oldestBlocks m 0)) (imageAt l (oldestName (l .book) c) (getD oldestBlocks m 0)) (home b)) (withBook l (checkpoint c (l .book)))
         inv-home-store =
             inv-by-good (home-moved less) v (λ h. clash h refl)
             (λ b. cases (eqb b homeBlock)
-              (λ e. rw (eqb-true b homeBlock e, blockEquality .is-refl homeBlock) good-here)
-              (λ e. rw e (good-other b e)))
+            (λ e. rw (eqb-true b homeBlock e, blockEquality .is-refl homeBlock) good-here)
+            (λ e. rw e (good-other b e)))

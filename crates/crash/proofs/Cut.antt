@@ -62,9 +62,12 @@ module _ {home : ℕ → Bytes} {l : Ledger} (v : Inv home l) (numbered : Number
   newest-pick : (o : Option Name) → Newest l b o → Pick (status l) (historyOf l b) o
   newest-pick none k = λ t m h. cases (isRetired (stageOf (l .book) t)) (λ r. r) (λ r. absurd (k t (to-valid t h r) (v .taken b t m)))
   newest-pick (some t) k =
-      let h : So (memberOf (kept (l .book)) t && not (isRetired (stageOf (l .book) t))) = rw (valid-is t) at (k .0) in
-      (v .took b t (k .1), and-left (memberOf (kept (l .book)) t) _ h, not-true _ (and-right (memberOf (kept (l .book)) t) _ h),
-      λ u m h r. k .2 u (to-valid u h r) (v .taken b u m))
+      let h : So (memberOf (kept (l .book)) t && not (isRetired (stageOf (l .book) t))) = rw (valid-is t) at (k .0) in (
+        v .took b t (k .1),
+        and-left (memberOf (kept (l .book)) t) _ h,
+        not-true _ (and-right (memberOf (kept (l .book)) t) _ h),
+        λ u m h r. k .2 u (to-valid u h r) (v .taken b u m),
+      )
 
   gives-by : (o : Option Name) → blockAfter home l b o ≡ recovered nameEquality (areaBefore l b) (home b) (historyOf l b) o
   gives-by none = refl

@@ -158,8 +158,8 @@ module _ {Txn : Type 0} (s : Status Txn) where
     prefix (e ∷ es) c =
         rw (kept-writer e (c .0))
         (cases (s .kept (e .holder))
-          (λ h. rw (h, prefix es (c .2)) (ap (λ r. e ∷ r) (kept-next _ es (c .1) h)))
-          (λ h. rw h (prefix es (c .2))))
+        (λ h. rw (h, prefix es (c .2)) (ap (λ r. e ∷ r) (kept-next _ es (c .1) h)))
+        (λ h. rw h (prefix es (c .2))))
 
     upto-chain : (p : Txn → Bool) (es : List (Event Txn Image)) → Chain homed es → Chain homed (upto p es)
     upto-chain p [] c = c

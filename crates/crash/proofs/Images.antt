@@ -51,7 +51,7 @@ module _ {t : Name} {g : Stage} {l l′ : Ledger} (m : Moved t g l l′) where
       cases (isClosed (stageOf (l .book) u))
       (λ was. m .images u was ∙ imaged u was)
       (λ was. moved-each m (λ u e. isClosed (stageOf (l .book) u) ≡ false → So (isClosed (e .stage)) → l′ .images u ≡ map (imageAt l u) ((l .book .entry u) .blocks))
-        closing (λ u n p q. clash q p) u was h)
+      closing (λ u n p q. clash q p) u was h)
       ∙ rw (moved-image u, moved-blocks m u) refl
 
 map-on : {A B : Type 0} (f g : A → B) (xs : List A) → ((a : A) → List·Memᴰ a xs → f a ≡ g a) → map f xs ≡ map g xs
@@ -84,7 +84,7 @@ module _ {home : ℕ → Bytes} {l : Ledger} (v : Inv home l) (imaged : Imaged l
     imaged-close r =
         imaged-moved (close-moved v c r)
         (λ runs q. images-at-close
-          ∙ map-on (imageNow l) (imageAt l (nextName (l .book) c)) ((l .book .entry (nextName (l .book) c)) .blocks) (λ b m. image-now b (nextName (l .book) c) runs (in-any blockEquality m)))
+        ∙ map-on (imageNow l) (imageAt l (nextName (l .book) c)) ((l .book .entry (nextName (l .book) c)) .blocks) (λ b m. image-now b (nextName (l .book) c) runs (in-any blockEquality m)))
         imaged
 
     pub imaged-store : (n : ℕ) → stageOf (l .book) (uncommittedName (l .book) c) ≡ closed n → Imaged (withBook l (store c (l .book)))
@@ -127,4 +127,4 @@ module _ {home : ℕ → Bytes} {l : Ledger} (v : Inv home l) (imaged : Imaged l
   imaged-wrote (inr r) =
       rw r
       (imaged-note (inv-begin v (nextName (l .book) c) r) (imaged-begin v imaged (nextName (l .book) c) r) (nextName (l .book) c)
-        (rw (begin-runs (nextName (l .book) c) (l .book)) refl) b o bytes)
+      (rw (begin-runs (nextName (l .book) c) (l .book)) refl) b o bytes)

@@ -81,14 +81,14 @@ isOpened (closed n) = true
 isOpened (committed m) = true
 isOpened retired = true
 
-pub committed-opened : (g : Stage) → So (isCommitted g) → So (isOpened g)
+committed-opened : (g : Stage) → So (isCommitted g) → So (isOpened g)
 committed-opened absent h = h
 committed-opened running h = refl
 committed-opened (closed n) h = refl
 committed-opened (committed m) h = refl
 committed-opened retired h = refl
 
-pub committed-closed : (g : Stage) → So (isCommitted g) → So (isClosed g)
+committed-closed : (g : Stage) → So (isCommitted g) → So (isClosed g)
 committed-closed absent h = h
 committed-closed running h = h
 committed-closed (closed n) h = refl
@@ -159,16 +159,16 @@ module _ {home : ℕ → Bytes} {l : Ledger} (v : Inv home l) (l′ : Ledger) (k
         closed = λ t. grows t .closed;
         retired = λ t. grows t .retired;
         kept =
-          largest-mono _ _ (listsName (l .book)) (listsName (l′ .book)) _ _ _
-          (λ t. grows t .committed)
-          (λ t u h n. rw (grows t .names-fixed (committed-closed (stageOf (l .book) t) h)) at n)
-          (kept-largest (l .book) (opened-of (l .book) (v .known))) (kept-largest (l′ .book) (opened-of (l′ .book) known));
+            largest-mono _ _ (listsName (l .book)) (listsName (l′ .book)) _ _ _
+            (λ t. grows t .committed)
+            (λ t u h n. rw (grows t .names-fixed (committed-closed (stageOf (l .book) t) h)) at n)
+            (kept-largest (l .book) (opened-of (l .book) (v .known))) (kept-largest (l′ .book) (opened-of (l′ .book) known));
         names = λ t u. grows t .names u;
         lower =
-          λ t u cu low ct. rw (grows u .stamp-fixed cu)
+            λ t u cu low ct. rw (grows u .stamp-fixed cu)
             (cases (isClosed (stageOf (l .book) t))
-              (λ h. rw (grows t .stamp-fixed h) (low h))
-              (λ h. omega (arith, grows t .stamp-new h ct, v .stamps u cu)));
+            (λ h. rw (grows t .stamp-fixed h) (low h))
+            (λ h. omega (arith, grows t .stamp-new h ct, v .stamps u cu)));
       }
 
   -- a history good with h as those that stored home is so after the command, where h is then said by the ledger

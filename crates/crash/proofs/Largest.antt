@@ -92,15 +92,15 @@ module _ (names : Name → List Name) (gone : Name → Bool) (es : List Name) wh
       record {
         sub = λ t h. in-any nameEquality (shrink-within stays es t (any-in nameEquality t _ h));
         closed =
-          λ t u h n. ⊎-elim inr (λ m. inl (in-any nameEquality (Memᴰ·cast (m .2) (m .1))))
+            λ t u h n. ⊎-elim inr (λ m. inl (in-any nameEquality (Memᴰ·cast (m .2) (m .1))))
             (shrunk-names names (λ t. t) sameName sameName-true sameName-refl gone es t (any-in nameEquality t _ h) u (any-in nameEquality u _ n));
         max =
-          λ P s c t p. in-any nameEquality
+            λ P s c t p. in-any nameEquality
             (depends-largest names (λ t. t) sameName sameName-true sameName-refl gone P es
-              (λ t p. any-in nameEquality t es (s t p))
-              (depends-closed P (λ t u p l. ⊎-elim (λ q. q) (λ g. clash g (l .2)) (c t u p (in-any nameEquality (l .1)))))
-              (λ t p u m. ⊎-elim (λ q. inr (u, any-in nameEquality u es (s u q), refl)) inl (c t u p (in-any nameEquality m)))
-              t p);
+            (λ t p. any-in nameEquality t es (s t p))
+            (depends-closed P (λ t u p l. ⊎-elim (λ q. q) (λ g. clash g (l .2)) (c t u p (in-any nameEquality (l .1)))))
+            (λ t p u m. ⊎-elim (λ q. inr (u, any-in nameEquality u es (s u q), refl)) inl (c t u p (in-any nameEquality m)))
+            t p);
       }
 
 member-select : (p : Name → Bool) (ts : List Name) → ((t : Name) → So (p t) → List·Memᴰ t ts) → (t : Name) → memberOf (select p ts) t ≡ p t
@@ -119,18 +119,18 @@ largest-kept k =
     let l : Largest (memberOf (committedIn k)) (listsName k) (λ t. false) (memberOf (kept k)) = committed-largest k in
     record {
       is-one =
-        record {
-          committed-ones = λ t m. any-in nameEquality t _ (l .sub t (in-any nameEquality m));
-          dependencies =
-            depends-closed (λ t. List·Memᴰ t (kept k))
-            (λ t u m n. ⊎-elim (any-in nameEquality u _) (λ q. clash q refl) (l .closed t u (in-any nameEquality m) (in-any nameEquality n)));
-        };
+          record {
+            committed-ones = λ t m. any-in nameEquality t _ (l .sub t (in-any nameEquality m));
+            dependencies =
+                depends-closed (λ t. List·Memᴰ t (kept k))
+                (λ t u m n. ⊎-elim (any-in nameEquality u _) (λ q. clash q refl) (l .closed t u (in-any nameEquality m) (in-any nameEquality n)));
+          };
       has-others =
-        λ ts h t m. any-in nameEquality t _
+          λ ts h t m. any-in nameEquality t _
           (l .max (λ t. List·Memᴰ t ts)
-            (λ t m. in-any nameEquality (h .committed-ones t m))
-            (λ t u m n. inl (h .dependencies t u m (lists-it (any-in nameEquality u _ n))))
-            t m);
+          (λ t m. in-any nameEquality (h .committed-ones t m))
+          (λ t u m n. inl (h .dependencies t u m (lists-it (any-in nameEquality u _ n))))
+          t m);
     }
 
 -- of the names that committed ones list, those below their core's oldest number are those of the retired

@@ -42,11 +42,14 @@ module _ {Txn Image : Type 0} (s s′ : Status Txn) (x : Extends s s′) (homed 
 
   chain-extends : (es : List (Event Txn Image)) → Stored es → Chain s homed es → Chain s′ homed es
   chain-extends [] st c = c
-  chain-extends (e ∷ es) st c =
-      (record {
-        writer-holder = ⊎-map (λ p. p) (λ d. (x .names _ _ (d .0), x .names _ _ (d .1))) (c .0 .writer-holder);
-        stored = st _ (inl refl);
-      }, next-extends _ es (c .1), chain-extends es (λ t k. st t (inr k)) (c .2))
+  chain-extends (e ∷ es) st c = (
+    record {
+      writer-holder = ⊎-map (λ p. p) (λ d. (x .names _ _ (d .0), x .names _ _ (d .1))) (c .0 .writer-holder);
+      stored = st _ (inl refl);
+    },
+    next-extends _ es (c .1),
+    chain-extends es (λ t k. st t (inr k)) (c .2),
+  )
 
   pub extend : (base home : Image) (es : List (Event Txn Image)) → Stored es → Good s homed base home es → Good s′ homed base home es
   extend base home es st g =
@@ -71,15 +74,17 @@ module _ {Txn : Type 0} (E : Equality Txn) (s : Status Txn) (sound : Sound s) (h
   link-home : {v u : Txn} → (So (s .closed u) → s .stamp u < s .stamp t → So (s .retired u)) → Link s homed v u → Link s (with-one E homed t) v u
   link-home first (inl p) = inl p
   link-home {v} {u} first (inr (o, d)) =
-      inr
-      (record {
-        is-closed = o .is-closed;
-        lower = o .lower;
-        retires-first =
-          λ h. ⊎-elim (o .retires-first)
-            (λ q. first (o .is-closed) (rw (E .is-true t v q) (o .lower (rw (E .is-true t v q) at (sound .kept-closed t kept)))))
-            (or-cases (homed v) _ h);
-      }, d)
+      inr (
+        record {
+          is-closed = o .is-closed;
+          lower = o .lower;
+          retires-first =
+              λ h. ⊎-elim (o .retires-first)
+              (λ q. first (o .is-closed) (rw (E .is-true t v q) (o .lower (rw (E .is-true t v q) at (sound .kept-closed t kept)))))
+              (or-cases (homed v) _ h);
+        },
+        d,
+      )
 
   module _ {Image : Type 0} where
     -- each closed one of lower stamp that took the block is retired: 33 does not apply
@@ -103,9 +108,9 @@ module _ {Txn : Type 0} (E : Equality Txn) (s : Status Txn) (sound : Sound s) (h
         cases (E .is t (e .holder))
         (λ h. rw (or-right (homed (e .holder)) h, h) refl)
         (λ h.
-          let other : e .holder ≡ t → ⊥ = λ p. clash (rw p (E .is-refl t)) h in
-          let fresh : homed (e .holder) ≡ false = false-of _ (λ d. ⊎-elim other (λ o. clash (o .retires-first d) live) (older s homed e es c t k)) in
-          rw (fresh, h) (upto-home es live (⊎-elim (λ p. absurd (other p)) (λ m. m) k) (c .2)))
+        let other : e .holder ≡ t → ⊥ = λ p. clash (rw p (E .is-refl t)) h in
+        let fresh : homed (e .holder) ≡ false = false-of _ (λ d. ⊎-elim other (λ o. clash (o .retires-first d) live) (older s homed e es c t k)) in
+        rw (fresh, h) (upto-home es live (⊎-elim (λ p. absurd (other p)) (λ m. m) k) (c .2)))
 
     pub store-home : (base home : Image) (es : List (Event Txn Image)) → s .retired t ≡ false → Took t es → LowerRetired es
         → Good s homed base home es → Good s (with-one E homed t) base (value base (upto (E .is t) es)) es

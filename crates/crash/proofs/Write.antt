@@ -49,7 +49,7 @@ edits-naming n x o =
     record {
       stage = refl;
       names =
-        λ u h. cases (memberOf (x .names) n) (λ k. rw k h) (λ k. rw (k, any-append (sameName u) (x .names) (n ∷ [])) (or-left _ h));
+          λ u h. cases (memberOf (x .names) n) (λ k. rw k h) (λ k. rw (k, any-append (sameName u) (x .names) (n ∷ [])) (or-left _ h));
       fixed = λ h. clash h o;
     }
 
@@ -131,16 +131,16 @@ module _ {home : ℕ → Bytes} {l : Ledger} (v : Inv home l) (w : Write) (entry
     inv-noted writer-holder next =
         record {
           good =
-            λ b. cases (eqb b (w .block))
+              λ b. cases (eqb b (w .block))
               (λ h. rw (eqb-true b (w .block) h, blockEquality .is-refl (w .block))
-                (write (status noted) (sound-of noted noted-known noted-retired) (homed noted (w .block)) (areaBefore l (w .block)) (home (w .block))
-                  (eventOf w) (historyOf l (w .block)) open-after
-                  (record { writer-holder = writer-holder; stored = λ r. clash (retired-closed ((entry (w .holder)) .stage) r) open-after })
-                  next (noted-good (w .block))))
+              (write (status noted) (sound-of noted noted-known noted-retired) (homed noted (w .block)) (areaBefore l (w .block)) (home (w .block))
+              (eventOf w) (historyOf l (w .block)) open-after
+              (record { writer-holder = writer-holder; stored = λ r. clash (retired-closed ((entry (w .holder)) .stage) r) open-after })
+              next (noted-good (w .block))))
               (λ h. rw h (noted-good b));
           took = λ b u m. noted-took b u (more b u m);
           taken =
-            λ b u k. cases (eqb b (w .block))
+              λ b u k. cases (eqb b (w .block))
               (λ h. noted-taken b u (eqb-true b (w .block) h) (rw h at k))
               (λ h. same-blocks b u (v .taken b u (rw h at k)));
           stamps = λ u h. v .stamps u (rw (edits u .stage) at h);
@@ -187,9 +187,9 @@ meets-ruled l t b = rw (holder-last (l .book) b (l .book .writes)) (by-last (las
         cases (isRetired (stageOf (l .book) u))
         (λ h. rw h (λ w p. let same : u ≡ w = cc in rw same at h))
         (λ h. rw h
-          (cases (sameName u t)
-            (λ k. rw k (rw (sameName-true u t k) at q))
-            (λ k. rw k (cases (isClosed (stageOf (l .book) u)) (λ c. rw c (q, c)) (λ c. rw c (q, c, k))))))
+        (cases (sameName u t)
+        (λ k. rw k (rw (sameName-true u t k) at q))
+        (λ k. rw k (cases (isClosed (stageOf (l .book) u)) (λ c. rw c (q, c)) (λ c. rw c (q, c, k))))))
 
 -- ---- what the rules do to transactions
 module _ (l : Ledger) (t : Name) (runs : isClosed (stageOf (l .book) t) ≡ false) where
@@ -216,9 +216,10 @@ module _ (l : Ledger) (t : Name) (runs : isClosed (stageOf (l .book) t) ≡ fals
         ∙ change-each (λ x e. e .blocks ≡ (l .book .entry x) .blocks) t (naming u) (l .book .entry) refl (λ x h. refl) x
 
     both-names : So (memberOf ((bothName t) .names) u) × So (memberOf ((bothName u) .names) t)
-    both-names =
-        (rw (change-other u (naming t) writerNames t (is-not nameEquality u t other), change-same t (naming u) (l .book .entry)) (naming-lists u (l .book .entry t)),
-        rw (change-same u (naming t) writerNames) (naming-lists t (writerNames u)))
+    both-names = (
+      rw (change-other u (naming t) writerNames t (is-not nameEquality u t other), change-same t (naming u) (l .book .entry)) (naming-lists u (l .book .entry t)),
+      rw (change-same u (naming t) writerNames) (naming-lists t (writerNames u)),
+    )
 
   module _ (b : ℕ) where
     pub rule-edits : (r : Meeting) → Ruled l t b r → (u : Name) → Edits (l .book .entry u) (ruled r t b (l .book .entry) u)
@@ -265,19 +266,21 @@ module _ {home : ℕ → Bytes} {l : Ledger} (v : Inv home l) (t : Name) (runs :
         (λ m. rw (taken-t c) (or-left _ m)) (λ u h m. m)
 
     inv-taken : ((u : Name) → lastHolder (historyOf l b) ≡ some u
-          → So (isClosed (stageOf (l .book) u)) × (So (memberOf ((f (l .book .entry t)) .names) u) ⊎ So (isRetired (stageOf (l .book) u))))
+        → So (isClosed (stageOf (l .book) u)) × (So (memberOf ((f (l .book .entry t)) .names) u) ⊎ So (isRetired (stageOf (l .book) u))))
         → Inv home (withWrite l (writeBy t) entryTaken)
     inv-taken prior =
         let after : Ledger = withWrite l (writeBy t) entryTaken in
         let open-after : isClosed (stageOf (after .book) t) ≡ false = rw (taken-edits t .stage) runs in
         inv-noted v (writeBy t) entryTaken taken-edits runs taken-more taken-same
         (rw (change-same t f (l .book .entry), taken-t b) (or-right (tookIn (l .book) b t) (blockEquality .is-refl b))) (inl refl)
-        (next-by (status after) (homed after b) t (historyOf l b) (λ u q. inr
-          (record {
+        (next-by (status after) (homed after b) t (historyOf l b) (λ u q. inr (
+          record {
             is-closed = rw (taken-edits u .stage) (prior u q .0);
             lower = λ h. clash h open-after;
             retires-first = λ h. clash h (open-not-homed b ((after .book .entry t) .blocks) (stageOf (after .book) t) open-after);
-          }, ⊎-map (λ h. rw (change-same t f (l .book .entry)) h) (λ h. rw (taken-edits u .stage) h) (prior u q .1))))
+          },
+          ⊎-map (λ h. rw (change-same t f (l .book .entry)) h) (λ h. rw (taken-edits u .stage) h) (prior u q .1),
+        )))
 
   -- the holder stays
   inv-stays : (entry : Name → Entry) (edits : (u : Name) → Edits (l .book .entry u) (entry u)) → ((u : Name) → (entry u) .blocks ≡ (l .book .entry u) .blocks)
@@ -300,7 +303,7 @@ module _ {home : ℕ → Bytes} {l : Ledger} (v : Inv home l) (t : Name) (runs :
       inv-taken (λ e. taking b (naming u e)) (edits-closed l t runs b u) refl
       (λ x q. let same : u ≡ x = cc in rw (← same) (p .1, inl (naming-lists u (l .book .entry t))))
 
-  pub inv-note : Inv home (withBook l (note t b o bytes (l .book)))
+  inv-note : Inv home (withBook l (note t b o bytes (l .book)))
   unfolding note
   inv-note = inv-rule (meets (l .book) t (holderIn (l .book) b (l .book .writes))) (meets-ruled l t b)
 
