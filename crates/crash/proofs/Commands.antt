@@ -2,9 +2,8 @@
 -- Each moves one transaction one stage on (`Moves`) and writes nothing. All but a home store leave alone who has stored
 -- which block home; a home store adds one, whose older holders are retired since 33 did not apply.
 use mathlib.Core.Path.{_≡_, refl, sym, _∙_, ap, subst}
-use mathlib.Core.Bool.{Bool, true, false, So, cond, _||_, or-false}
-use mathlib.Core.Logic.{_⊎_, inl, inr}
-use mathlib.Core.List.{List, [], _∷_, _++_, List·Memᴰ, List·Memᴰ·head, List·Memᴰ·tail}
+use mathlib.Core.Bool.{Bool, false, So, cond, _||_, or-false}
+use mathlib.Core.List.{List, [], _∷_, List·Memᴰ, List·Memᴰ·head, List·Memᴰ·tail}
 use Prim.Native.Nat.{ℕ, suc, _+_, _≤_, _<_}
 use native.Mathlib.Omega.{arith}
 use lib.ListN.{length, take, getD}
@@ -18,12 +17,12 @@ use Rattle.model.specs.declared.Name.{Name}
 use Rattle.model.specs.declared.Shape.{Shape}
 use Rattle.model.proofs.Lists.{cases, or-left, or-right, any-append, getD-mem}
 use Rattle.model.proofs.Valid.{sameName-true, sameName-refl}
-use Rattle.crash.specs.Book.{Stage, absent, running, closed, committed, retired, isClosed, isCommitted, isRetired, counted, Entry, Write, Book, emptyBook, change, staged, begin, close, store, checkpoint, kept, image, blank}
+use Rattle.crash.specs.Book.{Stage, absent, running, closed, committed, retired, isClosed, isCommitted, isRetired, Entry, Write, Book, emptyBook, change, staged, begin, close, store, checkpoint, kept, image, blank}
 use Rattle.crash.specs.Ledger.{Ledger, freshLedger, withBook, closeLedger}
 use Rattle.crash.proofs.Tests.{clash, false-of, is-not, in-any, nameEquality, blockEquality}
-use Rattle.crash.proofs.History.{value, upto, Took, Good}
+use Rattle.crash.proofs.History.{Took, Good}
 use Rattle.crash.proofs.Steps.{with-one, store-home}
-use Rattle.crash.proofs.Largest.{memberOf, stageOf, listsName}
+use Rattle.crash.proofs.Largest.{memberOf, stageOf}
 use Rattle.crash.proofs.Invariant.{history, areaBefore, historyOf, imageAt, tookIn, homedBy, homed, status, isOpened, Known, Inv, sound-of, retired-homed, Grows, extends, good-grown}
 
 pub inv-fresh : (s : Shape) (saved : List Write) (first : ℕ → ℕ) → Inv (image blank saved) (freshLedger s saved first)
@@ -48,18 +47,17 @@ pub data Moves : Stage → Stage → Type 0 where
   retires : {m : ℕ} → Moves (committed m) retired
 
 record Onward (g g′ : Stage) : Type 0 where
-  opened : So (isOpened g′)
   closed : So (isClosed g) → So (isClosed g′)
   committed : So (isCommitted g) → So (isCommitted g′)
   retired : So (isRetired g) → So (isRetired g′)
 
 onward : {g g′ : Stage} → Moves g g′ → Onward g g′
-onward opens = record { opened = refl; closed = λ h. h; committed = λ h. h; retired = λ h. h }
-onward closes = record { opened = refl; closed = λ h. refl; committed = λ h. h; retired = λ h. h }
-onward stores = record { opened = refl; closed = λ h. refl; committed = λ h. h; retired = λ h. h }
-onward commits = record { opened = refl; closed = λ h. refl; committed = λ h. refl; retired = λ h. h }
-onward stores-home = record { opened = refl; closed = λ h. refl; committed = λ h. refl; retired = λ h. h }
-onward retires = record { opened = refl; closed = λ h. refl; committed = λ h. refl; retired = λ h. refl }
+onward opens = record { closed = λ h. h; committed = λ h. h; retired = λ h. h }
+onward closes = record { closed = λ h. refl; committed = λ h. h; retired = λ h. h }
+onward stores = record { closed = λ h. refl; committed = λ h. h; retired = λ h. h }
+onward commits = record { closed = λ h. refl; committed = λ h. refl; retired = λ h. h }
+onward stores-home = record { closed = λ h. refl; committed = λ h. refl; retired = λ h. h }
+onward retires = record { closed = λ h. refl; committed = λ h. refl; retired = λ h. refl }
 
 -- the ledger l′ is l with t at stage g; one that closes gets the next stamp
 pub record Moved (t : Name) (g : Stage) (l l′ : Ledger) : Type 0 where

@@ -2,20 +2,20 @@
 -- That is the area as the card came up with the kept writes, since the valid transactions are the kept unretired ones.
 -- Nothing is assumed of how the reader finds that transaction: `Newest` says what it has to be.
 use mathlib.Core.Path.{_≡_, refl, sym, _∙_, ap}
-use mathlib.Core.Bool.{Bool, true, false, So, cond, not, _&&_}
+use mathlib.Core.Bool.{Bool, false, So, not, _&&_}
 use mathlib.Core.List.{List, [], _∷_, _++_}
 use mathlib.Core.Option.{Option, none, some}
 use Prim.Native.Nat.{ℕ, _≤_}
 use lib.Dec.{eqb}
 use borrow.Author.Tests.{not-true}
 use Rattle.model.specs.Lists.{select}
-use Rattle.model.specs.Bytes.{Bytes, replaced}
+use Rattle.model.specs.Bytes.{Bytes}
 use Rattle.model.specs.declared.Name.{Name}
 use Rattle.model.proofs.Lists.{cases, and-left, and-right, and-both}
 use Rattle.crash.specs.Book.{Write, isRetired, kept, keptWrites, image, blank}
 use Rattle.crash.specs.Ledger.{Ledger, validIn}
 use Rattle.crash.proofs.Tests.{nameEquality}
-use Rattle.crash.proofs.History.{value, keep, Took, Pick, recovered, recovers}
+use Rattle.crash.proofs.History.{value, keep, Pick, recovered, recovers}
 use Rattle.crash.proofs.Largest.{memberOf, stageOf, Numbered, valid-is-kept}
 use Rattle.crash.proofs.Invariant.{history, image-history, areaBefore, historyOf, imageAt, tookIn, homed, status, Inv, opened-of, sound-of}
 

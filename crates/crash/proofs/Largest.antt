@@ -1,8 +1,8 @@
 -- The kept set and the valid set are each the largest of their kind, stated without how they are found.
 -- Hence more commits keep more, kept is the largest for the transitive relation too, and the valid transactions are the
 -- kept ones that are not retired: a name below its core's oldest number is that of a retired transaction, which is kept.
-use mathlib.Core.Path.{_≡_, refl, sym, _∙_}
-use mathlib.Core.Bool.{Bool, true, false, So, not, _&&_, _||_}
+use mathlib.Core.Path.{_≡_, refl}
+use mathlib.Core.Bool.{Bool, false, So, not, _&&_}
 use mathlib.Core.Logic.{_⊎_, inl, inr, ⊎-elim, ⊎-map}
 use mathlib.Core.List.{List, List·Memᴰ, Memᴰ·cast}
 use lib.Dec.{ltb}
@@ -16,7 +16,7 @@ use Rattle.model.proofs.Shrink.{allNamed, shrink-within, shrunk-names, depends-
 use Rattle.model.proofs.Valid.{sameName-true, sameName-refl}
 use Rattle.crash.specs.Book.{Book, Stage, isCommitted, isRetired, committedIn, namesIn, kept}
 use Rattle.crash.specs.Ledger.{unretired, metIn, validIn}
-use Rattle.crash.specs.Claims.{Lists, HasAll, LargestKept}
+use Rattle.crash.specs.Claims.{LargestKept}
 use Rattle.crash.proofs.Tests.{clash, agree, any-in, in-any, nameEquality}
 
 -- `k` is the largest set of those in `from` in which each one listed is in the set, or is met without it

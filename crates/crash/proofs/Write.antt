@@ -3,8 +3,8 @@
 -- or it is the writer, and the holder before it is retired, or closed and then named by the writer.
 use mathlib.Core.Path.{_≡_, refl, sym, _∙_, ap}
 use mathlib.Core.Bool.{Bool, true, false, So, cond, _||_, or-false}
-use mathlib.Core.Logic.{_⊎_, inl, inr, ⊎-elim, ⊎-map}
-use mathlib.Core.List.{List, [], _∷_, _++_, List·Memᴰ}
+use mathlib.Core.Logic.{_⊎_, inl, inr, ⊎-map}
+use mathlib.Core.List.{List, [], _∷_, _++_}
 use mathlib.Core.Option.{Option, none, some}
 use Prim.Native.Nat.{ℕ}
 use lib.Dec.{eqb}
@@ -15,12 +15,12 @@ use Rattle.model.specs.Card.{sameName}
 use Rattle.model.specs.declared.Name.{Name}
 use Rattle.model.proofs.Lists.{cases, or-cases, or-left, or-right, any-append}
 use Rattle.model.proofs.Valid.{sameName-true, sameName-refl}
-use Rattle.crash.specs.Book.{Stage, absent, running, isRunning, isClosed, isRetired, Entry, Write, Book, change, staged, taking, naming, begin, holderIn, Meeting, no-holder, own, running-holder, closed-holder, meets, ruled, holderAfter, note, wrote, kept, image}
+use Rattle.crash.specs.Book.{absent, running, isClosed, isRetired, Entry, Write, Book, change, staged, taking, naming, begin, holderIn, Meeting, no-holder, own, running-holder, closed-holder, meets, ruled, holderAfter, note, wrote, kept}
 use Rattle.crash.specs.Ledger.{Ledger, withBook, imageNow}
 use Rattle.crash.proofs.Tests.{clash, is-not, nameEquality, blockEquality}
-use Rattle.crash.proofs.History.{Event, value, Took, Status, Link, Own, Next, Good}
+use Rattle.crash.proofs.History.{Event, value, Took, Status, Link, Next, Good}
 use Rattle.crash.proofs.Steps.{write}
-use Rattle.crash.proofs.Largest.{memberOf, stageOf, listsName}
+use Rattle.crash.proofs.Largest.{memberOf, stageOf}
 use Rattle.crash.proofs.Invariant.{eventOf, history, image-history, areaBefore, historyOf, tookIn, homedBy, homed, status, retired-closed, open-not-homed, Known, Inv, sound-of, retired-homed, Grows, extends, good-grown}
 use Rattle.crash.proofs.Commands.{change-same, change-other, change-each, inv-begin, nextName}
 
