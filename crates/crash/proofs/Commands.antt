@@ -9,21 +9,22 @@ use native.Mathlib.Omega.{arith}
 use lib.ListN.{length, take, getD}
 use lib.Seq.{take-all, take-suc}
 use lib.Dec.{eqb, leb}
-use borrow.Author.Tests.{le-leb, lt-leb, eqb-true}
+use borrow.Author.Tests.{le-leb, lt-leb, lt-ltb, eqb-true}
 use Rattle.model.specs.Lists.{any}
 use Rattle.model.specs.Bytes.{Bytes}
 use Rattle.model.specs.Card.{newName, sameName}
+use Rattle.model.specs.Checkpoint.{share}
 use Rattle.model.specs.declared.Name.{Name}
 use Rattle.model.specs.declared.Shape.{Shape}
-use Rattle.model.proofs.Lists.{cases, or-left, or-right, any-append, getD-mem}
+use Rattle.model.proofs.Lists.{cases, and-both, or-left, or-right, mem-any, any-append, getD-mem}
 use Rattle.model.proofs.Valid.{sameName-true, sameName-refl}
 use Rattle.crash.specs.Book.{Stage, absent, running, closed, committed, retired, isClosed, isCommitted, isRetired, Entry, Write, Book, emptyBook, change, staged, begin, close, store, checkpoint, kept, image, blank}
-use Rattle.crash.specs.Ledger.{Ledger, freshLedger, withBook, closeLedger}
-use Rattle.crash.proofs.Tests.{clash, false-of, is-not, in-any, nameEquality, blockEquality}
+use Rattle.crash.specs.Ledger.{Ledger, freshLedger, withBook, closeLedger, sharesLowerIn}
+use Rattle.crash.proofs.Tests.{clash, false-of, is-not, any-in, in-any, nameEquality, blockEquality}
 use Rattle.crash.proofs.History.{Took, Good}
 use Rattle.crash.proofs.Steps.{with-one, store-home}
 use Rattle.crash.proofs.Largest.{memberOf, stageOf}
-use Rattle.crash.proofs.Invariant.{history, areaBefore, historyOf, imageAt, tookIn, homedBy, homed, status, isOpened, Known, Inv, sound-of, retired-homed, Grows, extends, good-grown}
+use Rattle.crash.proofs.Invariant.{history, areaBefore, historyOf, imageAt, tookIn, homedBy, homed, status, isOpened, closed-opened, Known, Inv, sound-of, retired-homed, Grows, extends, good-grown}
 
 pub inv-fresh : (s : Shape) (saved : List Write) (first : ℕ → ℕ) → Inv (image blank saved) (freshLedger s saved first)
 unfolding freshLedger emptyBook any
@@ -205,6 +206,18 @@ uncommittedName k c = newName c (k .uncommitted c)
 
 abbrev pub oldestName : Book → ℕ → Name
 oldestName k c = newName c (k .oldest c)
+
+-- where 33 does not apply to t, each closed one that took a block of it with a lower stamp is retired
+pub lower-retired : {home : ℕ → Bytes} {l : Ledger} → Inv home l → (t : Name) → sharesLowerIn l t ≡ false → (b : ℕ) → So (tookIn (l .book) b t)
+    → (u : Name) → So (tookIn (l .book) b u) → So (isClosed (stageOf (l .book) u)) → l .stamp u < l .stamp t → So (isRetired (stageOf (l .book) u))
+unfolding sharesLowerIn share
+lower-retired {l = l} v t none-lower b k u k′ h low =
+    cases (isRetired (stageOf (l .book) u)) (λ r. r)
+    (λ r. clash
+    (mem-any _ (v .known u (closed-opened (stageOf (l .book) u) h))
+    (and-both (and-both (and-both h (rw r refl)) (lt-ltb (l .stamp u) (l .stamp t) low))
+    (mem-any (λ b. tookIn (l .book) b u) (any-in blockEquality b _ k) k′)))
+    none-lower)
 
 -- ---- a WRITE that opens a transaction
 pub begin-moved : (l : Ledger) (t : Name) → stageOf (l .book) t ≡ absent → Moved t running l (withBook l (begin t (l .book)))

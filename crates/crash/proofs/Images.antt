@@ -5,6 +5,7 @@ use mathlib.Core.Path.{_≡_, refl, sym, _∙_, ap, fun-ext}
 use mathlib.Core.Bool.{false, So}
 use mathlib.Core.Logic.{_⊎_, inl, inr, ⊎-elim}
 use mathlib.Core.List.{List, [], _∷_, map, List·Memᴰ, List·Memᴰ·head, List·Memᴰ·tail}
+use mathlib.Core.Option.{some}
 use Prim.Native.Nat.{ℕ, zero, suc, _≤_, _<_}
 use native.Mathlib.Omega.{arith}
 use lib.ListN.{length, getD}
@@ -22,7 +23,7 @@ use Rattle.crash.proofs.History.{Event, value, upto, Took, Chain, older
 use Rattle.crash.proofs.Largest.{stageOf}
 use Rattle.crash.proofs.Invariant.{image-history, areaBefore, historyOf, imageAt, tookIn, homed, status, Inv}
 use Rattle.crash.proofs.Commands.{Moved, moved-each, moved-blocks, begin-moved, close-moved, store-moved, retire-moved, home-moved, inv-begin, nextName, uncommittedName, oldestName}
-use Rattle.crash.proofs.Write.{Edits, withWrite, meets-ruled, rule-edits, rule-open, begin-runs}
+use Rattle.crash.proofs.Write.{Edits, withWrite, lastHolder, open-last, meets-ruled, rule-edits, rule-open, begin-runs}
 
 abbrev pub Imaged : Ledger → Type 0
 Imaged l = (t : Name) → So (isClosed (stageOf (l .book) t)) → l .images t ≡ map (imageAt l t) ((l .book .entry t) .blocks)
@@ -58,22 +59,18 @@ map-on : {A B : Type 0} (f g : A → B) (xs : List A) → ((a : A) → List·Mem
 map-on f g [] h = refl
 map-on f g (x ∷ xs) h = rw (h x (List·Memᴰ·head refl), map-on f g xs (λ a m. h a (List·Memᴰ·tail m))) refl
 
-module _ {home : ℕ → Bytes} {l : Ledger} (v : Inv home l) (imaged : Imaged l) where
-  -- whoever took the block and has not closed is its holder
-  upto-open : (b : ℕ) (t : Name) → isClosed (stageOf (l .book) t) ≡ false → (es : List (Event Name Bytes)) → Chain (status l) (homed l b) es → Took t es
-      → upto (sameName t) es ≡ es
-  upto-open b t runs [] c k = refl
-  upto-open b t runs (e ∷ es) c k =
-      let holds : e .holder ≡ t = ⊎-elim (λ p. p) (λ o. clash (o .is-closed) runs) (older (status l) (homed l b) e es c t k) in
-      rw (holds, sameName-refl t) refl
+imaged-begin : (l : Ledger) → Imaged l → (t : Name) → stageOf (l .book) t ≡ absent → Imaged (withBook l (begin t (l .book)))
+imaged-begin l imaged t r = imaged-moved (begin-moved l t r) (λ p q. clash q refl) imaged
 
+upto-last : (t : Name) (es : List (Event Name Bytes)) → lastHolder es ≡ some t → upto (sameName t) es ≡ es
+upto-last t [] q = refl
+upto-last t (e ∷ es) q = let holds : e .holder ≡ t = cc in rw (holds, sameName-refl t) refl
+
+module _ {home : ℕ → Bytes} {l : Ledger} (v : Inv home l) (imaged : Imaged l) where
   image-now : (b : ℕ) (t : Name) → isClosed (stageOf (l .book) t) ≡ false → So (tookIn (l .book) b t) → imageNow l b ≡ imageAt l t b
   unfolding imageNow
   image-now b t runs k =
-      image-history (areaBefore l) (l .book .writes) b ∙ ap (value (areaBefore l b)) (sym (upto-open b t runs (historyOf l b) (v .good b .chain) (v .took b t k)))
-
-  pub imaged-begin : (t : Name) → stageOf (l .book) t ≡ absent → Imaged (withBook l (begin t (l .book)))
-  imaged-begin t r = imaged-moved (begin-moved l t r) (λ p q. clash q refl) imaged
+      image-history (areaBefore l) (l .book .writes) b ∙ ap (value (areaBefore l b)) (sym (upto-last t (historyOf l b) (open-last v b t runs k)))
 
   module _ (c : ℕ) where
     images-at-close : (closeLedger c l) .images (nextName (l .book) c) ≡ map (imageNow l) ((l .book .entry (nextName (l .book) c)) .blocks)
@@ -111,20 +108,18 @@ module _ (l : Ledger) (w : Write) (entry : Name → Entry) (edits : (u : Name) �
       let was : So (isClosed (stageOf (l .book) t)) = rw (edits t .stage) at h in
       imaged t was ∙ rw (edits t .fixed was .1) (ap (λ f. map f ((l .book .entry t) .blocks)) (sym (fun-ext (written-image t was))))
 
-module _ {home : ℕ → Bytes} {l : Ledger} (v : Inv home l) (imaged : Imaged l) where
-  imaged-note : (t : Name) → isClosed (stageOf (l .book) t) ≡ false → (b o : ℕ) (bytes : Bytes) → Imaged (withBook l (note t b o bytes (l .book)))
-  unfolding note
-  imaged-note t runs b o bytes =
-      let m : Meeting = meets (l .book) t (holderIn (l .book) b (l .book .writes)) in
-      imaged-written l (record { writer = t; holder = holderAfter m t; block = b; offset = o; bytes = bytes }) (ruled m t b (l .book .entry))
-      (rule-edits l t runs b m (meets-ruled l t b)) (rule-open l t runs b m (meets-ruled l t b)) imaged
+imaged-note : (l : Ledger) → Imaged l → (t : Name) → isClosed (stageOf (l .book) t) ≡ false → (b o : ℕ) (bytes : Bytes) → Imaged (withBook l (note t b o bytes (l .book)))
+unfolding note
+imaged-note l imaged t runs b o bytes =
+    let m : Meeting = meets (l .book) t (holderIn (l .book) b (l .book .writes)) in
+    imaged-written l (record { writer = t; holder = holderAfter m t; block = b; offset = o; bytes = bytes }) (ruled m t b (l .book .entry))
+    (rule-edits l t runs b m (meets-ruled l t b)) (rule-open l t runs b m (meets-ruled l t b)) imaged
 
-module _ {home : ℕ → Bytes} {l : Ledger} (v : Inv home l) (imaged : Imaged l) (c b o : ℕ) (bytes : Bytes) where
-  pub imaged-wrote : (stageOf (l .book) (nextName (l .book) c) ≡ running) ⊎ (stageOf (l .book) (nextName (l .book) c) ≡ absent)
-      → Imaged (withBook l (wrote c b o bytes (l .book)))
-  unfolding wrote
-  imaged-wrote (inl r) = rw r (imaged-note v imaged (nextName (l .book) c) (rw r refl) b o bytes)
-  imaged-wrote (inr r) =
-      rw r
-      (imaged-note (inv-begin v (nextName (l .book) c) r) (imaged-begin v imaged (nextName (l .book) c) r) (nextName (l .book) c)
-      (rw (begin-runs (nextName (l .book) c) (l .book)) refl) b o bytes)
+pub imaged-wrote : (l : Ledger) → Imaged l → (c b o : ℕ) (bytes : Bytes)
+    → (stageOf (l .book) (nextName (l .book) c) ≡ running) ⊎ (stageOf (l .book) (nextName (l .book) c) ≡ absent)
+    → Imaged (withBook l (wrote c b o bytes (l .book)))
+unfolding wrote
+imaged-wrote l imaged c b o bytes (inl r) = rw r (imaged-note l imaged (nextName (l .book) c) (rw r refl) b o bytes)
+imaged-wrote l imaged c b o bytes (inr r) =
+    let t : Name = nextName (l .book) c in
+    rw r (imaged-note (withBook l (begin t (l .book))) (imaged-begin l imaged t r) t (rw (begin-runs t (l .book)) refl) b o bytes)

@@ -81,12 +81,12 @@ isOpened (closed n) = true
 isOpened (committed m) = true
 isOpened retired = true
 
-committed-opened : (g : Stage) → So (isCommitted g) → So (isOpened g)
-committed-opened absent h = h
-committed-opened running h = refl
-committed-opened (closed n) h = refl
-committed-opened (committed m) h = refl
-committed-opened retired h = refl
+pub closed-opened : (g : Stage) → So (isClosed g) → So (isOpened g)
+closed-opened absent h = h
+closed-opened running h = refl
+closed-opened (closed n) h = refl
+closed-opened (committed m) h = refl
+closed-opened retired h = refl
 
 committed-closed : (g : Stage) → So (isCommitted g) → So (isClosed g)
 committed-closed absent h = h
@@ -122,7 +122,7 @@ pub record Inv (home : ℕ → Bytes) (l : Ledger) : Type 0 where
   pub retired-kept : (t : Name) → So (isRetired (stageOf (l .book) t)) → So (memberOf (kept (l .book)) t)
 
 pub opened-of : (k : Book) → Known k → (t : Name) → So (isCommitted (stageOf k t)) → List·Memᴰ t (k .opened)
-opened-of k known t h = known t (committed-opened (stageOf k t) h)
+opened-of k known t h = known t (closed-opened (stageOf k t) (committed-closed (stageOf k t) h))
 
 pub sound-of : (l : Ledger) → Known (l .book) → ((t : Name) → So (isRetired (stageOf (l .book) t)) → So (memberOf (kept (l .book)) t)) → Sound (status l)
 sound-of l known r =

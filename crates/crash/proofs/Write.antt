@@ -3,7 +3,7 @@
 -- or it is the writer, and the holder before it is retired, or closed and then named by the writer.
 use mathlib.Core.Path.{_≡_, refl, sym, _∙_, ap}
 use mathlib.Core.Bool.{Bool, true, false, So, cond, _||_, or-false}
-use mathlib.Core.Logic.{_⊎_, inl, inr, ⊎-map}
+use mathlib.Core.Logic.{_⊎_, inl, inr, ⊎-elim, ⊎-map}
 use mathlib.Core.List.{List, [], _∷_, _++_}
 use mathlib.Core.Option.{Option, none, some}
 use Prim.Native.Nat.{ℕ}
@@ -17,8 +17,8 @@ use Rattle.model.proofs.Lists.{cases, or-cases, or-left, or-right, any-append}
 use Rattle.model.proofs.Valid.{sameName-true, sameName-refl}
 use Rattle.crash.specs.Book.{absent, running, isClosed, isRetired, Entry, Write, Book, change, staged, taking, naming, begin, holderIn, Meeting, no-holder, own, running-holder, closed-holder, meets, ruled, holderAfter, note, wrote, kept}
 use Rattle.crash.specs.Ledger.{Ledger, withBook, imageNow}
-use Rattle.crash.proofs.Tests.{clash, is-not, nameEquality, blockEquality}
-use Rattle.crash.proofs.History.{Event, value, Took, Status, Link, Next, Good}
+use Rattle.crash.proofs.Tests.{clash, false-of, is-not, nameEquality, blockEquality}
+use Rattle.crash.proofs.History.{Event, value, Took, Status, Link, Next, Chain, Good, older}
 use Rattle.crash.proofs.Steps.{write}
 use Rattle.crash.proofs.Largest.{memberOf, stageOf}
 use Rattle.crash.proofs.Invariant.{eventOf, history, image-history, areaBefore, historyOf, tookIn, homedBy, homed, status, retired-closed, open-not-homed, Known, Inv, sound-of, retired-homed, Grows, extends, good-grown}
@@ -320,17 +320,41 @@ module _ {home : ℕ → Bytes} {l : Ledger} (v : Inv home l) (c b o : ℕ) (byt
   inv-wrote (inr r) =
       rw r (inv-note (inv-begin v (nextName (l .book) c) r) (nextName (l .book) c) (rw (begin-runs (nextName (l .book) c) (l .book)) refl) b o bytes)
 
--- ---- a block without a holder
+-- ---- a block and its holder
 module _ {home : ℕ → Bytes} {l : Ledger} (v : Inv home l) (b : ℕ) where
+  -- a holder took the block
+  pub holder-took : (u : Name) → holderIn (l .book) b (l .book .writes) ≡ some u → So (tookIn (l .book) b u)
+  holder-took u h = v .taken b u (by-last (lastHolder (historyOf l b)) refl (rw (holder-last (l .book) b (l .book .writes)) at h))
+    where
+      by-last : (o : Option Name) → lastHolder (historyOf l b) ≡ o → unlessRetired (l .book) o ≡ some u → Took u (historyOf l b)
+      by-last none q h = let z : false ≡ true = cc in clash z refl
+      by-last (some w) q h =
+          cases (isRetired (stageOf (l .book) w))
+          (λ r. let e : none ≡ some u = rw r at h in let z : false ≡ true = cc in clash z refl)
+          (λ r. let e : some w ≡ some u = rw r at h in took-last (historyOf l b) u (q ∙ e))
+
+  -- whoever took the block and has not closed is the last holder
+  pub open-last : (t : Name) → isClosed (stageOf (l .book) t) ≡ false → So (tookIn (l .book) b t) → lastHolder (historyOf l b) ≡ some t
+  open-last t runs k = last-of (historyOf l b) (v .good b .chain) (v .took b t k)
+    where
+      last-of : (es : List (Event Name Bytes)) → Chain (status l) (homed l b) es → Took t es → lastHolder es ≡ some t
+      last-of [] c m = absurd m
+      last-of (e ∷ es) c m = ap some (⊎-elim (λ p. p) (λ o. clash (o .is-closed) runs) (older (status l) (homed l b) e es c t m))
+
+  pub open-holds : (t : Name) → isClosed (stageOf (l .book) t) ≡ false → So (tookIn (l .book) b t) → holderIn (l .book) b (l .book .writes) ≡ some t
+  open-holds t runs k =
+      let live : isRetired (stageOf (l .book) t) ≡ false = false-of _ (λ r. clash (retired-closed (stageOf (l .book) t) r) runs) in
+      holder-last (l .book) b (l .book .writes) ∙ rw (open-last t runs k, live) refl
+
   current : (es : List (Event Name Bytes)) → Good (status l) (homed l b) (areaBefore l b) (home b) es → unlessRetired (l .book) (lastHolder es) ≡ none
       → home b ≡ value (areaBefore l b) es
   current [] g h = g .at-home
   current (e ∷ es) g h =
       cases (isRetired (stageOf (l .book) (e .holder)))
       (λ r. rw (g .chain .0 .stored r) at (g .at-home))
-      (λ r. let z : some (e .holder) ≡ none = rw r at h in let y : true ≡ false = cc in clash refl y)
+      (λ r. let e : some (e .holder) ≡ none = rw r at h in let z : true ≡ false = cc in clash refl z)
 
-  -- its home image has all writes
+  -- where there is no holder, the home image has all writes
   pub home-current : holderIn (l .book) b (l .book .writes) ≡ none → home b ≡ imageNow l b
   unfolding imageNow
   home-current h =
