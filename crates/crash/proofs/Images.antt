@@ -3,7 +3,7 @@
 -- the whole history. From then on no write is held by it, so that part of the history stays as it is.
 use mathlib.Core.Path.{_≡_, refl, sym, _∙_, ap, fun-ext}
 use mathlib.Core.Bool.{false, So}
-use mathlib.Core.Logic.{_⊎_, inl, inr, ⊎-elim}
+use mathlib.Core.Logic.{_⊎_, inl, inr}
 use mathlib.Core.List.{List, [], _∷_, map, List·Memᴰ, List·Memᴰ·head, List·Memᴰ·tail}
 use mathlib.Core.Option.{some}
 use Prim.Native.Nat.{ℕ, zero, suc, _≤_, _<_}
@@ -19,10 +19,10 @@ use Rattle.model.proofs.Valid.{sameName-true, sameName-refl}
 use Rattle.crash.specs.Book.{Stage, absent, running, closed, committed, isClosed, Entry, Write, emptyBook, begin, store, checkpoint, holderIn, Meeting, meets, ruled, holderAfter, note, wrote}
 use Rattle.crash.specs.Ledger.{Ledger, freshLedger, withBook, imageNow, closeLedger}
 use Rattle.crash.proofs.Tests.{clash, false-of, in-any, blockEquality}
-use Rattle.crash.proofs.History.{Event, value, upto, Took, Chain, older}
+use Rattle.crash.proofs.History.{Event, value, upto}
 use Rattle.crash.proofs.Largest.{stageOf}
-use Rattle.crash.proofs.Invariant.{image-history, areaBefore, historyOf, imageAt, tookIn, homed, status, Inv}
-use Rattle.crash.proofs.Commands.{Moved, moved-each, moved-blocks, begin-moved, close-moved, store-moved, retire-moved, home-moved, inv-begin, nextName, uncommittedName, oldestName}
+use Rattle.crash.proofs.Invariant.{image-history, areaBefore, historyOf, imageAt, tookIn, Inv}
+use Rattle.crash.proofs.Commands.{Moved, moved-each, moved-blocks, begin-moved, close-moved, store-moved, retire-moved, home-moved, nextName, uncommittedName, oldestName}
 use Rattle.crash.proofs.Write.{Edits, withWrite, lastHolder, open-last, meets-ruled, rule-edits, rule-open, begin-runs}
 
 abbrev pub Imaged : Ledger → Type 0
