@@ -19,7 +19,7 @@ use Rattle.crash.specs.Ledger.{Ledger, validIn}
 use Rattle.crash.proofs.Tests.{clash, any-in, in-any, nameEquality}
 use Rattle.crash.proofs.History.{value, keep, Pick, recovered, recovers}
 use Rattle.crash.proofs.Largest.{memberOf, stageOf, Numbered, valid-is-kept}
-use Rattle.crash.proofs.Invariant.{history, image-history, areaBefore, historyOf, imageAt, tookIn, homed, status, Inv, opened-of, sound-of}
+use Rattle.crash.proofs.Invariant.{history, image-history, areaBefore, historyOf, tookIn, homed, status, Inv, opened-of, sound-of}
 
 -- ---- the kept writes
 history-select : (p : Name → Bool) (ws : List Write) (b : ℕ) → history b (select (λ (w : Write). p (w .writer)) ws) ≡ keep p (history b ws)
@@ -86,10 +86,9 @@ newest-holder l b = as-tests (highest (tookIn (l .book) b) (l .stamp) (validIn (
     as-tests (none, k) = (none, λ t m q. k t (any-in nameEquality t _ m) q)
     as-tests (some t, k) = (some t, (in-any nameEquality (k .0), k .1, λ u m q. k .2 u (any-in nameEquality u _ m) q))
 
--- what the block then holds
+-- what the block then holds: the image of the one found, `imageAt l t b`, or what stood at home, `home b`
 abbrev pub blockAfter : (ℕ → Bytes) → Ledger → ℕ → Option Name → Bytes
-blockAfter home l b none = home b
-blockAfter home l b (some t) = imageAt l t b
+blockAfter home l b = recovered nameEquality (areaBefore l b) (home b) (historyOf l b)
 
 module _ {home : ℕ → Bytes} {l : Ledger} (v : Inv home l) (numbered : Numbered (l .book)) (b : ℕ) where
   valid-is : (t : Name) → memberOf (validIn (l .book)) t ≡ (memberOf (kept (l .book)) t && not (isRetired (stageOf (l .book) t)))
@@ -108,12 +107,7 @@ module _ {home : ℕ → Bytes} {l : Ledger} (v : Inv home l) (numbered : Number
         λ u m h r. k .2 u (to-valid u h r) (v .taken b u m),
       )
 
-  gives-by : (o : Option Name) → blockAfter home l b o ≡ recovered nameEquality (areaBefore l b) (home b) (historyOf l b) o
-  gives-by none = refl
-  gives-by (some t) = refl
-
   pub gives : (o : Option Name) → NewestHolder l b o → blockAfter home l b o ≡ image blank (keptWrites (l .book) ++ l .saved) b
   gives o k =
-      gives-by o
-      ∙ recovers nameEquality (status l) (sound-of l (v .known) (v .retired-kept)) (homed l b) (areaBefore l b) (home b) (historyOf l b) (v .good b) o (newest-pick o k)
+      recovers nameEquality (status l) (sound-of l (v .known) (v .retired-kept)) (homed l b) (areaBefore l b) (home b) (historyOf l b) (v .good b) o (newest-pick o k)
       ∙ sym (kept-image l b)

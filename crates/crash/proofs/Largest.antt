@@ -143,13 +143,15 @@ module _ (k : Book) (opened : (t : Name) → So (isCommitted (stageOf k t)) → 
   kept-largest =
       largest-same _ _ _ _ _ _ (member-select (λ t. isCommitted (stageOf k t)) (k .opened) opened) (λ t u h n. refl) (committed-largest k)
 
+  unretired-is : (t : Name) → memberOf (unretired k) t ≡ (isCommitted (stageOf k t) && not (isRetired (stageOf k t)))
+  unfolding unretired
+  unretired-is = member-select (λ t. isCommitted (stageOf k t) && not (isRetired (stageOf k t))) (k .opened) (λ t h. opened t (and-left _ _ h))
+
   module _ (numbered : Numbered k) where
     pub valid-largest : Largest (λ t. isCommitted (stageOf k t) && not (isRetired (stageOf k t))) (listsName k) (λ t. isRetired (stageOf k t)) (memberOf (validIn k))
-    unfolding validIn metIn unretired
+    unfolding validIn metIn
     valid-largest =
-        largest-same _ _ (listsName k) _ _ _
-        (member-select (λ t. isCommitted (stageOf k t) && not (isRetired (stageOf k t))) (k .opened) (λ t h. opened t (and-left _ _ h)))
-        (λ t u h n. numbered t u (and-left _ _ (rw (member-select (λ t. isCommitted (stageOf k t) && not (isRetired (stageOf k t))) (k .opened) (λ t h. opened t (and-left _ _ h)) t) at h)) n)
+        largest-same _ _ (listsName k) _ _ _ unretired-is (λ t u h n. numbered t u (and-left _ _ (rw (unretired-is t) at h)) n)
         (shrunk-largest (λ t. (k .entry t) .names) (λ n. ltb (n .number) (k .oldest (n .core))) (unretired k))
 
     pub valid-is-kept : ((t : Name) → So (isRetired (stageOf k t)) → So (memberOf (kept k) t))
