@@ -1,4 +1,13 @@
 -- Why the claims are true. Layer A: one block's history. Layer B: the bytes. Layer C: from one coming up to the next.
+pub mod Tests
+pub mod History
+pub mod Steps
+pub mod Largest
+pub mod Invariant
+pub mod Commands
+pub mod Write
+pub mod Images
+pub mod Cut
 pub mod Rename
 pub mod Agreement
 pub mod Relation
