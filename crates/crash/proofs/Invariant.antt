@@ -88,7 +88,7 @@ closed-opened (closed n) h = refl
 closed-opened (committed m) h = refl
 closed-opened retired h = refl
 
-committed-closed : (g : Stage) → So (isCommitted g) → So (isClosed g)
+pub committed-closed : (g : Stage) → So (isCommitted g) → So (isClosed g)
 committed-closed absent h = h
 committed-closed running h = h
 committed-closed (closed n) h = refl

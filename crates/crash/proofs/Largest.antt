@@ -98,8 +98,8 @@ module _ (names : Name → List Name) (gone : Name → Bool) (es : List Name) wh
             λ P s c t p. in-any nameEquality
             (shrink-has stays P
             (λ fs sub e q.
-              mem-all (λ (n : Name). gone n || any (λ (u : Name). sameName n u) fs) (names e)
-              (λ n m. ⊎-elim (λ r. or-right (gone n) (mem-any (λ (u : Name). sameName n u) (sub n r) (sameName-refl n))) (λ g. or-left _ g) (c e n q (in-any nameEquality m))))
+            mem-all (λ (n : Name). gone n || any (λ (u : Name). sameName n u) fs) (names e)
+            (λ n m. ⊎-elim (λ r. or-right (gone n) (mem-any (λ (u : Name). sameName n u) (sub n r) (sameName-refl n))) (λ g. or-left _ g) (c e n q (in-any nameEquality m))))
             es (λ t p. any-in nameEquality t es (s t p)) t p);
       }
 

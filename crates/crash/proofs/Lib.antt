@@ -17,5 +17,6 @@ pub mod Records
 pub mod Valid
 pub mod Newest
 pub mod CheckpointRead
+pub mod Given
 pub mod Points
 pub mod Examples

@@ -10,9 +10,7 @@ use Rattle.model.specs.Bytes.{Bytes, blockAt}
 use Rattle.model.specs.Shape.{between}
 use Rattle.model.specs.Layout.{maxNumber, isTail, isMaster, shapeIn, tailIn}
 use Rattle.model.specs.Recovery.{shapeOn, tailOn}
-use Rattle.model.specs.declared.Shape.{Shape}
 use Rattle.model.specs.declared.Tail.{Tail}
-use Rattle.model.proofs.Limits.{InRange, test-range}
 use Rattle.model.proofs.Encoding.{master-shape, master-tail, master-read}
 use Rattle.crash.specs.Ledger.{Ledger}
 use Rattle.crash.proofs.Relation.{Fine, DiskStands}

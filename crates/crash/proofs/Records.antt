@@ -14,7 +14,7 @@ use lib.ListN.{length, getD, length-append, length-map, List·getD-append, List�
 use lib.Seq.{getD-at, getD-append-add, ext-getD}
 use lib.Dec.{ltb, eqb}
 use borrow.Author.Tests.{le-leb, lt-ltb, ltb-true, ne-eqb}
-use Rattle.model.specs.Lists.{below, all}
+use Rattle.model.specs.Lists.{below}
 use Rattle.model.specs.Bytes.{Bytes, be4, part, number}
 use Rattle.model.specs.Card.{newName}
 use Rattle.model.specs.Layout.{Held, newHeld, distinct, isHeld, isListable, isCommit, commitBlock, flagOf, escaped, mark}
