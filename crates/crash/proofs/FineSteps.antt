@@ -1,0 +1,310 @@
+-- CLOSE, STORE and CHECKPOINT keep the ledger in order, and so do FORMAT, CUT and RECOVER: each of the first three gives
+-- one transaction its next stage and raises the number that counts those past it, so the stages of a core stay ranked by
+-- number; the others leave the transactions as they are, or have none.
+use Prim.Native.Nat.{ℕ, zero, suc, _+_, _*_, _-_, _≤_, _<_, min}
+use native.Mathlib.Omega.{arith}
+use native.Mathlib.Decide.{decLt, ℕ-discrete}
+use mathlib.Core.Path.{_≡_, refl, sym, ap, _∙_, subst}
+use mathlib.Core.Logic.{_⊎_, inl, inr, _≢_}
+use mathlib.Core.Bool.{Bool, true, false, cond, _&&_}
+use mathlib.Core.List.{List, [], _∷_, _++_, map, List·Memᴰ, List·Memᴰ·head, List·Memᴰ·tail, List·Memᴰ·not-nil, List·Memᴰ·append-cases, Memᴰ·of-map}
+use mathlib.Core.Option.{Option, none, some}
+use lib.ListN.{length, take, drop, getD, length-map, length-replicate, take-append-drop}
+use lib.Dec.{ltb, leb, eqb}
+use borrow.Author.Tests.{le-leb, lt-leb, lt-ltb, le-ltb}
+use Rattle.model.specs.Lists.{all}
+use Rattle.model.specs.Bytes.{Bytes, replaced}
+use Rattle.model.specs.Card.{newName, sameName}
+use Rattle.model.specs.Layout.{maxNumber}
+use Rattle.model.specs.declared.Shape.{Shape}
+use Rattle.model.specs.declared.Name.{Name}
+use Rattle.model.proofs.Limits.{InRange}
+use Rattle.model.proofs.Lists.{cases, and-both, and-left, and-right, all-append, getD-mem}
+use Rattle.model.proofs.Select.{select-mem}
+use Rattle.model.proofs.Store.{length-replaced}
+use Rattle.model.proofs.Valid.{sameName-refl}
+use Rattle.crash.specs.Book.{Stage, absent, running, closed, committed, retired, isClosed, isRetired, counted, Entry, Write, Book, emptyBook, change, raise, staged, holderIn, close, store, checkpoint, keptWrites, image, blank}
+use Rattle.crash.specs.Ledger.{Ledger, freshLedger, withBook, imageNow, closeLedger, cutLedger, recoverLedger, recordBlocks}
+use Rattle.crash.specs.Claims.{IsBytes}
+use Rattle.crash.proofs.Relation.{IsBlock, Limits, WriteFits, Frozen, Ranks, sumNext, Fine}
+use Rattle.crash.proofs.Entries.{same-or-not, sameName-false, other-number, other-core, change-at, change-other, change-by, raise-at, raise-other, holder-same, records-same}
+
+-- ---- current images are blocks of bytes
+bytes-parts : (n : ℕ) (s : Bytes) → IsBytes s → IsBytes (take n s) × IsBytes (drop n s)
+bytes-parts n s h =
+    let test : ℕ → Bool = λ x. ltb x 256 in
+    let e : (all test (take n s) && all test (drop n s)) ≡ true = sym (all-append test (take n s) (drop n s)) ∙ ap (all test) (take-append-drop n s) ∙ h in
+    (and-left (all test (take n s)) (all test (drop n s)) e, and-right (all test (take n s)) (all test (drop n s)) e)
+
+bytes-append : (s t : Bytes) → IsBytes s → IsBytes t → IsBytes (s ++ t)
+bytes-append s t p q = all-append (λ x. ltb x 256) s t ∙ and-both p q
+
+replaced-bytes : (o : ℕ) (x v : Bytes) → IsBytes x → IsBytes v → IsBytes (replaced o 4 x v)
+unfolding replaced
+replaced-bytes o x v hx hv =
+    let p = bytes-parts o x hx in
+    bytes-append (take o x) (v ++ drop 4 (drop o x)) (p .0) (bytes-append v (drop 4 (drop o x)) hv (bytes-parts 4 (drop o x) (p .1) .1))
+
+pub replaced-block : (o : ℕ) (x v : Bytes) → o ≤ 124 → length v ≡ 4 → IsBytes v → IsBlock x → IsBlock (replaced o 4 x v)
+replaced-block o x v h n bv i =
+    let fits : o + 4 ≤ length x = omega arith in
+    record { size = length-replaced o 4 x v fits n ∙ i .size; bytes = replaced-bytes o x v (i .bytes) bv }
+
+pub image-block : (s : Shape) (base : ℕ → Bytes) (b : ℕ) → IsBlock (base b) → (ws : List Write) → ((w : Write) → List·Memᴰ w ws → WriteFits s w) → IsBlock (image base ws b)
+unfolding image
+image-block s base b h [] fits = h
+image-block s base b h (w ∷ ws) fits =
+    let rest = image-block s base b h ws (λ x m. fits x (List·Memᴰ·tail m)) in
+    let fit = fits w (List·Memᴰ·head refl) in
+    cases (eqb b (w .block))
+    (λ e. rw e (replaced-block (w .offset) (image base ws b) (w .bytes) (fit .offset) (fit .size) (fit .bytes) rest))
+    (λ e. rw e rest)
+
+pub blank-block : (b : ℕ) → IsBlock (blank b)
+unfolding blank all
+blank-block b = record { size = length-replicate {A = ℕ} 128 0; bytes = refl }
+
+pub now-block : (l : Ledger) → Fine l → (b : ℕ) → IsBlock (imageNow l b)
+unfolding imageNow
+now-block l f b =
+    image-block (l .shape) (image blank (l .saved)) b (image-block (l .shape) blank b (blank-block b) (l .saved) (f .saved)) (l .book .writes) (f .writes)
+
+-- ---- a card that has come up, a cut, a home store of recovery
+pub fine-fresh : (s : Shape) (saved : List Write) (first : ℕ → ℕ) → InRange s → ((w : Write) → List·Memᴰ w saved → WriteFits s w)
+    → ((c : ℕ) → c < s .cores → (1 ≤ first c) × (first c ≤ 4000000001)) → Fine (freshLedger s saved first)
+unfolding freshLedger emptyBook
+fine-fresh s saved first r fits firsts =
+    record {
+      range = r;
+      ranks = λ c h.
+          let lo = firsts c h .0 in
+          let hi = firsts c h .1 in
+          record {
+            positive = lo;
+            low = omega arith;
+            mid = omega arith;
+            high = omega arith;
+            top = hi;
+            old = λ i g. inl refl;
+            first = λ g. absurd (omega arith);
+            done = λ i g j. absurd (omega arith);
+            storing = λ g. absurd (omega arith);
+            current = inl refl;
+            rest = λ i g. refl;
+          };
+      far = λ t h. refl;
+      limits = λ t h. absurd (h refl);
+      unopened = λ t h. (refl, refl);
+      named = λ t u m. absurd (List·Memᴰ·not-nil m);
+      frozen = λ t h. absurd (let z : _≡_ {A = ℕ} 0 1 = cc in omega arith);
+      stamps = λ t u h. absurd (let z : _≡_ {A = ℕ} 0 1 = cc in omega arith);
+      closes = omega arith;
+      opened = λ t m. absurd (List·Memᴰ·not-nil m);
+      known = λ t h. absurd (h refl);
+      writes = λ w m. absurd (List·Memᴰ·not-nil m);
+      saved = fits;
+    }
+
+-- a ledger with the same transactions
+same-frozen : (l l′ : Ledger) (t : Name) → l′ .images t ≡ l .images t → l′ .stamp t ≡ l .stamp t → l′ .closes ≡ l .closes
+    → (l′ .book .entry t) .blocks ≡ (l .book .entry t) .blocks → Frozen l t → Frozen l′ t
+same-frozen l l′ t i s c b z =
+    record { count = rw (i, b) (z .count); images = rw i (z .images); low = rw s (z .low); high = rw (s, c) (z .high) }
+
+pub fine-cut : (l : Ledger) → Fine l → Fine (cutLedger l)
+unfolding cutLedger
+fine-cut l f =
+    record {
+      range = f .range;
+      ranks = f .ranks;
+      far = f .far;
+      limits = f .limits;
+      unopened = f .unopened;
+      named = f .named;
+      frozen = λ t h. same-frozen l (cutLedger l) t refl refl refl refl (f .frozen t h);
+      stamps = f .stamps;
+      closes = f .closes;
+      opened = f .opened;
+      known = f .known;
+      writes = f .writes;
+      saved = f .saved;
+    }
+
+pub fine-home : (b : ℕ) (bs : List ℕ) (l : Ledger) → Fine l → Fine (recoverLedger (b ∷ bs) l)
+unfolding recoverLedger
+fine-home b bs l f =
+    record {
+      range = f .range;
+      ranks = f .ranks;
+      far = f .far;
+      limits = f .limits;
+      unopened = f .unopened;
+      named = f .named;
+      frozen = λ t h. same-frozen l (recoverLedger (b ∷ bs) l) t refl refl refl refl (f .frozen t h);
+      stamps = f .stamps;
+      closes = f .closes;
+      opened = f .opened;
+      known = f .known;
+      writes = f .writes;
+      saved = f .saved;
+    }
+
+pub kept-written : (k : Book) (w : Write) → List·Memᴰ w (keptWrites k) → List·Memᴰ w (k .writes)
+unfolding keptWrites
+kept-written k w m = select-mem _ (k .writes) w m .0
+
+pub fine-recovered : (l : Ledger) → Fine l → Fine (recoverLedger [] l)
+unfolding recoverLedger
+fine-recovered l f =
+    fine-fresh (l .shape) (keptWrites (l .book) ++ l .saved) (λ (c : ℕ). min (l .book .uncommitted c + 1) (suc maxNumber)) (f .range)
+    (λ w m. elim (List·Memᴰ·append-cases (keptWrites (l .book)) m) [ inl p ↦ f .writes w (kept-written (l .book) w p) | inr p ↦ f .saved w p ])
+    (λ c h. (omega arith, omega arith))
+
+-- ---- one transaction gets its next stage
+abbrev pub restaged : Name → Stage → (ℕ → ℕ) → (ℕ → ℕ) → (ℕ → ℕ) → Book → Book
+restaged t g oldest uncommitted next k =
+    record { opened = k .opened; entry = change t (staged g) (k .entry); writes = k .writes; oldest = oldest; uncommitted = uncommitted; next = next }
+
+module _ (t : Name) (g : Stage) (k : Book) where
+  pub restaged-blocks : (u : Name) → (change t (staged g) (k .entry) u) .blocks ≡ (k .entry u) .blocks
+  restaged-blocks = change-by t (staged g) (k .entry) (λ e. e .blocks) refl
+
+  pub restaged-names : (u : Name) → (change t (staged g) (k .entry) u) .names ≡ (k .entry u) .names
+  restaged-names = change-by t (staged g) (k .entry) (λ e. e .names) refl
+
+  pub restaged-at : (change t (staged g) (k .entry) t) .stage ≡ g
+  restaged-at = ap (λ e. e .stage) (change-at t (staged g) (k .entry))
+
+  module _ (o u n : ℕ → ℕ) where
+    pub restaged-records : (c i m : ℕ) → recordBlocks (restaged t g o u n k) c i m ≡ recordBlocks k c i m
+    restaged-records c i m = records-same k (restaged t g o u n k) c i m (λ j a b. ap length (restaged-blocks (newName c j)))
+
+    pub restaged-holder : isRetired g ≡ isRetired ((k .entry t) .stage) → (b : ℕ) (ws : List Write) → holderIn (restaged t g o u n k) b ws ≡ holderIn k b ws
+    restaged-holder same = holder-same k (restaged t g o u n k) (change-by t (staged g) (k .entry) (λ e. isRetired (e .stage)) same)
+
+    pub restaged-image : (l : Ledger) → l .book ≡ k → (b : ℕ) → imageNow (withBook l (restaged t g o u n k)) b ≡ imageNow l b
+    unfolding imageNow
+    restaged-image l e b = rw e
+
+-- what the retired one held has no holder; all else stays
+module _ (t : Name) (o u n : ℕ → ℕ) (k : Book) (b : ℕ) where
+  pub retired-none : (ws : List Write) → holderIn k b ws ≡ some t → holderIn (restaged t retired o u n k) b ws ≡ none
+  unfolding holderIn
+  retired-none [] h = absurd (let z : _≡_ {A = ℕ} 0 1 = cc in omega arith)
+  retired-none (w ∷ ws) h =
+      cases (eqb b (w .block))
+      (λ e. cases (isRetired ((k .entry (w .holder)) .stage))
+        (λ r. absurd (let p : holderIn k b (w ∷ ws) ≡ none = rw (e, r) in let z : _≡_ {A = ℕ} 0 1 = cc in omega arith))
+        (λ r. let p : holderIn k b (w ∷ ws) ≡ some (w .holder) = rw (e, r) in let q : w .holder ≡ t = cc in rw (e, q, change-at t (staged retired) (k .entry))))
+      (λ e. rw e (retired-none ws (rw e at h)))
+
+  pub retired-other : (ws : List Write) → holderIn k b ws ≢ some t → holderIn (restaged t retired o u n k) b ws ≡ holderIn k b ws
+  unfolding holderIn
+  retired-other [] h = refl
+  retired-other (w ∷ ws) h =
+      cases (eqb b (w .block))
+      (λ e. same-or-not (w .holder) t
+        (λ q. cases (isRetired ((k .entry t) .stage))
+          (λ r. rw (e, q, change-at t (staged retired) (k .entry), r))
+          (λ r. absurd (h (rw (e, q, r)))))
+        (λ ne. rw (e, change-other t (staged retired) (k .entry) (w .holder) ne)))
+      (λ e. rw e (retired-other ws (λ p. h (rw e p))))
+
+-- a core whose numbers, stages and blocks stay, but for the one to open
+module _ (k k′ : Book) (c : ℕ) (r : Ranks k c) (o : k′ .oldest c ≡ k .oldest c) (u : k′ .uncommitted c ≡ k .uncommitted c) (n : k′ .next c ≡ k .next c)
+    (stages : (i : ℕ) → i ≢ k .next c → (k′ .entry (newName c i)) .stage ≡ (k .entry (newName c i)) .stage)
+    (blocks : (i : ℕ) → i < k .next c → length ((k′ .entry (newName c i)) .blocks) ≡ length ((k .entry (newName c i)) .blocks))
+    (current : ((k′ .entry (newName c (k .next c))) .stage ≡ absent) ⊎ ((k′ .entry (newName c (k .next c))) .stage ≡ running)) where
+  below-next : (i : ℕ) → i < k .next c → i ≢ k .next c
+  below-next i h e = omega arith
+
+  pub ranks-kept : Ranks k′ c
+  ranks-kept =
+      record {
+        positive = rw o (r .positive);
+        low = rw (o, u) (r .low);
+        mid = rw (u, n) (r .mid);
+        high = rw (u, n) (r .high);
+        top = rw n (r .top);
+        old = λ i h. let g : i < k .oldest c = rw o at h in rw (stages i (below-next i (omega arith))) (r .old i g);
+        first = λ h.
+            let g : k .oldest c < k .uncommitted c = rw (o, u) at h in
+            let lt : k .oldest c < k .next c = omega arith in
+            let f = r .first g in
+            rw (o, stages (k .oldest c) (below-next (k .oldest c) lt), blocks (k .oldest c) lt) f;
+        done = λ i h g.
+            let a : k .oldest c < i = rw o at h in
+            let b : i < k .uncommitted c = rw u at g in
+            rw (stages i (below-next i (omega arith))) (r .done i a b);
+        storing = λ h.
+            let g : k .uncommitted c < k .next c = rw (u, n) at h in
+            let f = r .storing g in
+            rw (u, stages (k .uncommitted c) (below-next (k .uncommitted c) g), blocks (k .uncommitted c) g) f;
+        current = rw n current;
+        rest = λ i h. let g : k .next c < i = rw n at h in stages i (λ e. omega arith) ∙ r .rest i g;
+      }
+
+-- ---- the ledger with one transaction's stage, numbers, stamps and images replaced
+pub limits-same : (s : Shape) (t : Name) (e e′ : Entry) → e′ .blocks ≡ e .blocks → e′ .names ≡ e .names → Limits s t e → Limits s t e′
+limits-same s t e e′ b n l =
+    record {
+      core = l .core;
+      low = l .low;
+      high = l .high;
+      few = rw b (l .few);
+      blocks = rw b (l .blocks);
+      distinct = rw b (l .distinct);
+      short = rw n (l .short);
+    }
+
+module _ (l : Ledger) (f : Fine l) (t : Name) (g : Stage) (live : (l .book .entry t) .stage ≢ absent) (lives : g ≢ absent) where
+  abbrev after : Name → Entry
+  after = change t (staged g) (l .book .entry)
+
+  after-open : (u : Name) → (after u) .stage ≢ absent → (l .book .entry u) .stage ≢ absent
+  after-open u h = same-or-not u t (λ e. rw e live) (λ ne. rw (change-other t (staged g) (l .book .entry) u ne) at h)
+
+  open-after : (u : Name) → (l .book .entry u) .stage ≢ absent → (after u) .stage ≢ absent
+  open-after u h = same-or-not u t (λ e. rw (e, restaged-at t g (l .book)) lives) (λ ne. rw (change-other t (staged g) (l .book .entry) u ne) h)
+
+  after-absent : (u : Name) → (after u) .stage ≡ absent → (l .book .entry u) .stage ≡ absent
+  after-absent u h =
+      same-or-not u t
+      (λ e. absurd (lives (sym (restaged-at t g (l .book)) ∙ rw e at h)))
+      (λ ne. rw (change-other t (staged g) (l .book .entry) u ne) at h)
+
+  module _ (o v n : ℕ → ℕ) (closes : ℕ) (stamp : Name → ℕ) (images : Name → List Bytes) where
+    abbrev pub moved : Ledger
+    moved =
+        record {
+          shape = l .shape;
+          saved = l .saved;
+          book = restaged t g o v n (l .book);
+          closes = closes;
+          stamp = stamp;
+          images = images;
+          phase = l .phase;
+          left = l .left;
+        }
+
+    pub fine-moved : ((c : ℕ) → c < l .shape .cores → Ranks (moved .book) c) → ((u : Name) → isClosed ((after u) .stage) ≡ true → Frozen moved u)
+        → ((u x : Name) → isClosed ((after u) .stage) ≡ true → isClosed ((after x) .stage) ≡ true → stamp u ≡ stamp x → u ≡ x)
+        → closes ≤ sumNext (moved .book) (l .shape .cores) → Fine moved
+    fine-moved ranks frozen stamps count =
+        record {
+          range = f .range;
+          ranks = ranks;
+          far = λ u h.
+              same-or-not u t (λ e. absurd (live (f .far t (rw e at h)))) (λ ne. rw (change-other t (staged g) (l .book .entry) u ne) (f .far u h));
+          limits = λ u h.
+              limits-same (l .shape) u (l .book .entry u) (after u) (restaged-blocks t g (l .book) u) (restaged-names t g (l .book) u) (f .limits u (after-open u h));
+          unopened = λ u h. rw (restaged-blocks t g (l .book) u, restaged-names t g (l .book) u) (f .unopened u (after-absent u h));
+          named = λ u x m. open-after x (f .named u x (rw (restaged-names t g (l .book) u) at m));
+          frozen = frozen;
+          stamps = stamps;
+          closes = count;
+          opened = λ u m. open-after u (f .opened u m);
+          known = λ u h. f .known u (after-open u h);
+          writes = f .writes;
+          saved = f .saved;
+        }
