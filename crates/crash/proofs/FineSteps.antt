@@ -257,6 +257,19 @@ limits-same s t e e′ b n l =
       short = rw n (l .short);
     }
 
+abbrev restagedLedger : Ledger → Name → Stage → (ℕ → ℕ) → (ℕ → ℕ) → (ℕ → ℕ) → ℕ → (Name → ℕ) → (Name → List Bytes) → Ledger
+restagedLedger l t g oldest uncommitted next closes stamp images =
+    record {
+      shape = l .shape;
+      saved = l .saved;
+      book = restaged t g oldest uncommitted next (l .book);
+      closes = closes;
+      stamp = stamp;
+      images = images;
+      phase = l .phase;
+      left = l .left;
+    }
+
 module _ (l : Ledger) (f : Fine l) (t : Name) (g : Stage) (live : (l .book .entry t) .stage ≢ absent) (lives : g ≢ absent) where
   abbrev after : Name → Entry
   after = change t (staged g) (l .book .entry)
@@ -274,20 +287,10 @@ module _ (l : Ledger) (f : Fine l) (t : Name) (g : Stage) (live : (l .book .entr
       (λ ne. rw (change-other t (staged g) (l .book .entry) u ne) at h)
 
   module _ (o v n : ℕ → ℕ) (closes : ℕ) (stamp : Name → ℕ) (images : Name → List Bytes) where
-    abbrev pub moved : Ledger
-    moved =
-        record {
-          shape = l .shape;
-          saved = l .saved;
-          book = restaged t g o v n (l .book);
-          closes = closes;
-          stamp = stamp;
-          images = images;
-          phase = l .phase;
-          left = l .left;
-        }
+    abbrev moved : Ledger
+    moved = restagedLedger l t g o v n closes stamp images
 
-    pub fine-moved : ((c : ℕ) → c < l .shape .cores → Ranks (moved .book) c) → ((u : Name) → isClosed ((after u) .stage) ≡ true → Frozen moved u)
+    fine-moved : ((c : ℕ) → c < l .shape .cores → Ranks (moved .book) c) → ((u : Name) → isClosed ((after u) .stage) ≡ true → Frozen moved u)
         → ((u x : Name) → isClosed ((after u) .stage) ≡ true → isClosed ((after x) .stage) ≡ true → stamp u ≡ stamp x → u ≡ x)
         → closes ≤ sumNext (moved .book) (l .shape .cores) → Fine moved
     fine-moved ranks frozen stamps count =
@@ -308,3 +311,156 @@ module _ (l : Ledger) (f : Fine l) (t : Name) (g : Stage) (live : (l .book .entr
           writes = f .writes;
           saved = f .saved;
         }
+
+-- ---- the count of closes
+sum-same : (k k′ : Book) → ((c : ℕ) → k′ .next c ≡ k .next c) → (n : ℕ) → sumNext k′ n ≡ sumNext k n
+unfolding sumNext
+sum-same k k′ same zero = refl
+sum-same k k′ same (suc n) = rw (sum-same k k′ same n, same n)
+
+sum-raised : (k k′ : Book) (c : ℕ) → k′ .next ≡ raise c (k .next) → (n : ℕ) → sumNext k n ≤ sumNext k′ n × (c < n → suc (sumNext k n) ≤ sumNext k′ n)
+unfolding sumNext
+sum-raised k k′ c e zero = (omega arith, λ h. absurd (omega arith))
+sum-raised k k′ c e (suc n) =
+    let p = sum-raised k k′ c e n in
+    elim (ℕ-discrete n c) [
+      | yes q ↦ (let h : k′ .next n ≡ suc (k .next n) = rw (e, q) (raise-at c (k .next)) in (omega (arith, p .0), λ lt. omega (arith, p .0)))
+      | no ne ↦ (let h : k′ .next n ≡ k .next n = rw e (raise-other c (k .next) n ne) in (omega (arith, p .0), λ lt. let d : c < n = omega arith in omega (arith, p .1 d)))
+    ]
+
+-- ---- another core than the one that the command names
+ranks-elsewhere : (k : Book) (c i : ℕ) (g : Stage) (o u n : ℕ → ℕ) (a : ℕ) → a ≢ c → o a ≡ k .oldest a → u a ≡ k .uncommitted a → n a ≡ k .next a
+    → Ranks k a → Ranks (restaged (newName c i) g o u n k) a
+ranks-elsewhere k c i g o u n a ne p q s r =
+    let same : (j : ℕ) → change (newName c i) (staged g) (k .entry) (newName a j) ≡ k .entry (newName a j)
+          = λ j. change-other (newName c i) (staged g) (k .entry) (newName a j) (other-core j i ne) in
+    ranks-kept k (restaged (newName c i) g o u n k) a r p q s
+    (λ j h. ap (λ e. e .stage) (same j))
+    (λ j h. ap (λ e. length (e .blocks)) (same j))
+    (rw (same (k .next a)) (r .current))
+
+-- ---- stamps and images at CLOSE
+module _ (l : Ledger) (c : ℕ) where
+  pub close-stamp : closeLedger c l .stamp (newName c (l .book .next c)) ≡ suc (l .closes)
+  unfolding closeLedger
+  close-stamp = rw (sameName-refl (newName c (l .book .next c)))
+
+  pub close-images : closeLedger c l .images (newName c (l .book .next c)) ≡ map (imageNow l) ((l .book .entry (newName c (l .book .next c))) .blocks)
+  unfolding closeLedger
+  close-images = rw (sameName-refl (newName c (l .book .next c)))
+
+  pub close-stamp-other : (u : Name) → u ≢ newName c (l .book .next c) → closeLedger c l .stamp u ≡ l .stamp u
+  unfolding closeLedger
+  close-stamp-other u ne = rw (sameName-false u (newName c (l .book .next c)) ne)
+
+  pub close-images-other : (u : Name) → u ≢ newName c (l .book .next c) → closeLedger c l .images u ≡ l .images u
+  unfolding closeLedger
+  close-images-other u ne = rw (sameName-false u (newName c (l .book .next c)) ne)
+
+module _ (l : Ledger) (f : Fine l) (c : ℕ) (hc : c < l .shape .cores) where
+  abbrev k : Book
+  k = l .book
+
+  -- ---- CLOSE
+  module _ (run : (k .entry (newName c (k .next c))) .stage ≡ running) (idle : k .uncommitted c ≡ k .next c) where
+    abbrev t : Name
+    t = newName c (k .next c)
+
+    run-open : (k .entry t) .stage ≢ absent
+    run-open e = let z : _≡_ {A = ℕ} 0 1 = cc in omega arith
+
+    closed-other : (i : ℕ) → i ≢ k .next c → change t (staged (closed 0)) (k .entry) (newName c i) ≡ k .entry (newName c i)
+    closed-other i ne = change-other t (staged (closed 0)) (k .entry) (newName c i) (other-number c ne)
+
+    ranks-closed : Ranks (restaged t (closed 0) (k .oldest) (k .uncommitted) (raise c (k .next)) k) c
+    ranks-closed =
+        let r = f .ranks c hc in
+        let high : k .next c ≤ 4000000000 = f .limits t run-open .high in
+        let up = raise-at c (k .next) in
+        record {
+          positive = r .positive;
+          low = r .low;
+          mid = rw up (omega arith);
+          high = rw up (omega arith);
+          top = rw up (omega arith);
+          old = λ i h. rw (closed-other i (λ e. omega arith)) (r .old i h);
+          first = λ h. rw (closed-other (k .oldest c) (λ e. omega arith)) (r .first h);
+          done = λ i h g. rw (closed-other i (λ e. omega arith)) (r .done i h g);
+          storing = λ h. (0, rw (idle, change-at t (staged (closed 0)) (k .entry)), omega arith);
+          current = inl (rw (up, closed-other (suc (k .next c)) (λ e. omega arith)) (r .rest (suc (k .next c)) (omega arith)));
+          rest = λ i h. let g : suc (k .next c) < i = rw up at h in rw (closed-other i (λ e. omega arith)) (r .rest i (omega arith));
+        }
+
+    frozen-closed : Frozen (closeLedger c l) t
+    unfolding closeLedger close
+    frozen-closed =
+        let bs = (k .entry t) .blocks in
+        let e = restaged-blocks t (closed 0) k t in
+        let i = close-images l c in
+        let s = close-stamp l c in
+        record {
+          count = rw (i, e) (length-map bs (imageNow l));
+          images = rw i (λ j h.
+              let m = Memᴰ·of-map (imageNow l) bs (getD-mem (map (imageNow l) bs) j [] h) in
+              subst (λ (x : Bytes). IsBlock x) (m .2) (now-block l f (m .0)));
+          low = rw s (omega arith);
+          high = rw s (omega arith);
+        }
+
+    -- the others that are closed were so before
+    module _ (u : Name) (ne : u ≢ t) (h : isClosed ((change t (staged (closed 0)) (k .entry) u) .stage) ≡ true) where
+      was-frozen : Frozen l u
+      was-frozen = f .frozen u (rw (change-other t (staged (closed 0)) (k .entry) u ne) at h)
+
+      still-frozen : Frozen (closeLedger c l) u
+      unfolding closeLedger close
+      still-frozen =
+          let z = was-frozen in
+          let e = restaged-blocks t (closed 0) k u in
+          let i = close-images-other l c u ne in
+          let s = close-stamp-other l c u ne in
+          record { count = rw (i, e) (z .count); images = rw i (z .images); low = rw s (z .low); high = rw s (omega arith) }
+
+    closed-stamps : (u x : Name) → isClosed ((change t (staged (closed 0)) (k .entry) u) .stage) ≡ true
+        → isClosed ((change t (staged (closed 0)) (k .entry) x) .stage) ≡ true → closeLedger c l .stamp u ≡ closeLedger c l .stamp x → u ≡ x
+    closed-stamps u x hu hx s =
+        let at-t : (v w : Name) → v ≡ t → w ≢ t → isClosed ((change t (staged (closed 0)) (k .entry) w) .stage) ≡ true
+                → closeLedger c l .stamp v ≡ closeLedger c l .stamp w → v ≡ w
+              = λ v w e ne hw q.
+                let z = was-frozen w ne hw in
+                let p : suc (l .closes) ≡ l .stamp w = sym (rw e (close-stamp l c)) ∙ q ∙ close-stamp-other l c w ne in
+                absurd (omega arith) in
+        same-or-not u t
+        (λ e. same-or-not x t (λ d. e ∙ sym d) (λ nd. at-t u x e nd hx s))
+        (λ ne. same-or-not x t
+          (λ d. sym (at-t x u d ne hu (sym s)))
+          (λ nd. f .stamps u x
+            (rw (change-other t (staged (closed 0)) (k .entry) u ne) at hu)
+            (rw (change-other t (staged (closed 0)) (k .entry) x nd) at hx)
+            (sym (close-stamp-other l c u ne) ∙ s ∙ close-stamp-other l c x nd)))
+
+    pub fine-close : Fine (closeLedger c l)
+    unfolding closeLedger close
+    fine-close =
+        fine-moved l f t (closed 0) run-open (λ e. let z : _≡_ {A = ℕ} 0 1 = cc in omega arith) (k .oldest) (k .uncommitted) (raise c (k .next))
+        (suc (l .closes)) (closeLedger c l .stamp) (closeLedger c l .images)
+        (λ a h. elim (ℕ-discrete a c) [
+          | yes e ↦ subst (λ (a : ℕ). Ranks (close c k) a) (sym e) ranks-closed
+          | no ne ↦ ranks-elsewhere k c (k .next c) (closed 0) (k .oldest) (k .uncommitted) (raise c (k .next)) a ne refl refl (raise-other c (k .next) a ne) (f .ranks a h)
+        ])
+        (λ u h. same-or-not u t (λ e. subst (λ (u : Name). Frozen (closeLedger c l) u) (sym e) frozen-closed) (λ ne. still-frozen u ne h))
+        closed-stamps
+        (let h = sum-raised k (close c k) c refl (l .shape .cores) .1 hc in let g = f .closes in omega arith)
+
+  -- ---- STORE
+  module _ (n : ℕ) (was : (k .entry (newName c (k .uncommitted c))) .stage ≡ closed n) where
+    abbrev s : Name
+    s = newName c (k .uncommitted c)
+
+    pub store-more : n < length ((k .entry s) .blocks) + 1 → store c k ≡ restaged s (closed (suc n)) (k .oldest) (k .uncommitted) (k .next) k
+    unfolding store
+    store-more h = rw (was, lt-leb (length ((k .entry s) .blocks) + 2) (suc n) (omega arith))
+
+    pub store-last : n ≡ length ((k .entry s) .blocks) + 1 → store c k ≡ restaged s (committed 0) (k .oldest) (raise c (k .uncommitted)) (k .next) k
+    unfolding store
+    store-last h = rw (was, le-leb (length ((k .entry s) .blocks) + 2) (suc n) (omega arith))
