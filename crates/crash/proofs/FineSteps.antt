@@ -339,6 +339,50 @@ ranks-elsewhere k c i g o u n a ne p q s r =
     (λ j h. ap (λ e. length (e .blocks)) (same j))
     (rw (same (k .next a)) (r .current))
 
+-- ---- which of the two a STORE is, and a CHECKPOINT
+module _ (k : Book) (c n : ℕ) where
+  pub store-more : (k .entry (newName c (k .uncommitted c))) .stage ≡ closed n → n < length ((k .entry (newName c (k .uncommitted c))) .blocks) + 1
+      → store c k ≡ restaged (newName c (k .uncommitted c)) (closed (suc n)) (k .oldest) (k .uncommitted) (k .next) k
+  unfolding store
+  store-more e h = rw (e, lt-leb (length ((k .entry (newName c (k .uncommitted c))) .blocks) + 2) (suc n) (omega arith))
+
+  pub store-last : (k .entry (newName c (k .uncommitted c))) .stage ≡ closed n → n ≡ length ((k .entry (newName c (k .uncommitted c))) .blocks) + 1
+      → store c k ≡ restaged (newName c (k .uncommitted c)) (committed 0) (k .oldest) (raise c (k .uncommitted)) (k .next) k
+  unfolding store
+  store-last e h = rw (e, le-leb (length ((k .entry (newName c (k .uncommitted c))) .blocks) + 2) (suc n) (omega arith))
+
+  pub checkpoint-home : (k .entry (newName c (k .oldest c))) .stage ≡ committed n → n < length ((k .entry (newName c (k .oldest c))) .blocks)
+      → checkpoint c k ≡ restaged (newName c (k .oldest c)) (committed (suc n)) (k .oldest) (k .uncommitted) (k .next) k
+  unfolding checkpoint
+  checkpoint-home e h = rw (e, lt-leb (length ((k .entry (newName c (k .oldest c))) .blocks) + 1) (suc n) (omega arith))
+
+  pub checkpoint-retires : (k .entry (newName c (k .oldest c))) .stage ≡ committed n → n ≡ length ((k .entry (newName c (k .oldest c))) .blocks)
+      → checkpoint c k ≡ restaged (newName c (k .oldest c)) retired (raise c (k .oldest)) (k .uncommitted) (k .next) k
+  unfolding checkpoint
+  checkpoint-retires e h = rw (e, le-leb (length ((k .entry (newName c (k .oldest c))) .blocks) + 1) (suc n) (omega arith))
+
+-- ---- a closed one that stays closed
+pub closed-open : (g : Stage) → isClosed g ≡ true → g ≢ absent
+closed-open g h e = let z : _≡_ {A = Bool} false true = rw e at h in let y : _≡_ {A = ℕ} 0 1 = cc in omega arith
+
+module _ (l : Ledger) (f : Fine l) (c i : ℕ) (g : Stage) (o u : ℕ → ℕ) (was : isClosed ((l .book .entry (newName c i)) .stage) ≡ true) (is : isClosed g ≡ true)
+    (elsewhere : (a : ℕ) → a ≢ c → (o a ≡ l .book .oldest a) × (u a ≡ l .book .uncommitted a))
+    (here : Ranks (restaged (newName c i) g o u (l .book .next) (l .book)) c) where
+  fine-advanced : Fine (withBook l (restaged (newName c i) g o u (l .book .next) (l .book)))
+  fine-advanced =
+      let k = l .book in
+      let t = newName c i in
+      let before : (x : Name) → isClosed ((change t (staged g) (k .entry) x) .stage) ≡ true → isClosed ((k .entry x) .stage) ≡ true
+            = λ x h. sym (change-by t (staged g) (k .entry) (λ e. isClosed (e .stage)) (is ∙ sym was) x) ∙ h in
+      fine-moved l f t g (closed-open ((k .entry t) .stage) was) (closed-open g is) o u (k .next) (l .closes) (l .stamp) (l .images)
+      (λ a h. elim (ℕ-discrete a c) [
+        | yes e ↦ subst (λ (a : ℕ). Ranks (restaged t g o u (k .next) k) a) (sym e) here
+        | no ne ↦ ranks-elsewhere k c i g o u (k .next) a ne (elsewhere a ne .0) (elsewhere a ne .1) refl (f .ranks a h)
+      ])
+      (λ x h. same-frozen l (withBook l (restaged t g o u (k .next) k)) x refl refl refl (restaged-blocks t g k x) (f .frozen x (before x h)))
+      (λ x y hx hy. f .stamps x y (before x hx) (before y hy))
+      (let e = sum-same k (restaged t g o u (k .next) k) (λ a. refl) (l .shape .cores) in let h = f .closes in omega arith)
+
 -- ---- stamps and images at CLOSE
 module _ (l : Ledger) (c : ℕ) where
   pub close-stamp : closeLedger c l .stamp (newName c (l .book .next c)) ≡ suc (l .closes)
@@ -452,15 +496,138 @@ module _ (l : Ledger) (f : Fine l) (c : ℕ) (hc : c < l .shape .cores) where
         closed-stamps
         (let h = sum-raised k (close c k) c refl (l .shape .cores) .1 hc in let g = f .closes in omega arith)
 
-  -- ---- STORE
-  module _ (n : ℕ) (was : (k .entry (newName c (k .uncommitted c))) .stage ≡ closed n) where
-    abbrev s : Name
-    s = newName c (k .uncommitted c)
+  -- ---- STORE and CHECKPOINT
+  -- the entry of one number of the core is changed
+  module _ (n : ℕ) (g : Stage) where
+    abbrev after-one : Name → Entry
+    after-one = change (newName c n) (staged g) (k .entry)
 
-    pub store-more : n < length ((k .entry s) .blocks) + 1 → store c k ≡ restaged s (closed (suc n)) (k .oldest) (k .uncommitted) (k .next) k
-    unfolding store
-    store-more h = rw (was, lt-leb (length ((k .entry s) .blocks) + 2) (suc n) (omega arith))
+    one-other : (i : ℕ) → i ≢ n → after-one (newName c i) ≡ k .entry (newName c i)
+    one-other i ne = change-other (newName c n) (staged g) (k .entry) (newName c i) (other-number c ne)
 
-    pub store-last : n ≡ length ((k .entry s) .blocks) + 1 → store c k ≡ restaged s (committed 0) (k .oldest) (raise c (k .uncommitted)) (k .next) k
-    unfolding store
-    store-last h = rw (was, le-leb (length ((k .entry s) .blocks) + 2) (suc n) (omega arith))
+    one-at : (i : ℕ) → i ≡ n → (after-one (newName c i)) .stage ≡ g
+    one-at i e = rw (e, change-at (newName c n) (staged g) (k .entry))
+
+  pub fine-store : k .uncommitted c < k .next c → Fine (withBook l (store c k))
+  fine-store h =
+      let r = f .ranks c hc in
+      let u = k .uncommitted c in
+      let s = r .storing h in
+      let n = s .0 in
+      let was = s .1 in
+      let blocks = (k .entry (newName c u)) .blocks in
+      let bound : n ≤ length blocks + 1 = s .2 in
+      let is-closed : isClosed ((k .entry (newName c u)) .stage) ≡ true = rw was in
+      elim (decLt n (length blocks + 1)) [
+        | yes more ↦ rw (store-more k c n was more) (fine-advanced l f c u (closed (suc n)) (k .oldest) (k .uncommitted) is-closed refl (λ a ne. (refl, refl))
+            (record {
+              positive = r .positive;
+              low = r .low;
+              mid = r .mid;
+              high = r .high;
+              top = r .top;
+              old = λ i a. rw (one-other u (closed (suc n)) i (λ e. omega arith)) (r .old i a);
+              first = λ a. rw (one-other u (closed (suc n)) (k .oldest c) (λ e. omega arith)) (r .first a);
+              done = λ i a b. rw (one-other u (closed (suc n)) i (λ e. omega arith)) (r .done i a b);
+              storing = λ a. (suc n, one-at u (closed (suc n)) u refl, rw (restaged-blocks (newName c u) (closed (suc n)) k (newName c u)) (omega arith));
+              current = rw (one-other u (closed (suc n)) (k .next c) (λ e. omega arith)) (r .current);
+              rest = λ i a. rw (one-other u (closed (suc n)) i (λ e. omega arith)) (r .rest i a);
+            }))
+        | no all ↦ (let last : n ≡ length blocks + 1 = omega arith in
+            let up = raise-at c (k .uncommitted) in
+            rw (store-last k c n was last) (fine-advanced l f c u (committed 0) (k .oldest) (raise c (k .uncommitted)) is-closed refl (λ a ne. (refl, raise-other c (k .uncommitted) a ne))
+            (record {
+              positive = r .positive;
+              low = rw up (omega arith);
+              mid = rw up (omega arith);
+              high = rw up (omega arith);
+              top = r .top;
+              old = λ i a. rw (one-other u (committed 0) i (λ e. omega arith)) (r .old i a);
+              first = λ a. elim (ℕ-discrete (k .oldest c) u) [
+                | yes e ↦ (0, one-at u (committed 0) (k .oldest c) e, omega arith)
+                | no ne ↦ (let b : k .oldest c < suc u = rw up at a in rw (one-other u (committed 0) (k .oldest c) ne) (r .first (omega arith)))
+              ];
+              done = λ i a b. elim (ℕ-discrete i u) [
+                | yes e ↦ one-at u (committed 0) i e
+                | no ne ↦ (let d : i < suc u = rw up at b in rw (one-other u (committed 0) i ne) (r .done i a (omega arith)))
+              ];
+              storing = λ a. absurd (let d : suc u < k .next c = rw up at a in omega arith);
+              current = rw (one-other u (committed 0) (k .next c) (λ e. omega arith)) (r .current);
+              rest = λ i a. rw (one-other u (committed 0) i (λ e. omega arith)) (r .rest i a);
+            })))
+      ]
+
+  pub fine-checkpoint : k .oldest c < k .uncommitted c → Fine (withBook l (checkpoint c k))
+  fine-checkpoint h =
+      let r = f .ranks c hc in
+      let o = k .oldest c in
+      let s = r .first h in
+      let n = s .0 in
+      let was = s .1 in
+      let blocks = (k .entry (newName c o)) .blocks in
+      let bound : n ≤ length blocks = s .2 in
+      let is-closed : isClosed ((k .entry (newName c o)) .stage) ≡ true = rw was in
+      elim (decLt n (length blocks)) [
+        | yes more ↦ rw (checkpoint-home k c n was more) (fine-advanced l f c o (committed (suc n)) (k .oldest) (k .uncommitted) is-closed refl (λ a ne. (refl, refl))
+            (record {
+              positive = r .positive;
+              low = r .low;
+              mid = r .mid;
+              high = r .high;
+              top = r .top;
+              old = λ i a. rw (one-other o (committed (suc n)) i (λ e. omega arith)) (r .old i a);
+              first = λ a. (suc n, one-at o (committed (suc n)) o refl, rw (restaged-blocks (newName c o) (committed (suc n)) k (newName c o)) (omega arith));
+              done = λ i a b. rw (one-other o (committed (suc n)) i (λ e. omega arith)) (r .done i a b);
+              storing = λ a. rw (one-other o (committed (suc n)) (k .uncommitted c) (λ e. omega arith)) (r .storing a);
+              current = rw (one-other o (committed (suc n)) (k .next c) (λ e. omega arith)) (r .current);
+              rest = λ i a. rw (one-other o (committed (suc n)) i (λ e. omega arith)) (r .rest i a);
+            }))
+        | no all ↦ (let last : n ≡ length blocks = omega arith in
+            let up = raise-at c (k .oldest) in
+            rw (checkpoint-retires k c n was last) (fine-advanced l f c o retired (raise c (k .oldest)) (k .uncommitted) is-closed refl (λ a ne. (raise-other c (k .oldest) a ne, refl))
+            (record {
+              positive = rw up (omega arith);
+              low = rw up (omega arith);
+              mid = r .mid;
+              high = r .high;
+              top = r .top;
+              old = λ i a. elim (ℕ-discrete i o) [
+                | yes e ↦ inr (one-at o retired i e)
+                | no ne ↦ (let d : i < suc o = rw up at a in rw (one-other o retired i ne) (r .old i (omega arith)))
+              ];
+              first = λ a. (let d : suc o < k .uncommitted c = rw up at a in
+                  (0, rw (up, one-other o retired (suc o) (λ e. omega arith)) (r .done (suc o) (omega arith) d), omega arith));
+              done = λ i a b. (let d : suc o < i = rw up at a in rw (one-other o retired i (λ e. omega arith)) (r .done i (omega arith) b));
+              storing = λ a. rw (one-other o retired (k .uncommitted c) (λ e. omega arith)) (r .storing a);
+              current = rw (one-other o retired (k .next c) (λ e. omega arith)) (r .current);
+              rest = λ i a. rw (one-other o retired i (λ e. omega arith)) (r .rest i a);
+            })))
+      ]
+
+-- ---- an open transaction lies below its core's oldest number exactly if it is retired
+pub below-oldest : (l : Ledger) → Fine l → (t : Name) → (l .book .entry t) .stage ≢ absent → ltb (t .number) (l .book .oldest (t .core)) ≡ isRetired ((l .book .entry t) .stage)
+below-oldest l f t h =
+    let k = l .book in
+    let c = t .core in
+    let i = t .number in
+    let hc : c < l .shape .cores = f .limits t h .core in
+    let r = f .ranks c hc in
+    elim (decLt i (k .oldest c)) [
+      | yes lt ↦ lt-ltb i (k .oldest c) lt ∙ elim (r .old i lt) [ inl e ↦ absurd (h e) | inr e ↦ sym (ap isRetired e) ]
+      | no ge ↦ (let least : k .oldest c ≤ i = omega arith in
+          let is : isRetired ((k .entry t) .stage) ≡ false
+            = elim (decLt i (k .uncommitted c)) [
+              | yes lt ↦ elim (ℕ-discrete (k .oldest c) i) [
+                | yes e ↦ (let s = r .first (omega arith) in ap isRetired (ap (λ (j : ℕ). (k .entry (newName c j)) .stage) (sym e) ∙ s .1))
+                | no ne ↦ ap isRetired (r .done i (omega arith) lt)
+              ]
+              | no gu ↦ elim (decLt i (k .next c)) [
+                | yes ln ↦ (let s = r .storing (omega arith) in let e : k .uncommitted c ≡ i = omega arith in ap isRetired (ap (λ (j : ℕ). (k .entry (newName c j)) .stage) (sym e) ∙ s .1))
+                | no gn ↦ elim (ℕ-discrete (k .next c) i) [
+                  | yes e ↦ elim (rw e at (r .current)) [ inl a ↦ absurd (h a) | inr a ↦ ap isRetired a ]
+                  | no ne ↦ absurd (h (r .rest i (omega arith)))
+                ]
+              ]
+            ] in
+          le-ltb i (k .oldest c) least ∙ sym is)
+    ]
