@@ -2,3 +2,4 @@
 pub mod Relation
 pub mod Entries
 pub mod FineSteps
+pub mod FineWrite
