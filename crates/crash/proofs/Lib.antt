@@ -1,5 +1,6 @@
 -- Why the claims are true. Layer A: one block's history. Layer B: the bytes. Layer C: from one coming up to the next.
 pub mod Relation
 pub mod Entries
+pub mod Books
 pub mod FineSteps
 pub mod FineWrite
