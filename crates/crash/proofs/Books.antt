@@ -1,23 +1,22 @@
 -- A book after CLOSE, STORE and CHECKPOINT, which give one transaction its next stage, and after WRITE: what each leaves of
 -- entries, holders, images and record sizes. Ledger and service book are both such books, so the theorem's layers share
 -- these laws.
-use Prim.Native.Nat.{ℕ, zero, suc, _+_, _≤_, _<_}
+use Prim.Native.Nat.{ℕ, suc, _+_, _≤_, _<_}
 use native.Mathlib.Omega.{arith}
-use mathlib.Core.Path.{_≡_, refl, sym, ap, _∙_, subst}
+use mathlib.Core.Path.{_≡_, refl, sym, ap, _∙_}
 use mathlib.Core.Logic.{_⊎_, inl, inr, _≢_}
-use mathlib.Core.Bool.{Bool, true, false, cond}
+use mathlib.Core.Bool.{true, false, cond}
 use mathlib.Core.List.{List, [], _∷_, _++_, map}
-use mathlib.Core.Option.{Option, none, some}
+use mathlib.Core.Option.{none, some}
 use lib.ListN.{length}
 use lib.Dec.{leb, eqb}
 use borrow.Author.Tests.{le-leb, lt-leb, eq-eqb, ne-eqb}
-use Rattle.model.specs.Lists.{any}
 use Rattle.model.specs.Bytes.{Bytes, replaced}
-use Rattle.model.specs.Card.{newName, sameName}
+use Rattle.model.specs.Card.{newName}
 use Rattle.model.specs.declared.Name.{Name}
 use Rattle.model.proofs.Lists.{cases}
 use Rattle.model.proofs.Valid.{sameName-refl}
-use Rattle.crash.specs.Book.{Stage, absent, running, closed, committed, retired, isRunning, isClosed, isRetired, Entry, Write, Book, change, raise, staged, naming, begin, holderIn, Meeting, no-holder, own, running-holder, closed-holder, meets, ruled, holderAfter, note, wrote, close, store, checkpoint, image}
+use Rattle.crash.specs.Book.{Stage, absent, running, closed, committed, retired, isRunning, isClosed, isRetired, counted, Entry, Write, Book, change, raise, staged, begin, holderIn, Meeting, no-holder, own, running-holder, closed-holder, meets, ruled, holderAfter, note, wrote, close, store, checkpoint, image}
 use Rattle.crash.specs.Ledger.{Ledger, withBook, imageNow, closeLedger, recordBlocks}
 use Rattle.crash.proofs.Entries.{nextName, uncommittedName, oldestName, same-or-not, sameName-false, change-at, change-other, change-by, takes, met, meets-met, meets-running, meets-same, ruled-other, ruled-stage, ruled-blocks, ruled-blocks-other, ruled-names-at, ruled-names-back, listing, holder-same, holder-live, records-same}
 
@@ -64,8 +63,8 @@ module _ {k k′ : Book} {t : Name} (r : Restages k k′ t retired) (b : ℕ) wh
   retired-none (w ∷ ws) h =
       cases (eqb b (w .block))
       (λ e. cases (isRetired ((k .entry (w .holder)) .stage))
-        (λ p. absurd (let q : holderIn k b (w ∷ ws) ≡ none = rw (e, p) in let z : _≡_ {A = ℕ} 0 1 = cc in omega arith))
-        (λ p. let q : holderIn k b (w ∷ ws) ≡ some (w .holder) = rw (e, p) in let s : w .holder ≡ t = cc in rw (e, s, r .stage)))
+      (λ p. absurd (let q : holderIn k b (w ∷ ws) ≡ none = rw (e, p) in let z : _≡_ {A = ℕ} 0 1 = cc in omega arith))
+      (λ p. let q : holderIn k b (w ∷ ws) ≡ some (w .holder) = rw (e, p) in let s : w .holder ≡ t = cc in rw (e, s, r .stage)))
       (λ e. rw e (retired-none ws (rw e at h)))
 
   pub retired-other : (ws : List Write) → holderIn k b ws ≢ some t → holderIn k′ b ws ≡ holderIn k b ws
@@ -74,8 +73,8 @@ module _ {k k′ : Book} {t : Name} (r : Restages k k′ t retired) (b : ℕ) wh
   retired-other (w ∷ ws) h =
       cases (eqb b (w .block))
       (λ e. same-or-not (w .holder) t
-        (λ q. cases (isRetired ((k .entry t) .stage)) (λ p. rw (e, q, r .stage, p)) (λ p. absurd (h (rw (e, q, p)))))
-        (λ ne. rw (e, r .other (w .holder) ne)))
+      (λ q. cases (isRetired ((k .entry t) .stage)) (λ p. rw (e, q, r .stage, p)) (λ p. absurd (h (rw (e, q, p)))))
+      (λ ne. rw (e, r .other (w .holder) ne)))
       (λ e. rw e (retired-other ws (λ p. h (rw e p))))
 
 pub restages-image : (l : Ledger) (k′ : Book) {t : Name} {g : Stage} → Restages (l .book) k′ t g → (b : ℕ) → imageNow (withBook l k′) b ≡ imageNow l b
@@ -83,9 +82,17 @@ unfolding imageNow
 restages-image l k′ r b = rw (r .writes)
 
 -- ---- CLOSE
-pub close-restaged : (c : ℕ) (k : Book) → close c k ≡ restaged (nextName c k) (closed 0) (k .oldest) (k .uncommitted) (raise c (k .next)) k
-unfolding close
-close-restaged c k = refl
+module _ (c : ℕ) (k : Book) where
+  pub close-restaged : close c k ≡ restaged (nextName c k) (closed 0) (k .oldest) (k .uncommitted) (raise c (k .next)) k
+  unfolding close
+  close-restaged = refl
+
+  pub close-restages : Restages k (close c k) (nextName c k) (closed 0)
+  unfolding close
+  close-restages = restages (nextName c k) (closed 0) (k .oldest) (k .uncommitted) (raise c (k .next)) k
+
+  pub close-holder : (k .entry (nextName c k)) .stage ≡ running → (b : ℕ) (ws : List Write) → holderIn (close c k) b ws ≡ holderIn k b ws
+  close-holder e = restages-holder close-restages (sym (ap isRetired e))
 
 module _ (l : Ledger) (c : ℕ) where
   pub close-book : (closeLedger c l) .book ≡ close c (l .book)
@@ -112,7 +119,24 @@ module _ (l : Ledger) (c : ℕ) where
   unfolding closeLedger
   close-images-other u ne = rw (sameName-false u (nextName c (l .book)) ne)
 
--- ---- STORE and CHECKPOINT: which of the two it is
+-- ---- STORE and CHECKPOINT
+-- the stages that they give
+abbrev pub storedStage : Entry → Stage
+storedStage e = cond (leb (length (e .blocks) + 2) (suc (counted (e .stage)))) (committed 0) (closed (suc (counted (e .stage))))
+
+abbrev pub checkpointedStage : Entry → Stage
+checkpointedStage e = cond (leb (length (e .blocks) + 1) (suc (counted (e .stage)))) retired (committed (suc (counted (e .stage))))
+
+module _ (c : ℕ) (k : Book) where
+  pub store-restages : Restages k (store c k) (uncommittedName c k) (storedStage (k .entry (uncommittedName c k)))
+  unfolding store
+  store-restages = restages (uncommittedName c k) (storedStage (k .entry (uncommittedName c k))) (k .oldest) (store c k .uncommitted) (k .next) k
+
+  pub checkpoint-restages : Restages k (checkpoint c k) (oldestName c k) (checkpointedStage (k .entry (oldestName c k)))
+  unfolding checkpoint
+  checkpoint-restages = restages (oldestName c k) (checkpointedStage (k .entry (oldestName c k))) (checkpoint c k .oldest) (k .uncommitted) (k .next) k
+
+-- which of the two it is
 module _ (c n : ℕ) (k : Book) where
   pub store-more : (k .entry (uncommittedName c k)) .stage ≡ closed n → n < length ((k .entry (uncommittedName c k)) .blocks) + 1
       → store c k ≡ restaged (uncommittedName c k) (closed (suc n)) (k .oldest) (k .uncommitted) (k .next) k
@@ -133,6 +157,22 @@ module _ (c n : ℕ) (k : Book) where
       → checkpoint c k ≡ restaged (oldestName c k) retired (raise c (k .oldest)) (k .uncommitted) (k .next) k
   unfolding checkpoint
   checkpoint-retires e h = rw (e, le-leb (length ((k .entry (oldestName c k)) .blocks) + 1) (suc n) (omega arith))
+
+  pub store-holder : (k .entry (uncommittedName c k)) .stage ≡ closed n → (b : ℕ) (ws : List Write) → holderIn (store c k) b ws ≡ holderIn k b ws
+  store-holder e =
+      let d = k .entry (uncommittedName c k) in
+      restages-holder (store-restages c k)
+      (cases (leb (length (d .blocks) + 2) (suc (counted (d .stage)))) (λ h. rw h (sym (ap isRetired e))) (λ h. rw h (sym (ap isRetired e))))
+
+  pub home-holder : (k .entry (oldestName c k)) .stage ≡ committed n → n < length ((k .entry (oldestName c k)) .blocks)
+      → (b : ℕ) (ws : List Write) → holderIn (checkpoint c k) b ws ≡ holderIn k b ws
+  home-holder e h b ws =
+      rw (checkpoint-home e h)
+      (restages-holder (restages (oldestName c k) (committed (suc n)) (k .oldest) (k .uncommitted) (k .next) k) (sym (ap isRetired e)) b ws)
+
+  pub retire-restages : (k .entry (oldestName c k)) .stage ≡ committed n → n ≡ length ((k .entry (oldestName c k)) .blocks)
+      → Restages k (checkpoint c k) (oldestName c k) retired
+  retire-restages e h = rw (checkpoint-retires e h) (restages (oldestName c k) retired (raise c (k .oldest)) (k .uncommitted) (k .next) k)
 
 -- ---- WRITE
 -- before the rules: the writer's transaction is open
@@ -223,14 +263,14 @@ module _ (k : Book) (c : ℕ) (current : ((k .entry (nextName c k)) .stage ≡ a
     wrote-closed u h =
         wrote-other u
         (λ e. let p : isClosed ((k .entry (nextName c k)) .stage) ≡ true = rw e at h in
-          let q : isClosed ((k .entry (nextName c k)) .stage) ≡ false = elim current [ inl a ↦ ap isClosed a | inr a ↦ ap isClosed a ] in
-          let z : _≡_ {A = ℕ} 0 1 = cc in omega arith)
+        let q : isClosed ((k .entry (nextName c k)) .stage) ≡ false = elim current [ inl a ↦ ap isClosed a | inr a ↦ ap isClosed a ] in
+        let z : _≡_ {A = ℕ} 0 1 = cc in omega arith)
         (λ e. let q = meets-running k (nextName c k) (holderIn k b (k .writes)) u e in let z : _≡_ {A = ℕ} 0 1 = cc in omega arith)
 
     pub wrote-records : (a i n : ℕ) → (a ≡ c → i + n ≤ k .next c) → recordBlocks (wrote c b o v k) a i n ≡ recordBlocks k a i n
     wrote-records a i n h =
         records-same k (wrote c b o v k) a i n (λ j lo hi. ap length (wrote-blocks-other (newName a j)
-          (λ e. let p : j ≡ k .next c = ap (λ (n : Name). n .number) e in let q = h (ap (λ (n : Name). n .core) e) in omega arith)))
+        (λ e. let p : j ≡ k .next c = ap (λ (n : Name). n .number) e in let q = h (ap (λ (n : Name). n .core) e) in omega arith)))
 
     wrote-retired : (u : Name) → isRetired (((wrote c b o v k) .entry u) .stage) ≡ isRetired ((k .entry u) .stage)
     wrote-retired u =

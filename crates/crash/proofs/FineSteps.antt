@@ -6,9 +6,9 @@ use native.Mathlib.Omega.{arith}
 use native.Mathlib.Decide.{decLt, ℕ-discrete}
 use mathlib.Core.Path.{_≡_, refl, sym, ap, _∙_, subst}
 use mathlib.Core.Logic.{_⊎_, inl, inr, _≢_}
-use mathlib.Core.Bool.{Bool, true, false, cond, _&&_}
+use mathlib.Core.Bool.{Bool, true, false, _&&_}
 use mathlib.Core.List.{List, [], _∷_, _++_, map, List·Memᴰ, List·Memᴰ·head, List·Memᴰ·tail, List·Memᴰ·not-nil, List·Memᴰ·append-cases, Memᴰ·of-map}
-use lib.ListN.{length, take, drop, getD, length-map, length-replicate, take-append-drop}
+use lib.ListN.{length, take, drop, length-map, length-replicate, take-append-drop}
 use lib.Dec.{ltb, eqb}
 use borrow.Author.Tests.{lt-ltb, le-ltb}
 use Rattle.model.specs.Lists.{all}
@@ -28,7 +28,7 @@ use Rattle.crash.specs.Ledger.{Ledger, freshLedger, withBook, imageNow, 
 use Rattle.crash.specs.Claims.{IsBytes}
 use Rattle.crash.proofs.Relation.{IsBlock, Limits, WriteFits, Frozen, Ranks, sumNext, Fine}
 use Rattle.crash.proofs.Entries.{nextName, uncommittedName, oldestName, same-or-not, other-number, other-core, raise-at, raise-other}
-use Rattle.crash.proofs.Books.{Restages, restaged, restages, restages-keep, close-restaged, close-stamp, close-images, close-stamp-other, close-images-other, store-more, store-last, checkpoint-home, checkpoint-retires}
+use Rattle.crash.proofs.Books.{Restages, restaged, restages, restages-keep, close-stamp, close-images, close-stamp-other, close-images-other, store-more, store-last, checkpoint-home, checkpoint-retires}
 
 -- ---- current images are blocks of bytes
 bytes-parts : (n : ℕ) (s : Bytes) → IsBytes s → IsBytes (take n s) × IsBytes (drop n s)
@@ -388,9 +388,9 @@ module _ (k : Book) (c : ℕ) (r : Ranks k c) where
   -- which of the two a STORE is
   pub store-by : (P : Book → Type 0) → k .uncommitted c < k .next c
       → ((n : ℕ) → (k .entry (uncommittedName c k)) .stage ≡ closed n → n < length ((k .entry (uncommittedName c k)) .blocks) + 1
-        → P (restaged (uncommittedName c k) (closed (suc n)) (k .oldest) (k .uncommitted) (k .next) k))
+      → P (restaged (uncommittedName c k) (closed (suc n)) (k .oldest) (k .uncommitted) (k .next) k))
       → ((n : ℕ) → (k .entry (uncommittedName c k)) .stage ≡ closed n → n ≡ length ((k .entry (uncommittedName c k)) .blocks) + 1
-        → P (restaged (uncommittedName c k) (committed 0) (k .oldest) (raise c (k .uncommitted)) (k .next) k))
+      → P (restaged (uncommittedName c k) (committed 0) (k .oldest) (raise c (k .uncommitted)) (k .next) k))
       → P (store c k)
   store-by P due more last =
       let s = r .storing due in
@@ -403,9 +403,9 @@ module _ (k : Book) (c : ℕ) (r : Ranks k c) where
   -- and a CHECKPOINT
   pub checkpoint-by : (P : Book → Type 0) → k .oldest c < k .uncommitted c
       → ((n : ℕ) → (k .entry (oldestName c k)) .stage ≡ committed n → n < length ((k .entry (oldestName c k)) .blocks)
-        → P (restaged (oldestName c k) (committed (suc n)) (k .oldest) (k .uncommitted) (k .next) k))
+      → P (restaged (oldestName c k) (committed (suc n)) (k .oldest) (k .uncommitted) (k .next) k))
       → ((n : ℕ) → (k .entry (oldestName c k)) .stage ≡ committed n → n ≡ length ((k .entry (oldestName c k)) .blocks)
-        → P (restaged (oldestName c k) retired (raise c (k .oldest)) (k .uncommitted) (k .next) k))
+      → P (restaged (oldestName c k) retired (raise c (k .oldest)) (k .uncommitted) (k .next) k))
       → P (checkpoint c k)
   checkpoint-by P due home retires =
       let s = r .first due in
@@ -473,8 +473,8 @@ module _ (l : Ledger) (f : Fine l) (c : ℕ) (hc : c < l .shape .cores) where
         same-or-not u t
         (λ e. same-or-not x t (λ d. e ∙ sym d) (λ nd. absurd (newest x nd hx u e s)))
         (λ ne. same-or-not x t
-          (λ d. absurd (newest u ne hu x d (sym s)))
-          (λ nd. f .stamps u x (was-closed u ne hu) (was-closed x nd hx) (sym (close-stamp-other l c u ne) ∙ s ∙ close-stamp-other l c x nd)))
+        (λ d. absurd (newest u ne hu x d (sym s)))
+        (λ nd. f .stamps u x (was-closed u ne hu) (was-closed x nd hx) (sym (close-stamp-other l c u ne) ∙ s ∙ close-stamp-other l c x nd)))
 
     pub fine-close : Fine (closeLedger c l)
     unfolding closeLedger close
@@ -501,7 +501,7 @@ module _ (l : Ledger) (f : Fine l) (c : ℕ) (hc : c < l .shape .cores) where
         let after = restaged s g o u (k .next) k in
         let step = restages s g o u (k .next) k in
         let before : (x : Name) → isClosed ((after .entry x) .stage) ≡ true → isClosed ((k .entry x) .stage) ≡ true
-              = λ x h. sym (restages-keep step isClosed (is ∙ sym was) x) ∙ h in
+        = λ x h. sym (restages-keep step isClosed (is ∙ sym was) x) ∙ h in
         fine-moved l f s g (closed-open ((k .entry s) .stage) was) (closed-open g is) o u (k .next) (l .closes) (l .stamp) (l .images)
         (λ a h. elim (ℕ-discrete a c) [
           | yes e ↦ subst (λ (a : ℕ). Ranks after a) (sym e) here
@@ -517,7 +517,7 @@ module _ (l : Ledger) (f : Fine l) (c : ℕ) (hc : c < l .shape .cores) where
       store-by k c r (λ x. Fine (withBook l x)) due
       (λ n was more. fine-advanced (k .uncommitted c) (closed (suc n)) (k .oldest) (k .uncommitted) (ap isClosed was) refl (λ a ne. (refl, refl)) (ranks-stored k c r n due more))
       (λ n was last. fine-advanced (k .uncommitted c) (committed 0) (k .oldest) (raise c (k .uncommitted)) (ap isClosed was) refl
-        (λ a ne. (refl, raise-other c (k .uncommitted) a ne)) (ranks-committed k c r n due))
+      (λ a ne. (refl, raise-other c (k .uncommitted) a ne)) (ranks-committed k c r n due))
 
   pub fine-checkpoint : k .oldest c < k .uncommitted c → Fine (withBook l (checkpoint c k))
   fine-checkpoint due =
@@ -525,7 +525,7 @@ module _ (l : Ledger) (f : Fine l) (c : ℕ) (hc : c < l .shape .cores) where
       checkpoint-by k c r (λ x. Fine (withBook l x)) due
       (λ n was more. fine-advanced (k .oldest c) (committed (suc n)) (k .oldest) (k .uncommitted) (ap isClosed was) refl (λ a ne. (refl, refl)) (ranks-homed k c r n due more))
       (λ n was last. fine-advanced (k .oldest c) retired (raise c (k .oldest)) (k .uncommitted) (ap isClosed was) refl
-        (λ a ne. (raise-other c (k .oldest) a ne, refl)) (ranks-retired k c r n due))
+      (λ a ne. (raise-other c (k .oldest) a ne, refl)) (ranks-retired k c r n due))
 
 -- ---- an open transaction lies below its core's oldest number exactly if it is retired
 pub below-oldest : (l : Ledger) → Fine l → (t : Name) → (l .book .entry t) .stage ≢ absent → ltb (t .number) (l .book .oldest (t .core)) ≡ isRetired ((l .book .entry t) .stage)
@@ -539,18 +539,18 @@ below-oldest l f t h =
       | yes lt ↦ lt-ltb i (k .oldest c) lt ∙ elim (r .old i lt) [ inl e ↦ absurd (h e) | inr e ↦ sym (ap isRetired e) ]
       | no ge ↦ (let least : k .oldest c ≤ i = omega arith in
           let is : isRetired ((k .entry t) .stage) ≡ false
-            = elim (decLt i (k .uncommitted c)) [
-              | yes lt ↦ elim (ℕ-discrete (k .oldest c) i) [
-                | yes e ↦ (let s = r .first (omega arith) in ap isRetired (ap (λ (j : ℕ). (k .entry (newName c j)) .stage) (sym e) ∙ s .1))
-                | no ne ↦ ap isRetired (r .done i (omega arith) lt)
+          = elim (decLt i (k .uncommitted c)) [
+            | yes lt ↦ elim (ℕ-discrete (k .oldest c) i) [
+              | yes e ↦ (let s = r .first (omega arith) in ap isRetired (ap (λ (j : ℕ). (k .entry (newName c j)) .stage) (sym e) ∙ s .1))
+              | no ne ↦ ap isRetired (r .done i (omega arith) lt)
+            ]
+            | no gu ↦ elim (decLt i (k .next c)) [
+              | yes ln ↦ (let s = r .storing (omega arith) in let e : k .uncommitted c ≡ i = omega arith in ap isRetired (ap (λ (j : ℕ). (k .entry (newName c j)) .stage) (sym e) ∙ s .1))
+              | no gn ↦ elim (ℕ-discrete (k .next c) i) [
+                | yes e ↦ elim (rw e at (r .current)) [ inl a ↦ absurd (h a) | inr a ↦ ap isRetired a ]
+                | no ne ↦ absurd (h (r .rest i (omega arith)))
               ]
-              | no gu ↦ elim (decLt i (k .next c)) [
-                | yes ln ↦ (let s = r .storing (omega arith) in let e : k .uncommitted c ≡ i = omega arith in ap isRetired (ap (λ (j : ℕ). (k .entry (newName c j)) .stage) (sym e) ∙ s .1))
-                | no gn ↦ elim (ℕ-discrete (k .next c) i) [
-                  | yes e ↦ elim (rw e at (r .current)) [ inl a ↦ absurd (h a) | inr a ↦ ap isRetired a ]
-                  | no ne ↦ absurd (h (r .rest i (omega arith)))
-                ]
-              ]
-            ] in
+            ]
+          ] in
           le-ltb i (k .oldest c) least ∙ sym is)
     ]

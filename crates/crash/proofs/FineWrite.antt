@@ -1,7 +1,7 @@
 -- WRITE keeps the ledger in order: it opens the number that is next, and the rules change no stage. The writer takes a
 -- block only where it does not hold it, so that its blocks stay distinct; only the writer and a running holder get a
 -- name, and the refusals 24, 25 and 27 keep lists, blocks and numbers within the limits.
-use Prim.Native.Nat.{ℕ, suc, _≤_, _<_}
+use Prim.Native.Nat.{ℕ, _≤_, _<_}
 use native.Mathlib.Omega.{arith}
 use native.Mathlib.Decide.{decLt}
 use mathlib.Core.Path.{_≡_, refl, sym, ap, _∙_, subst}
@@ -18,7 +18,7 @@ use Rattle.model.specs.Card.{newName}
 use Rattle.model.specs.Layout.{maxNumber}
 use Rattle.model.specs.declared.Name.{Name}
 use Rattle.model.proofs.Lists.{cases, getD-mem}
-use Rattle.crash.specs.Book.{Stage, absent, running, isRunning, isClosed, isRetired, Entry, Write, Book, change, staged, begin, holderIn, Meeting, own, running-holder, meets, ruled, note, wrote}
+use Rattle.crash.specs.Book.{Stage, absent, running, isRunning, isClosed, Entry, Book, change, staged, begin, holderIn, Meeting, own, running-holder, meets, ruled, note, wrote}
 use Rattle.crash.specs.Ledger.{Ledger, withBook, namesCount, holderNames}
 use Rattle.crash.specs.Claims.{IsBytes}
 use Rattle.crash.proofs.Relation.{Limits, WriteFits, Fine}
@@ -100,7 +100,7 @@ module _ (l : Ledger) (f : Fine l) (t : Name) (last : t .number ≡ l .book .nex
           few = few;
           blocks = writer-blocks (λ bs. (x : ℕ) → List·Memᴰ x bs → x < l .shape .blocks)
               (λ h x p. elim (List·Memᴰ·append-cases ((l .book .entry t) .blocks) p)
-                [ inl q ↦ z .blocks x q | inr q ↦ (let e = List·Memᴰ·eq-of-singleton q in rw e (fits .block)) ])
+              [ inl q ↦ z .blocks x q | inr q ↦ (let e = List·Memᴰ·eq-of-singleton q in rw e (fits .block)) ])
               (z .blocks);
           distinct = writer-blocks (λ bs. (i j : ℕ) → i < length bs → j < length bs → getD bs i 0 ≡ getD bs j 0 → i ≡ j)
               (λ h. snoc-distinct ((l .book .entry t) .blocks) b (z .distinct) (not-taken h))
@@ -132,15 +132,16 @@ module _ (l : Ledger) (f : Fine l) (t : Name) (last : t .number ≡ l .book .nex
               ranks-kept (l .book) (note t b o v (l .book)) a r refl refl refl
               (λ i ne. after-stage (newName a i))
               (λ i lt. ap length (ruled-blocks-other m t b (l .book .entry) (newName a i)
-                (λ e. let p : i ≡ t .number = ap (λ (n : Name). n .number) e in
-                  let q : l .book .next a ≡ l .book .next (t .core) = ap (λ (n : Name). l .book .next (n .core)) e in omega arith)))
+              (λ e. let p : i ≡ t .number = ap (λ (n : Name). n .number) e in
+              let q : l .book .next a ≡ l .book .next (t .core) = ap (λ (n : Name). l .book .next (n .core)) e in omega arith)))
               (rw (after-stage (newName a (l .book .next a))) (r .current));
           far = λ u h. rw (after-stage u) (f .far u h);
           limits = λ u h. same-or-not u t (λ e. rw e writer-limits) (λ ne. other-limits u ne (rw (after-stage u) at h));
           unopened = λ u h. let g : (l .book .entry u) .stage ≡ absent = rw (after-stage u) at h in rw (absent-same u g) (f .unopened u g);
-          named = λ u x p. rw (after-stage x) (elim (ruled-names m t b (l .book .entry) u x p)
-              [ inl q ↦ f .named u x q
-              | inr s ↦ elim s [ inl e ↦ rw e (running-open _ run) | inr e ↦ met-open x e ] ]);
+          named = λ u x p. rw (after-stage x) (elim (ruled-names m t b (l .book .entry) u x p) [
+            | inl q ↦ f .named u x q
+            | inr s ↦ elim s [ inl e ↦ rw e (running-open _ run) | inr e ↦ met-open x e ]
+          ]);
           frozen = λ u h.
               let g : isClosed ((l .book .entry u) .stage) ≡ true = rw (after-stage u) at h in
               same-frozen l (withBook l (note t b o v (l .book))) u refl refl refl
@@ -183,9 +184,6 @@ module _ (l : Ledger) (f : Fine l) (c : ℕ) (hc : c < l .shape .cores) where
     opening-closed : (u : Name) → isClosed ((opening u) .stage) ≡ isClosed ((k .entry u) .stage)
     opening-closed = change-by w (staged running) (k .entry) (λ e. isClosed (e .stage)) (sym (ap isClosed new))
 
-    opening-retired : (u : Name) → isRetired ((opening u) .stage) ≡ isRetired ((k .entry u) .stage)
-    opening-retired = change-by w (staged running) (k .entry) (λ e. isRetired (e .stage)) (sym (ap isRetired new))
-
     opening-at : (u : Name) → u ≡ w → (opening u) .stage ≡ running
     opening-at u e = rw (e, change-at w (staged running) (k .entry))
 
@@ -211,18 +209,18 @@ module _ (l : Ledger) (f : Fine l) (c : ℕ) (hc : c < l .shape .cores) where
           limits = λ u h.
               same-or-not u w
               (λ e. let z = f .unopened w new in
-                let r = f .ranks c hc in
-                let none-taken : (opening w) .blocks ≡ [] = opening-blocks w ∙ z .0 in
-                let none-named : (opening w) .names ≡ [] = opening-names w ∙ z .1 in
-                rw e (record {
-                  core = hc;
-                  low = omega arith;
-                  high = room;
-                  few = rw none-taken (omega arith);
-                  blocks = rw none-taken (λ b m. absurd (List·Memᴰ·not-nil m));
-                  distinct = rw none-taken (λ i j p q w. absurd (omega arith));
-                  short = rw none-named (omega arith);
-                }))
+              let r = f .ranks c hc in
+              let none-taken : (opening w) .blocks ≡ [] = opening-blocks w ∙ z .0 in
+              let none-named : (opening w) .names ≡ [] = opening-names w ∙ z .1 in
+              rw e (record {
+                core = hc;
+                low = omega arith;
+                high = room;
+                few = rw none-taken (omega arith);
+                blocks = rw none-taken (λ b m. absurd (List·Memᴰ·not-nil m));
+                distinct = rw none-taken (λ i j p q w. absurd (omega arith));
+                short = rw none-named (omega arith);
+              }))
               (λ ne. limits-same (l .shape) u (k .entry u) (opening u) (opening-blocks u) (opening-names u) (f .limits u (rw (opening-other u ne) at h)));
           unopened = λ u h.
               same-or-not u w
@@ -255,10 +253,11 @@ module _ (l : Ledger) (f : Fine l) (c : ℕ) (hc : c < l .shape .cores) where
       still-holds u x h p =
           let q : List·Memᴰ x ((k .entry u) .blocks) = rw (begun-same k c current (λ e. e .blocks) (λ e. refl) u) at p in
           same-holder x ∙ same-or-not u w
-            (λ e. elim current
-              [ inl a ↦ absurd (List·Memᴰ·not-nil (rw (e, f .unopened w a .0) at q))
-              | inr a ↦ holds u x (rw e a) q ])
-            (λ ne. holds u x (rw (begun-other k c current u ne) at h) q)
+          (λ e. elim current [
+            | inl a ↦ absurd (List·Memᴰ·not-nil (rw (e, f .unopened w a .0) at q))
+            | inr a ↦ holds u x (rw e a) q
+          ])
+          (λ ne. holds u x (rw (begun-other k c current u ne) at h) q)
 
       still-open : (u : Name) (x : ℕ) → holderIn open-book x (open-book .writes) ≡ some u → (open-book .entry u) .stage ≢ absent
       still-open u x h =
@@ -275,10 +274,10 @@ module _ (l : Ledger) (f : Fine l) (c : ℕ) (hc : c < l .shape .cores) where
         let current = f .ranks c hc .current in
         let short = no-or _ _ no-24 in
         let opened : Fine (withBook l open-book)
-              = begun-by k c current (λ x. Fine (withBook l x)) (λ e. f) (λ e. fine-begin e (ltb-false maxNumber (k .next c) (rw (ap isRunning e) at no-27))) in
+        = begun-by k c current (λ x. Fine (withBook l x)) (λ e. f) (λ e. fine-begin e (ltb-false maxNumber (k .next c) (rw (ap isRunning e) at no-27))) in
         fine-note (withBook l open-book) opened w (ap (λ (n : ℕ → ℕ). n c) (sym (begun-fields k c current .3))) b o v (begun-running k c current)
         (record { block = hb; offset = ho; size = size; bytes = is-bytes }) (still-holds current) (still-open current)
         (ltb-false 12 _ (short .0))
         (λ u e. let q : meets k w (holderIn k b (k .writes)) ≡ running-holder u = sym (begun-meets k c current b) ∙ e in
-          ltb-false 12 _ (rw (q, holderNames, namesCount) at (short .1)))
+        ltb-false 12 _ (rw (q, holderNames, namesCount) at (short .1)))
         (ltb-false 8 _ no-25)
