@@ -179,6 +179,10 @@ module _ (c n : ℕ) (k : Book) where
 abbrev pub begun : ℕ → Book → Book
 begun c k = cond (isRunning ((k .entry (nextName c k)) .stage)) k (begin (nextName c k) k)
 
+-- how a write of core c meets block b
+abbrev pub meeting : ℕ → ℕ → Book → Meeting
+meeting c b k = meets k (nextName c k) (holderIn k b (k .writes))
+
 module _ (k : Book) (c : ℕ) (current : ((k .entry (nextName c k)) .stage ≡ absent) ⊎ ((k .entry (nextName c k)) .stage ≡ running)) where
   pub begun-by : (P : Book → Type 0) → ((k .entry (nextName c k)) .stage ≡ running → P k)
       → ((k .entry (nextName c k)) .stage ≡ absent → P (begin (nextName c k) k)) → P (begun c k)
@@ -213,15 +217,12 @@ module _ (k : Book) (c : ℕ) (current : ((k .entry (nextName c k)) .stage ≡ a
       ∙ meets-same k (nextName c k) (begun c k) (begun-same (λ e. isClosed (e .stage)) (λ e. sym (ap isClosed e))) (holderIn k b (k .writes))
 
   module _ (b o : ℕ) (v : Bytes) where
-    abbrev pub meeting : Meeting
-    meeting = meets k (nextName c k) (holderIn k b (k .writes))
-
-    pub wrote-entry : (wrote c b o v k) .entry ≡ ruled meeting (nextName c k) b (begun c k .entry)
+    pub wrote-entry : (wrote c b o v k) .entry ≡ ruled (meeting c b k) (nextName c k) b (begun c k .entry)
     unfolding wrote note
     wrote-entry = ap (λ m. ruled m (nextName c k) b (begun c k .entry)) (begun-meets b)
 
     pub wrote-writes : (wrote c b o v k) .writes
-        ≡ record { writer = nextName c k; holder = holderAfter meeting (nextName c k); block = b; offset = o; bytes = v } ∷ k .writes
+        ≡ record { writer = nextName c k; holder = holderAfter (meeting c b k) (nextName c k); block = b; offset = o; bytes = v } ∷ k .writes
     unfolding wrote note
     wrote-writes = rw (begun-meets b, begun-fields .0)
 
@@ -230,31 +231,31 @@ module _ (k : Book) (c : ℕ) (current : ((k .entry (nextName c k)) .stage ≡ a
     wrote-numbers = (begun-fields .1, begun-fields .2, begun-fields .3)
 
     pub wrote-running : ((wrote c b o v k) .entry (nextName c k)) .stage ≡ running
-    wrote-running = rw wrote-entry (ruled-stage meeting (nextName c k) b (begun c k .entry) (nextName c k) ∙ begun-running)
+    wrote-running = rw wrote-entry (ruled-stage (meeting c b k) (nextName c k) b (begun c k .entry) (nextName c k) ∙ begun-running)
 
     pub wrote-stage : (u : Name) → u ≢ nextName c k → ((wrote c b o v k) .entry u) .stage ≡ (k .entry u) .stage
-    wrote-stage u ne = rw wrote-entry (ruled-stage meeting (nextName c k) b (begun c k .entry) u ∙ ap (λ e. e .stage) (begun-other u ne))
+    wrote-stage u ne = rw wrote-entry (ruled-stage (meeting c b k) (nextName c k) b (begun c k .entry) u ∙ ap (λ e. e .stage) (begun-other u ne))
 
     pub wrote-blocks : ((wrote c b o v k) .entry (nextName c k)) .blocks
-        ≡ cond (takes meeting) ((k .entry (nextName c k)) .blocks ++ (b ∷ [])) ((k .entry (nextName c k)) .blocks)
+        ≡ cond (takes (meeting c b k)) ((k .entry (nextName c k)) .blocks ++ (b ∷ [])) ((k .entry (nextName c k)) .blocks)
     wrote-blocks =
-        rw wrote-entry (ruled-blocks meeting (nextName c k) b (begun c k .entry)
-        ∙ ap (λ (bs : List ℕ). cond (takes meeting) (bs ++ (b ∷ [])) bs) (begun-same (λ e. e .blocks) (λ e. refl) (nextName c k)))
+        rw wrote-entry (ruled-blocks (meeting c b k) (nextName c k) b (begun c k .entry)
+        ∙ ap (λ (bs : List ℕ). cond (takes (meeting c b k)) (bs ++ (b ∷ [])) bs) (begun-same (λ e. e .blocks) (λ e. refl) (nextName c k)))
 
     pub wrote-blocks-other : (u : Name) → u ≢ nextName c k → ((wrote c b o v k) .entry u) .blocks ≡ (k .entry u) .blocks
     wrote-blocks-other u ne =
-        rw wrote-entry (ruled-blocks-other meeting (nextName c k) b (begun c k .entry) u ne ∙ ap (λ e. e .blocks) (begun-other u ne))
+        rw wrote-entry (ruled-blocks-other (meeting c b k) (nextName c k) b (begun c k .entry) u ne ∙ ap (λ e. e .blocks) (begun-other u ne))
 
-    pub wrote-other : (u : Name) → u ≢ nextName c k → meeting ≢ running-holder u → (wrote c b o v k) .entry u ≡ k .entry u
-    wrote-other u ne nr = rw wrote-entry (ruled-other meeting (nextName c k) b (begun c k .entry) u ne nr ∙ begun-other u ne)
+    pub wrote-other : (u : Name) → u ≢ nextName c k → meeting c b k ≢ running-holder u → (wrote c b o v k) .entry u ≡ k .entry u
+    wrote-other u ne nr = rw wrote-entry (ruled-other (meeting c b k) (nextName c k) b (begun c k .entry) u ne nr ∙ begun-other u ne)
 
     -- whom the writer lists, and whom a running holder
-    pub wrote-names : ((wrote c b o v k) .entry (nextName c k)) .names ≡ listing (met meeting) ((k .entry (nextName c k)) .names)
+    pub wrote-names : ((wrote c b o v k) .entry (nextName c k)) .names ≡ listing (met (meeting c b k)) ((k .entry (nextName c k)) .names)
     wrote-names =
-        rw wrote-entry (ruled-names-at meeting (nextName c k) b (begun c k .entry) (λ e. meets-met k (nextName c k) (holderIn k b (k .writes)) (nextName c k) (ap met e) .1 refl)
-        ∙ ap (listing (met meeting)) (begun-same (λ e. e .names) (λ e. refl) (nextName c k)))
+        rw wrote-entry (ruled-names-at (meeting c b k) (nextName c k) b (begun c k .entry) (λ e. meets-met k (nextName c k) (holderIn k b (k .writes)) (nextName c k) (ap met e) .1 refl)
+        ∙ ap (listing (met (meeting c b k))) (begun-same (λ e. e .names) (λ e. refl) (nextName c k)))
 
-    pub wrote-names-back : (u : Name) → meeting ≡ running-holder u → ((wrote c b o v k) .entry u) .names ≡ listing (some (nextName c k)) ((k .entry u) .names)
+    pub wrote-names-back : (u : Name) → meeting c b k ≡ running-holder u → ((wrote c b o v k) .entry u) .names ≡ listing (some (nextName c k)) ((k .entry u) .names)
     wrote-names-back u e =
         rw (wrote-entry, e) (ruled-names-back u (nextName c k) b (begun c k .entry) (meets-met k (nextName c k) (holderIn k b (k .writes)) u (ap met e) .1)
         ∙ ap (listing (some (nextName c k))) (begun-same (λ e. e .names) (λ e. refl) u))
@@ -274,10 +275,10 @@ module _ (k : Book) (c : ℕ) (current : ((k .entry (nextName c k)) .stage ≡ a
 
     wrote-retired : (u : Name) → isRetired (((wrote c b o v k) .entry u) .stage) ≡ isRetired ((k .entry u) .stage)
     wrote-retired u =
-        rw wrote-entry (ap isRetired (ruled-stage meeting (nextName c k) b (begun c k .entry) u)
+        rw wrote-entry (ap isRetired (ruled-stage (meeting c b k) (nextName c k) b (begun c k .entry) u)
         ∙ begun-same (λ e. isRetired (e .stage)) (λ e. sym (ap isRetired e)) u)
 
-    holder-stays : (m : Meeting) → meeting ≡ m → isRetired (((wrote c b o v k) .entry (holderAfter m (nextName c k))) .stage) ≡ false
+    holder-stays : (m : Meeting) → meeting c b k ≡ m → isRetired (((wrote c b o v k) .entry (holderAfter m (nextName c k))) .stage) ≡ false
     unfolding holderAfter
     holder-stays no-holder e = ap isRetired wrote-running
     holder-stays own e = ap isRetired wrote-running
@@ -285,9 +286,9 @@ module _ (k : Book) (c : ℕ) (current : ((k .entry (nextName c k)) .stage ≡ a
         wrote-retired u ∙ holder-live k b (k .writes) u (meets-met k (nextName c k) (holderIn k b (k .writes)) u (ap met e) .0)
     holder-stays (closed-holder u) e = ap isRetired wrote-running
 
-    pub wrote-holder : holderIn (wrote c b o v k) b ((wrote c b o v k) .writes) ≡ some (holderAfter meeting (nextName c k))
+    pub wrote-holder : holderIn (wrote c b o v k) b ((wrote c b o v k) .writes) ≡ some (holderAfter (meeting c b k) (nextName c k))
     unfolding holderIn
-    wrote-holder = rw (wrote-writes, eq-eqb b b refl, holder-stays meeting refl)
+    wrote-holder = rw (wrote-writes, eq-eqb b b refl, holder-stays (meeting c b k) refl)
 
     pub wrote-holder-other : (x : ℕ) → x ≢ b → holderIn (wrote c b o v k) x ((wrote c b o v k) .writes) ≡ holderIn k x (k .writes)
     unfolding holderIn

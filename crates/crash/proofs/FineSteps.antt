@@ -415,11 +415,15 @@ module _ (k : Book) (c : ℕ) (r : Ranks k c) where
         | no ge ↦ (let e : s .0 ≡ length ((k .entry (oldestName c k)) .blocks) = omega arith in rw (checkpoint-retires c (s .0) k (s .1) e) (retires (s .0) (s .1) e))
       ]
 
--- ---- CLOSE
+-- ---- CLOSE, STORE, CHECKPOINT
+closed-open : (g : Stage) → isClosed g ≡ true → g ≢ absent
+closed-open g h e = let p : isClosed g ≡ false = ap isClosed e in let z : _≡_ {A = ℕ} 0 1 = cc in omega arith
+
 module _ (l : Ledger) (f : Fine l) (c : ℕ) (hc : c < l .shape .cores) where
   abbrev k : Book
   k = l .book
 
+  -- CLOSE
   module _ (run : (k .entry (nextName c k)) .stage ≡ running) (idle : k .uncommitted c ≡ k .next c) where
     abbrev t : Name
     t = nextName c k
@@ -489,12 +493,9 @@ module _ (l : Ledger) (f : Fine l) (c : ℕ) (hc : c < l .shape .cores) where
         closed-stamps
         (let h = sum-raised k (close c k) c refl (l .shape .cores) .1 hc in let g = f .closes in omega arith)
 
-  -- ---- STORE and CHECKPOINT: the closed one stays closed
+  -- STORE and CHECKPOINT: the closed one stays closed
   module _ (i : ℕ) (g : Stage) (o u : ℕ → ℕ) (was : isClosed ((k .entry (newName c i)) .stage) ≡ true) (is : isClosed g ≡ true)
       (elsewhere : (a : ℕ) → a ≢ c → (o a ≡ k .oldest a) × (u a ≡ k .uncommitted a)) (here : Ranks (restaged (newName c i) g o u (k .next) k) c) where
-    closed-open : (g : Stage) → isClosed g ≡ true → g ≢ absent
-    closed-open g h e = let p : isClosed g ≡ false = ap isClosed e in let z : _≡_ {A = ℕ} 0 1 = cc in omega arith
-
     fine-advanced : Fine (withBook l (restaged (newName c i) g o u (k .next) k))
     fine-advanced =
         let s = newName c i in

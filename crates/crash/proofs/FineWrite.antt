@@ -68,7 +68,7 @@ module _ (l : Ledger) (f : Fine l) (t : Name) (last : t .number ≡ l .book .nex
   met-open : (u : Name) → met m ≡ some u → (l .book .entry u) .stage ≢ absent
   met-open u e = opens u b (meets-met (l .book) t (holderIn (l .book) b (l .book .writes)) u e .0)
 
-  -- the one whose stage is not running, or that is not open, is not changed in its blocks, or at all
+  -- one that does not run is not the writer, and one that is not open is not changed
   not-writer : (u : Name) → (l .book .entry u) .stage ≢ running → u ≢ t
   not-writer u h e = h (rw e run)
 
@@ -167,7 +167,7 @@ module _ (l : Ledger) (f : Fine l) (c : ℕ) (hc : c < l .shape .cores) where
   abbrev w : Name
   w = nextName c k
 
-  -- ---- the transaction opened
+  -- the transaction opened
   module _ (new : (k .entry w) .stage ≡ absent) (room : k .next c ≤ 4000000000) where
     abbrev opening : Name → Entry
     opening = change w (staged running) (k .entry)
