@@ -12,6 +12,10 @@ pub mod Rename
 pub mod Agreement
 pub mod Relation
 pub mod Stages
+pub mod Entries
+pub mod Books
+pub mod FineSteps
+pub mod FineWrite
 pub mod Master
 pub mod Records
 pub mod Valid
