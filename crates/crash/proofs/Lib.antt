@@ -4,3 +4,5 @@ pub mod Stages
 pub mod Master
 pub mod Records
 pub mod Valid
+pub mod Entries
+pub mod FineSteps
