@@ -2,3 +2,14 @@
 pub mod Computes
 pub mod Limits
 pub mod Cases
+pub mod Lists
+pub mod Store
+pub mod Words
+pub mod Encoding
+pub mod Journal
+pub mod Logic
+pub mod Select
+pub mod Shrink
+pub mod Valid
+pub mod Command
+pub mod Tape

@@ -1,0 +1,293 @@
+-- What is stored is read: master, descriptor, commit and data, over the one definition of their bytes.
+-- Stored data never begins with the mark, so it is never taken for a descriptor or a commit.
+use Prim.Native.Nat.{ℕ, zero, suc, _+_, _*_, _-_, _/_, _%_, _^_, _≤_, _<_}
+use native.Mathlib.Omega.{arith}
+use native.Mathlib.Nat.{div-add-mod', add-zero}
+use native.Mathlib.Numerals.{add-one, add-two}
+use mathlib.Core.Path.{_≡_, refl, ap, _∙_, sym, subst, ap₂}
+use mathlib.Core.Bool.{Bool, true, false, cond, _&&_}
+use mathlib.Core.List.{List, [], _∷_, _++_, map, flatMap, List·Memᴰ}
+use lib.ListN.{length, take, drop, getD, replicate, length-map, length-drop, take-append-drop}
+use lib.Seq.{getD-drop, ext-getD, length-take-le}
+use lib.Dec.{eqb, leb, ltb}
+use borrow.Author.Tests.{le-leb, lt-ltb, eq-eqb, ne-eqb, leb-true, ltb-true, eqb-true, eqb-false}
+use Rattle.model.specs.Lists.{below, all}
+use Rattle.model.specs.Bytes.{Bytes, bytes, number, part, be4, block}
+use Rattle.model.specs.Shape.{between, inRange}
+use Rattle.model.specs.Card.{newTail, newName}
+use Rattle.model.specs.Layout
+use Rattle.model.specs.Layout.{mark, maxNumber, hasHead, pairWords, pairAt, pairsIn, masterBlock, shapeIn, tailIn, isTail, isMaster, Held, newHeld, descriptorBlock, blockCount, heldIn, distinct, isHeld, isDescriptor, commitBlock, stampIn, nameCount, namesIn, isListable, isCommit, flagOf, escaped, unescaped}
+use Rattle.model.specs.declared.Shape.{Shape}
+use Rattle.model.specs.declared.Tail.{Tail}
+use Rattle.model.specs.declared.Name.{Name}
+use Rattle.model.proofs.Lists.{cases, and-left, and-right, all-mem, mem-all, length-below, getD-map-below, mem-below, Each, each-getD, getD-each, mem-each, each-take, getD-mem}
+use Rattle.model.proofs.Words.{IsByte, IsWord, word-of, length-block, bytes-number, be4-getD}
+
+-- ---- pairs
+module _ {A : Type 0} (f g : A → ℕ) where
+  length-pairs : (xs : List A) → length (pairWords f g xs) ≡ 2 * length xs
+  unfolding pairWords flatMap
+  length-pairs [] = refl
+  length-pairs (x ∷ xs) = omega (arith, length-pairs xs)
+
+  each-pairs : (xs : List A) → Each (λ (x : A). IsWord (f x) × IsWord (g x)) xs → Each IsWord (pairWords f g xs)
+  unfolding pairWords flatMap
+  each-pairs [] h = tt
+  each-pairs (x ∷ xs) h = (h .0 .0, (h .0 .1, each-pairs xs (h .1)))
+
+  getD-pairs : (xs : List A) (i : ℕ) (d : A) → i < length xs → (getD (pairWords f g xs) (2 * i) 0 ≡ f (getD xs i d)) × (getD (pairWords f g xs) (2 * i + 1) 0 ≡ g (getD xs i d))
+  unfolding pairWords flatMap
+  getD-pairs [] i d h = absurd (omega arith)
+  getD-pairs (x ∷ xs) zero d h = (refl, refl)
+  getD-pairs (x ∷ xs) (suc i) d h =
+      let e : 2 * suc i ≡ suc (suc (2 * i)) = omega arith in
+      let e₁ : 2 * suc i + 1 ≡ suc (suc (2 * i + 1)) = omega arith in
+      let r = getD-pairs xs i d (omega arith) in
+      (rw e (r .0), rw e₁ (r .1))
+
+  module _ (make : ℕ → ℕ → A) (same : (x : A) → make (f x) (g x) ≡ x) (ws : List ℕ) (fit : Each IsWord ws) (xs : List A) (j : ℕ) (e : drop j ws ≡ pairWords f g xs) where
+    -- the pair at an index, of those that stand in a block from word j on
+    pub pair-of : (i : ℕ) (d : A) → i < length xs → pairAt make (block ws) (4 * j) i ≡ getD xs i d
+    unfolding pairAt
+    pair-of i d h =
+        let a : 4 * j + 8 * i ≡ 4 * (j + 2 * i) = omega arith in
+        let b : 4 * j + 8 * i + 4 ≡ 4 * (j + (2 * i + 1)) = omega arith in
+        let r = getD-pairs xs i d h in
+        rw (b, a, word-of ws fit (j + 2 * i), word-of ws fit (j + (2 * i + 1)), ← (getD-drop j ws (2 * i) 0), ← (getD-drop j ws (2 * i + 1) 0), e, r .0, r .1) (same (getD xs i d))
+
+    -- all of them
+    pub pairs-of : pairsIn make (block ws) (4 * j) (length xs) ≡ xs
+    unfolding pairsIn
+    pairs-of =
+        let d = make 0 0 in
+        let l : length (map (pairAt make (block ws) (4 * j)) (below (length xs))) ≡ length xs = length-map (below (length xs)) (pairAt make (block ws) (4 * j)) ∙ length-below (length xs) in
+        ext-getD d (map (pairAt make (block ws) (4 * j)) (below (length xs))) xs l
+        (λ i h. getD-map-below (pairAt make (block ws) (4 * j)) (length xs) i d (omega arith) ∙ pair-of i d (omega arith))
+
+-- ---- a shape within the limits of the paper
+pub record Limits (s : Shape) : Type 0 where
+  pub core : 1 ≤ s .cores
+  pub cores : s .cores ≤ 8
+  pub block : 1 ≤ s .blocks
+  pub blocks : s .blocks ≤ 64
+  pub four : 4 ≤ s .journal
+  pub journal : s .journal ≤ 24
+
+pub range-limits : (s : Shape) → inRange (s .cores) (s .blocks) (s .journal) ≡ true → Limits s
+unfolding inRange between
+range-limits s h =
+    let cb = and-left _ (leb 4 (s .journal) && leb (s .journal) 24) h in
+    let c = and-left (leb 1 (s .cores) && leb (s .cores) 8) _ cb in
+    let b = and-right (leb 1 (s .cores) && leb (s .cores) 8) (leb 1 (s .blocks) && leb (s .blocks) 64) cb in
+    let j = and-right (leb 1 (s .cores) && leb (s .cores) 8 && (leb 1 (s .blocks) && leb (s .blocks) 64)) (leb 4 (s .journal) && leb (s .journal) 24) h in
+    record {
+      core = leb-true 1 (s .cores) (and-left (leb 1 (s .cores)) (leb (s .cores) 8) c);
+      cores = leb-true (s .cores) 8 (and-right (leb 1 (s .cores)) (leb (s .cores) 8) c);
+      block = leb-true 1 (s .blocks) (and-left (leb 1 (s .blocks)) (leb (s .blocks) 64) b);
+      blocks = leb-true (s .blocks) 64 (and-right (leb 1 (s .blocks)) (leb (s .blocks) 64) b);
+      four = leb-true 4 (s .journal) (and-left (leb 4 (s .journal)) (leb (s .journal) 24) j);
+      journal = leb-true (s .journal) 24 (and-right (leb 4 (s .journal)) (leb (s .journal) 24) j);
+    }
+
+pub limits-range : {s : Shape} → Limits s → inRange (s .cores) (s .blocks) (s .journal) ≡ true
+unfolding inRange between
+limits-range {s} l =
+    rw (le-leb 1 (s .cores) (l .core), le-leb (s .cores) 8 (l .cores), le-leb 1 (s .blocks) (l .block), le-leb (s .blocks) 64 (l .blocks), le-leb 4 (s .journal) (l .four), le-leb (s .journal) 24 (l .journal))
+
+-- ---- master
+pub tail-limits : (s : Shape) (t : Tail) → isTail s t ≡ true → (1 ≤ t .number) × (t .number ≤ suc maxNumber) × (t .position < s .journal)
+unfolding isTail between
+tail-limits s t h =
+    let n = and-left _ _ h in
+    (leb-true 1 (t .number) (and-left _ _ n), leb-true (t .number) (suc maxNumber) (and-right (leb 1 (t .number)) _ n),
+    ltb-true (t .position) (s .journal) (and-right (leb 1 (t .number) && leb (t .number) (suc maxNumber)) _ h))
+
+unfoldable masterWords : Shape → (ℕ → Tail) → List ℕ
+masterWords s tailAt =
+    mark ∷ 4 ∷ 0 ∷ s .cores ∷ s .blocks ∷ s .journal ∷ pairWords (λ (t : Tail). t .number) (λ (t : Tail). t .position) (map tailAt (below (s .cores)))
+
+module _ {s : Shape} (l : Limits s) (tailAt : ℕ → Tail) where
+  pub length-master : length (masterBlock s tailAt) ≡ 128
+  unfolding masterBlock
+  length-master =
+      length-block _
+      (omega (arith, l .cores, length-pairs (λ (t : Tail). t .number) (λ (t : Tail). t .position) (map tailAt (below (s .cores))), length-map (below (s .cores)) tailAt, length-below (s .cores)))
+
+  module _ (tails : (c : ℕ) → c < s .cores → isTail s (tailAt c) ≡ true) where
+    master-fit : Each IsWord (masterWords s tailAt)
+    unfolding masterWords
+    master-fit =
+        let pairs : Each (λ (t : Tail). IsWord (t .number) × IsWord (t .position)) (map tailAt (below (s .cores))) =
+            getD-each _ (map tailAt (below (s .cores))) (newTail 0 0)
+            (λ i h.
+              let n : i < s .cores = omega (arith, length-map (below (s .cores)) tailAt, length-below (s .cores)) in
+              let r = tail-limits s (tailAt i) (tails i n) in
+              rw (getD-map-below tailAt (s .cores) i (newTail 0 0) n) (omega arith, omega (arith, l .journal))) in
+        (omega arith, (omega arith, (omega arith, (omega (arith, l .cores), (omega (arith, l .blocks), (omega (arith, l .journal),
+        each-pairs (λ (t : Tail). t .number) (λ (t : Tail). t .position) (map tailAt (below (s .cores))) pairs))))))
+
+    master-word : (i : ℕ) → be4 (masterBlock s tailAt) (4 * i) ≡ getD (masterWords s tailAt) i 0
+    unfolding masterBlock masterWords
+    master-word = word-of (masterWords s tailAt) master-fit
+
+    pub master-shape : shapeIn (masterBlock s tailAt) ≡ s
+    unfolding masterWords shapeIn
+    master-shape = simp (master-word 3, master-word 4, master-word 5)
+
+    pub master-tail : (c : ℕ) → c < s .cores → tailIn (masterBlock s tailAt) c ≡ tailAt c
+    unfolding masterBlock masterWords tailIn
+    master-tail c h =
+        let n : length (map tailAt (below (s .cores))) ≡ s .cores = length-map (below (s .cores)) tailAt ∙ length-below (s .cores) in
+        pair-of (λ (t : Tail). t .number) (λ (t : Tail). t .position) newTail (λ t. refl) (masterWords s tailAt) master-fit (map tailAt (below (s .cores))) 6 refl c (newTail 0 0) (omega arith)
+        ∙ getD-map-below tailAt (s .cores) c (newTail 0 0) h
+
+    pub master-read : isMaster (masterBlock s tailAt) ≡ true
+    unfolding isMaster masterWords
+    master-read =
+        let m = masterBlock s tailAt in
+        let t : all (λ (c : ℕ). isTail s (tailIn m c)) (below (s .cores)) ≡ true =
+            mem-all (λ (c : ℕ). isTail s (tailIn m c)) (below (s .cores)) (λ c h. let n = mem-below (s .cores) h in ap (isTail s) (master-tail c n) ∙ tails c n) in
+        simp (master-shape, master-word 0, master-word 1, limits-range l, t)
+
+-- ---- a transaction that keeps the rules of the format: its number, the blocks that it took, its stamp, its names
+pub record Sound (s : Shape) (k : ℕ) (hs : List Held) (stamp : ℕ) (ns : List Name) : Type 0 where
+  pub shape : Limits s
+  pub number : k ≤ maxNumber
+  pub few : length hs ≤ 8
+  pub held : all (isHeld s) hs ≡ true
+  pub apart : distinct hs ≡ true
+  pub stamped : 1 ≤ stamp
+  pub stamp-fits : stamp < 18446744073709551616
+  pub short : length ns ≤ 12
+  pub listable : all (isListable s) ns ≡ true
+  pub numbers : Each (λ (n : Name). IsWord (n .number)) ns
+
+-- ---- descriptor
+pub length-descriptor : (k : ℕ) (hs : List Held) → length hs ≤ 8 → length (descriptorBlock k hs) ≡ 128
+unfolding descriptorBlock
+length-descriptor k hs h = length-block _ (omega (arith, length-pairs (λ (h : Held). h .block) (λ (h : Held). h .flag) hs))
+
+pub length-commit : (k stamp : ℕ) (ns : List Name) → length ns ≤ 12 → length (commitBlock k stamp ns) ≡ 128
+unfolding commitBlock
+length-commit k stamp ns h = length-block _ (omega (arith, length-pairs (λ (n : Name). n .core) (λ (n : Name). n .number) ns))
+
+unfoldable descriptorWords : ℕ → List Held → List ℕ
+descriptorWords k hs = mark ∷ 1 ∷ k ∷ length hs ∷ pairWords (λ (h : Held). h .block) (λ (h : Held). h .flag) hs
+
+unfoldable commitWords : ℕ → ℕ → List Name → List ℕ
+commitWords k stamp ns = mark ∷ 2 ∷ k ∷ stamp / 2 ^ 32 ∷ stamp % 2 ^ 32 ∷ length ns ∷ pairWords (λ (n : Name). n .core) (λ (n : Name). n .number) ns
+
+held-limits : (s : Shape) (h : Held) → isHeld s h ≡ true → (h .block < s .blocks) × (h .flag ≤ 1)
+unfolding isHeld
+held-limits s h e = (ltb-true (h .block) (s .blocks) (and-left _ _ e), leb-true (h .flag) 1 (and-right (ltb (h .block) (s .blocks)) _ e))
+
+listable-core : (s : Shape) (n : Name) → isListable s n ≡ true → n .core < s .cores
+unfolding isListable
+listable-core s n e = ltb-true (n .core) (s .cores) (and-left _ _ e)
+
+module _ {s : Shape} {k : ℕ} {hs : List Held} {stamp : ℕ} {ns : List Name} (g : Sound s k hs stamp ns) where
+  descriptor-fit : Each IsWord (descriptorWords k hs)
+  unfolding descriptorWords
+  descriptor-fit =
+      let pairs : Each (λ (h : Held). IsWord (h .block) × IsWord (h .flag)) hs = mem-each _ hs (λ h m. let r = held-limits s h (all-mem (isHeld s) hs (g .held) m) in (omega (arith, g .shape .blocks), omega arith)) in
+      (omega arith, (omega arith, (omega (arith, g .number), (omega (arith, g .few), each-pairs (λ (h : Held). h .block) (λ (h : Held). h .flag) hs pairs))))
+
+  descriptor-word : (i : ℕ) → be4 (descriptorBlock k hs) (4 * i) ≡ getD (descriptorWords k hs) i 0
+  unfolding descriptorBlock descriptorWords
+  descriptor-word = word-of (descriptorWords k hs) descriptor-fit
+
+  pub descriptor-head : hasHead 1 k (descriptorBlock k hs) ≡ true
+  unfolding hasHead descriptorWords
+  descriptor-head = simp (descriptor-word 0, descriptor-word 1, descriptor-word 2, eq-eqb k k refl)
+
+  pub descriptor-count : blockCount (descriptorBlock k hs) ≡ length hs
+  unfolding blockCount descriptorWords
+  descriptor-count = descriptor-word 3
+
+  pub descriptor-held : heldIn (descriptorBlock k hs) (length hs) ≡ hs
+  unfolding heldIn descriptorBlock descriptorWords
+  descriptor-held = pairs-of (λ (h : Held). h .block) (λ (h : Held). h .flag) newHeld (λ h. refl) (descriptorWords k hs) descriptor-fit hs 4 refl
+
+  pub descriptor-read : isDescriptor s k (descriptorBlock k hs) ≡ true
+  unfolding isDescriptor
+  descriptor-read =
+      simp (descriptor-head, descriptor-count, descriptor-held, le-leb k maxNumber (g .number), le-leb (length hs) 8 (g .few), g .held, g .apart)
+
+  commit-fit : Each IsWord (commitWords k stamp ns)
+  unfolding commitWords
+  commit-fit =
+      let pairs : Each (λ (n : Name). IsWord (n .core) × IsWord (n .number)) ns =
+          getD-each _ ns (newName 0 0)
+          (λ i h. (omega (arith, g .shape .cores, listable-core s (getD ns i (newName 0 0)) (all-mem (isListable s) ns (g .listable) (getD-mem ns i (newName 0 0) h))), each-getD (λ (n : Name). IsWord (n .number)) ns (g .numbers) i (newName 0 0) h)) in
+      (omega arith, (omega arith, (omega (arith, g .number), (omega (arith, g .stamp-fits), (omega arith, (omega (arith, g .short),
+      each-pairs (λ (n : Name). n .core) (λ (n : Name). n .number) ns pairs))))))
+
+  commit-word : (i : ℕ) → be4 (commitBlock k stamp ns) (4 * i) ≡ getD (commitWords k stamp ns) i 0
+  unfolding commitBlock commitWords
+  commit-word = word-of (commitWords k stamp ns) commit-fit
+
+  pub commit-head : hasHead 2 k (commitBlock k stamp ns) ≡ true
+  unfolding hasHead commitWords
+  commit-head = simp (commit-word 0, commit-word 1, commit-word 2, eq-eqb k k refl)
+
+  pub commit-stamp : stampIn (commitBlock k stamp ns) ≡ stamp
+  unfolding stampIn commitWords
+  commit-stamp = rw (commit-word 3, commit-word 4) (div-add-mod' stamp 4294967296)
+
+  pub commit-count : nameCount (commitBlock k stamp ns) ≡ length ns
+  unfolding nameCount commitWords
+  commit-count = commit-word 5
+
+  pub commit-names : namesIn (commitBlock k stamp ns) (length ns) ≡ ns
+  unfolding namesIn commitBlock commitWords
+  commit-names = pairs-of (λ (n : Name). n .core) (λ (n : Name). n .number) newName (λ n. refl) (commitWords k stamp ns) commit-fit ns 6 refl
+
+  pub commit-read : isCommit s k (commitBlock k stamp ns) ≡ true
+  unfolding isCommit
+  commit-read = simp (commit-head, commit-stamp, commit-count, commit-names, le-leb 1 stamp (g .stamped), le-leb (length ns) 12 (g .short), g .listable)
+
+-- ---- blocks with another head
+head-known : (type k : ℕ) (b : Bytes) → hasHead type k b ≡ true → (be4 b 4 ≡ type) × (be4 b 8 ≡ k)
+unfolding hasHead
+head-known type k b h =
+    (eqb-true (be4 b 4) type (and-right (eqb (be4 b 0) mark) _ (and-left _ _ h)), eqb-true (be4 b 8) k (and-right (eqb (be4 b 0) mark && eqb (be4 b 4) type) _ h))
+
+pub head-other : (type k type₂ k₂ : ℕ) (b : Bytes) → hasHead type k b ≡ true → (type ≡ type₂ → k ≡ k₂ → ⊥) → hasHead type₂ k₂ b ≡ false
+head-other type k type₂ k₂ b h ne =
+    let x = head-known type k b h in
+    cases (hasHead type₂ k₂ b) (λ h₂. let y = head-known type₂ k₂ b h₂ in absurd (ne (sym (x .0) ∙ y .0) (sym (x .1) ∙ y .1))) (λ h₂. h₂)
+
+pub no-descriptor : (s : Shape) (k : ℕ) (b : Bytes) → hasHead 1 k b ≡ false → isDescriptor s k b ≡ false
+unfolding isDescriptor
+no-descriptor s k b h = rw h
+
+pub no-commit : (s : Shape) (k : ℕ) (b : Bytes) → hasHead 2 k b ≡ false → isCommit s k b ≡ false
+unfolding isCommit
+no-commit s k b h = rw h
+
+-- ---- data
+module _ (b : Bytes) where
+  -- stored data never begins with the mark
+  pub escaped-mark : eqb (be4 (escaped b) 0) mark ≡ false
+  unfolding escaped
+  escaped-mark = cases (eqb (be4 b 0) mark) (λ h. unfold be4 part number in rw h) (λ h. rw (h, h))
+
+  pub escaped-head : (type k : ℕ) → hasHead type k (escaped b) ≡ false
+  unfolding hasHead
+  escaped-head type k = rw escaped-mark
+
+  module _ (long : 4 ≤ length b) where
+    pub length-escaped : length (escaped b) ≡ length b
+    unfolding escaped
+    length-escaped = cases (eqb (be4 b 0) mark) (λ h. rw h (simp length-drop (omega arith))) (λ h. rw h)
+
+    pub length-unescaped : (f : ℕ) → length (unescaped f b) ≡ length b
+    unfolding unescaped bytes
+    length-unescaped f = cases (eqb f 1) (λ h. rw h (simp length-drop (omega arith))) (λ h. rw h)
+
+    pub unescaped-escaped : Each IsByte b → unescaped (flagOf b) (escaped b) ≡ b
+    unfolding unescaped escaped flagOf
+    unescaped-escaped f =
+        let first : be4 b 0 ≡ mark → bytes 4 mark ≡ take 4 b =
+            λ e. ap (bytes 4) (sym e) ∙ ap (λ (w : ℕ). bytes w (be4 b 0)) (sym (length-take-le 4 b long)) ∙ (unfold be4 part in bytes-number (take 4 b) (each-take IsByte 4 b f)) in
+        cases (eqb (be4 b 0) mark) (λ h. rw h (ap (λ (x : Bytes). x ++ drop 4 b) (first (eqb-true (be4 b 0) mark h)) ∙ take-append-drop 4 b)) (λ h. rw h)

@@ -1,0 +1,245 @@
+-- Journals: where their blocks stand, that a record stored block by block is read back, and how a journal is read on.
+-- A journal's reading looks at its own blocks only, and ends at the first position where no whole record stands.
+use Prim.Native.Nat.{ℕ, zero, suc, _+_, _*_, _-_, _/_, _%_, _≤_, _<_}
+use native.Mathlib.Omega.{arith}
+use native.Mathlib.Nat.{div-add-mod, mod-lt, mod-add-mod, mul-le-mul-left, mul-le-mul-right, mul-le-mul, mul-suc, add-zero}
+use native.Mathlib.Numerals.{add-one}
+use native.Mathlib.Decide.{decLt}
+use mathlib.Core.Path.{_≡_, refl, ap, _∙_, sym, subst}
+use mathlib.Core.Logic.{_≢_}
+use mathlib.Core.Bool.{Bool, true, false, cond, _&&_, and-false}
+use mathlib.Core.List.{List, [], _∷_, _++_, map}
+use lib.ListN.{length, take, getD, length-append, length-map, List·getD-map, List·getD-append}
+use lib.Seq.{getD-at, take-all}
+use lib.Dec.{leb, eqb}
+use borrow.Author.Tests.{le-leb, leb-true}
+use Rattle.model.specs.Bytes.{Bytes, blockAt, store, be4, part, number}
+use Rattle.model.specs.Shape.{journalBlock}
+use Rattle.model.specs.Layout.{Held, newHeld, hasHead, descriptorBlock, blockCount, heldIn, isHeld, distinct, isDescriptor, commitBlock, stampIn, nameCount, namesIn, isListable, isCommit, flagOf, escaped, unescaped, maxNumber}
+use Rattle.model.specs.Journal.{journalAt, recordAt, recordsFrom, journal, heldBy, namesOf, imageOf}
+use Rattle.model.specs.declared.Shape.{Shape}
+use Rattle.model.specs.declared.Tail.{Tail}
+use Rattle.model.specs.declared.Name.{Name}
+use Rattle.model.specs.declared.Committed.{Committed}
+use Rattle.model.specs.declared.Found.{Found}
+use Rattle.model.specs.declared.Found.the-variants.{Whole, Miss}
+use Rattle.model.proofs.Lists.{cases, and-left, and-right, Each, each-append, each-getD}
+use Rattle.model.proofs.Store.{length-store, block-stored, block-other}
+use Rattle.model.proofs.Words.{IsByte}
+use Rattle.model.proofs.Encoding.{Limits, Sound, length-descriptor, length-commit, descriptor-count, descriptor-held, descriptor-read, commit-stamp, commit-count, commit-names, commit-read, length-escaped, unescaped-escaped}
+
+-- ---- where the blocks of a journal stand
+pub journal-low : {s : Shape} → Limits s → (c p : ℕ) → c < s .cores → journalBlock s c p < 257
+unfolding journalBlock
+journal-low {s} l c p h =
+    let j : 0 < s .journal = omega (arith, l .four) in
+    omega (arith, l .blocks, l .journal, mod-lt p j, mul-le-mul {n₁ = c} {n₂ = 7} (omega (arith, l .cores)) (l .journal))
+
+-- the master block and the home blocks are no journal blocks
+pub home-apart : (s : Shape) (c p k : ℕ) → k ≤ s .blocks → k ≢ journalBlock s c p
+unfolding journalBlock
+home-apart s c p k h e = omega arith
+
+pub cores-apart : (s : Shape) (c p c₂ p₂ : ℕ) → 0 < s .journal → c ≢ c₂ → journalBlock s c p ≢ journalBlock s c₂ p₂
+unfolding journalBlock
+cores-apart s c p c₂ p₂ j ne e =
+    elim (decLt c c₂)
+    [ yes lt ↦ omega (arith, mod-lt p j, mul-le-mul-right (s .journal) lt)
+    | no ge ↦ omega (arith, mod-lt p₂ j, mul-le-mul-right {m = suc c₂} {n = c} (s .journal) (omega arith)) ]
+
+-- positions less than J apart are different
+mod-apart : (j a b : ℕ) → a < b → b < a + j → a % j ≡ b % j → ⊥
+mod-apart j a b h k e =
+    elim (decLt (a / j) (b / j))
+    [ yes lt ↦ omega (arith, div-add-mod a j, div-add-mod b j, mul-le-mul-left j lt, mul-suc j (a / j))
+    | no ge ↦ omega (arith, div-add-mod a j, div-add-mod b j, mul-le-mul-left {m = b / j} {n = a / j} j (omega arith)) ]
+
+pub journal-apart : (s : Shape) (c p i j : ℕ) → i < s .journal → j < s .journal → i ≢ j → journalBlock s c (p + i) ≢ journalBlock s c (p + j)
+unfolding journalBlock
+journal-apart s c p i j hi hj ne e =
+    elim (decLt i j)
+    [ yes lt ↦ mod-apart (s .journal) (p + i) (p + j) (omega arith) (omega arith) (omega arith)
+    | no ge ↦ mod-apart (s .journal) (p + j) (p + i) (omega arith) (omega arith) (omega arith) ]
+
+-- positions count round modulo J
+pub journal-wrap : (s : Shape) (c p i : ℕ) → journalBlock s c (p % s .journal + i) ≡ journalBlock s c (p + i)
+unfolding journalBlock
+journal-wrap s c p i = rw (mod-add-mod p (s .journal) i)
+
+-- ---- blocks stored one after the other, from a position on
+unfoldable pub storesAt : Shape → ℕ → ℕ → List Bytes → Bytes → Bytes
+storesAt s c p [] d = d
+storesAt s c p (b ∷ bs) d = storesAt s c (p + 1) bs (store d (journalBlock s c p) b)
+
+abbrev pub IsBlock : Bytes → Type 0
+IsBlock b = length b ≡ 128
+
+next : (p i : ℕ) → p + suc i ≡ p + 1 + i
+next p i = omega arith
+
+module _ {s : Shape} (l : Limits s) (c : ℕ) (in-range : c < s .cores) where
+  fits : (p : ℕ) (d : Bytes) → length d ≡ 32896 → 128 * journalBlock s c p + 128 ≤ length d
+  fits p d n = omega (arith, journal-low l c p in-range)
+
+  pub length-stores : (bs : List Bytes) (p : ℕ) (d : Bytes) → Each IsBlock bs → length d ≡ 32896 → length (storesAt s c p bs d) ≡ 32896
+  unfolding storesAt
+  length-stores [] p d z n = n
+  length-stores (b ∷ bs) p d z n =
+      length-stores bs (p + 1) (store d (journalBlock s c p) b) (z .1) (length-store d (journalBlock s c p) b (fits p d n) (z .0) ∙ n)
+
+  -- what is elsewhere stays
+  pub stores-other : (bs : List Bytes) (p : ℕ) (d : Bytes) → Each IsBlock bs → length d ≡ 32896 → (k : ℕ)
+      → ((i : ℕ) → i < length bs → k ≢ journalBlock s c (p + i)) → blockAt (storesAt s c p bs d) k ≡ blockAt d k
+  unfolding storesAt
+  stores-other [] p d z n k h = refl
+  stores-other (b ∷ bs) p d z n k h =
+      let n₂ : length (store d (journalBlock s c p) b) ≡ 32896 = length-store d (journalBlock s c p) b (fits p d n) (z .0) ∙ n in
+      stores-other bs (p + 1) (store d (journalBlock s c p) b) (z .1) n₂ k (λ i hi. subst (λ (q : ℕ). k ≢ journalBlock s c q) (next p i) (h (suc i) (omega arith)))
+      ∙ block-other d (journalBlock s c p) b (fits p d n) (z .0) k (subst (λ (q : ℕ). k ≢ journalBlock s c q) (add-zero p) (h 0 (omega arith)))
+
+  apart : (p i : ℕ) → suc i < s .journal → journalBlock s c p ≢ journalBlock s c (p + 1 + i)
+  apart p i h =
+      rw (← next p i)
+      (subst (λ (q : ℕ). journalBlock s c q ≢ journalBlock s c (p + suc i)) (add-zero p) (journal-apart s c p 0 (suc i) (omega arith) h (omega arith)))
+
+  pub stores-in : (bs : List Bytes) (p : ℕ) (d : Bytes) → Each IsBlock bs → length d ≡ 32896 → length bs ≤ s .journal → (i : ℕ) → i < length bs
+      → journalAt s (storesAt s c p bs d) c (p + i) ≡ getD bs i []
+  unfolding storesAt journalAt
+  stores-in [] p d z n m i h = absurd (omega arith)
+  stores-in (b ∷ bs) p d z n m zero h =
+      let n₂ : length (store d (journalBlock s c p) b) ≡ 32896 = length-store d (journalBlock s c p) b (fits p d n) (z .0) ∙ n in
+      rw (add-zero p)
+      (stores-other bs (p + 1) (store d (journalBlock s c p) b) (z .1) n₂ (journalBlock s c p) (λ i hi. apart p i (omega arith))
+      ∙ block-stored d (journalBlock s c p) b (fits p d n) (z .0))
+  stores-in (b ∷ bs) p d z n m (suc i) h =
+      let n₂ : length (store d (journalBlock s c p) b) ≡ 32896 = length-store d (journalBlock s c p) b (fits p d n) (z .0) ∙ n in
+      rw (next p i) (stores-in bs (p + 1) (store d (journalBlock s c p) b) (z .1) n₂ (omega arith) i (omega arith))
+
+-- ---- one record: its blocks in the order stored, and where they stand
+unfoldable pub recordBlocks : ℕ → List Held → ℕ → List Name → List Bytes → List Bytes
+recordBlocks k hs stamp ns images = descriptorBlock k hs ∷ (map escaped images ++ (commitBlock k stamp ns ∷ []))
+
+-- blocks of bytes, with the flags that the descriptor has for them
+pub record Images (hs : List Held) (images : List Bytes) : Type 0 where
+  pub flags : map (λ (h : Held). h .flag) hs ≡ map flagOf images
+  pub sizes : Each IsBlock images
+  pub bytes : Each (Each IsByte) images
+
+images-length : {hs : List Held} {images : List Bytes} → Images hs images → length images ≡ length hs
+images-length {hs} {images} z =
+    sym (length-map images flagOf) ∙ ap length (sym (z .flags)) ∙ length-map hs (λ (h : Held). h .flag)
+
+image-flag : {hs : List Held} {images : List Bytes} → Images hs images → (i : ℕ) → (getD hs i (newHeld 0 0)) .flag ≡ flagOf (getD images i [])
+unfolding flagOf be4 part number
+image-flag {hs} {images} z i =
+    sym (List·getD-map (λ (h : Held). h .flag) hs i (newHeld 0 0)) ∙ ap (λ (l : List ℕ). getD l i 0) (z .flags) ∙ List·getD-map flagOf images i []
+
+pub record Stands (s : Shape) (d : Bytes) (c p k : ℕ) (hs : List Held) (stamp : ℕ) (ns : List Name) (images : List Bytes) : Type 0 where
+  pub descriptor : journalAt s d c p ≡ descriptorBlock k hs
+  pub data-blocks : (i : ℕ) → i < length hs → journalAt s d c (p + (i + 1)) ≡ escaped (getD images i [])
+  pub commit : journalAt s d c (p + (length hs + 1)) ≡ commitBlock k stamp ns
+
+each-escaped : (images : List Bytes) → Each IsBlock images → Each IsBlock (map escaped images)
+each-escaped [] z = tt
+each-escaped (b ∷ bs) z = (length-escaped b (omega (arith, z .0)) ∙ z .0, each-escaped bs (z .1))
+
+-- a record stored block by block stands
+pub stored-stands : {s : Shape} {k : ℕ} {hs : List Held} {stamp : ℕ} {ns : List Name} {images : List Bytes} → Sound s k hs stamp ns → Images hs images
+    → (d : Bytes) (c p : ℕ) → c < s .cores → length d ≡ 32896 → length hs + 2 ≤ s .journal
+    → Stands s (storesAt s c p (recordBlocks k hs stamp ns images) d) c p k hs stamp ns images
+unfolding recordBlocks
+stored-stands {s} {k} {hs} {stamp} {ns} {images} g z d c p h n j =
+    let bs = recordBlocks k hs stamp ns images in
+    let m : length (map escaped images) ≡ length hs = length-map images escaped ∙ images-length z in
+    let size : length bs ≡ length hs + 2 = simp length-append (omega arith) in
+    let whole : Each IsBlock bs =
+        (length-descriptor k hs (g .few),
+        each-append IsBlock (map escaped images) (commitBlock k stamp ns ∷ []) (each-escaped images (z .sizes)) (length-commit k stamp ns (g .short), tt)) in
+    let read = stores-in (g .shape) c h bs p d whole n (omega arith) in
+    record {
+      descriptor = rw add-zero at (read 0 (omega arith));
+      data-blocks =
+        λ i hi.
+          read (i + 1) (omega arith)
+          ∙ rw add-one (List·getD-append (map escaped images) (commitBlock k stamp ns ∷ []) [] i (omega arith) ∙ (unfold escaped be4 part number in List·getD-map escaped images i []));
+      commit = read (length hs + 1) (omega arith) ∙ rw add-one (getD-at (map escaped images) (commitBlock k stamp ns) [] [] (length hs) m);
+    }
+
+-- ---- the record at a position
+-- the record as it is read
+abbrev pub asRead : ℕ → ℕ → ℕ → List Held → ℕ → List Name → Committed
+asRead c p k hs stamp ns = record { core = c; number = k; position = p; count = length hs; stamp = stamp; named = length ns }
+
+module _ {s : Shape} {d : Bytes} {c p k : ℕ} {hs : List Held} {stamp : ℕ} {ns : List Name} {images : List Bytes} (g : Sound s k hs stamp ns) (z : Images hs images)
+    (st : Stands s d c p k hs stamp ns images) where
+  pub record-read : (left : ℕ) → length hs + 2 ≤ left → recordAt s d c k p left ≡ Whole (asRead c p k hs stamp ns)
+  unfolding recordAt
+  record-read left h =
+      simp (st .descriptor, descriptor-count g, st .commit, descriptor-read g, le-leb (length hs + 2) left h, commit-read g, commit-stamp g, commit-count g)
+
+  pub held-read : heldBy s d (asRead c p k hs stamp ns) ≡ hs
+  unfolding heldBy
+  held-read = rw (st .descriptor) (descriptor-held g)
+
+  pub names-read : namesOf s d (asRead c p k hs stamp ns) ≡ ns
+  unfolding namesOf
+  names-read = rw (st .commit) (commit-names g)
+
+  pub image-read : (i : ℕ) → i < length hs → imageOf s d (asRead c p k hs stamp ns) i ≡ getD images i []
+  unfolding imageOf
+  image-read i h =
+      let n : i < length images = omega (arith, images-length z) in
+      let size : length (getD images i []) ≡ 128 = each-getD IsBlock images (z .sizes) i [] n in
+      rw (held-read, st .data-blocks i h, image-flag z i) (unescaped-escaped (getD images i []) (omega arith) (each-getD (Each IsByte) images (z .bytes) i [] n))
+
+-- ---- a step of the reading
+module _ (s : Shape) (d : Bytes) (c k p left : ℕ) where
+  pub records-miss : (most : ℕ) → recordAt s d c k p left ≡ Miss → recordsFrom most s d c k p left ≡ []
+  unfolding recordsFrom
+  records-miss zero h = refl
+  records-miss (suc most) h = rw (h, recordsFrom)
+
+  pub records-hit : (most : ℕ) (e : Committed) → recordAt s d c k p left ≡ Whole e
+      → recordsFrom (suc most) s d c k p left ≡ e ∷ recordsFrom most s d c (k + 1) ((p + (e .count + 2)) % s .journal) (left - (e .count + 2))
+  unfolding recordsFrom
+  records-hit most e h = rw (h, recordsFrom)
+
+  -- a descriptor that is not the one expected
+  pub miss-descriptor : isDescriptor s k (journalAt s d c p) ≡ false → recordAt s d c k p left ≡ Miss
+  unfolding recordAt
+  miss-descriptor h = rw h
+
+  -- a commit that is not its own: a torn record, or a stale one
+  pub miss-commit : isCommit s k (journalAt s d c (p + (blockCount (journalAt s d c p) + 1))) ≡ false → recordAt s d c k p left ≡ Miss
+  unfolding recordAt
+  miss-commit h = rw (h, and-false) refl
+
+-- ---- a record that was read
+-- what is known of a record of core c with number k
+pub record Known (s : Shape) (d : Bytes) (c k : ℕ) (e : Committed) : Type 0 where
+  pub core : e .core ≡ c
+  pub number : e .number ≡ k
+  pub few : e .count ≤ 8
+  pub short : e .named ≤ 12
+  pub descriptor : isDescriptor s k (journalAt s d c (e .position)) ≡ true
+  pub count : blockCount (journalAt s d c (e .position)) ≡ e .count
+  pub commit : isCommit s k (journalAt s d c (e .position + (e .count + 1))) ≡ true
+  pub stamp : stampIn (journalAt s d c (e .position + (e .count + 1))) ≡ e .stamp
+  pub named : nameCount (journalAt s d c (e .position + (e .count + 1))) ≡ e .named
+
+descriptor-few : (s : Shape) (k : ℕ) (b : Bytes) → isDescriptor s k b ≡ true → blockCount b ≤ 8
+unfolding isDescriptor
+descriptor-few s k b h = leb-true (blockCount b) 8 (and-right (hasHead 1 k b && leb k maxNumber) _ (and-left _ _ (and-left _ _ h)))
+
+commit-short : (s : Shape) (k : ℕ) (b : Bytes) → isCommit s k b ≡ true → nameCount b ≤ 12
+unfolding isCommit
+commit-short s k b h = leb-true (nameCount b) 12 (and-right (hasHead 2 k b && leb 1 (stampIn b)) _ (and-left _ _ h))
+
+found-cases : {A : Type 0} (r : Found) → (r ≡ Miss → A) → ((e : Committed) → r ≡ Whole e → A) → A
+found-cases (Whole e) f g = g e refl
+found-cases Miss f g = f refl
+
+module _ (s : Shape) (d : Bytes) (c : ℕ) where
+  pub record-known : (k p left : ℕ) (e : Committed) → recordAt s d c k p left ≡ Whole e → Known s d c k e × (e .position ≡ p) × (e .count + 2 ≤ left)
+  unfolding recordAt
+  record-known k p left e h = ?

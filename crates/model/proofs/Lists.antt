@@ -1,0 +1,155 @@
+-- What the tests of lists say of their elements, the numbers below a count, and a property of each element.
+-- The definitions test lists by Bool; the laws turn such a test into facts on elements and back.
+use Prim.Native.Nat.{ℕ, zero, suc, _+_, _≤_, _<_}
+use native.Mathlib.Omega.{arith}
+use native.Mathlib.Decide.{decLt}
+use mathlib.Core.Path.{_≡_, refl, ap, _∙_, sym, subst}
+use mathlib.Core.Bool.{Bool, true, false, false≢true, _&&_, _||_, and-assoc, or-assoc}
+use mathlib.Core.Logic.{_⊎_, inl, inr}
+use mathlib.Core.List.{List, [], _∷_, _++_, map, List·Memᴰ, List·Memᴰ·head, List·Memᴰ·tail, List·Memᴰ·not-nil, List·Memᴰ·cases-cons, List·Memᴰ·append-cases, List·Memᴰ·eq-of-singleton, Memᴰ·append-left, Memᴰ·append-right, map-append}
+use lib.ListN.{length, take, getD, replicate, length-append, length-map, List·getD-append, List·getD-map}
+use lib.Seq.{getD-at}
+use Rattle.model.specs.Lists.{below, all, any}
+
+-- ---- Bool: both cases with what is known in each, and, or
+pub cases : {A : Type 0} (t : Bool) → (t ≡ true → A) → (t ≡ false → A) → A
+cases true f g = f refl
+cases false f g = g refl
+
+pub and-both : {a b : Bool} → a ≡ true → b ≡ true → (a && b) ≡ true
+and-both p q = rw (p, q)
+
+pub and-left : (a b : Bool) → (a && b) ≡ true → a ≡ true
+and-left true b h = refl
+and-left false b h = h
+
+pub and-right : (a b : Bool) → (a && b) ≡ true → b ≡ true
+and-right true b h = h
+and-right false b h = absurd (false≢true h)
+
+pub or-left : {a : Bool} (b : Bool) → a ≡ true → (a || b) ≡ true
+or-left b p = rw p
+
+pub or-right : (a : Bool) {b : Bool} → b ≡ true → (a || b) ≡ true
+or-right true q = refl
+or-right false q = q
+
+pub or-cases : (a b : Bool) → (a || b) ≡ true → (a ≡ true) ⊎ (b ≡ true)
+or-cases true b h = inl refl
+or-cases false b h = inr h
+
+-- ---- all, any
+module _ {A : Type 0} (p : A → Bool) where
+  pub all-mem : (xs : List A) → all p xs ≡ true → {x : A} → List·Memᴰ x xs → p x ≡ true
+  unfolding all
+  all-mem [] h m = absurd (List·Memᴰ·not-nil m)
+  all-mem (y ∷ ys) h {x} m =
+      elim (List·Memᴰ·cases-cons m) [ inl e ↦ ap p e ∙ and-left (p y) (all p ys) h | inr t ↦ all-mem ys (and-right (p y) (all p ys) h) t ]
+
+  pub mem-all : (xs : List A) → ((x : A) → List·Memᴰ x xs → p x ≡ true) → all p xs ≡ true
+  unfolding all
+  mem-all [] h = refl
+  mem-all (y ∷ ys) h = and-both (h y (List·Memᴰ·head refl)) (mem-all ys (λ x m. h x (List·Memᴰ·tail m)))
+
+  pub any-mem : (xs : List A) → any p xs ≡ true → (x : A) × List·Memᴰ x xs × (p x ≡ true)
+  unfolding any
+  any-mem [] h = absurd (false≢true h)
+  any-mem (y ∷ ys) h =
+      elim (or-cases (p y) (any p ys) h)
+      [ inl e ↦ (y, List·Memᴰ·head refl, e) | inr t ↦ let r = any-mem ys t in (r .0, List·Memᴰ·tail (r .1), r .2) ]
+
+  pub mem-any : {x : A} {xs : List A} → List·Memᴰ x xs → p x ≡ true → any p xs ≡ true
+  unfolding any
+  mem-any (List·Memᴰ·head {xs = ys} e) h = or-left (any p ys) (ap p (sym e) ∙ h)
+  mem-any (List·Memᴰ·tail {x = y} m) h = or-right (p y) (mem-any m h)
+
+  pub all-append : (xs ys : List A) → all p (xs ++ ys) ≡ (all p xs && all p ys)
+  unfolding all
+  all-append [] ys = refl
+  all-append (x ∷ xs) ys = ap (λ (b : Bool). p x && b) (all-append xs ys) ∙ sym (and-assoc (p x) (all p xs) (all p ys))
+
+  pub any-append : (xs ys : List A) → any p (xs ++ ys) ≡ (any p xs || any p ys)
+  unfolding any
+  any-append [] ys = refl
+  any-append (x ∷ xs) ys = ap (λ (b : Bool). p x || b) (any-append xs ys) ∙ sym (or-assoc (p x) (any p xs) (any p ys))
+
+module _ {A : Type 0} where
+  pub getD-mem : (xs : List A) (i : ℕ) (d : A) → i < length xs → List·Memᴰ (getD xs i d) xs
+  getD-mem [] i d h = absurd (omega arith)
+  getD-mem (x ∷ xs) zero d h = List·Memᴰ·head refl
+  getD-mem (x ∷ xs) (suc i) d h = List·Memᴰ·tail (getD-mem xs i d (omega arith))
+
+  pub mem-getD : {x : A} {xs : List A} → List·Memᴰ x xs → (d : A) → (i : ℕ) × (i < length xs) × (getD xs i d ≡ x)
+  mem-getD (List·Memᴰ·head e) d = (0, omega arith, sym e)
+  mem-getD (List·Memᴰ·tail m) d = let r = mem-getD m d in (suc (r .0), omega (arith, r .1), r .2)
+
+-- ---- the numbers below a count
+pub length-below : (n : ℕ) → length (below n) ≡ n
+unfolding below
+length-below zero = refl
+length-below (suc n) = length-append (below n) (n ∷ []) ∙ omega (arith, length-below n)
+
+pub getD-below : (n i d : ℕ) → i < n → getD (below n) i d ≡ i
+unfolding below
+getD-below zero i d h = absurd (omega arith)
+getD-below (suc n) i d h =
+    elim (decLt i n)
+    [ yes lt ↦ List·getD-append (below n) (n ∷ []) d i (omega (arith, length-below n)) ∙ getD-below n i d lt
+    | no ge ↦ let e : n ≡ i = omega arith in getD-at (below n) n [] d i (length-below n ∙ e) ∙ e ]
+
+pub mem-below : (n : ℕ) {i : ℕ} → List·Memᴰ i (below n) → i < n
+unfolding below
+mem-below zero m = absurd (List·Memᴰ·not-nil m)
+mem-below (suc n) m =
+    elim (List·Memᴰ·append-cases (below n) m)
+    [ inl l ↦ omega (arith, mem-below n l) | inr r ↦ omega (arith, List·Memᴰ·eq-of-singleton r) ]
+
+pub below-mem : (n i : ℕ) → i < n → List·Memᴰ i (below n)
+unfolding below
+below-mem zero i h = absurd (omega arith)
+below-mem (suc n) i h =
+    elim (decLt i n)
+    [ yes lt ↦ Memᴰ·append-left (n ∷ []) (below-mem n i lt)
+    | no ge ↦ Memᴰ·append-right (below n) (List·Memᴰ·head (omega arith)) ]
+
+module _ {A : Type 0} where
+  pub getD-map-below : (f : ℕ → A) (n i : ℕ) (d : A) → i < n → getD (map f (below n)) i d ≡ f i
+  unfolding below
+  getD-map-below f zero i d h = absurd (omega arith)
+  getD-map-below f (suc n) i d h =
+      let l : length (map f (below n)) ≡ n = length-map (below n) f ∙ length-below n in
+      ap (λ (l : List A). getD l i d) (map-append f (below n) (n ∷ []))
+      ∙ elim (decLt i n)
+        [ yes lt ↦ List·getD-append (map f (below n)) (f n ∷ []) d i (omega arith) ∙ getD-map-below f n i d lt
+        | no ge ↦ let e : n ≡ i = omega arith in getD-at (map f (below n)) (f n) [] d i (l ∙ e) ∙ ap f e ]
+
+  -- ---- each element of a list has the property
+  abbrev pub Each : (A → Type 0) → List A → Type 0
+  Each P [] = Unit {0}
+  Each P (x ∷ xs) = P x × Each P xs
+
+  pub each-append : (P : A → Type 0) (xs ys : List A) → Each P xs → Each P ys → Each P (xs ++ ys)
+  each-append P [] ys a b = b
+  each-append P (x ∷ xs) ys a b = (a .0, each-append P xs ys (a .1) b)
+
+  pub each-getD : (P : A → Type 0) (xs : List A) → Each P xs → (i : ℕ) (d : A) → i < length xs → P (getD xs i d)
+  each-getD P [] a i d h = absurd (omega arith)
+  each-getD P (x ∷ xs) a zero d h = a .0
+  each-getD P (x ∷ xs) a (suc i) d h = each-getD P xs (a .1) i d (omega arith)
+
+  pub getD-each : (P : A → Type 0) (xs : List A) (d : A) → ((i : ℕ) → i < length xs → P (getD xs i d)) → Each P xs
+  getD-each P [] d h = tt
+  getD-each P (x ∷ xs) d h = (h 0 (omega arith), getD-each P xs d (λ i l. h (suc i) (omega arith)))
+
+  pub mem-each : (P : A → Type 0) (xs : List A) → ((x : A) → List·Memᴰ x xs → P x) → Each P xs
+  mem-each P [] h = tt
+  mem-each P (x ∷ xs) h = (h x (List·Memᴰ·head refl), mem-each P xs (λ y m. h y (List·Memᴰ·tail m)))
+
+  pub each-replicate : (P : A → Type 0) (n : ℕ) (x : A) → P x → Each P (replicate n x)
+  each-replicate P zero x h = tt
+  each-replicate P (suc n) x h = (h, each-replicate P n x h)
+
+  pub each-take : (P : A → Type 0) (n : ℕ) (xs : List A) → Each P xs → Each P (take n xs)
+  each-take P zero xs a = tt
+  each-take P (suc n) [] a = tt
+  each-take P (suc n) (x ∷ xs) a = (a .0, each-take P n xs (a .1))

@@ -1,0 +1,152 @@
+-- The set that shrinking leaves is the largest one in which each meets the test; where the test is of names, it is the
+-- largest in which each has all that it depends on, transitively. Of the test only that it is monotone is needed.
+use Prim.Native.Nat.{ℕ, zero, suc, _≤_}
+use native.Mathlib.Omega.{arith}
+use mathlib.Core.Path.{_≡_, refl, sym, ap, _∙_, subst}
+use mathlib.Core.Logic.{_⊎_, inl, inr}
+use mathlib.Core.Bool.{Bool, true, false, _||_}
+use mathlib.Core.List.{List, [], _∷_, List·Memᴰ, Memᴰ·cast}
+use lib.ListN.{length}
+use lib.Dec.{eqb}
+use borrow.Author.Tests.{eqb-true, eqb-false, eq-eqb}
+use Rattle.model.specs.Lists.{all, any, select}
+use Rattle.model.specs.Shrink.{Closed, Within, strike, shrinkIn, shrink, DependsOn, lists-it, through}
+use Rattle.model.proofs.Logic.{clash, cases}
+use Rattle.model.proofs.Lists.{all-mem, mem-all, any-mem, mem-any, or-cases, or-left, or-right}
+use Rattle.model.proofs.Select.{select-length, mem-select, select-mem, select-all, select-same}
+
+-- who meets the test in a set meets it in a larger one
+abbrev pub Monotone : {A : Type 0} → (List A → A → Bool) → Type 0
+Monotone {A} stays = (ss es : List A) → Within ss es → (e : A) → stays ss e ≡ true → stays es e ≡ true
+
+module _ {A : Type 0} (stays : List A → A → Bool) where
+  settled : (n : ℕ) (es : List A) → eqb (length (strike stays es)) (length es) ≡ true → shrinkIn (suc n) stays es ≡ es
+  unfolding shrinkIn
+  settled n es h = rw (h, shrinkIn)
+
+  goes-on : (n : ℕ) (es : List A) → eqb (length (strike stays es)) (length es) ≡ false → shrinkIn (suc n) stays es ≡ shrinkIn n stays (strike stays es)
+  unfolding shrinkIn
+  goes-on n es h = rw (h, shrinkIn)
+
+  shrinkIn-closed : (n : ℕ) (es : List A) → length es ≤ n → Closed stays (shrinkIn n stays es)
+  unfolding shrinkIn strike
+  shrinkIn-closed zero [] h = λ e m. elim m [ ]
+  shrinkIn-closed zero (x ∷ es) h = absurd (omega arith)
+  shrinkIn-closed (suc n) es h =
+      cases (eqb (length (strike stays es)) (length es))
+      (λ k. rw (settled n es k) (select-all (stays es) es (eqb-true _ _ k)))
+      (λ k. rw (goes-on n es k)
+        (shrinkIn-closed n (strike stays es) (omega (arith, select-length (stays es) es, eqb-false (length (strike stays es)) (length es) k))))
+
+  shrinkIn-within : (n : ℕ) (es : List A) → Within (shrinkIn n stays es) es
+  unfolding shrinkIn strike
+  shrinkIn-within zero es e m = m
+  shrinkIn-within (suc n) es e m =
+      cases (eqb (length (strike stays es)) (length es))
+      (λ k. rw (settled n es k) at m)
+      (λ k. select-mem (stays es) es e (shrinkIn-within n (strike stays es) e (rw (goes-on n es k) at m)) .0)
+
+  shrinkIn-largest : (P : A → Type 0) → ((es : List A) → ((e : A) → P e → List·Memᴰ e es) → (e : A) → P e → stays es e ≡ true)
+      → (n : ℕ) (es : List A) → ((e : A) → P e → List·Memᴰ e es) → (e : A) → P e → List·Memᴰ e (shrinkIn n stays es)
+  unfolding shrinkIn strike
+  shrinkIn-largest P c zero es s e p = s e p
+  shrinkIn-largest P c (suc n) es s e p =
+      cases (eqb (length (strike stays es)) (length es))
+      (λ k. rw (settled n es k) (s e p))
+      (λ k. rw (goes-on n es k) (shrinkIn-largest P c n (strike stays es) (λ x q. mem-select (stays es) es x (s x q) (c es s x q)) e p))
+
+  -- each meets the test in what is left
+  pub shrink-closed : (es : List A) → Closed stays (shrink stays es)
+  unfolding shrink
+  shrink-closed es = shrinkIn-closed (length es) es (omega arith)
+
+  pub shrink-within : (es : List A) → Within (shrink stays es) es
+  unfolding shrink
+  shrink-within es = shrinkIn-within (length es) es
+
+  -- every set lies in it that lies in the given one, and whose elements meet the test in each list that has them all
+  pub shrink-has : (P : A → Type 0) → ((es : List A) → ((e : A) → P e → List·Memᴰ e es) → (e : A) → P e → stays es e ≡ true)
+      → (es : List A) → ((e : A) → P e → List·Memᴰ e es) → (e : A) → P e → List·Memᴰ e (shrink stays es)
+  unfolding shrink
+  shrink-has P c es = shrinkIn-largest P c (length es) es
+
+  pub shrink-largest : Monotone stays → (es ss : List A) → Within ss es → Closed stays ss → Within ss (shrink stays es)
+  shrink-largest mono es ss s c = shrink-has (λ e. List·Memᴰ e ss) (λ es′ s′ e m. mono ss es′ s′ e (c e m)) es s
+
+  -- a set in which each meets the test stays whole
+  pub shrink-itself : (es : List A) → Closed stays es → shrink stays es ≡ es
+  unfolding shrink shrinkIn strike
+  shrink-itself [] c = refl
+  shrink-itself (x ∷ es) c = settled (length es) (x ∷ es) (eq-eqb _ _ (ap length (select-same (stays (x ∷ es)) (x ∷ es) c)))
+
+-- ---- 'depends on': a set is closed under it where it is closed under what is listed, and only there
+module _ {A : Type 0} {Lists : A → A → Type 0} (P : A → Type 0) where
+  pub depends-closed : ((t u : A) → P t → Lists t u → P u) → (t u : A) → P t → DependsOn Lists t u → P u
+  depends-closed c t u p (lists-it l) = c t u p l
+  depends-closed c t u p (through {u = v} l d) = depends-closed c v u (c t v p l) d
+
+  pub lists-closed : ((t u : A) → P t → DependsOn Lists t u → P u) → (t u : A) → P t → Lists t u → P u
+  lists-closed c t u p l = c t u p (lists-it l)
+
+-- ---- the test of names: each name listed is that of one in the set, or counts as met without it (is gone)
+module _ {A N : Type 0} (nameOf : A → N) where
+  -- a transaction of the set has the name
+  abbrev pub Named : List A → N → Type 0
+  Named es n = (u : A) × List·Memᴰ u es × (n ≡ nameOf u)
+
+  -- no two of the set have one name
+  abbrev pub Distinct : List A → Type 0
+  Distinct es = (t u : A) → List·Memᴰ t es → List·Memᴰ u es → nameOf t ≡ nameOf u → t ≡ u
+
+module _ {A N : Type 0} (names : A → List N) (nameOf : A → N) where
+  -- t lists u, which stands in the given list and is not gone
+  abbrev pub ListsIn : (N → Bool) → List A → A → A → Type 0
+  ListsIn gone es t u = List·Memᴰ u es × List·Memᴰ (nameOf u) (names t) × (gone (nameOf u) ≡ false)
+
+  abbrev pub allNamed : (N → N → Bool) → (N → Bool) → List A → A → Bool
+  allNamed same gone es e = all (λ (n : N). gone n || any (λ (u : A). same n (nameOf u)) es) (names e)
+
+  module _ (same : N → N → Bool) (same-true : (m n : N) → same m n ≡ true → m ≡ n) (same-refl : (n : N) → same n n ≡ true) (gone : N → Bool) where
+    named-each : (es : List A) (e : A) → allNamed same gone es e ≡ true → (n : N) → List·Memᴰ n (names e) → (gone n ≡ true) ⊎ Named nameOf es n
+    named-each es e h n m =
+        elim (or-cases (gone n) (any (λ (u : A). same n (nameOf u)) es) (all-mem (λ (n : N). gone n || any (λ (u : A). same n (nameOf u)) es) (names e) h m))
+        [ inl g ↦ inl g | inr k ↦ inr (let r = any-mem (λ (u : A). same n (nameOf u)) es k in (r .0, r .1, same-true n (nameOf (r .0)) (r .2))) ]
+
+    each-named : (es : List A) (e : A) → ((n : N) → List·Memᴰ n (names e) → (gone n ≡ true) ⊎ Named nameOf es n) → allNamed same gone es e ≡ true
+    each-named es e h =
+        mem-all (λ (n : N). gone n || any (λ (u : A). same n (nameOf u)) es) (names e)
+        (λ n m. elim (h n m)
+          [ inl g ↦ or-left _ g
+          | inr k ↦ or-right (gone n) (mem-any (λ (u : A). same n (nameOf u)) (k .1) (rw (k .2) (same-refl (nameOf (k .0))))) ])
+
+    pub named-monotone : Monotone (allNamed same gone)
+    named-monotone ss es s e h =
+        each-named es e (λ n m. elim (named-each ss e h n m) [ inl g ↦ inl g | inr k ↦ inr (k .0, s (k .0) (k .1), k .2) ])
+
+    -- what is left has each name that one of it lists, save those that are gone
+    pub shrunk-names : (es : List A) (t : A) → List·Memᴰ t (shrink (allNamed same gone) es) → (n : N) → List·Memᴰ n (names t)
+        → (gone n ≡ true) ⊎ Named nameOf (shrink (allNamed same gone) es) n
+    shrunk-names es t m = named-each (shrink (allNamed same gone) es) t (shrink-closed (allNamed same gone) es t m)
+
+    -- and all that one of it depends on, transitively
+    pub shrunk-depends : (es : List A) → Distinct nameOf es → (t u : A) → List·Memᴰ t (shrink (allNamed same gone) es)
+        → DependsOn (ListsIn gone es) t u → List·Memᴰ u (shrink (allNamed same gone) es)
+    shrunk-depends es one = depends-closed (λ t. List·Memᴰ t (shrink (allNamed same gone) es)) lists
+      where
+        lists : (t u : A) → List·Memᴰ t (shrink (allNamed same gone) es) → ListsIn gone es t u → List·Memᴰ u (shrink (allNamed same gone) es)
+        lists t u m l =
+            elim (shrunk-names es t m (nameOf u) (l .1))
+            [ inl g ↦ clash g (l .2)
+            | inr k ↦ Memᴰ·cast (one u (k .0) (l .0) (shrink-within (allNamed same gone) es (k .0) (k .1)) (k .2)) (k .1) ]
+
+    -- every set of the given ones that has all that each of it depends on, where no name is missing, lies in it
+    pub depends-largest : (P : A → Type 0) (es : List A) → ((t : A) → P t → List·Memᴰ t es)
+        → ((t u : A) → P t → DependsOn (ListsIn gone es) t u → P u)
+        → ((t : A) → P t → (n : N) → List·Memᴰ n (names t) → (gone n ≡ true) ⊎ Named nameOf es n)
+        → (t : A) → P t → List·Memᴰ t (shrink (allNamed same gone) es)
+    depends-largest P es s d c =
+        shrink-has (allNamed same gone) P
+        (λ es′ s′ t p. each-named es′ t (λ n m. cases (gone n) inl (λ g. elim (c t p n m)
+          [ inl h ↦ inl h
+          | inr k ↦ inr (k .0, s′ (k .0) (lists-closed P d t (k .0) p (k .1, Memᴰ·cast (sym (k .2)) m, ap gone (sym (k .2)) ∙ g)), k .2) ])))
+        es s

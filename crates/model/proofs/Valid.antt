@@ -1,0 +1,65 @@
+-- The valid set is the largest set of the transactions read in which each name listed is in the set or below its core's
+-- tail number, and so the largest in which each has all that it depends on. Both are the laws of shrinking.
+use mathlib.Core.Path.{_≡_, refl}
+use mathlib.Core.Logic.{_⊎_}
+use mathlib.Core.Bool.{Bool, true}
+use mathlib.Core.List.{List, List·Memᴰ}
+use Prim.Native.Nat.{ℕ}
+use lib.Dec.{eqb, ltb}
+use borrow.Author.Tests.{eqb-true, eq-eqb}
+use Rattle.model.specs.Bytes.{Bytes}
+use Rattle.model.specs.Card.{newName, sameName}
+use Rattle.model.specs.Journal.{nameOf, namesOf}
+use Rattle.model.specs.Shrink.{Closed, Within, DependsOn}
+use Rattle.model.specs.Valid.{isIn, isMet, namesMet, validSet}
+use Rattle.model.specs.declared.Shape.{Shape}
+use Rattle.model.specs.declared.Tail.{Tail}
+use Rattle.model.specs.declared.Name.{Name}
+use Rattle.model.specs.declared.Committed.{Committed}
+use Rattle.model.proofs.Lists.{and-both, and-left, and-right}
+use Rattle.model.proofs.Shrink.{Monotone, Named, Distinct, ListsIn, shrink-closed, shrink-within, shrink-largest, named-monotone, shrunk-names, shrunk-depends}
+
+pub sameName-true : (m n : Name) → sameName m n ≡ true → m ≡ n
+unfolding sameName
+sameName-true m n h =
+    let c : m .core ≡ n .core = eqb-true _ _ (and-left (eqb (m .core) (n .core)) _ h) in
+    let k : m .number ≡ n .number = eqb-true _ _ (and-right (eqb (m .core) (n .core)) _ h) in
+    let e : newName (m .core) (m .number) ≡ newName (n .core) (n .number) = rw (c, k) in
+    e
+
+pub sameName-refl : (n : Name) → sameName n n ≡ true
+unfolding sameName
+sameName-refl n = and-both (eq-eqb (n .core) (n .core) refl) (eq-eqb (n .number) (n .number) refl)
+
+-- it 'lies below its core's tail number'
+abbrev pub belowTail : (ℕ → Tail) → Name → Bool
+belowTail tailAt n = ltb (n .number) ((tailAt (n .core)) .number)
+
+module _ (s : Shape) (d : Bytes) (tailAt : ℕ → Tail) where
+  pub namesMet-monotone : Monotone (namesMet s d tailAt)
+  unfolding namesMet isMet isIn
+  namesMet-monotone = named-monotone (namesOf s d) nameOf sameName sameName-true sameName-refl (belowTail tailAt)
+
+  pub valid-closed : (es : List Committed) → Closed (namesMet s d tailAt) (validSet s d tailAt es)
+  unfolding validSet
+  valid-closed = shrink-closed (namesMet s d tailAt)
+
+  pub valid-within : (es : List Committed) → Within (validSet s d tailAt es) es
+  unfolding validSet
+  valid-within = shrink-within (namesMet s d tailAt)
+
+  pub valid-largest : (es ss : List Committed) → Within ss es → Closed (namesMet s d tailAt) ss → Within ss (validSet s d tailAt es)
+  unfolding validSet
+  valid-largest = shrink-largest (namesMet s d tailAt) namesMet-monotone
+
+  -- 'each name listed is in the set or lies below its core's tail number'
+  pub valid-names : (es : List Committed) (t : Committed) → List·Memᴰ t (validSet s d tailAt es) → (n : Name) → List·Memᴰ n (namesOf s d t)
+      → (belowTail tailAt n ≡ true) ⊎ Named nameOf (validSet s d tailAt es) n
+  unfolding validSet namesMet isMet isIn
+  valid-names = shrunk-names (namesOf s d) nameOf sameName sameName-true sameName-refl (belowTail tailAt)
+
+  -- each valid one has all that it depends on among the given ones that are not below a tail
+  pub valid-depends : (es : List Committed) → Distinct nameOf es → (t u : Committed) → List·Memᴰ t (validSet s d tailAt es)
+      → DependsOn (ListsIn (namesOf s d) nameOf (belowTail tailAt) es) t u → List·Memᴰ u (validSet s d tailAt es)
+  unfolding validSet namesMet isMet isIn
+  valid-depends = shrunk-depends (namesOf s d) nameOf sameName sameName-true sameName-refl (belowTail tailAt)

@@ -1,0 +1,156 @@
+-- Numbers of any width become bytes and are read back; a block of four-byte numbers is read word by word.
+-- Every record block is such a block, so `word-of` carries all laws on reading what was stored.
+use Prim.Native.Nat.{ℕ, zero, suc, _+_, _*_, _-_, _/_, _%_, _^_, _≤_, _<_}
+use native.Mathlib.Omega.{arith}
+use native.Mathlib.Nat.{div-add-mod', div-lt-iff-lt-mul, zero-lt-suc, suc-add, add-assoc, suc-sub-suc, sub-zero, zero-sub, mul-le-mul-right, mul-assoc, pow-succ', zero-add, add-zero}
+use mathlib.Core.Path.{_≡_, refl, ap, _∙_, sym, subst, ap₂}
+use mathlib.Core.List.{List, [], _∷_, _++_, append-assoc, append-nil, flatMap}
+use lib.ListN.{length, take, drop, getD, replicate, length-append, length-take, length-drop, length-replicate}
+use lib.Seq.{take-at, drop-at, drop-drop}
+use Rattle.model.specs.Bytes.{Bytes, bytes, number, part, replaced, be4, words, padded, block}
+use Rattle.model.proofs.Lists.{Each, each-append, each-replicate}
+
+-- ---- numbers
+abbrev pub IsByte : ℕ → Type 0
+IsByte x = x < 256
+
+-- a number fits four bytes
+abbrev pub IsWord : ℕ → Type 0
+IsWord x = x < 4294967296
+
+pub length-bytes : (w n : ℕ) → length (bytes w n) ≡ w
+unfolding bytes
+length-bytes zero n = refl
+length-bytes (suc w) n = length-append (bytes w (n / 256)) (n % 256 ∷ []) ∙ omega (arith, length-bytes w (n / 256))
+
+pub each-bytes : (w n : ℕ) → Each IsByte (bytes w n)
+unfolding bytes
+each-bytes zero n = tt
+each-bytes (suc w) n = each-append IsByte (bytes w (n / 256)) (n % 256 ∷ []) (each-bytes w (n / 256)) (omega arith, tt)
+
+pub number-append : (acc : ℕ) (xs ys : Bytes) → number acc (xs ++ ys) ≡ number (number acc xs) ys
+unfolding number
+number-append acc [] ys = refl
+number-append acc (x ∷ xs) ys = number-append (acc * 256 + x) xs ys
+
+pub number-bytes : (w n : ℕ) → n < 256 ^ w → number 0 (bytes w n) ≡ n
+unfolding bytes number
+number-bytes zero n h = omega arith
+number-bytes (suc w) n h =
+    number-append 0 (bytes w (n / 256)) (n % 256 ∷ [])
+    ∙ ap (λ (m : ℕ). m * 256 + n % 256) (number-bytes w (n / 256) (div-lt-iff-lt-mul {k = 256} (zero-lt-suc 255) .1 (omega arith)))
+    ∙ div-add-mod' n 256
+
+pub number-low : (acc : ℕ) (xs : Bytes) → Each IsByte xs → number acc xs < suc acc * 256 ^ length xs
+unfolding number
+number-low acc [] f = omega arith
+number-low acc (x ∷ xs) f =
+    let low : suc (acc * 256 + x) * 256 ^ length xs ≤ (suc acc * 256) * 256 ^ length xs = mul-le-mul-right (256 ^ length xs) (omega (arith, f .0)) in
+    let e : (suc acc * 256) * 256 ^ length xs ≡ suc acc * 256 ^ suc (length xs) = mul-assoc (suc acc) 256 (256 ^ length xs) ∙ ap (λ (n : ℕ). suc acc * n) (sym (pow-succ' 256 (length xs))) in
+    omega (arith, number-low (acc * 256 + x) xs (f .1))
+
+bytes-from : (w acc : ℕ) (xs : Bytes) → Each IsByte xs → bytes (length xs + w) (number acc xs) ≡ bytes w acc ++ xs
+unfolding bytes number
+bytes-from w acc [] f = rw (zero-add w, append-nil)
+bytes-from w acc (x ∷ xs) f =
+    let n : suc (length xs) + w ≡ length xs + suc w = omega arith in
+    let q : (acc * 256 + x) / 256 ≡ acc = omega (arith, f .0) in
+    let r : (acc * 256 + x) % 256 ≡ x = omega (arith, f .0) in
+    rw n (bytes-from (suc w) (acc * 256 + x) xs (f .1) ∙ rw (q, r, append-assoc))
+
+pub bytes-number : (xs : Bytes) → Each IsByte xs → bytes (length xs) (number 0 xs) ≡ xs
+unfolding bytes
+bytes-number xs f = rw add-zero at (bytes-from 0 0 xs f)
+
+-- ---- words
+zeros : ℕ → Bytes
+zeros n = replicate n 0
+
+-- nothing but zeros is read from zeros
+part-zeros : (m i n : ℕ) → number 0 (part i n (zeros m)) ≡ 0
+unfolding number part zeros
+part-zeros zero zero zero = refl
+part-zeros zero zero (suc n) = refl
+part-zeros zero (suc i) zero = refl
+part-zeros zero (suc i) (suc n) = refl
+part-zeros (suc m) zero zero = refl
+part-zeros (suc m) zero (suc n) = part-zeros m zero n
+part-zeros (suc m) (suc i) n = part-zeros m i n
+
+-- what is read at a word's place
+word-at : (ws : List ℕ) → Each IsWord ws → (m i : ℕ) → be4 (words ws ++ replicate m 0) (4 * i) ≡ getD ws i 0
+unfolding be4 number part words bytes flatMap
+word-at [] f m i = unfold zeros in part-zeros m (4 * i) 4
+word-at (x ∷ xs) f m zero = number-bytes 4 x (f .0)
+word-at (x ∷ xs) f m (suc i) =
+    let e : 4 * suc i ≡ suc (suc (suc (suc (4 * i)))) = omega arith in
+    rw e (word-at xs (f .1) m i)
+
+pub word-of : (ws : List ℕ) → Each IsWord ws → (i : ℕ) → be4 (block ws) (4 * i) ≡ getD ws i 0
+unfolding block padded
+word-of ws f i = word-at ws f (128 - length (words ws)) i
+
+pub length-words : (ws : List ℕ) → length (words ws) ≡ 4 * length ws
+unfolding words bytes flatMap
+length-words [] = refl
+length-words (x ∷ xs) = omega (arith, length-words xs)
+
+pub length-block : (ws : List ℕ) → length ws ≤ 32 → length (block ws) ≡ 128
+unfolding block padded
+length-block ws h = simp (length-append, length-replicate, length-words) (omega arith)
+
+each-words : (ws : List ℕ) → Each IsByte (words ws)
+unfolding words flatMap
+each-words [] = tt
+each-words (x ∷ xs) = each-append IsByte (bytes 4 x) (words xs) (each-bytes 4 x) (each-words xs)
+
+pub each-block : (ws : List ℕ) → Each IsByte (block ws)
+unfolding block padded
+each-block ws = each-append IsByte (words ws) (replicate (128 - length (words ws)) 0) (each-words ws) (each-replicate IsByte (128 - length (words ws)) 0 (omega arith))
+
+-- a number read byte by byte
+pub be4-getD : (s : Bytes) (at : ℕ) → at + 4 ≤ length s
+    → be4 s at ≡ ((getD s at 0 * 256 + getD s (at + 1) 0) * 256 + getD s (at + 2) 0) * 256 + getD s (at + 3) 0
+unfolding be4 part number
+be4-getD [] at h = absurd (omega arith)
+be4-getD (a ∷ []) zero h = absurd (omega arith)
+be4-getD (a ∷ b ∷ []) zero h = absurd (omega arith)
+be4-getD (a ∷ b ∷ c ∷ []) zero h = absurd (omega arith)
+be4-getD (a ∷ b ∷ c ∷ d ∷ s) zero h = omega arith
+be4-getD (a ∷ s) (suc at) h = rw (suc-add at 1, suc-add at 2, suc-add at 3) (be4-getD s at (omega arith))
+
+-- ---- words put into a block one after another
+pub words-append : (xs ys : List ℕ) → words (xs ++ ys) ≡ words xs ++ words ys
+unfolding words flatMap
+words-append [] ys = refl
+words-append (x ∷ xs) ys = ap (λ (l : Bytes). bytes 4 x ++ l) (words-append xs ys) ∙ sym (append-assoc (bytes 4 x) (words xs) (words ys))
+
+-- two runs, one after the other, are one
+pub replaced-append : (at n m : ℕ) (d a b : Bytes) → length a ≡ n → at + n ≤ length d → replaced (at + n) m (replaced at n d a) b ≡ replaced at (n + m) d (a ++ b)
+unfolding replaced
+replaced-append at n m d a b e h =
+    let r = drop n (drop at d) in
+    let p = take at d ++ a in
+    let len : length p ≡ at + n = simp (length-append, length-take) (omega arith) in
+    ap (λ (l : Bytes). take (at + n) l ++ (b ++ drop m (drop (at + n) l))) (sym (append-assoc (take at d) a r))
+    ∙ ap₂ (λ (x y : Bytes). x ++ (b ++ drop m y)) (take-at p r (at + n) len) (drop-at p r (at + n) len)
+    ∙ simp (append-assoc, drop-drop, add-assoc)
+
+drop-zeros : (i m : ℕ) → drop i (zeros m) ≡ zeros (m - i)
+unfolding zeros
+drop-zeros zero m = rw sub-zero
+drop-zeros (suc i) zero = rw zero-sub
+drop-zeros (suc i) (suc m) = drop-zeros i m ∙ ap (λ (k : ℕ). replicate {A = ℕ} k 0) (sym (suc-sub-suc m i))
+
+-- words put after those that a block has
+pub put-words : (ws xs : List ℕ) → length ws + length xs ≤ 32 → replaced (4 * length ws) (4 * length xs) (block ws) (words xs) ≡ block (ws ++ xs)
+unfolding replaced block padded zeros
+put-words ws xs h =
+    let z = zeros (128 - length (words ws)) in
+    let l = length-words ws in
+    let n : length (words (ws ++ xs)) ≡ 4 * length ws + 4 * length xs = ap length (words-append ws xs) ∙ simp (length-append, length-words) in
+    let e : 128 - length (words ws) - 4 * length xs ≡ 128 - length (words (ws ++ xs)) = omega arith in
+    ap₂ (λ (x y : Bytes). x ++ (words xs ++ drop (4 * length xs) y)) (take-at (words ws) z (4 * length ws) l) (drop-at (words ws) z (4 * length ws) l)
+    ∙ ap (λ (y : Bytes). words ws ++ (words xs ++ y)) (drop-zeros (4 * length xs) (128 - length (words ws)) ∙ ap zeros e)
+    ∙ sym (append-assoc (words ws) (words xs) (zeros (128 - length (words (ws ++ xs)))))
+    ∙ ap (λ (x : Bytes). x ++ zeros (128 - length (words (ws ++ xs)))) (sym (words-append ws xs))
