@@ -1,27 +1,25 @@
 -- What is stored is read: master, descriptor, commit and data, over the one definition of their bytes.
 -- Stored data never begins with the mark, so it is never taken for a descriptor or a commit.
-use Prim.Native.Nat.{ℕ, zero, suc, _+_, _*_, _-_, _/_, _%_, _^_, _≤_, _<_}
+use Prim.Native.Nat.{ℕ, zero, suc, _+_, _*_, _/_, _%_, _^_, _≤_, _<_}
 use native.Mathlib.Omega.{arith}
-use native.Mathlib.Nat.{div-add-mod', add-zero}
-use native.Mathlib.Numerals.{add-one, add-two}
-use mathlib.Core.Path.{_≡_, refl, ap, _∙_, sym, subst, ap₂}
-use mathlib.Core.Bool.{Bool, true, false, cond, _&&_}
-use mathlib.Core.List.{List, [], _∷_, _++_, map, flatMap, List·Memᴰ}
-use lib.ListN.{length, take, drop, getD, replicate, length-map, length-drop, take-append-drop}
+use native.Mathlib.Nat.{div-add-mod'}
+use mathlib.Core.Path.{_≡_, refl, ap, _∙_, sym}
+use mathlib.Core.Bool.{true, false, _&&_}
+use mathlib.Core.List.{List, [], _∷_, _++_, map, flatMap}
+use lib.ListN.{length, take, drop, getD, length-map, length-drop, take-append-drop}
 use lib.Seq.{getD-drop, ext-getD, length-take-le}
 use lib.Dec.{eqb, leb, ltb}
-use borrow.Author.Tests.{le-leb, lt-ltb, eq-eqb, ne-eqb, leb-true, ltb-true, eqb-true, eqb-false}
+use borrow.Author.Tests.{le-leb, eq-eqb, leb-true, ltb-true, eqb-true}
 use Rattle.model.specs.Lists.{below, all}
 use Rattle.model.specs.Bytes.{Bytes, bytes, number, part, be4, block}
 use Rattle.model.specs.Shape.{between, inRange}
 use Rattle.model.specs.Card.{newTail, newName}
-use Rattle.model.specs.Layout
 use Rattle.model.specs.Layout.{mark, maxNumber, hasHead, pairWords, pairAt, pairsIn, masterBlock, shapeIn, tailIn, isTail, isMaster, Held, newHeld, descriptorBlock, blockCount, heldIn, distinct, isHeld, isDescriptor, commitBlock, stampIn, nameCount, namesIn, isListable, isCommit, flagOf, escaped, unescaped}
 use Rattle.model.specs.declared.Shape.{Shape}
 use Rattle.model.specs.declared.Tail.{Tail}
 use Rattle.model.specs.declared.Name.{Name}
 use Rattle.model.proofs.Lists.{cases, and-left, and-right, all-mem, mem-all, length-below, getD-map-below, mem-below, Each, each-getD, getD-each, mem-each, each-take, getD-mem}
-use Rattle.model.proofs.Words.{IsByte, IsWord, word-of, length-block, bytes-number, be4-getD}
+use Rattle.model.proofs.Words.{IsByte, IsWord, word-of, length-block, bytes-number}
 
 -- ---- pairs
 module _ {A : Type 0} (f g : A → ℕ) where
@@ -73,21 +71,18 @@ pub record Limits (s : Shape) : Type 0 where
   pub four : 4 ≤ s .journal
   pub journal : s .journal ≤ 24
 
+between-known : (low x high : ℕ) → between low x high ≡ true → (low ≤ x) × (x ≤ high)
+unfolding between
+between-known low x high h = (leb-true low x (and-left _ _ h), leb-true x high (and-right (leb low x) _ h))
+
 pub range-limits : (s : Shape) → inRange (s .cores) (s .blocks) (s .journal) ≡ true → Limits s
-unfolding inRange between
+unfolding inRange
 range-limits s h =
-    let cb = and-left _ (leb 4 (s .journal) && leb (s .journal) 24) h in
-    let c = and-left (leb 1 (s .cores) && leb (s .cores) 8) _ cb in
-    let b = and-right (leb 1 (s .cores) && leb (s .cores) 8) (leb 1 (s .blocks) && leb (s .blocks) 64) cb in
-    let j = and-right (leb 1 (s .cores) && leb (s .cores) 8 && (leb 1 (s .blocks) && leb (s .blocks) 64)) (leb 4 (s .journal) && leb (s .journal) 24) h in
-    record {
-      core = leb-true 1 (s .cores) (and-left (leb 1 (s .cores)) (leb (s .cores) 8) c);
-      cores = leb-true (s .cores) 8 (and-right (leb 1 (s .cores)) (leb (s .cores) 8) c);
-      block = leb-true 1 (s .blocks) (and-left (leb 1 (s .blocks)) (leb (s .blocks) 64) b);
-      blocks = leb-true (s .blocks) 64 (and-right (leb 1 (s .blocks)) (leb (s .blocks) 64) b);
-      four = leb-true 4 (s .journal) (and-left (leb 4 (s .journal)) (leb (s .journal) 24) j);
-      journal = leb-true (s .journal) 24 (and-right (leb 4 (s .journal)) (leb (s .journal) 24) j);
-    }
+    let cb = and-left _ _ h in
+    let c = between-known 1 (s .cores) 8 (and-left _ _ cb) in
+    let b = between-known 1 (s .blocks) 64 (and-right (between 1 (s .cores) 8) _ cb) in
+    let j = between-known 4 (s .journal) 24 (and-right (between 1 (s .cores) 8 && between 1 (s .blocks) 64) _ h) in
+    record { core = c .0; cores = c .1; block = b .0; blocks = b .1; four = j .0; journal = j .1 }
 
 pub limits-range : {s : Shape} → Limits s → inRange (s .cores) (s .blocks) (s .journal) ≡ true
 unfolding inRange between
@@ -96,11 +91,10 @@ limits-range {s} l =
 
 -- ---- master
 pub tail-limits : (s : Shape) (t : Tail) → isTail s t ≡ true → (1 ≤ t .number) × (t .number ≤ suc maxNumber) × (t .position < s .journal)
-unfolding isTail between
+unfolding isTail
 tail-limits s t h =
-    let n = and-left _ _ h in
-    (leb-true 1 (t .number) (and-left _ _ n), leb-true (t .number) (suc maxNumber) (and-right (leb 1 (t .number)) _ n),
-    ltb-true (t .position) (s .journal) (and-right (leb 1 (t .number) && leb (t .number) (suc maxNumber)) _ h))
+    let n = between-known 1 (t .number) (suc maxNumber) (and-left _ _ h) in
+    (n .0, n .1, ltb-true (t .position) (s .journal) (and-right (between 1 (t .number) (suc maxNumber)) _ h))
 
 unfoldable masterWords : Shape → (ℕ → Tail) → List ℕ
 masterWords s tailAt =
@@ -118,13 +112,29 @@ module _ {s : Shape} (l : Limits s) (tailAt : ℕ → Tail) where
     unfolding masterWords
     master-fit =
         let pairs : Each (λ (t : Tail). IsWord (t .number) × IsWord (t .position)) (map tailAt (below (s .cores))) =
-            getD-each _ (map tailAt (below (s .cores))) (newTail 0 0)
-            (λ i h.
-              let n : i < s .cores = omega (arith, length-map (below (s .cores)) tailAt, length-below (s .cores)) in
-              let r = tail-limits s (tailAt i) (tails i n) in
-              rw (getD-map-below tailAt (s .cores) i (newTail 0 0) n) (omega arith, omega (arith, l .journal))) in
-        (omega arith, (omega arith, (omega arith, (omega (arith, l .cores), (omega (arith, l .blocks), (omega (arith, l .journal),
-        each-pairs (λ (t : Tail). t .number) (λ (t : Tail). t .position) (map tailAt (below (s .cores))) pairs))))))
+        getD-each _ (map tailAt (below (s .cores))) (newTail 0 0)
+        (λ i h.
+        let n : i < s .cores = omega (arith, length-map (below (s .cores)) tailAt, length-below (s .cores)) in
+        let r = tail-limits s (tailAt i) (tails i n) in
+        rw (getD-map-below tailAt (s .cores) i (newTail 0 0) n) (omega arith, omega (arith, l .journal))) in (
+          omega arith,
+          (
+            omega arith,
+            (
+              omega arith,
+              (
+                omega (arith, l .cores),
+                (
+                  omega (arith, l .blocks),
+                  (
+                    omega (arith, l .journal),
+                    each-pairs (λ (t : Tail). t .number) (λ (t : Tail). t .position) (map tailAt (below (s .cores))) pairs,
+                  ),
+                ),
+              ),
+            ),
+          ),
+        )
 
     master-word : (i : ℕ) → be4 (masterBlock s tailAt) (4 * i) ≡ getD (masterWords s tailAt) i 0
     unfolding masterBlock masterWords
@@ -146,7 +156,7 @@ module _ {s : Shape} (l : Limits s) (tailAt : ℕ → Tail) where
     master-read =
         let m = masterBlock s tailAt in
         let t : all (λ (c : ℕ). isTail s (tailIn m c)) (below (s .cores)) ≡ true =
-            mem-all (λ (c : ℕ). isTail s (tailIn m c)) (below (s .cores)) (λ c h. let n = mem-below (s .cores) h in ap (isTail s) (master-tail c n) ∙ tails c n) in
+        mem-all (λ (c : ℕ). isTail s (tailIn m c)) (below (s .cores)) (λ c h. let n = mem-below (s .cores) h in ap (isTail s) (master-tail c n) ∙ tails c n) in
         simp (master-shape, master-word 0, master-word 1, limits-range l, t)
 
 -- ---- a transaction that keeps the rules of the format: its number, the blocks that it took, its stamp, its names
@@ -217,10 +227,26 @@ module _ {s : Shape} {k : ℕ} {hs : List Held} {stamp : ℕ} {ns : List Name} (
   unfolding commitWords
   commit-fit =
       let pairs : Each (λ (n : Name). IsWord (n .core) × IsWord (n .number)) ns =
-          getD-each _ ns (newName 0 0)
-          (λ i h. (omega (arith, g .shape .cores, listable-core s (getD ns i (newName 0 0)) (all-mem (isListable s) ns (g .listable) (getD-mem ns i (newName 0 0) h))), each-getD (λ (n : Name). IsWord (n .number)) ns (g .numbers) i (newName 0 0) h)) in
-      (omega arith, (omega arith, (omega (arith, g .number), (omega (arith, g .stamp-fits), (omega arith, (omega (arith, g .short),
-      each-pairs (λ (n : Name). n .core) (λ (n : Name). n .number) ns pairs))))))
+      getD-each _ ns (newName 0 0)
+      (λ i h. (omega (arith, g .shape .cores, listable-core s (getD ns i (newName 0 0)) (all-mem (isListable s) ns (g .listable) (getD-mem ns i (newName 0 0) h))), each-getD (λ (n : Name). IsWord (n .number)) ns (g .numbers) i (newName 0 0) h)) in (
+        omega arith,
+        (
+          omega arith,
+          (
+            omega (arith, g .number),
+            (
+              omega (arith, g .stamp-fits),
+              (
+                omega arith,
+                (
+                  omega (arith, g .short),
+                  each-pairs (λ (n : Name). n .core) (λ (n : Name). n .number) ns pairs,
+                ),
+              ),
+            ),
+          ),
+        ),
+      )
 
   commit-word : (i : ℕ) → be4 (commitBlock k stamp ns) (4 * i) ≡ getD (commitWords k stamp ns) i 0
   unfolding commitBlock commitWords
@@ -289,5 +315,5 @@ module _ (b : Bytes) where
     unfolding unescaped escaped flagOf
     unescaped-escaped f =
         let first : be4 b 0 ≡ mark → bytes 4 mark ≡ take 4 b =
-            λ e. ap (bytes 4) (sym e) ∙ ap (λ (w : ℕ). bytes w (be4 b 0)) (sym (length-take-le 4 b long)) ∙ (unfold be4 part in bytes-number (take 4 b) (each-take IsByte 4 b f)) in
+        λ e. ap (bytes 4) (sym e) ∙ ap (λ (w : ℕ). bytes w (be4 b 0)) (sym (length-take-le 4 b long)) ∙ (unfold be4 part in bytes-number (take 4 b) (each-take IsByte 4 b f)) in
         cases (eqb (be4 b 0) mark) (λ h. rw h (ap (λ (x : Bytes). x ++ drop 4 b) (first (eqb-true (be4 b 0) mark h)) ∙ take-append-drop 4 b)) (λ h. rw h)

@@ -7,15 +7,15 @@ use native.Mathlib.Numerals.{add-one}
 use native.Mathlib.Decide.{decLt}
 use mathlib.Core.Path.{_≡_, refl, ap, _∙_, sym, subst}
 use mathlib.Core.Logic.{_≢_}
-use mathlib.Core.Bool.{Bool, true, false, cond, _&&_, and-false}
+use mathlib.Core.Bool.{true, false, cond, _&&_, and-false}
 use mathlib.Core.List.{List, [], _∷_, _++_, map}
 use lib.ListN.{length, take, getD, length-append, length-map, List·getD-map, List·getD-append}
 use lib.Seq.{getD-at, take-all}
-use lib.Dec.{leb, eqb}
+use lib.Dec.{leb}
 use borrow.Author.Tests.{le-leb, leb-true}
 use Rattle.model.specs.Bytes.{Bytes, blockAt, store, be4, part, number}
 use Rattle.model.specs.Shape.{journalBlock}
-use Rattle.model.specs.Layout.{Held, newHeld, hasHead, descriptorBlock, blockCount, heldIn, isHeld, distinct, isDescriptor, commitBlock, stampIn, nameCount, namesIn, isListable, isCommit, flagOf, escaped, unescaped, maxNumber}
+use Rattle.model.specs.Layout.{Held, newHeld, hasHead, descriptorBlock, blockCount, isDescriptor, commitBlock, stampIn, nameCount, isCommit, flagOf, escaped, maxNumber}
 use Rattle.model.specs.Journal.{journalAt, recordAt, recordsFrom, journal, heldBy, namesOf, imageOf}
 use Rattle.model.specs.declared.Shape.{Shape}
 use Rattle.model.specs.declared.Tail.{Tail}
@@ -43,23 +43,26 @@ home-apart s c p k h e = omega arith
 pub cores-apart : (s : Shape) (c p c₂ p₂ : ℕ) → 0 < s .journal → c ≢ c₂ → journalBlock s c p ≢ journalBlock s c₂ p₂
 unfolding journalBlock
 cores-apart s c p c₂ p₂ j ne e =
-    elim (decLt c c₂)
-    [ yes lt ↦ omega (arith, mod-lt p j, mul-le-mul-right (s .journal) lt)
-    | no ge ↦ omega (arith, mod-lt p₂ j, mul-le-mul-right {m = suc c₂} {n = c} (s .journal) (omega arith)) ]
+    elim (decLt c c₂) [
+      | yes lt ↦ omega (arith, mod-lt p j, mul-le-mul-right (s .journal) lt)
+      | no ge ↦ omega (arith, mod-lt p₂ j, mul-le-mul-right {m = suc c₂} {n = c} (s .journal) (omega arith))
+    ]
 
 -- positions less than J apart are different
 mod-apart : (j a b : ℕ) → a < b → b < a + j → a % j ≡ b % j → ⊥
 mod-apart j a b h k e =
-    elim (decLt (a / j) (b / j))
-    [ yes lt ↦ omega (arith, div-add-mod a j, div-add-mod b j, mul-le-mul-left j lt, mul-suc j (a / j))
-    | no ge ↦ omega (arith, div-add-mod a j, div-add-mod b j, mul-le-mul-left {m = b / j} {n = a / j} j (omega arith)) ]
+    elim (decLt (a / j) (b / j)) [
+      | yes lt ↦ omega (arith, div-add-mod a j, div-add-mod b j, mul-le-mul-left j lt, mul-suc j (a / j))
+      | no ge ↦ omega (arith, div-add-mod a j, div-add-mod b j, mul-le-mul-left {m = b / j} {n = a / j} j (omega arith))
+    ]
 
 pub journal-apart : (s : Shape) (c p i j : ℕ) → i < s .journal → j < s .journal → i ≢ j → journalBlock s c (p + i) ≢ journalBlock s c (p + j)
 unfolding journalBlock
 journal-apart s c p i j hi hj ne e =
-    elim (decLt i j)
-    [ yes lt ↦ mod-apart (s .journal) (p + i) (p + j) (omega arith) (omega arith) (omega arith)
-    | no ge ↦ mod-apart (s .journal) (p + j) (p + i) (omega arith) (omega arith) (omega arith) ]
+    elim (decLt i j) [
+      | yes lt ↦ mod-apart (s .journal) (p + i) (p + j) (omega arith) (omega arith) (omega arith)
+      | no ge ↦ mod-apart (s .journal) (p + j) (p + i) (omega arith) (omega arith) (omega arith)
+    ]
 
 -- positions count round modulo J
 pub journal-wrap : (s : Shape) (c p i : ℕ) → journalBlock s c (p % s .journal + i) ≡ journalBlock s c (p + i)
@@ -152,14 +155,15 @@ stored-stands {s} {k} {hs} {stamp} {ns} {images} g z d c p h n j =
     let bs = recordBlocks k hs stamp ns images in
     let m : length (map escaped images) ≡ length hs = length-map images escaped ∙ images-length z in
     let size : length bs ≡ length hs + 2 = simp length-append (omega arith) in
-    let whole : Each IsBlock bs =
-        (length-descriptor k hs (g .few),
-        each-append IsBlock (map escaped images) (commitBlock k stamp ns ∷ []) (each-escaped images (z .sizes)) (length-commit k stamp ns (g .short), tt)) in
+    let whole : Each IsBlock bs = (
+      length-descriptor k hs (g .few),
+      each-append IsBlock (map escaped images) (commitBlock k stamp ns ∷ []) (each-escaped images (z .sizes)) (length-commit k stamp ns (g .short), tt),
+    ) in
     let read = stores-in (g .shape) c h bs p d whole n (omega arith) in
     record {
       descriptor = rw add-zero at (read 0 (omega arith));
       data-blocks =
-        λ i hi.
+          λ i hi.
           read (i + 1) (omega arith)
           ∙ rw add-one (List·getD-append (map escaped images) (commitBlock k stamp ns ∷ []) [] i (omega arith) ∙ (unfold escaped be4 part number in List·getD-map escaped images i []));
       commit = read (length hs + 1) (omega arith) ∙ rw add-one (getD-at (map escaped images) (commitBlock k stamp ns) [] [] (length hs) m);
@@ -170,7 +174,7 @@ stored-stands {s} {k} {hs} {stamp} {ns} {images} g z d c p h n j =
 abbrev pub asRead : ℕ → ℕ → ℕ → List Held → ℕ → List Name → Committed
 asRead c p k hs stamp ns = record { core = c; number = k; position = p; count = length hs; stamp = stamp; named = length ns }
 
-module _ {s : Shape} {d : Bytes} {c p k : ℕ} {hs : List Held} {stamp : ℕ} {ns : List Name} {images : List Bytes} (g : Sound s k hs stamp ns) (z : Images hs images)
+module _ {s : Shape} {d : Bytes} {c p k : ℕ} {hs : List Held} {stamp : ℕ} {ns : List Name} {images : List Bytes} (g : Sound s k hs stamp ns)
     (st : Stands s d c p k hs stamp ns images) where
   pub record-read : (left : ℕ) → length hs + 2 ≤ left → recordAt s d c k p left ≡ Whole (asRead c p k hs stamp ns)
   unfolding recordAt
@@ -185,9 +189,9 @@ module _ {s : Shape} {d : Bytes} {c p k : ℕ} {hs : List Held} {stamp : ℕ} {n
   unfolding namesOf
   names-read = rw (st .commit) (commit-names g)
 
-  pub image-read : (i : ℕ) → i < length hs → imageOf s d (asRead c p k hs stamp ns) i ≡ getD images i []
+  pub image-read : Images hs images → (i : ℕ) → i < length hs → imageOf s d (asRead c p k hs stamp ns) i ≡ getD images i []
   unfolding imageOf
-  image-read i h =
+  image-read z i h =
       let n : i < length images = omega (arith, images-length z) in
       let size : length (getD images i []) ≡ 128 = each-getD IsBlock images (z .sizes) i [] n in
       rw (held-read, st .data-blocks i h, image-flag z i) (unescaped-escaped (getD images i []) (omega arith) (each-getD (Each IsByte) images (z .bytes) i [] n))
@@ -242,4 +246,122 @@ found-cases Miss f g = f refl
 module _ (s : Shape) (d : Bytes) (c : ℕ) where
   pub record-known : (k p left : ℕ) (e : Committed) → recordAt s d c k p left ≡ Whole e → Known s d c k e × (e .position ≡ p) × (e .count + 2 ≤ left)
   unfolding recordAt
-  record-known k p left e h = ?
+  record-known k p left e h =
+      let b = journalAt s d c p in
+      let n = blockCount b in
+      let f = journalAt s d c (p + (n + 1)) in
+      let x : Committed = record { core = c; number = k; position = p; count = n; stamp = stampIn f; named = nameCount f } in
+      let t = isDescriptor s k b && leb (n + 2) left && isCommit s k f in
+      cases t
+      (λ y.
+      let dl = and-left (isDescriptor s k b && leb (n + 2) left) (isCommit s k f) y in
+      let ed = and-left (isDescriptor s k b) (leb (n + 2) left) dl in
+      let ec = and-right (isDescriptor s k b && leb (n + 2) left) (isCommit s k f) y in
+      let w : cond t (Whole x) Miss ≡ Whole x = rw y in
+      let q : Whole x ≡ Whole e = sym w ∙ h in
+      let same : x ≡ e = cc in
+      let size : n + 2 ≤ left = leb-true (n + 2) left (and-right (isDescriptor s k b) (leb (n + 2) left) dl) in
+      let known : Known s d c k x =
+      record {
+        core = refl;
+        number = refl;
+        few = descriptor-few s k b ed;
+        short = commit-short s k f ec;
+        descriptor = ed;
+        count = refl;
+        commit = ec;
+        stamp = refl;
+        named = refl;
+      } in
+      subst (λ (r : Committed). Known s d c k r × (r .position ≡ p) × (r .count + 2 ≤ left)) same (known, refl, size))
+      (λ y.
+      let w : cond t (Whole x) Miss ≡ Miss = rw y in
+      let q : Whole e ≡ Miss = sym h ∙ w in
+      let z : _≡_ {A = ℕ} 0 1 = cc in
+      absurd (omega arith))
+
+  -- every record read is a whole one, their numbers follow one another, and they stand at positions below J
+  pub records-known : (most k p left i : ℕ) (z : Committed) → i < length (recordsFrom most s d c k p left)
+      → Known s d c (k + i) (getD (recordsFrom most s d c k p left) i z) × (p < s .journal → (getD (recordsFrom most s d c k p left) i z) .position < s .journal)
+  records-known zero k p left i z h = let l : i < 0 = unfold recordsFrom in h in absurd (omega arith)
+  records-known (suc most) k p left i z h =
+      found-cases (recordAt s d c k p left)
+      (λ miss. absurd (omega (arith, ap length (records-miss s d c k p left (suc most) miss))))
+      (λ e hit.
+      let q = (p + (e .count + 2)) % s .journal in
+      let rest = left - (e .count + 2) in
+      let known = record-known k p left e hit in
+      let eq : recordsFrom (suc most) s d c k p left ≡ e ∷ recordsFrom most s d c (k + 1) q rest = records-hit s d c k p left most e hit in
+      rw eq
+      (step e (recordsFrom most s d c (k + 1) q rest) (known .0, λ j. omega (arith, known .1))
+      (λ n l. let r = records-known most (k + 1) q rest n z l in (r .0, λ j. r .1 (mod-lt (p + (e .count + 2)) (omega arith)))) i (omega (arith, ap length eq))))
+    where
+      step : (e : Committed) (r : List Committed) → Known s d c k e × (p < s .journal → e .position < s .journal)
+          → ((n : ℕ) → n < length r → Known s d c (k + 1 + n) (getD r n z) × (p < s .journal → (getD r n z) .position < s .journal)) → (i : ℕ) → i < suc (length r)
+          → Known s d c (k + i) (getD (e ∷ r) i z) × (p < s .journal → (getD (e ∷ r) i z) .position < s .journal)
+      step e r a b zero l = rw (add-zero k) a
+      step e r a b (suc n) l = rw (next k n) (b n (omega arith))
+
+  -- each takes two blocks or more of those left
+  pub records-length : (most k p left : ℕ) → 2 * length (recordsFrom most s d c k p left) ≤ left
+  records-length zero k p left = unfold recordsFrom in omega arith
+  records-length (suc most) k p left =
+      found-cases (recordAt s d c k p left)
+      (λ miss. omega (arith, ap length (records-miss s d c k p left (suc most) miss)))
+      (λ e hit.
+      omega (
+        arith,
+        ap length (records-hit s d c k p left most e hit),
+        record-known k p left e hit .2,
+        records-length most (k + 1) ((p + (e .count + 2)) % s .journal) (left - (e .count + 2)),
+      ))
+
+  -- at most n records are the first n of them
+  pub records-take : (most more k p left : ℕ) → most ≤ more → recordsFrom most s d c k p left ≡ take most (recordsFrom more s d c k p left)
+  records-take zero more k p left h = unfold recordsFrom in refl
+  records-take (suc most) zero k p left h = absurd (omega arith)
+  records-take (suc most) (suc more) k p left h =
+      found-cases (recordAt s d c k p left)
+      (λ miss. records-miss s d c k p left (suc most) miss ∙ ap (take (suc most)) (sym (records-miss s d c k p left (suc more) miss)))
+      (λ e hit.
+      records-hit s d c k p left most e hit
+      ∙ ap (λ (r : List Committed). e ∷ r) (records-take most more (k + 1) ((p + (e .count + 2)) % s .journal) (left - (e .count + 2)) (omega arith))
+      ∙ ap (take (suc most)) (sym (records-hit s d c k p left more e hit)))
+
+  -- half as many as blocks are left reads all
+  pub records-all : (most more k p left : ℕ) → left ≤ 2 * most + 1 → most ≤ more → recordsFrom most s d c k p left ≡ recordsFrom more s d c k p left
+  records-all most more k p left h m =
+      records-take most more k p left m ∙ take-all most (recordsFrom more s d c k p left) (omega (arith, records-length more k p left))
+
+-- ---- a journal's reading looks at its own blocks only
+module _ (s : Shape) (d d₂ : Bytes) (c : ℕ) (same : (p : ℕ) → journalAt s d c p ≡ journalAt s d₂ c p) where
+  record-frame : (k p left : ℕ) → recordAt s d c k p left ≡ recordAt s d₂ c k p left
+  unfolding recordAt
+  record-frame k p left = simp same
+
+  pub records-frame : (most k p left : ℕ) → recordsFrom most s d c k p left ≡ recordsFrom most s d₂ c k p left
+  records-frame zero k p left = unfold recordsFrom in refl
+  records-frame (suc most) k p left =
+      found-cases (recordAt s d c k p left)
+      (λ miss. records-miss s d c k p left (suc most) miss ∙ sym (records-miss s d₂ c k p left (suc most) (sym (record-frame k p left) ∙ miss)))
+      (λ e hit.
+      records-hit s d c k p left most e hit
+      ∙ ap (λ (r : List Committed). e ∷ r) (records-frame most (k + 1) ((p + (e .count + 2)) % s .journal) (left - (e .count + 2)))
+      ∙ sym (records-hit s d₂ c k p left most e (sym (record-frame k p left) ∙ hit)))
+
+  pub journal-frame : (t : Tail) (most : ℕ) → journal s d c t most ≡ journal s d₂ c t most
+  unfolding journal
+  journal-frame t most = records-frame most (t .number) (t .position) (s .journal)
+
+  module _ (e : Committed) (own : e .core ≡ c) where
+    pub held-frame : heldBy s d e ≡ heldBy s d₂ e
+    unfolding heldBy
+    held-frame = rw (own, same (e .position))
+
+    pub names-frame : namesOf s d e ≡ namesOf s d₂ e
+    unfolding namesOf
+    names-frame = rw (own, same (e .position + (e .count + 1)))
+
+    pub image-frame : (i : ℕ) → imageOf s d e i ≡ imageOf s d₂ e i
+    unfolding imageOf
+    image-frame i = rw (held-frame, own, same (e .position + (i + 1)))

@@ -1,13 +1,13 @@
 -- What the tests of lists say of their elements, the numbers below a count, and a property of each element.
 -- The definitions test lists by Bool; the laws turn such a test into facts on elements and back.
-use Prim.Native.Nat.{ℕ, zero, suc, _+_, _≤_, _<_}
+use Prim.Native.Nat.{ℕ, zero, suc, _<_}
 use native.Mathlib.Omega.{arith}
 use native.Mathlib.Decide.{decLt}
 use mathlib.Core.Path.{_≡_, refl, ap, _∙_, sym, subst}
 use mathlib.Core.Bool.{Bool, true, false, false≢true, _&&_, _||_, and-assoc, or-assoc}
 use mathlib.Core.Logic.{_⊎_, inl, inr}
-use mathlib.Core.List.{List, [], _∷_, _++_, map, List·Memᴰ, List·Memᴰ·head, List·Memᴰ·tail, List·Memᴰ·not-nil, List·Memᴰ·cases-cons, List·Memᴰ·append-cases, List·Memᴰ·eq-of-singleton, Memᴰ·append-left, Memᴰ·append-right, map-append}
-use lib.ListN.{length, take, getD, replicate, length-append, length-map, List·getD-append, List·getD-map}
+use mathlib.Core.List.{List, [], _∷_, _++_, map, flatMap, append-assoc, List·Memᴰ, List·Memᴰ·head, List·Memᴰ·tail, List·Memᴰ·not-nil, List·Memᴰ·cases-cons, List·Memᴰ·append-cases, List·Memᴰ·eq-of-singleton, Memᴰ·append-left, Memᴰ·append-right, map-append}
+use lib.ListN.{length, take, getD, replicate, length-append, length-map, List·getD-append}
 use lib.Seq.{getD-at}
 use Rattle.model.specs.Lists.{below, all, any}
 
@@ -83,6 +83,24 @@ module _ {A : Type 0} where
   mem-getD (List·Memᴰ·head e) d = (0, omega arith, sym e)
   mem-getD (List·Memᴰ·tail m) d = let r = mem-getD m d in (suc (r .0), omega (arith, r .1), r .2)
 
+module _ {A B : Type 0} where
+  pub flatMap-append : (f : B → List A) (xs ys : List B) → flatMap f (xs ++ ys) ≡ flatMap f xs ++ flatMap f ys
+  unfolding flatMap
+  flatMap-append f [] ys = refl
+  flatMap-append f (x ∷ xs) ys = ap (λ (l : List A). f x ++ l) (flatMap-append f xs ys) ∙ sym (append-assoc (f x) (flatMap f xs) (flatMap f ys))
+
+  pub mem-flatMap : (f : B → List A) (xs : List B) {y : A} → List·Memᴰ y (flatMap f xs) → (x : B) × List·Memᴰ x xs × List·Memᴰ y (f x)
+  unfolding flatMap
+  mem-flatMap f [] m = absurd (List·Memᴰ·not-nil m)
+  mem-flatMap f (x ∷ xs) m =
+      elim (List·Memᴰ·append-cases (f x) m)
+      [ inl l ↦ (x, List·Memᴰ·head refl, l) | inr r ↦ let t = mem-flatMap f xs r in (t .0, List·Memᴰ·tail (t .1), t .2) ]
+
+  pub flatMap-mem : (f : B → List A) {x : B} {xs : List B} {y : A} → List·Memᴰ x xs → List·Memᴰ y (f x) → List·Memᴰ y (flatMap f xs)
+  unfolding flatMap
+  flatMap-mem f {y = y} (List·Memᴰ·head {xs = xs} e) m = Memᴰ·append-left (flatMap f xs) (subst (λ (b : B). List·Memᴰ y (f b)) e m)
+  flatMap-mem f (List·Memᴰ·tail {x = x} t) m = Memᴰ·append-right (f x) (flatMap-mem f t m)
+
 -- ---- the numbers below a count
 pub length-below : (n : ℕ) → length (below n) ≡ n
 unfolding below
@@ -93,9 +111,10 @@ pub getD-below : (n i d : ℕ) → i < n → getD (below n) i d ≡ i
 unfolding below
 getD-below zero i d h = absurd (omega arith)
 getD-below (suc n) i d h =
-    elim (decLt i n)
-    [ yes lt ↦ List·getD-append (below n) (n ∷ []) d i (omega (arith, length-below n)) ∙ getD-below n i d lt
-    | no ge ↦ let e : n ≡ i = omega arith in getD-at (below n) n [] d i (length-below n ∙ e) ∙ e ]
+    elim (decLt i n) [
+      | yes lt ↦ List·getD-append (below n) (n ∷ []) d i (omega (arith, length-below n)) ∙ getD-below n i d lt
+      | no ge ↦ let e : n ≡ i = omega arith in getD-at (below n) n [] d i (length-below n ∙ e) ∙ e
+    ]
 
 pub mem-below : (n : ℕ) {i : ℕ} → List·Memᴰ i (below n) → i < n
 unfolding below
@@ -108,9 +127,10 @@ pub below-mem : (n i : ℕ) → i < n → List·Memᴰ i (below n)
 unfolding below
 below-mem zero i h = absurd (omega arith)
 below-mem (suc n) i h =
-    elim (decLt i n)
-    [ yes lt ↦ Memᴰ·append-left (n ∷ []) (below-mem n i lt)
-    | no ge ↦ Memᴰ·append-right (below n) (List·Memᴰ·head (omega arith)) ]
+    elim (decLt i n) [
+      | yes lt ↦ Memᴰ·append-left (n ∷ []) (below-mem n i lt)
+      | no ge ↦ Memᴰ·append-right (below n) (List·Memᴰ·head (omega arith))
+    ]
 
 module _ {A : Type 0} where
   pub getD-map-below : (f : ℕ → A) (n i : ℕ) (d : A) → i < n → getD (map f (below n)) i d ≡ f i
@@ -119,9 +139,10 @@ module _ {A : Type 0} where
   getD-map-below f (suc n) i d h =
       let l : length (map f (below n)) ≡ n = length-map (below n) f ∙ length-below n in
       ap (λ (l : List A). getD l i d) (map-append f (below n) (n ∷ []))
-      ∙ elim (decLt i n)
-        [ yes lt ↦ List·getD-append (map f (below n)) (f n ∷ []) d i (omega arith) ∙ getD-map-below f n i d lt
-        | no ge ↦ let e : n ≡ i = omega arith in getD-at (map f (below n)) (f n) [] d i (l ∙ e) ∙ ap f e ]
+      ∙ elim (decLt i n) [
+        | yes lt ↦ List·getD-append (map f (below n)) (f n ∷ []) d i (omega arith) ∙ getD-map-below f n i d lt
+        | no ge ↦ let e : n ≡ i = omega arith in getD-at (map f (below n)) (f n) [] d i (l ∙ e) ∙ ap f e
+      ]
 
   -- ---- each element of a list has the property
   abbrev pub Each : (A → Type 0) → List A → Type 0

@@ -4,7 +4,7 @@ use Prim.Native.Nat.{ℕ, zero, suc, _+_, _*_, _-_, _≤_, _<_}
 use native.Mathlib.Omega.{arith}
 use mathlib.Core.Path.{_≡_, refl, ap, _∙_, sym, subst, ap₂}
 use mathlib.Core.Logic.{_≢_}
-use mathlib.Core.List.{List, [], _∷_, _++_}
+use mathlib.Core.List.{[], _∷_, _++_}
 use lib.ListN.{length, take, drop, length-append, length-take, length-drop, take-append-drop}
 use lib.Seq.{length-take-le, take-at, drop-at, take-append-le, drop-append-le, drop-drop}
 use native.Mathlib.Decide.{decLt, ℕ-discrete}
@@ -16,7 +16,7 @@ module _ (at n : ℕ) (d b : Bytes) (fits : at + n ≤ length d) (size : length 
   unfolding replaced
   length-replaced = simp (length-append, length-take, length-drop) (omega arith)
 
-  pub drop-replaced : drop (at + n) (replaced at n d b) ≡ drop (at + n) d
+  drop-replaced : drop (at + n) (replaced at n d b) ≡ drop (at + n) d
   unfolding replaced
   drop-replaced =
       sym (drop-drop n at (replaced at n d b))
@@ -36,10 +36,6 @@ module _ (at n : ℕ) (d b : Bytes) (fits : at + n ≤ length d) (size : length 
       let e : at + n + (i - (at + n)) ≡ i = omega arith in
       let go : (l : Bytes) → drop i l ≡ drop (i - (at + n)) (drop (at + n) l) = λ l. sym (drop-drop (i - (at + n)) (at + n) l ∙ ap (λ (k : ℕ). drop k l) e) in
       ap (take m) (go (replaced at n d b) ∙ ap (drop (i - (at + n))) drop-replaced ∙ sym (go d))
-
-  pub take-replaced : take at (replaced at n d b) ≡ take at d
-  unfolding replaced
-  take-replaced = take-at (take at d) (b ++ drop n (drop at d)) at (length-take-le at d (omega arith))
 
 front : (i m : ℕ) (x y : Bytes) → i + m ≤ length x → part i m (x ++ y) ≡ part i m x
 unfolding part
@@ -68,9 +64,10 @@ module _ (d : Bytes) (k : ℕ) (b : Bytes) (fits : 128 * k + 128 ≤ length d) (
   pub block-other : (j : ℕ) → j ≢ k → blockAt (store d k b) j ≡ blockAt d j
   unfolding store blockAt
   block-other j ne =
-      elim (decLt j k)
-      [ yes lt ↦ part-before (128 * k) 128 d b (omega arith) (128 * j) 128 (omega arith)
-      | no ge ↦ part-after (128 * k) 128 d b fits size (128 * j) 128 (omega arith) ]
+      elim (decLt j k) [
+        | yes lt ↦ part-before (128 * k) 128 d b (omega arith) (128 * j) 128 (omega arith)
+        | no ge ↦ part-after (128 * k) 128 d b fits size (128 * j) 128 (omega arith)
+      ]
 
 pub length-blockAt : (n : ℕ) (d : Bytes) → length d ≡ 128 * n → (k : ℕ) → k < n → length (blockAt d k) ≡ 128
 unfolding blockAt part
@@ -92,18 +89,18 @@ ext-blocks zero (x ∷ xs) e p q h = absurd (omega arith)
 ext-blocks (suc n) d e p q h =
     sym (take-append-drop 128 d)
     ∙ ap₂ _++_ (h 0 (omega arith))
-        (ext-blocks n (drop 128 d) (drop 128 e) (simp length-drop (omega arith)) (simp length-drop (omega arith))
-        (λ k l. block-suc d k ∙ h (suc k) (omega arith) ∙ sym (block-suc e k)))
+    (ext-blocks n (drop 128 d) (drop 128 e) (simp length-drop (omega arith)) (simp length-drop (omega arith))
+    (λ k l. block-suc d k ∙ h (suc k) (omega arith) ∙ sym (block-suc e k)))
     ∙ take-append-drop 128 e
 
--- ---- two stores
+-- ---- what is there stored again, and two stores
+pub store-same : (d : Bytes) (k : ℕ) → store d k (blockAt d k) ≡ d
+unfolding store blockAt replaced part
+store-same d k = ap (λ (l : Bytes). take (128 * k) d ++ l) (take-append-drop 128 (drop (128 * k) d)) ∙ take-append-drop (128 * k) d
+
 module _ (n : ℕ) (d : Bytes) (len : length d ≡ 128 * n) (k : ℕ) (a : Bytes) (ka : k < n) (sa : length a ≡ 128) where
   fits : 128 * k + 128 ≤ length d
   fits = omega arith
-
-  pub store-same : store d k (blockAt d k) ≡ d
-  unfolding store blockAt replaced part
-  store-same = ap (λ (l : Bytes). take (128 * k) d ++ l) (take-append-drop 128 (drop (128 * k) d)) ∙ take-append-drop (128 * k) d
 
   pub store-twice : (b : Bytes) → length b ≡ 128 → store (store d k a) k b ≡ store d k b
   store-twice b sb =
@@ -111,10 +108,11 @@ module _ (n : ℕ) (d : Bytes) (len : length d ≡ 128 * n) (k : ℕ) (a : Bytes
       let g : 128 * k + 128 ≤ length (store d k a) = omega (arith, fits) in
       ext-blocks n (store (store d k a) k b) (store d k b) (length-store (store d k a) k b g sb ∙ l ∙ len) (length-store d k b fits sb ∙ len)
       (λ j h.
-        elim (ℕ-discrete j k)
-        [ yes e ↦ subst (λ (i : ℕ). blockAt (store (store d k a) k b) i ≡ blockAt (store d k b) i) (sym e)
+      elim (ℕ-discrete j k) [
+        | yes e ↦ subst (λ (i : ℕ). blockAt (store (store d k a) k b) i ≡ blockAt (store d k b) i) (sym e)
             (block-stored (store d k a) k b g sb ∙ sym (block-stored d k b fits sb))
-        | no ne ↦ block-other (store d k a) k b g sb j ne ∙ block-other d k a fits sa j ne ∙ sym (block-other d k b fits sb j ne) ])
+        | no ne ↦ block-other (store d k a) k b g sb j ne ∙ block-other d k a fits sa j ne ∙ sym (block-other d k b fits sb j ne)
+      ])
 
   pub store-comm : (j : ℕ) (b : Bytes) → j < n → length b ≡ 128 → j ≢ k → store (store d k a) j b ≡ store (store d j b) k a
   store-comm j b jb sb ne =
@@ -126,11 +124,13 @@ module _ (n : ℕ) (d : Bytes) (len : length d ≡ 128 * n) (k : ℕ) (a : Bytes
       ext-blocks n (store (store d k a) j b) (store (store d j b) k a)
       (length-store (store d k a) j b g₁ sb ∙ l₁ ∙ len) (length-store (store d j b) k a g₂ sa ∙ l₂ ∙ len)
       (λ i h.
-        elim (ℕ-discrete i j)
-        [ yes e ↦ subst (λ (m : ℕ). blockAt (store (store d k a) j b) m ≡ blockAt (store (store d j b) k a) m) (sym e)
+      elim (ℕ-discrete i j) [
+        | yes e ↦ subst (λ (m : ℕ). blockAt (store (store d k a) j b) m ≡ blockAt (store (store d j b) k a) m) (sym e)
             (block-stored (store d k a) j b g₁ sb ∙ sym (block-other (store d j b) k a g₂ sa j ne ∙ block-stored d j b fj sb))
         | no nj ↦ block-other (store d k a) j b g₁ sb i nj
-            ∙ elim (ℕ-discrete i k)
-              [ yes e ↦ subst (λ (m : ℕ). blockAt (store d k a) m ≡ blockAt (store (store d j b) k a) m) (sym e)
+            ∙ elim (ℕ-discrete i k) [
+              | yes e ↦ subst (λ (m : ℕ). blockAt (store d k a) m ≡ blockAt (store (store d j b) k a) m) (sym e)
                   (block-stored d k a fits sa ∙ sym (block-stored (store d j b) k a g₂ sa))
-              | no nk ↦ block-other d k a fits sa i nk ∙ sym (block-other (store d j b) k a g₂ sa i nk ∙ block-other d j b fj sb i nj) ] ])
+              | no nk ↦ block-other d k a fits sa i nk ∙ sym (block-other (store d j b) k a g₂ sa i nk ∙ block-other d j b fj sb i nj)
+            ]
+      ])

@@ -3,12 +3,12 @@
 use Prim.Native.Nat.{ℕ, zero, suc, _+_, _*_, _-_, _/_, _%_, _^_, _≤_, _<_}
 use native.Mathlib.Omega.{arith}
 use native.Mathlib.Nat.{div-add-mod', div-lt-iff-lt-mul, zero-lt-suc, suc-add, add-assoc, suc-sub-suc, sub-zero, zero-sub, mul-le-mul-right, mul-assoc, pow-succ', zero-add, add-zero}
-use mathlib.Core.Path.{_≡_, refl, ap, _∙_, sym, subst, ap₂}
+use mathlib.Core.Path.{_≡_, refl, ap, _∙_, sym, ap₂}
 use mathlib.Core.List.{List, [], _∷_, _++_, append-assoc, append-nil, flatMap}
-use lib.ListN.{length, take, drop, getD, replicate, length-append, length-take, length-drop, length-replicate}
+use lib.ListN.{length, take, drop, getD, replicate, length-append, length-take, length-replicate}
 use lib.Seq.{take-at, drop-at, drop-drop}
 use Rattle.model.specs.Bytes.{Bytes, bytes, number, part, replaced, be4, words, padded, block}
-use Rattle.model.proofs.Lists.{Each, each-append, each-replicate}
+use Rattle.model.proofs.Lists.{Each, each-append, each-replicate, flatMap-append}
 
 -- ---- numbers
 abbrev pub IsByte : ℕ → Type 0
@@ -121,9 +121,8 @@ be4-getD (a ∷ s) (suc at) h = rw (suc-add at 1, suc-add at 2, suc-add at 3) (b
 
 -- ---- words put into a block one after another
 pub words-append : (xs ys : List ℕ) → words (xs ++ ys) ≡ words xs ++ words ys
-unfolding words flatMap
-words-append [] ys = refl
-words-append (x ∷ xs) ys = ap (λ (l : Bytes). bytes 4 x ++ l) (words-append xs ys) ∙ sym (append-assoc (bytes 4 x) (words xs) (words ys))
+unfolding words
+words-append = flatMap-append (bytes 4)
 
 -- two runs, one after the other, are one
 pub replaced-append : (at n m : ℕ) (d a b : Bytes) → length a ≡ n → at + n ≤ length d → replaced (at + n) m (replaced at n d a) b ≡ replaced at (n + m) d (a ++ b)
