@@ -1,2 +1,3 @@
 -- Why the claims are true. Layer A: one block's history. Layer B: the bytes. Layer C: from one coming up to the next.
 pub mod Relation
+pub mod Frames

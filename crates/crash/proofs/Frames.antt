@@ -1,0 +1,223 @@
+-- What a command leaves alone: names that differ, entries and numbers not changed, journals and cores not concerned.
+-- A core of the card is read through its own entries, numbers, stamps and images alone, so that it stays in agreement
+-- where these stay.
+use Prim.Native.Nat.{ℕ, zero, suc, _+_, _-_, _*_, _≤_, _<_}
+use native.Mathlib.Omega.{arith}
+use native.Mathlib.Decide.{ℕ-discrete}
+use mathlib.Core.Path.{_≡_, refl, ap, ap₂, _∙_, sym, subst}
+use mathlib.Core.Logic.{_⊎_, inl, inr, _≢_}
+use mathlib.Core.Bool.{Bool, true, false, cond}
+use mathlib.Core.List.{List, [], _∷_, _++_, map, flatMap, append-nil}
+use mathlib.Core.Option.{Option}
+use lib.ListN.{length, take, drop, getD, length-append, take-append-drop}
+use lib.Dec.{eqb, ltb}
+use borrow.Author.Tests.{eq-eqb, ne-eqb, eqb-true, ltb-true, lt-ltb}
+use Rattle.model.specs.Lists.{below, all}
+use Rattle.model.specs.Bytes.{Bytes, blockAt, replaced, store}
+use Rattle.model.specs.Card.{newName, sameName, withRunning}
+use Rattle.model.specs.Journal.{journalAt}
+use Rattle.model.specs.Commit.{copyBlock}
+use Rattle.model.specs.declared.Name.{Name}
+use Rattle.model.specs.declared.Tail.{Tail}
+use Rattle.model.specs.declared.Transaction.{Transaction}
+use Rattle.model.specs.declared.Core.{Core}
+use Rattle.model.proofs.Lists.{cases, and-left, and-right, and-both, all-append, all-mem, mem-all, flatMap-append, Each, each-getD, mem-each}
+use Rattle.model.proofs.Words.{IsByte}
+use Rattle.crash.specs.Book.{Stage, absent, running, closed, committed, retired, isRunning, isRetired, counted, Entry, Write, Book, change, raise, holderIn}
+use Rattle.crash.specs.Ledger.{Ledger, recordBlocks}
+use Rattle.crash.specs.Claims.{IsBytes}
+use Rattle.crash.proofs.Relation.{Fine, heldOf, recordOf, contents, JournalStands, CoreUp, Matches}
+
+-- ---- names
+pub same-name : (t u : Name) → sameName t u ≡ true → t ≡ u
+unfolding sameName
+same-name t u h =
+    ap₂ newName (eqb-true (t .core) (u .core) (and-left _ _ h)) (eqb-true (t .number) (u .number) (and-right (eqb (t .core) (u .core)) _ h))
+
+pub name-same : (t : Name) → sameName t t ≡ true
+unfolding sameName
+name-same t = and-both (eq-eqb (t .core) (t .core) refl) (eq-eqb (t .number) (t .number) refl)
+
+pub name-other : (t u : Name) → t ≢ u → sameName t u ≡ false
+name-other t u ne = cases (sameName t u) (λ h. absurd (ne (same-name t u h))) (λ h. h)
+
+pub other-core : (c i d j : ℕ) → c ≢ d → newName c i ≢ newName d j
+other-core c i d j ne e = ne (ap (λ (t : Name). t .core) e)
+
+pub other-number : (c i d j : ℕ) → i ≢ j → newName c i ≢ newName d j
+other-number c i d j ne e = ne (ap (λ (t : Name). t .number) e)
+
+-- ---- one entry changed, one number raised
+pub change-same : (t : Name) (g : Entry → Entry) (entry : Name → Entry) → change t g entry t ≡ g (entry t)
+unfolding change
+change-same t g entry = rw (name-same t)
+
+pub change-other : (t : Name) (g : Entry → Entry) (entry : Name → Entry) (u : Name) → u ≢ t → change t g entry u ≡ entry u
+unfolding change
+change-other t g entry u ne = rw (name-other u t ne)
+
+pub raise-same : (c : ℕ) (n : ℕ → ℕ) → raise c n c ≡ suc (n c)
+unfolding raise
+raise-same c n = rw (eq-eqb c c refl)
+
+pub raise-other : (c : ℕ) (n : ℕ → ℕ) (i : ℕ) → i ≢ c → raise c n i ≡ n i
+unfolding raise
+raise-other c n i ne = rw (ne-eqb i c ne)
+
+-- ---- bytes of a part replaced
+bytes-take : (n : ℕ) (s : Bytes) → IsBytes s → IsBytes (take n s)
+bytes-take n s h =
+    let p : ℕ → Bool = λ x. ltb x 256 in
+    and-left _ _ (sym (all-append p (take n s) (drop n s)) ∙ ap (all p) (take-append-drop n s) ∙ h)
+
+bytes-drop : (n : ℕ) (s : Bytes) → IsBytes s → IsBytes (drop n s)
+bytes-drop n s h =
+    let p : ℕ → Bool = λ x. ltb x 256 in
+    and-right (all p (take n s)) _ (sym (all-append p (take n s) (drop n s)) ∙ ap (all p) (take-append-drop n s) ∙ h)
+
+pub bytes-append : (s t : Bytes) → IsBytes s → IsBytes t → IsBytes (s ++ t)
+bytes-append s t p q = all-append (λ (x : ℕ). ltb x 256) s t ∙ and-both p q
+
+pub bytes-replaced : (at n : ℕ) (s b : Bytes) → IsBytes s → IsBytes b → IsBytes (replaced at n s b)
+unfolding replaced
+bytes-replaced at n s b p q =
+    bytes-append (take at s) (b ++ drop n (drop at s)) (bytes-take at s p) (bytes-append b (drop n (drop at s)) q (bytes-drop n (drop at s) (bytes-drop at s p)))
+
+pub bytes-store : (d : Bytes) (k : ℕ) (b : Bytes) → IsBytes d → IsBytes b → IsBytes (store d k b)
+unfolding store
+bytes-store d k b = bytes-replaced (128 * k) 128 d b
+
+pub bytes-blockAt : (d : Bytes) (k : ℕ) → IsBytes d → IsBytes (blockAt d k)
+unfolding blockAt Rattle.model.specs.Bytes.part
+bytes-blockAt d k h = bytes-take 128 (drop (128 * k) d) (bytes-drop (128 * k) d h)
+
+pub each-isBytes : (s : Bytes) → Each IsByte s → IsBytes s
+each-isBytes s h = mem-all (λ (x : ℕ). ltb x 256) s (λ x m. let r = Rattle.model.proofs.Lists.mem-getD m 0 in lt-ltb x 256 (subst IsByte (r .2) (each-getD IsByte s h (r .0) 0 (r .1))))
+
+-- ---- records and what a journal holds
+module _ {A : Type 0} where
+  pub flatMap-below : (f g : ℕ → List A) (n : ℕ) → ((i : ℕ) → i < n → f i ≡ g i) → flatMap f (below n) ≡ flatMap g (below n)
+  unfolding below flatMap
+  flatMap-below f g zero h = refl
+  flatMap-below f g (suc n) h =
+      flatMap-append f (below n) (n ∷ [])
+      ∙ ap₂ _++_ (flatMap-below f g n (λ i l. h i (omega arith))) (ap (λ (x : List A). x ++ []) (h n (omega arith)))
+      ∙ sym (flatMap-append g (below n) (n ∷ []))
+
+-- blocks and names of an entry, its images and its stamp make its record
+pub record-same : (l l₂ : Ledger) (t : Name) → (l₂ .book .entry t) .blocks ≡ (l .book .entry t) .blocks → (l₂ .book .entry t) .names ≡ (l .book .entry t) .names
+    → l₂ .images t ≡ l .images t → l₂ .stamp t ≡ l .stamp t → recordOf l₂ t ≡ recordOf l t
+unfolding recordOf heldOf
+record-same l l₂ t bs ns im st = simp (bs, ns, im, st)
+
+module _ (k k₂ : Book) (c : ℕ) where
+  pub blocks-same : (i n : ℕ) → ((j : ℕ) → i ≤ j → j < i + n → length ((k₂ .entry (newName c j)) .blocks) ≡ length ((k .entry (newName c j)) .blocks))
+      → recordBlocks k₂ c i n ≡ recordBlocks k c i n
+  unfolding recordBlocks
+  blocks-same i zero h = refl
+  blocks-same i (suc n) h = ap₂ (λ (a b : ℕ). a + 2 + b) (h i (omega arith) (omega arith)) (blocks-same (suc i) n (λ j p q. h j (omega arith) (omega arith)))
+
+-- one record more
+pub blocks-snoc : (k : Book) (c i n : ℕ) → recordBlocks k c i (suc n) ≡ recordBlocks k c i n + (length ((k .entry (newName c (i + n))) .blocks) + 2)
+unfolding recordBlocks
+blocks-snoc k c i zero = let e : i + 0 ≡ i = omega arith in rw e (omega arith)
+blocks-snoc k c i (suc n) = let e : i + suc n ≡ suc i + n = omega arith in rw e (omega (arith, blocks-snoc k c (suc i) n))
+
+pub contents-same : (l l₂ : Ledger) (c : ℕ) → l₂ .book .oldest c ≡ l .book .oldest c → l₂ .book .uncommitted c ≡ l .book .uncommitted c
+    → ((i : ℕ) → i < l .book .uncommitted c → recordOf l₂ (newName c i) ≡ recordOf l (newName c i))
+    → take (counted ((l₂ .book .entry (newName c (l .book .uncommitted c))) .stage)) (recordOf l₂ (newName c (l .book .uncommitted c)))
+      ≡ take (counted ((l .book .entry (newName c (l .book .uncommitted c))) .stage)) (recordOf l (newName c (l .book .uncommitted c)))
+    → contents l₂ c ≡ contents l c
+unfolding contents
+contents-same l l₂ c o u f g =
+    rw (o, u, g)
+    (ap (λ (x : List Bytes). x ++ take (counted ((l .book .entry (newName c (l .book .uncommitted c))) .stage)) (recordOf l (newName c (l .book .uncommitted c))))
+    (flatMap-below (λ (i : ℕ). recordOf l₂ (newName c (l .book .oldest c + i))) (λ (i : ℕ). recordOf l (newName c (l .book .oldest c + i))) (l .book .uncommitted c - l .book .oldest c) (λ i h. f (l .book .oldest c + i) (omega arith))))
+
+-- ---- holders
+pub holder-same : (k k₂ : Book) (b : ℕ) (ws : List Write) → ((u : Name) → isRetired ((k₂ .entry u) .stage) ≡ isRetired ((k .entry u) .stage)) → holderIn k₂ b ws ≡ holderIn k b ws
+unfolding holderIn
+holder-same k k₂ b [] h = refl
+holder-same k k₂ b (w ∷ ws) h = rw (h (w .holder), holder-same k k₂ b ws h)
+
+-- ---- a core whose closed transactions stay
+pub record SameClosed (l l₂ : Ledger) (c : ℕ) : Type 0 where
+  pub shape : l₂ .shape ≡ l .shape
+  pub oldest : l₂ .book .oldest c ≡ l .book .oldest c
+  pub uncommitted : l₂ .book .uncommitted c ≡ l .book .uncommitted c
+  pub next : l₂ .book .next c ≡ l .book .next c
+  pub entry : (i : ℕ) → i < l .book .next c → l₂ .book .entry (newName c i) ≡ l .book .entry (newName c i)
+  pub stamp : (i : ℕ) → i < l .book .next c → l₂ .stamp (newName c i) ≡ l .stamp (newName c i)
+  pub images : (i : ℕ) → i < l .book .next c → l₂ .images (newName c i) ≡ l .images (newName c i)
+
+unstarted : (g : Stage) → (g ≡ absent) ⊎ (g ≡ running) → counted g ≡ 0
+unstarted g (inl e) = rw e
+unstarted g (inr e) = rw e
+
+module _ (l : Ledger) (fine : Fine l) (c : ℕ) (in-range : c < l .shape .cores) where
+  -- of the running one, or of the next to open, nothing is stored
+  pub none-stored : counted ((l .book .entry (newName c (l .book .next c))) .stage) ≡ 0
+  none-stored = unstarted ((l .book .entry (newName c (l .book .next c))) .stage) (fine .ranks c in-range .current)
+
+  module _ (l₂ : Ledger) (same : SameClosed l l₂ c) where
+    same-record : (i : ℕ) → i < l .book .next c → recordOf l₂ (newName c i) ≡ recordOf l (newName c i)
+    same-record i h = record-same l l₂ (newName c i) (ap (λ (e : Entry). e .blocks) (same .entry i h)) (ap (λ (e : Entry). e .names) (same .entry i h)) (same .images i h) (same .stamp i h)
+
+    pub contents-stay : counted ((l₂ .book .entry (newName c (l .book .next c))) .stage) ≡ 0 → contents l₂ c ≡ contents l c
+    contents-stay z =
+        let r = fine .ranks c in-range in
+        contents-same l l₂ c (same .oldest) (same .uncommitted) (λ i h. same-record i (omega (arith, r .mid)))
+        (elim (ℕ-discrete (l .book .uncommitted c) (l .book .next c)) [
+          | yes e ↦ rw (e, z, none-stored) refl
+          | no ne ↦ (let h : l .book .uncommitted c < l .book .next c = omega (arith, r .mid) in rw (same .entry (l .book .uncommitted c) h, same-record (l .book .uncommitted c) h) refl)
+        ])
+
+    pub total-stays : (n : ℕ) → n ≤ l .book .next c → recordBlocks (l₂ .book) c (l .book .oldest c) (n - l .book .oldest c) ≡ recordBlocks (l .book) c (l .book .oldest c) (n - l .book .oldest c)
+    total-stays n h =
+        blocks-same (l .book) (l₂ .book) c (l .book .oldest c) (n - l .book .oldest c) (λ j p q. ap (λ (e : Entry). length (e .blocks)) (same .entry j (omega arith)))
+
+    -- its journal, with the running one's reserve
+    pub journal-stays : (d d₂ : Bytes) (t : Tail) → counted ((l₂ .book .entry (newName c (l .book .next c))) .stage) ≡ 0
+        → (isRunning ((l₂ .book .entry (newName c (l .book .next c))) .stage) ≡ true
+          → recordBlocks (l .book) c (l .book .oldest c) (l .book .next c - l .book .oldest c) + (length ((l₂ .book .entry (newName c (l .book .next c))) .blocks) + 2) ≤ l .shape .journal)
+        → ((q : ℕ) → journalAt (l .shape) d₂ c q ≡ journalAt (l .shape) d c q) → JournalStands l d c t → JournalStands l₂ d₂ c t
+    journal-stays d d₂ t z reserve at j =
+        let r = fine .ranks c in-range in
+        let held : contents l₂ c ≡ contents l c = contents-stay z in
+        let total = total-stays (l .book .next c) (omega arith) in
+        record {
+          number = rw (same .oldest) (j .number);
+          position = rw (same .shape) (j .position);
+          stands = rw (held, same .shape) (λ q h. at (t .position + q) ∙ j .stands q h);
+          clear = rw (same .shape, same .uncommitted) (λ i q h. rw (at q) (j .clear i q h));
+          room = rw (same .oldest, same .next, same .shape, total) (j .room);
+          reserved = rw (same .oldest, same .next, same .shape, total) reserve;
+        }
+
+    -- the core of the card, with a running transaction that matches
+    pub core-stays : (m m₂ : Bytes) (k : Core) (t : Transaction)
+        → (isRunning ((l₂ .book .entry (newName c (l .book .next c))) .stage) ≡ true → Matches t (l₂ .book .entry (newName c (l .book .next c))))
+        → (isRunning ((l₂ .book .entry (newName c (l .book .next c))) .stage) ≡ false → t .live ≡ false)
+        → ((i : ℕ) → i < 8 → blockAt m₂ (copyBlock c i) ≡ blockAt m (copyBlock c i)) → CoreUp l m c k → CoreUp l₂ m₂ c (withRunning k t)
+    core-stays m m₂ k t run idle copy u =
+        let r = fine .ranks c in-range in
+        let n = l .book .uncommitted c in
+        let o = l .book .oldest c in
+        let e : n < l .book .next c → l₂ .book .entry (newName c n) ≡ l .book .entry (newName c n) = same .entry n in
+        record {
+          next = rw (same .next) (u .next);
+          used = rw (same .oldest, same .uncommitted, total-stays n (r .mid)) (u .used);
+          runs = rw (same .next) run;
+          idle = rw (same .next) idle;
+          closing = rw (same .uncommitted, same .next) (λ h. rw (e h) (u .closing h));
+          stored = rw (same .uncommitted, same .next) (λ h. rw (e h, same .stamp n h) (u .stored h));
+          copies = rw (same .uncommitted, same .next) (λ h. rw (e h, same .images n h) (λ i b. copy i (omega (arith, few h)) ∙ u .copies h i b));
+          none-closing = rw (same .uncommitted, same .next) (u .none-closing);
+          homed = rw (same .oldest, same .uncommitted) (λ h. rw (same .entry o (omega (arith, r .mid))) (u .homed h));
+          none-homed = rw (same .oldest, same .uncommitted) (u .none-homed);
+        }
+      where
+        few : l .book .uncommitted c < l .book .next c → length ((l .book .entry (newName c (l .book .uncommitted c))) .blocks) ≤ 8
+        few h =
+            let s = fine .ranks c in-range .storing h in
+            fine .limits (newName c (l .book .uncommitted c)) (λ a. let z : _≡_ {A = ℕ} 0 1 = cc (s .1, a) in omega arith) .few
