@@ -28,42 +28,6 @@ use Rattle.crash.specs.Ledger.{Ledger, recordBlocks}
 use Rattle.crash.specs.Claims.{IsBytes}
 use Rattle.crash.proofs.Relation.{Fine, heldOf, recordOf, contents, JournalStands, CoreUp, Matches}
 
--- ---- names
-pub same-name : (t u : Name) → sameName t u ≡ true → t ≡ u
-unfolding sameName
-same-name t u h =
-    ap₂ newName (eqb-true (t .core) (u .core) (and-left _ _ h)) (eqb-true (t .number) (u .number) (and-right (eqb (t .core) (u .core)) _ h))
-
-pub name-same : (t : Name) → sameName t t ≡ true
-unfolding sameName
-name-same t = and-both (eq-eqb (t .core) (t .core) refl) (eq-eqb (t .number) (t .number) refl)
-
-pub name-other : (t u : Name) → t ≢ u → sameName t u ≡ false
-name-other t u ne = cases (sameName t u) (λ h. absurd (ne (same-name t u h))) (λ h. h)
-
-pub other-core : (c i d j : ℕ) → c ≢ d → newName c i ≢ newName d j
-other-core c i d j ne e = ne (ap (λ (t : Name). t .core) e)
-
-pub other-number : (c i d j : ℕ) → i ≢ j → newName c i ≢ newName d j
-other-number c i d j ne e = ne (ap (λ (t : Name). t .number) e)
-
--- ---- one entry changed, one number raised
-pub change-same : (t : Name) (g : Entry → Entry) (entry : Name → Entry) → change t g entry t ≡ g (entry t)
-unfolding change
-change-same t g entry = rw (name-same t)
-
-pub change-other : (t : Name) (g : Entry → Entry) (entry : Name → Entry) (u : Name) → u ≢ t → change t g entry u ≡ entry u
-unfolding change
-change-other t g entry u ne = rw (name-other u t ne)
-
-pub raise-same : (c : ℕ) (n : ℕ → ℕ) → raise c n c ≡ suc (n c)
-unfolding raise
-raise-same c n = rw (eq-eqb c c refl)
-
-pub raise-other : (c : ℕ) (n : ℕ → ℕ) (i : ℕ) → i ≢ c → raise c n i ≡ n i
-unfolding raise
-raise-other c n i ne = rw (ne-eqb i c ne)
-
 -- ---- bytes of a part replaced
 bytes-take : (n : ℕ) (s : Bytes) → IsBytes s → IsBytes (take n s)
 bytes-take n s h =
@@ -110,19 +74,6 @@ pub record-same : (l l₂ : Ledger) (t : Name) → (l₂ .book .entry t) .blocks
 unfolding recordOf heldOf
 record-same l l₂ t bs ns im st = simp (bs, ns, im, st)
 
-module _ (k k₂ : Book) (c : ℕ) where
-  pub blocks-same : (i n : ℕ) → ((j : ℕ) → i ≤ j → j < i + n → length ((k₂ .entry (newName c j)) .blocks) ≡ length ((k .entry (newName c j)) .blocks))
-      → recordBlocks k₂ c i n ≡ recordBlocks k c i n
-  unfolding recordBlocks
-  blocks-same i zero h = refl
-  blocks-same i (suc n) h = ap₂ (λ (a b : ℕ). a + 2 + b) (h i (omega arith) (omega arith)) (blocks-same (suc i) n (λ j p q. h j (omega arith) (omega arith)))
-
--- one record more
-pub blocks-snoc : (k : Book) (c i n : ℕ) → recordBlocks k c i (suc n) ≡ recordBlocks k c i n + (length ((k .entry (newName c (i + n))) .blocks) + 2)
-unfolding recordBlocks
-blocks-snoc k c i zero = let e : i + 0 ≡ i = omega arith in rw e (omega arith)
-blocks-snoc k c i (suc n) = let e : i + suc n ≡ suc i + n = omega arith in rw e (omega (arith, blocks-snoc k c (suc i) n))
-
 pub contents-same : (l l₂ : Ledger) (c : ℕ) → l₂ .book .oldest c ≡ l .book .oldest c → l₂ .book .uncommitted c ≡ l .book .uncommitted c
     → ((i : ℕ) → i < l .book .uncommitted c → recordOf l₂ (newName c i) ≡ recordOf l (newName c i))
     → take (counted ((l₂ .book .entry (newName c (l .book .uncommitted c))) .stage)) (recordOf l₂ (newName c (l .book .uncommitted c)))
@@ -133,12 +84,6 @@ contents-same l l₂ c o u f g =
     rw (o, u, g)
     (ap (λ (x : List Bytes). x ++ take (counted ((l .book .entry (newName c (l .book .uncommitted c))) .stage)) (recordOf l (newName c (l .book .uncommitted c))))
     (flatMap-below (λ (i : ℕ). recordOf l₂ (newName c (l .book .oldest c + i))) (λ (i : ℕ). recordOf l (newName c (l .book .oldest c + i))) (l .book .uncommitted c - l .book .oldest c) (λ i h. f (l .book .oldest c + i) (omega arith))))
-
--- ---- holders
-pub holder-same : (k k₂ : Book) (b : ℕ) (ws : List Write) → ((u : Name) → isRetired ((k₂ .entry u) .stage) ≡ isRetired ((k .entry u) .stage)) → holderIn k₂ b ws ≡ holderIn k b ws
-unfolding holderIn
-holder-same k k₂ b [] h = refl
-holder-same k k₂ b (w ∷ ws) h = rw (h (w .holder), holder-same k k₂ b ws h)
 
 -- ---- a core whose closed transactions stay
 pub record SameClosed (l l₂ : Ledger) (c : ℕ) : Type 0 where
@@ -174,7 +119,7 @@ module _ (l : Ledger) (fine : Fine l) (c : ℕ) (in-range : c < l .shape .cores)
 
     pub total-stays : (n : ℕ) → n ≤ l .book .next c → recordBlocks (l₂ .book) c (l .book .oldest c) (n - l .book .oldest c) ≡ recordBlocks (l .book) c (l .book .oldest c) (n - l .book .oldest c)
     total-stays n h =
-        blocks-same (l .book) (l₂ .book) c (l .book .oldest c) (n - l .book .oldest c) (λ j p q. ap (λ (e : Entry). length (e .blocks)) (same .entry j (omega arith)))
+        records-same (l .book) (l₂ .book) c (l .book .oldest c) (n - l .book .oldest c) (λ j p q. ap (λ (e : Entry). length (e .blocks)) (same .entry j (omega arith)))
 
     -- its journal, with the running one's reserve
     pub journal-stays : (d d₂ : Bytes) (t : Tail) → counted ((l₂ .book .entry (newName c (l .book .next c))) .stage) ≡ 0
