@@ -19,8 +19,7 @@ use Rattle.model.specs.Checkpoint.{committedOf, oldest, checkpointCondit
 use Rattle.model.specs.Recovery.{cutConditions, cut, recoverConditions, blocksLeft, recoverStep, recovered, recover}
 use Rattle.model.specs.Reading.{readConditions}
 use Rattle.model.specs.Tape.{Step, step, commandByte, operandsAt, isUnknown, endsEarly, commandAt}
-use Rattle.model.proofs.Logic.{cases}
-use Rattle.model.proofs.Lists.{Each, all-mem, mem-each}
+use Rattle.model.proofs.Lists.{cases, Each, all-mem, mem-each}
 
 -- ---- refusal
 -- n is the number of the first condition that holds
@@ -139,22 +138,28 @@ abbrev pub byCommand : {A : Type 0} → ℕ → A → A → A → A → A → A 
 byCommand k x₁ x₂ x₃ x₄ x₅ x₆ x₇ =
     cond (eqb k 1) x₁ (cond (eqb k 2) x₂ (cond (eqb k 3) x₃ (cond (eqb k 4) x₄ (cond (eqb k 5) x₅ (cond (eqb k 6) x₆ x₇)))))
 
--- what holds for each command holds for the one chosen
+-- what holds for each command under its byte holds for the one chosen
 module _ {A B : Type 0} (R : A → B → Type 0) where
-  cond-holds : (t : Bool) {x x′ : A} {y y′ : B} → R x y → R x′ y′ → R (cond t x x′) (cond t y y′)
-  cond-holds true p q = p
+  cond-holds : (t : Bool) {x x′ : A} {y y′ : B} → (t ≡ true → R x y) → R x′ y′ → R (cond t x x′) (cond t y y′)
+  cond-holds true p q = p refl
   cond-holds false p q = q
 
   pub each-command : (k : ℕ) {x₁ x₂ x₃ x₄ x₅ x₆ x₇ : A} {y₁ y₂ y₃ y₄ y₅ y₆ y₇ : B}
-      → R x₁ y₁ → R x₂ y₂ → R x₃ y₃ → R x₄ y₄ → R x₅ y₅ → R x₆ y₆ → R x₇ y₇
+      → (eqb k 1 ≡ true → R x₁ y₁) → (eqb k 2 ≡ true → R x₂ y₂) → R x₃ y₃ → R x₄ y₄ → R x₅ y₅ → R x₆ y₆ → R x₇ y₇
       → R (byCommand k x₁ x₂ x₃ x₄ x₅ x₆ x₇) (byCommand k y₁ y₂ y₃ y₄ y₅ y₆ y₇)
   each-command k p₁ p₂ p₃ p₄ p₅ p₆ p₇ =
-      cond-holds (eqb k 1) p₁ (cond-holds (eqb k 2) p₂ (cond-holds (eqb k 3) p₃ (cond-holds (eqb k 4) p₄ (cond-holds (eqb k 5) p₅ (cond-holds (eqb k 6) p₆ p₇)))))
+      cond-holds (eqb k 1) p₁
+      (cond-holds (eqb k 2) p₂
+      (cond-holds (eqb k 3) (λ h. p₃) (cond-holds (eqb k 4) (λ h. p₄) (cond-holds (eqb k 5) (λ h. p₅) (cond-holds (eqb k 6) (λ h. p₆) p₇)))))
 
 module _ {A : Type 0} (P : A → Type 0) where
-  pub of-command : (k : ℕ) {x₁ x₂ x₃ x₄ x₅ x₆ x₇ : A} → P x₁ → P x₂ → P x₃ → P x₄ → P x₅ → P x₆ → P x₇ → P (byCommand k x₁ x₂ x₃ x₄ x₅ x₆ x₇)
-  of-command k {x₁} {x₂} {x₃} {x₄} {x₅} {x₆} {x₇} =
-      each-command (λ (x y : A). P x) k {y₁ = x₁} {y₂ = x₂} {y₃ = x₃} {y₄ = x₄} {y₅ = x₅} {y₆ = x₆} {y₇ = x₇}
+  pub of-cond : (t : Bool) {x y : A} → P x → P y → P (cond t x y)
+  of-cond true p q = p
+  of-cond false p q = q
+
+  pub of-command : (k : ℕ) {x₁ x₂ x₃ x₄ x₅ x₆ x₇ : A} → P x₁ → (eqb k 2 ≡ true → P x₂) → P x₃ → P x₄ → P x₅ → P x₆ → P x₇ → P (byCommand k x₁ x₂ x₃ x₄ x₅ x₆ x₇)
+  of-command k {x₁} {x₂} {x₃} {x₄} {x₅} {x₆} {x₇} p₁ =
+      each-command (λ (x y : A). P x) k {y₁ = x₁} {y₂ = x₂} {y₃ = x₃} {y₄ = x₄} {y₅ = x₅} {y₆ = x₆} {y₇ = x₇} (λ h. p₁)
 
 -- the conditions of a command, and what it does where none holds
 pub record Order : Type 0 where
@@ -202,22 +207,22 @@ recoverStep-answer (b ∷ bs) w = refl
 module _ (k : ℕ) (a : Bytes) (w : World) where
   pub step-order : step k a w ≡ unless ((orderOf k a w) .conditions) w ((orderOf k a w) .done)
   unfolding step format write close storeNext checkpoint cut recover orderOf
-  step-order = each-command (λ (o : Outcome) (r : Order). o ≡ unless (r .conditions) w (r .done)) k refl refl refl refl refl refl refl
+  step-order = each-command (λ (o : Outcome) (r : Order). o ≡ unless (r .conditions) w (r .done)) k (λ h. refl) (λ h. refl) refl refl refl refl refl
 
   pub order-numbers : map (λ (t : Bool × ℕ). t .1) ((orderOf k a w) .conditions) ≡ refusalNumbers k
   unfolding orderOf refusalNumbers formatConditions writeConditions closeConditions storeConditions checkpointConditions cutConditions recoverConditions
   order-numbers =
-      each-command (λ (r : Order) (ns : List ℕ). map (λ (t : Bool × ℕ). t .1) (r .conditions) ≡ ns) k refl refl refl refl refl refl refl
+      each-command (λ (r : Order) (ns : List ℕ). map (λ (t : Bool × ℕ). t .1) (r .conditions) ≡ ns) k (λ h. refl) (λ h. refl) refl refl refl refl refl
 
   order-numbered : Numbered ((orderOf k a w) .conditions)
   unfolding refusalNumbers all
   order-numbered =
-      rw order-numbers (positive (refusalNumbers k) (of-command (λ (ns : List ℕ). all (ltb 0) ns ≡ true) k refl refl refl refl refl refl refl))
+      rw order-numbers (positive (refusalNumbers k) (of-command (λ (ns : List ℕ). all (ltb 0) ns ≡ true) k refl (λ h. refl) refl refl refl refl refl))
 
   pub order-answer : (orderOf k a w) .done .answer ≡ 0
   unfolding orderOf formatted written closed stored recovered
   order-answer =
-      of-command (λ (r : Order). r .done .answer ≡ 0) k refl refl refl refl (checkpointed-answer (getD a 0 0) w) refl (recoverStep-answer (blocksLeft w) w)
+      of-command (λ (r : Order). r .done .answer ≡ 0) k refl (λ h. refl) refl refl (checkpointed-answer (getD a 0 0) w) refl (recoverStep-answer (blocksLeft w) w)
 
   pub step-answer : (step k a w) .answer ≡ refusal ((orderOf k a w) .conditions)
   step-answer = rw step-order (unless-answer ((orderOf k a w) .conditions) w ((orderOf k a w) .done) order-answer)

@@ -7,9 +7,10 @@ pub mod Store
 pub mod Words
 pub mod Encoding
 pub mod Journal
-pub mod Logic
 pub mod Select
 pub mod Shrink
 pub mod Valid
 pub mod Command
 pub mod Tape
+pub mod Arrays
+pub mod OneStore

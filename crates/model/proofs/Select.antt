@@ -7,7 +7,7 @@ use mathlib.Core.Bool.{Bool, true, false}
 use mathlib.Core.List.{List, [], _∷_, List·Memᴰ, List·Memᴰ·head, List·Memᴰ·tail, List·Memᴰ·not-nil, List·Memᴰ·cases-cons}
 use lib.ListN.{length}
 use Rattle.model.specs.Lists.{select}
-use Rattle.model.proofs.Logic.{cases}
+use Rattle.model.proofs.Lists.{cases}
 
 module _ {A : Type 0} (p : A → Bool) where
   select-yes : (x : A) (xs : List A) → p x ≡ true → select p (x ∷ xs) ≡ x ∷ select p xs

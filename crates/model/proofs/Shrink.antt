@@ -4,15 +4,14 @@ use Prim.Native.Nat.{ℕ, zero, suc, _≤_}
 use native.Mathlib.Omega.{arith}
 use mathlib.Core.Path.{_≡_, refl, sym, ap, _∙_, subst}
 use mathlib.Core.Logic.{_⊎_, inl, inr}
-use mathlib.Core.Bool.{Bool, true, false, _||_}
+use mathlib.Core.Bool.{Bool, true, false, true≢false, _||_}
 use mathlib.Core.List.{List, [], _∷_, List·Memᴰ, Memᴰ·cast}
 use lib.ListN.{length}
 use lib.Dec.{eqb}
 use borrow.Author.Tests.{eqb-true, eqb-false, eq-eqb}
 use Rattle.model.specs.Lists.{all, any, select}
 use Rattle.model.specs.Shrink.{Closed, Within, strike, shrinkIn, shrink, DependsOn, lists-it, through}
-use Rattle.model.proofs.Logic.{clash, cases}
-use Rattle.model.proofs.Lists.{all-mem, mem-all, any-mem, mem-any, or-cases, or-left, or-right}
+use Rattle.model.proofs.Lists.{cases, all-mem, mem-all, any-mem, mem-any, or-cases, or-left, or-right}
 use Rattle.model.proofs.Select.{select-length, mem-select, select-mem, select-all, select-same}
 
 -- who meets the test in a set meets it in a larger one
@@ -136,7 +135,7 @@ module _ {A N : Type 0} (names : A → List N) (nameOf : A → N) where
         lists : (t u : A) → List·Memᴰ t (shrink (allNamed same gone) es) → ListsIn gone es t u → List·Memᴰ u (shrink (allNamed same gone) es)
         lists t u m l =
             elim (shrunk-names es t m (nameOf u) (l .1))
-            [ inl g ↦ clash g (l .2)
+            [ inl g ↦ absurd (true≢false (sym g ∙ l .2))
             | inr k ↦ Memᴰ·cast (one u (k .0) (l .0) (shrink-within (allNamed same gone) es (k .0) (k .1)) (k .2)) (k .1) ]
 
     -- every set of the given ones that has all that each of it depends on, where no name is missing, lies in it

@@ -9,13 +9,12 @@ use mathlib.Core.Bool.{Bool, true, false, not, _&&_, _||_}
 use mathlib.Core.List.{List, [], _∷_, _++_, map, List·Memᴰ}
 use lib.ListN.{length}
 use lib.Dec.{ltb, eqb}
-use borrow.Author.Tests.{ltb-true, ltb-false, lt-ltb, le-ltb}
+use borrow.Author.Tests.{ltb-true, ltb-false, lt-ltb, le-ltb, eqb-false, not-true}
 use Rattle.model.specs.Lists.{all}
 use Rattle.model.specs.Bytes.{Bytes}
 use Rattle.model.specs.Command.{World, Outcome, refusal, unless, wrongLength}
 use Rattle.model.specs.Tape.{Step, step, operandLength, commandByte, operandsAt, isUnknown, endsEarly, commandAt, nextOffset, Point, runFrom, run}
-use Rattle.model.proofs.Logic.{clash, cases}
-use Rattle.model.proofs.Lists.{Each, all-mem, and-left, and-right, or-left, or-right}
+use Rattle.model.proofs.Lists.{cases, Each, all-mem, and-left, and-right, or-left, or-right}
 use Rattle.model.proofs.Command.{First, here, later, refusalNumbers, of-command, orderOf, tapeConditions, decided-refused, command-decided, order-answer, order-numbers, first-number}
 
 -- the point of the command at an offset
@@ -103,8 +102,8 @@ module _ (f : Step) (t : Bytes) where
 
 -- ---- the seven commands: after 2 or 3 the tape ends
 neither : (n : ℕ) → not (eqb n 2) && not (eqb n 3) ≡ true → (n ≡ 2) ⊎ (n ≡ 3) → ⊥
-neither n h (inl e) = clash {b = not (eqb n 2)} (and-left (not (eqb n 2)) (not (eqb n 3)) h) (rw e refl)
-neither n h (inr e) = clash {b = not (eqb n 3)} (and-right (not (eqb n 2)) (not (eqb n 3)) h) (rw e refl)
+neither n h (inl e) = eqb-false n 2 (not-true (eqb n 2) (and-left (not (eqb n 2)) (not (eqb n 3)) h)) e
+neither n h (inr e) = eqb-false n 3 (not-true (eqb n 3) (and-right (not (eqb n 2)) (not (eqb n 3)) h)) e
 
 -- where 2 or 3 is answered and is none of the command's own numbers
 first-ends : {u e l : Bool} (ts : List (Bool × ℕ)) {n : ℕ} → First n ((l, 1) ∷ (u, 2) ∷ (e, 3) ∷ ts) → (n ≡ 2) ⊎ (n ≡ 3)
@@ -117,7 +116,7 @@ first-ends ts (later g (later g₂ (later g₃ r))) d m = absurd (m (first-numbe
 
 step-neither : (k : ℕ) → all (λ (n : ℕ). not (eqb n 2) && not (eqb n 3)) (refusalNumbers k) ≡ true
 unfolding refusalNumbers all
-step-neither k = of-command (λ (ns : List ℕ). all (λ (n : ℕ). not (eqb n 2) && not (eqb n 3)) ns ≡ true) k refl refl refl refl refl refl refl
+step-neither k = of-command (λ (ns : List ℕ). all (λ (n : ℕ). not (eqb n 2) && not (eqb n 3)) ns ≡ true) k refl (λ h. refl) refl refl refl refl refl
 
 pub answer-ends : (t : Bytes) (at : ℕ) (w : World) (n : ℕ) → (commandAt step t at w) .answer ≡ n → (n ≡ 2) ⊎ (n ≡ 3) → length t ≤ nextOffset t at
 answer-ends t at w n h two =

@@ -1,0 +1,175 @@
+-- The arrays of a card have the lengths that its type gives them; every command keeps them.
+use Prim.Native.Nat.{ℕ, zero, suc, _+_, _≤_, _<_}
+use native.Mathlib.Omega.{arith}
+use mathlib.Core.Path.{_≡_, refl, sym, ap, _∙_}
+use mathlib.Core.Bool.{Bool, true, false, cond}
+use mathlib.Core.List.{List, [], _∷_, map}
+use lib.ListN.{length, getD, set, replicate, length-set, length-map, length-replicate}
+use lib.Dec.{ltb, leb, eqb}
+use Rattle.model.specs.Lists.{below}
+use Rattle.model.specs.Bytes.{Bytes, number, part}
+use Rattle.model.specs.Card.{newTail, noHolder, opened, noTransaction, lists, taken, withBlock, withName, stamped, freshCore, withRunning, freshCard, emptyCard, downCard, coreOf, holderOf, withCore, withHolder}
+use Rattle.model.specs.Command.{World, Outcome}
+use Rattle.model.specs.Format.{formatted}
+use Rattle.model.specs.Write.{writer, writerName, ruleFor, takesBlock, namesHolder, isNamedBack, writerAfter, writtenCard, written}
+use Rattle.model.specs.Commit.{closedCard, closed, coreStored, stored}
+use Rattle.model.specs.Checkpoint.{committedOf, oldest, storedHome, released, retiredCard, storedMaster, checkpointed}
+use Rattle.model.specs.Recovery.{emptiedTail, broughtUp, shapeOn, blocksLeft, recoverStep, recovered}
+use Rattle.model.specs.declared.Phase.{Phase}
+use Rattle.model.specs.declared.Phase.the-variants.{Up, Down}
+use Rattle.model.specs.declared.Shape.{Shape}
+use Rattle.model.specs.declared.Tail.{Tail}
+use Rattle.model.specs.declared.Name.{Name}
+use Rattle.model.specs.declared.Transaction.{Transaction}
+use Rattle.model.specs.declared.Core.{Core}
+use Rattle.model.specs.declared.Holder.{Holder}
+use Rattle.model.specs.declared.Card.{Card}
+use Rattle.model.specs.declared.Committed.{Committed}
+use Rattle.model.proofs.Lists.{cases, Each, length-below}
+use Rattle.model.proofs.Command.{Order, order, orderOf, of-cond, of-command}
+
+pub record FitsTransaction (t : Transaction) : Type 0 where
+  pub blocks : length (t .blocks) ≡ 8
+  pub names : length (t .names) ≡ 12
+
+pub record FitsCore (k : Core) : Type 0 where
+  pub running : FitsTransaction (k .running)
+  pub closed : FitsTransaction (k .closed)
+
+pub record Arrays (x : Card) : Type 0 where
+  pub tails : length (x .tails) ≡ 8
+  pub cores : length (x .cores) ≡ 8
+  pub holders : length (x .holders) ≡ 64
+  pub each : Each FitsCore (x .cores)
+
+module _ {A : Type 0} (P : A → Type 0) where
+  each-set : (xs : List A) (i : ℕ) {a : A} → Each P xs → P a → Each P (set xs i a)
+  each-set [] i e p = tt
+  each-set (x ∷ xs) zero e p = (p, e .1)
+  each-set (x ∷ xs) (suc i) e p = (e .0, each-set xs i (e .1) p)
+
+  each-or : (xs : List A) (i : ℕ) {d : A} → Each P xs → P d → P (getD xs i d)
+  each-or [] i e p = p
+  each-or (x ∷ xs) zero e p = e .0
+  each-or (x ∷ xs) (suc i) e p = each-or xs i (e .1) p
+
+  each-map : {B : Type 0} (f : B → A) (ys : List B) → ((y : B) → P (f y)) → Each P (map f ys)
+  each-map f [] p = tt
+  each-map f (y ∷ ys) p = (p y, each-map f ys p)
+
+none-fits : FitsTransaction noTransaction
+none-fits = record { blocks = refl; names = refl }
+
+fresh-fits : (n : ℕ) → FitsCore (freshCore n)
+fresh-fits n = record { running = none-fits; closed = none-fits }
+
+pub core-fits : (x : Card) → Arrays x → (c : ℕ) → FitsCore (coreOf x c)
+unfolding coreOf
+core-fits x a c = each-or FitsCore (x .cores) c (a .each) (fresh-fits 0)
+
+core-kept : (x : Card) → Arrays x → (c : ℕ) (k : Core) → FitsCore k → Arrays (withCore x c k)
+core-kept x a c k f =
+    record { tails = a .tails; cores = length-set (x .cores) c k ∙ a .cores; holders = a .holders; each = each-set FitsCore (x .cores) c (a .each) f }
+
+fresh-arrays : (p : Phase) (s : Shape) (ts : List Tail) → length ts ≡ 8 → Arrays (freshCard p s ts)
+unfolding freshCard
+fresh-arrays p s ts h =
+    record {
+      tails = h;
+      cores = length-map ts (λ (t : Tail). freshCore (t .number)) ∙ h;
+      holders = length-replicate 64 noHolder;
+      each = each-map FitsCore (λ (t : Tail). freshCore (t .number)) ts (λ t. fresh-fits (t .number));
+    }
+
+pub empty-arrays : (p : Phase) → Arrays (emptyCard p)
+unfolding emptyCard
+empty-arrays p = fresh-arrays p _ (replicate 8 (newTail 0 0)) (length-replicate 8 (newTail 0 0))
+
+-- ---- WRITE
+name-fits : (t : Transaction) (n : Name) → FitsTransaction t → FitsTransaction (withName t n)
+unfolding withName
+name-fits t n f = of-cond FitsTransaction (lists t n) f (record { blocks = f .blocks; names = length-set (t .names) (t .named) n ∙ f .names })
+
+block-fits : (t : Transaction) (b : ℕ) → FitsTransaction t → FitsTransaction (withBlock t b)
+block-fits t b f = record { blocks = length-set (t .blocks) (t .count) b ∙ f .blocks; names = f .names }
+
+writer-fits : (x : Card) → Arrays x → (c b : ℕ) → FitsTransaction (writerAfter x c b)
+unfolding writerAfter writer
+writer-fits x a c b =
+    let r = ruleFor x c b in
+    let w : FitsTransaction (writer x c) = of-cond FitsTransaction ((coreOf x c) .running .live) ((core-fits x a c) .running) (record { blocks = refl; names = refl }) in
+    let t = of-cond FitsTransaction (namesHolder r) (name-fits (writer x c) _ w) w in
+    of-cond FitsTransaction (takesBlock r) (block-fits _ b t) t
+
+written-arrays : (x : Card) → Arrays x → (c b : ℕ) → Arrays (writtenCard x c b)
+unfolding writtenCard
+written-arrays x a c b =
+    let r = ruleFor x c b in
+    let u = ((holderOf x b) .name) .core in
+    let x₁ = cond (isNamedBack r) (withCore x u (withRunning (coreOf x u) (withName ((coreOf x u) .running) (writerName x c)))) x in
+    let a₁ : Arrays x₁ =
+        of-cond Arrays (isNamedBack r)
+        (core-kept x a u (withRunning (coreOf x u) (withName ((coreOf x u) .running) (writerName x c)))
+          (record { running = name-fits ((coreOf x u) .running) (writerName x c) ((core-fits x a u) .running); closed = (core-fits x a u) .closed }))
+        a in
+    let x₂ = withCore x₁ c (withRunning (coreOf x₁ c) (writerAfter x c b)) in
+    let a₂ : Arrays x₂ =
+        core-kept x₁ a₁ c (withRunning (coreOf x₁ c) (writerAfter x c b)) (record { running = writer-fits x a c b; closed = (core-fits x₁ a₁ c) .closed }) in
+    of-cond Arrays (takesBlock r) (record { tails = a₂ .tails; cores = a₂ .cores; holders = length-set (x₂ .holders) b _ ∙ a₂ .holders; each = a₂ .each }) a₂
+
+-- ---- CLOSE, STORE
+closed-arrays : (x : Card) → Arrays x → (c : ℕ) → Arrays (closedCard x c)
+unfolding closedCard
+closed-arrays x a c =
+    let f = (core-fits x a c) .running in
+    record {
+      tails = a .tails;
+      cores = length-set (x .cores) c _ ∙ a .cores;
+      holders = a .holders;
+      each = each-set FitsCore (x .cores) c (a .each) (record { running = none-fits; closed = record { blocks = f .blocks; names = f .names } });
+    }
+
+stored-fits : (k : Core) → FitsCore k → FitsCore (coreStored k)
+unfolding coreStored
+stored-fits k f =
+    of-cond FitsCore (leb (k .stored) (length (taken (k .closed)))) (record { running = f .running; closed = f .closed }) (record { running = f .running; closed = none-fits })
+
+-- ---- CHECKPOINT
+retired-arrays : (x : Card) → Arrays x → (c : ℕ) (e : Committed) → Arrays (retiredCard c e x)
+unfolding retiredCard released
+retired-arrays x a c e =
+    let f = core-fits x a c in
+    record {
+      tails = length-set (x .tails) c _ ∙ a .tails;
+      cores = length-set (x .cores) c _ ∙ a .cores;
+      holders = length-map (x .holders) _ ∙ a .holders;
+      each = each-set FitsCore (x .cores) c (a .each) (record { running = f .running; closed = f .closed });
+    }
+
+checkpointed-arrays : (c : ℕ) (w : World) → Arrays (w .card) → Arrays ((checkpointed c w) .world .card)
+unfolding checkpointed storedHome storedMaster
+checkpointed-arrays c w a =
+    let e = oldest (committedOf w c) in
+    let f = core-fits (w .card) a c in
+    of-cond (λ (o : Outcome). Arrays (o .world .card)) (ltb ((coreOf (w .card) c) .homed) (e .count))
+    (core-kept (w .card) a c _ (record { running = f .running; closed = f .closed }))
+    (retired-arrays (w .card) a c e)
+
+-- ---- RECOVER
+recoverStep-arrays : (bs : List ℕ) (w : World) → Arrays (w .card) → Arrays ((recoverStep bs w) .world .card)
+unfolding recoverStep broughtUp
+recoverStep-arrays [] w a = fresh-arrays Up (shapeOn (w .disk)) (map (emptiedTail (w .disk)) (below 8)) (length-map (below 8) (emptiedTail (w .disk)) ∙ length-below 8)
+recoverStep-arrays (b ∷ bs) w a = record { tails = a .tails; cores = a .cores; holders = a .holders; each = a .each }
+
+pub order-arrays : (k : ℕ) (a : Bytes) (w : World) → Arrays (w .card) → Arrays ((orderOf k a w) .done .world .card)
+unfolding orderOf formatted written closed stored recovered downCard
+order-arrays k a w f =
+    let c = getD a 0 0 in
+    of-command (λ (r : Order). Arrays (r .done .world .card)) k
+    (fresh-arrays Up (record { cores = c; blocks = getD a 1 0; journal = getD a 2 0 }) (replicate 8 (newTail 1 0)) (length-replicate 8 (newTail 1 0)))
+    (λ h. written-arrays (w .card) f c (number 0 (part 1 2 a)))
+    (closed-arrays (w .card) f c)
+    (core-kept (w .card) f c (coreStored (coreOf (w .card) c)) (stored-fits (coreOf (w .card) c) (core-fits (w .card) f c)))
+    (checkpointed-arrays c w f)
+    (empty-arrays Down)
+    (recoverStep-arrays (blocksLeft w) w f)
