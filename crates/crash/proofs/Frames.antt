@@ -1,31 +1,31 @@
--- What a command leaves alone: names that differ, entries and numbers not changed, journals and cores not concerned.
--- A core of the card is read through its own entries, numbers, stamps and images alone, so that it stays in agreement
--- where these stay.
+-- What a command leaves alone: the journal of a core and the core itself, where its closed transactions stay.
+-- Both are read through the core's own entries, numbers, stamps and images alone, and nothing of the running one is
+-- stored; so they stay in agreement with the ledger.
 use Prim.Native.Nat.{ℕ, zero, suc, _+_, _-_, _*_, _≤_, _<_}
 use native.Mathlib.Omega.{arith}
 use native.Mathlib.Decide.{ℕ-discrete}
 use mathlib.Core.Path.{_≡_, refl, ap, ap₂, _∙_, sym, subst}
 use mathlib.Core.Logic.{_⊎_, inl, inr, _≢_}
-use mathlib.Core.Bool.{Bool, true, false, cond}
-use mathlib.Core.List.{List, [], _∷_, _++_, map, flatMap, append-nil}
-use mathlib.Core.Option.{Option}
-use lib.ListN.{length, take, drop, getD, length-append, take-append-drop}
-use lib.Dec.{eqb, ltb}
-use borrow.Author.Tests.{eq-eqb, ne-eqb, eqb-true, ltb-true, lt-ltb}
+use mathlib.Core.Bool.{Bool, true, false}
+use mathlib.Core.List.{List, [], _∷_, _++_, flatMap}
+use lib.ListN.{length, take, drop, getD, take-append-drop}
+use lib.Dec.{ltb}
+use borrow.Author.Tests.{lt-ltb}
 use Rattle.model.specs.Lists.{below, all}
-use Rattle.model.specs.Bytes.{Bytes, blockAt, replaced, store}
-use Rattle.model.specs.Card.{newName, sameName, withRunning}
+use Rattle.model.specs.Bytes.{Bytes, part, blockAt, replaced, store}
+use Rattle.model.specs.Card.{newName, withRunning}
 use Rattle.model.specs.Journal.{journalAt}
 use Rattle.model.specs.Commit.{copyBlock}
 use Rattle.model.specs.declared.Name.{Name}
 use Rattle.model.specs.declared.Tail.{Tail}
 use Rattle.model.specs.declared.Transaction.{Transaction}
 use Rattle.model.specs.declared.Core.{Core}
-use Rattle.model.proofs.Lists.{cases, and-left, and-right, and-both, all-append, all-mem, mem-all, flatMap-append, Each, each-getD, mem-each}
+use Rattle.model.proofs.Lists.{and-left, and-right, and-both, all-append, mem-all, mem-getD, flatMap-append, Each, each-getD}
 use Rattle.model.proofs.Words.{IsByte}
-use Rattle.crash.specs.Book.{Stage, absent, running, closed, committed, retired, isRunning, isRetired, counted, Entry, Write, Book, change, raise, holderIn}
+use Rattle.crash.specs.Book.{Stage, absent, running, isRunning, counted, Entry}
 use Rattle.crash.specs.Ledger.{Ledger, recordBlocks}
 use Rattle.crash.specs.Claims.{IsBytes}
+use Rattle.crash.proofs.Entries.{records-same}
 use Rattle.crash.proofs.Relation.{Fine, heldOf, recordOf, contents, JournalStands, CoreUp, Matches}
 
 -- ---- bytes of a part replaced
@@ -52,11 +52,11 @@ unfolding store
 bytes-store d k b = bytes-replaced (128 * k) 128 d b
 
 pub bytes-blockAt : (d : Bytes) (k : ℕ) → IsBytes d → IsBytes (blockAt d k)
-unfolding blockAt Rattle.model.specs.Bytes.part
+unfolding blockAt part
 bytes-blockAt d k h = bytes-take 128 (drop (128 * k) d) (bytes-drop (128 * k) d h)
 
 pub each-isBytes : (s : Bytes) → Each IsByte s → IsBytes s
-each-isBytes s h = mem-all (λ (x : ℕ). ltb x 256) s (λ x m. let r = Rattle.model.proofs.Lists.mem-getD m 0 in lt-ltb x 256 (subst IsByte (r .2) (each-getD IsByte s h (r .0) 0 (r .1))))
+each-isBytes s h = mem-all (λ (x : ℕ). ltb x 256) s (λ x m. let r = mem-getD m 0 in lt-ltb x 256 (subst IsByte (r .2) (each-getD IsByte s h (r .0) 0 (r .1))))
 
 -- ---- records and what a journal holds
 module _ {A : Type 0} where

@@ -1,3 +1,7 @@
 -- Why the claims are true. Layer A: one block's history. Layer B: the bytes. Layer C: from one coming up to the next.
 pub mod Relation
+pub mod Stages
+pub mod Master
+pub mod Records
+pub mod Entries
 pub mod Frames
