@@ -1,0 +1,44 @@
+-- The master of a disk that holds what the ledger says is read as the ledger's shape and the tails given.
+-- The shape is within its limits and the tails are within theirs, so what was stored is read back.
+-- Hence no RECOVER over such a disk meets 8.
+use Prim.Native.Nat.{ℕ, suc, _<_}
+use native.Mathlib.Omega.{arith}
+use mathlib.Core.Path.{_≡_, ap, _∙_}
+use mathlib.Core.Bool.{true}
+use borrow.Author.Tests.{le-leb, lt-ltb}
+use Rattle.model.specs.Bytes.{Bytes, blockAt}
+use Rattle.model.specs.Shape.{between}
+use Rattle.model.specs.Layout.{maxNumber, isTail, isMaster, shapeIn, tailIn}
+use Rattle.model.specs.Recovery.{shapeOn, tailOn}
+use Rattle.model.specs.declared.Shape.{Shape}
+use Rattle.model.specs.declared.Tail.{Tail}
+use Rattle.model.proofs.Limits.{InRange, test-range}
+use Rattle.model.proofs.Encoding.{Limits, range-limits, master-shape, master-tail, master-read}
+use Rattle.crash.specs.Ledger.{Ledger}
+use Rattle.crash.proofs.Relation.{Fine, DiskStands}
+
+pub shape-limits : {s : Shape} → InRange s → Limits s
+shape-limits {s} r = range-limits s (test-range s r)
+
+module _ {l : Ledger} {d : Bytes} {tailAt : ℕ → Tail} (f : Fine l) (z : DiskStands l d tailAt) where
+  tail-fits : (c : ℕ) → c < l .shape .cores → isTail (l .shape) (tailAt c) ≡ true
+  unfolding isTail between
+  tail-fits c h =
+      let j = z .journals c h in
+      let r = f .ranks c h in
+      rw (
+        le-leb 1 ((tailAt c) .number) (omega (arith, r .positive, j .number)),
+        le-leb ((tailAt c) .number) (suc maxNumber) (omega (arith, r .low, r .mid, r .top, j .number)),
+        lt-ltb ((tailAt c) .position) (l .shape .journal) (j .position),
+      )
+
+  pub master-stands : isMaster (blockAt d 0) ≡ true
+  master-stands = ap isMaster (z .master) ∙ master-read (shape-limits (f .range)) tailAt tail-fits
+
+  pub shape-read : shapeOn d ≡ l .shape
+  unfolding shapeOn
+  shape-read = ap shapeIn (z .master) ∙ master-shape (shape-limits (f .range)) tailAt tail-fits
+
+  pub tail-read : (c : ℕ) → c < l .shape .cores → tailOn d c ≡ tailAt c
+  unfolding tailOn
+  tail-read c h = ap (λ (m : Bytes). tailIn m c) (z .master) ∙ master-tail (shape-limits (f .range)) tailAt tail-fits c h
