@@ -7,20 +7,21 @@ use native.Mathlib.Decide.{ℕ-discrete}
 use mathlib.Core.Path.{_≡_, refl, ap, ap₂, _∙_, sym, subst}
 use mathlib.Core.Logic.{_⊎_, inl, inr, _≢_}
 use mathlib.Core.Bool.{Bool, true, false}
-use mathlib.Core.List.{List, [], _∷_, _++_, flatMap}
+use mathlib.Core.List.{List, [], _∷_, _++_, map, flatMap, map-append}
 use lib.ListN.{length, take, drop, getD, take-append-drop}
-use lib.Dec.{ltb}
+use lib.Dec.{ltb, eqb}
 use borrow.Author.Tests.{lt-ltb}
 use Rattle.model.specs.Lists.{below, all}
-use Rattle.model.specs.Bytes.{Bytes, part, blockAt, replaced, store}
+use Rattle.model.specs.Bytes.{Bytes, part, be4, blockAt, replaced, store}
 use Rattle.model.specs.Card.{newName, withRunning}
+use Rattle.model.specs.Layout.{mark, escaped}
 use Rattle.model.specs.Journal.{journalAt}
 use Rattle.model.specs.Commit.{copyBlock}
 use Rattle.model.specs.declared.Name.{Name}
 use Rattle.model.specs.declared.Tail.{Tail}
 use Rattle.model.specs.declared.Transaction.{Transaction}
 use Rattle.model.specs.declared.Core.{Core}
-use Rattle.model.proofs.Lists.{and-left, and-right, and-both, all-append, mem-all, mem-getD, flatMap-append, Each, each-getD}
+use Rattle.model.proofs.Lists.{cases, and-left, and-right, and-both, all-append, mem-all, mem-getD, flatMap-append, Each, each-getD}
 use Rattle.model.proofs.Words.{IsByte}
 use Rattle.crash.specs.Book.{Stage, absent, running, isRunning, counted, Entry}
 use Rattle.crash.specs.Ledger.{Ledger, recordBlocks}
@@ -58,8 +59,20 @@ bytes-blockAt d k h = bytes-take 128 (drop (128 * k) d) (bytes-drop (128 * k) d 
 pub each-isBytes : (s : Bytes) → Each IsByte s → IsBytes s
 each-isBytes s h = mem-all (λ (x : ℕ). ltb x 256) s (λ x m. let r = mem-getD m 0 in lt-ltb x 256 (subst IsByte (r .2) (each-getD IsByte s h (r .0) 0 (r .1))))
 
+pub escaped-bytes : (b : Bytes) → IsBytes b → IsBytes (escaped b)
+unfolding escaped
+escaped-bytes b h = cases (eqb (be4 b 0) mark) (λ e. rw e (bytes-append (0 ∷ 0 ∷ 0 ∷ 0 ∷ []) (drop 4 b) (unfold all in refl) (bytes-drop 4 b h))) (λ e. rw e h)
+
 -- ---- records and what a journal holds
 module _ {A : Type 0} where
+  pub map-below : (f g : ℕ → A) (n : ℕ) → ((i : ℕ) → i < n → f i ≡ g i) → map f (below n) ≡ map g (below n)
+  unfolding below
+  map-below f g zero h = refl
+  map-below f g (suc n) h =
+      map-append f (below n) (n ∷ [])
+      ∙ ap₂ _++_ (map-below f g n (λ i l. h i (omega arith))) (ap (λ (x : A). x ∷ []) (h n (omega arith)))
+      ∙ sym (map-append g (below n) (n ∷ []))
+
   pub flatMap-below : (f g : ℕ → List A) (n : ℕ) → ((i : ℕ) → i < n → f i ≡ g i) → flatMap f (below n) ≡ flatMap g (below n)
   unfolding below flatMap
   flatMap-below f g zero h = refl

@@ -5,3 +5,4 @@ pub mod Master
 pub mod Records
 pub mod Entries
 pub mod Frames
+pub mod UpStore
