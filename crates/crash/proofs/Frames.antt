@@ -9,11 +9,12 @@ use mathlib.Core.Logic.{_⊎_, inl, inr, _≢_}
 use mathlib.Core.Bool.{Bool, true, false}
 use mathlib.Core.List.{List, [], _∷_, _++_, map, flatMap, map-append}
 use lib.ListN.{length, take, drop, getD, take-append-drop}
+use lib.Seq.{getD-set-same, getD-set-other}
 use lib.Dec.{ltb, eqb}
 use borrow.Author.Tests.{lt-ltb}
 use Rattle.model.specs.Lists.{below, all}
 use Rattle.model.specs.Bytes.{Bytes, part, be4, blockAt, replaced, store}
-use Rattle.model.specs.Card.{newName, withRunning}
+use Rattle.model.specs.Card.{newName, freshCore, coreOf, withCore, withRunning}
 use Rattle.model.specs.Layout.{mark, escaped}
 use Rattle.model.specs.Journal.{journalAt}
 use Rattle.model.specs.Commit.{copyBlock}
@@ -21,6 +22,7 @@ use Rattle.model.specs.declared.Name.{Name}
 use Rattle.model.specs.declared.Tail.{Tail}
 use Rattle.model.specs.declared.Transaction.{Transaction}
 use Rattle.model.specs.declared.Core.{Core}
+use Rattle.model.specs.declared.Card.{Card}
 use Rattle.model.proofs.Lists.{cases, and-left, and-right, and-both, all-append, mem-all, mem-getD, flatMap-append, Each, each-getD}
 use Rattle.model.proofs.Words.{IsByte}
 use Rattle.crash.specs.Book.{Stage, absent, running, isRunning, counted, Entry}
@@ -62,6 +64,15 @@ each-isBytes s h = mem-all (λ (x : ℕ). ltb x 256) s (λ x m. let r = mem-getD
 pub escaped-bytes : (b : Bytes) → IsBytes b → IsBytes (escaped b)
 unfolding escaped
 escaped-bytes b h = cases (eqb (be4 b 0) mark) (λ e. rw e (bytes-append (0 ∷ 0 ∷ 0 ∷ 0 ∷ []) (drop 4 b) (unfold all in refl) (bytes-drop 4 b h))) (λ e. rw e h)
+
+-- ---- one core of the card replaced
+pub core-set : (x : Card) (c : ℕ) (k : Core) → c < length (x .cores) → coreOf (withCore x c k) c ≡ k
+unfolding coreOf
+core-set x c k h = getD-set-same (x .cores) c k (freshCore 0) h
+
+pub core-other : (x : Card) (c : ℕ) (k : Core) (a : ℕ) → a ≢ c → coreOf (withCore x c k) a ≡ coreOf x a
+unfolding coreOf
+core-other x c k a ne = getD-set-other (x .cores) c a k (freshCore 0) ne
 
 -- ---- records and what a journal holds
 module _ {A : Type 0} where
