@@ -8,3 +8,5 @@ pub mod Entries
 pub mod FineSteps
 pub mod Newest
 pub mod FineWrite
+pub mod Frames
+pub mod UpStore
