@@ -10,3 +10,4 @@ pub mod Newest
 pub mod FineWrite
 pub mod Frames
 pub mod UpStore
+pub mod UpCheckpoint
