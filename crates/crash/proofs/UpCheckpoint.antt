@@ -124,3 +124,157 @@ module _ (l : Ledger) (t : Name) (g : Stage) (o : ℕ → ℕ) where
           homed = h;
           none-homed = z;
         }
+
+    -- a core that keeps its oldest number
+    journal-kept : (d d₂ : Bytes) (tail : Tail) → ((q : ℕ) → journalAt (l .shape) d₂ a q ≡ journalAt (l .shape) d a q) → o a ≡ l .book .oldest a
+        → JournalStands l d a tail → JournalStands advanced d₂ a tail
+    journal-kept d d₂ tail at e j =
+        journal-advanced d d₂ tail tail at (j .number ∙ sym e) (j .position) (rw (contents-kept e) (j .stands)) (rw e (omega arith)) j
+
+-- the journal of the core whose oldest record goes
+module _ {A : Type 0} where
+  flatMap-first : (f : ℕ → List A) (n : ℕ) → flatMap f (below (suc n)) ≡ f 0 ++ flatMap (λ (i : ℕ). f (suc i)) (below n)
+  unfolding below flatMap
+  flatMap-first f zero = refl
+  flatMap-first f (suc n) =
+      flatMap-append f (below (suc n)) (suc n ∷ [])
+      ∙ ap (λ (x : List A). x ++ (f (suc n) ++ [])) (flatMap-first f n)
+      ∙ append-assoc (f 0) (flatMap (λ (i : ℕ). f (suc i)) (below n)) (f (suc n) ++ [])
+      ∙ ap (λ (x : List A). f 0 ++ x) (sym (flatMap-append (λ (i : ℕ). f (suc i)) (below n) (n ∷ [])))
+
+-- ---- who held a block holds it no more
+abbrev releasedFrom : Name → Holder → Holder
+releasedFrom t h = cond (h .held && sameName (h .name) t) noHolder h
+
+released-holder : (t : Name) (o n m : ℕ → ℕ) (k : Book) (b : ℕ) (ws : List Write)
+    → releasedFrom t (holderAs (holderIn k b ws)) ≡ holderAs (holderIn (restaged t retired o n m k) b ws)
+released-holder t o n m k b ws = go (holderIn k b ws) refl
+  where
+    go : (h : Option Name) → holderIn k b ws ≡ h → releasedFrom t (holderAs h) ≡ holderAs (holderIn (restaged t retired o n m k) b ws)
+    go none e = rw (retired-other t o n m k b ws (λ q. let z : _≡_ {A = ℕ} 0 1 = cc in omega arith), e)
+    go (some v) e =
+        same-or-not v t
+        (λ q. rw (q, sameName-refl t, retired-none t o n m k b ws (e ∙ ap some q)))
+        (λ ne. rw (sameName-false v t ne, retired-other t o n m k b ws (λ q. ne (cc)), e))
+
+still-held : (t : Name) (h : Holder) → (releasedFrom t h) .held ≡ true → h .held ≡ true
+still-held t h e = cases (h .held && sameName (h .name) t) (λ z. clash (rw z at e) refl) (λ z. rw z at e)
+
+-- ---- CHECKPOINT
+module _ {l : Ledger} {w : World} (u : Up l w) (c : ℕ) (in-range : c < l .shape .cores) (some-committed : l .book .oldest c < l .book .uncommitted c) where
+  abbrev t : Name
+  t = newName c (l .book .oldest c)
+
+  abbrev x : Core
+  x = coreOf (w .card) c
+
+  abbrev e : Committed
+  e = readRecord l t ((tailOf (w .card) c) .position)
+
+  stage-now : (l .book .entry t) .stage ≡ committed (x .homed)
+  stage-now = u .cores c in-range .homed some-committed
+
+  closed-now : isClosed ((l .book .entry t) .stage) ≡ true
+  closed-now = ap isClosed stage-now
+
+  within : x .homed ≤ length ((l .book .entry t) .blocks)
+  within =
+      let s = u .fine .ranks c in-range .first some-committed in
+      let q : s .0 ≡ x .homed = ap counted (sym (s .1) ∙ stage-now) in
+      omega (arith, s .2)
+
+  size : length (recordOf l t) ≡ length ((l .book .entry t) .blocks) + 2
+  size = length-record (u .fine) t closed-now
+
+  -- it is neither the one being stored nor the running one, of any core
+  not-closing : (a : ℕ) → newName a (l .book .uncommitted a) ≢ t
+  not-closing a q = let z : a ≡ c = ap (λ (n : Name). n .core) q in let y : l .book .uncommitted a ≡ l .book .oldest c = ap (λ (n : Name). n .number) q in let v : l .book .uncommitted a ≡ l .book .uncommitted c = ap (l .book .uncommitted) z in omega arith
+
+  not-current : (a : ℕ) → newName a (l .book .next a) ≢ t
+  not-current a q = let z : a ≡ c = ap (λ (n : Name). n .core) q in let y : l .book .next a ≡ l .book .oldest c = ap (λ (n : Name). n .number) q in let v : l .book .next a ≡ l .book .next c = ap (l .book .next) z in omega (arith, u .fine .ranks c in-range .mid)
+
+  core-room : c < length (w .card .cores)
+  core-room = omega (arith, u .eight-cores, u .fine .range .few-cores)
+
+  -- ---- a home store
+  module _ (more : x .homed < length ((l .book .entry t) .blocks)) where
+    abbrev b : ℕ
+    b = getD ((l .book .entry t) .blocks) (x .homed) 0
+
+    abbrev image : Bytes
+    image = getD (l .images t) (x .homed) []
+
+    abbrev homedCore : Core
+    homedCore = record { next = x .next; used = x .used; stored = x .stored; homed = x .homed + 1; running = x .running; closed = x .closed }
+
+    home-done : checkpointed c w ≡ storing w (withCore (w .card) c homedCore) (homeBlock b) image
+    unfolding checkpointed storedHome
+    home-done =
+        let r = oldest-is u c in-range some-committed in
+        rw (oldest-read u c in-range some-committed, lt-ltb (x .homed) (length ((l .book .entry t) .blocks)) more, shape-up u, r .blocks, r .images (x .homed) more) refl
+
+    home-low : b < l .shape .blocks
+    home-low = u .fine .limits t (closed-present _ closed-now) .blocks b (getD-mem ((l .book .entry t) .blocks) (x .homed) 0 more)
+
+    image-block : IsBlock image
+    image-block = let z = u .fine .frozen t closed-now in z .images (x .homed) (omega (arith, z .count))
+
+    home-fits : 128 * homeBlock b + 128 ≤ length (w .disk)
+    home-fits = omega (arith, home-low, u .disk .size, u .fine .range .few-blocks)
+
+    home-elsewhere : (k : ℕ) → k ≢ homeBlock b → blockAt (storeBlock (w .disk) (homeBlock b) image) k ≡ blockAt (w .disk) k
+    home-elsewhere = block-other (w .disk) (homeBlock b) image home-fits (image-block .size)
+
+    abbrev l₂ : Ledger
+    l₂ = advanced l t (committed (suc (x .homed))) (l .book .oldest)
+
+    home-disk : DiskStands l₂ (storeBlock (w .disk) (homeBlock b) image) (tailOf (w .card))
+    unfolding journalAt
+    home-disk =
+        record {
+          size = length-store (w .disk) (homeBlock b) image home-fits (image-block .size) ∙ u .disk .size;
+          bytes = bytes-store (w .disk) (homeBlock b) image (u .disk .bytes) (image-block .bytes);
+          master = home-elsewhere 0 (omega arith) ∙ u .disk .master;
+          journals =
+              λ a h.
+              journal-kept l t (committed (suc (x .homed))) (l .book .oldest) a (not-closing a) (not-current a) (w .disk) (storeBlock (w .disk) (homeBlock b) image) (tailOf (w .card) a)
+              (λ q. home-elsewhere (journalBlock (l .shape) a q) (λ z. home-apart (l .shape) a q (homeBlock b) (omega (arith, home-low)) (sym z))) refl (u .disk .journals a h);
+        }
+
+    home-core : (a : ℕ) → a < l .shape .cores → CoreUp l₂ (w .memory) a (coreOf (withCore (w .card) c homedCore) a)
+    home-core a h =
+        let g = committed (suc (x .homed)) in
+        let y = u .cores a h in
+        elim (ℕ-discrete a c) [
+          | yes q ↦ (let y₂ = u .cores c in-range in
+              let z : x .homed + 1 ≡ suc (x .homed) = omega arith in
+              rw (q, core-set (w .card) c homedCore core-room)
+              (core-advanced l t g (l .book .oldest) c (not-closing c) (not-current c) (w .memory) x (x .used) (x .homed + 1) (y₂ .used)
+              (λ _. rw z (restaged-at t g (l .book))) (λ n. absurd (omega arith)) y₂))
+          | no ne ↦ rw (core-other (w .card) c homedCore a ne)
+              (core-advanced l t g (l .book .oldest) a (not-closing a) (not-current a) (w .memory) (coreOf (w .card) a) ((coreOf (w .card) a) .used) ((coreOf (w .card) a) .homed) (y .used)
+              (λ n. ap (λ (v : Entry). v .stage) (change-other t (staged g) (l .book .entry) (newName a (l .book .oldest a)) (other-core (l .book .oldest a) (l .book .oldest c) ne)) ∙ y .homed n) (y .none-homed) y)
+        ]
+
+    home-up : Fine l₂ → Up l₂ ((storing w (withCore (w .card) c homedCore) (homeBlock b) image) .world)
+    unfolding tailOf holderOf imageNow
+    home-up fine =
+        record {
+          phase = u .phase;
+          ledger = u .ledger;
+          shape = u .shape;
+          closes = u .closes;
+          memory = u .memory;
+          memory-bytes = u .memory-bytes;
+          eight-tails = u .eight-tails;
+          eight-cores = length-set (w .card .cores) c homedCore ∙ u .eight-cores;
+          holder-room = u .holder-room;
+          fine = fine;
+          disk = home-disk;
+          cores = home-core;
+          holders =
+              λ b h.
+              u .holders b h
+              ∙ ap holderAs (sym (restaged-holder t (committed (suc (x .homed))) (l .book) (l .book .oldest) (l .book .uncommitted) (l .book .next) (sym (ap isRetired stage-now)) b (l .book .writes)));
+          images = u .images;
+        }
