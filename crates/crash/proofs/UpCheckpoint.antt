@@ -17,7 +17,7 @@ use borrow.Author.Tests.{lt-ltb, le-ltb}
 use Rattle.model.specs.Lists.{below}
 use Rattle.model.specs.Bytes.{Bytes, blockAt, store as storeBlock}
 use Rattle.model.specs.Shape.{homeBlock, journalBlock}
-use Rattle.model.specs.Card.{newName, newTail, sameName, noHolder, shapeOf, tailOf, coreOf, holderOf, committedCount, withCore}
+use Rattle.model.specs.Card.{newName, newTail, sameName, noHolder, freshCore, shapeOf, tailOf, coreOf, holderOf, committedCount, withCore}
 use Rattle.model.specs.Layout.{masterBlock, isCommit}
 use Rattle.model.specs.Journal.{journalAt, blocksOf, imageOf}
 use Rattle.model.specs.Command.{World, Outcome, storing}
@@ -277,4 +277,182 @@ module _ {l : Ledger} {w : World} (u : Up l w) (c : ℕ) (in-range : c < l .shap
               u .holders b h
               ∙ ap holderAs (sym (restaged-holder t (committed (suc (x .homed))) (l .book) (l .book .oldest) (l .book .uncommitted) (l .book .next) (sym (ap isRetired stage-now)) b (l .book .writes)));
           images = u .images;
+        }
+
+  -- ---- the master store
+  module _ (all-home : x .homed ≡ length ((l .book .entry t) .blocks)) where
+    abbrev n : ℕ
+    n = length ((l .book .entry t) .blocks) + 2
+
+    abbrev tail : Tail
+    tail = newTail (l .book .oldest c + 1) (((tailOf (w .card) c) .position + n) % l .shape .journal)
+
+    abbrev retiredCore : Core
+    retiredCore = record { next = x .next; used = x .used - n; stored = x .stored; homed = 0; running = x .running; closed = x .closed }
+
+    abbrev card₂ : Card
+    card₂ = retiredCard c e (w .card)
+
+    abbrev o₂ : ℕ → ℕ
+    o₂ = raise c (l .book .oldest)
+
+    abbrev l₃ : Ledger
+    l₃ = advanced l t retired o₂
+
+    retired-shape : shapeOf card₂ ≡ l .shape
+    unfolding retiredCard shapeOf
+    retired-shape = unfold shapeOf in shape-up u
+
+    master-done : checkpointed c w ≡ storing w card₂ 0 (masterBlock (l .shape) (tailOf card₂))
+    unfolding checkpointed storedMaster
+    master-done = rw (oldest-read u c in-range some-committed, le-ltb (x .homed) (length ((l .book .entry t) .blocks)) (omega arith), retired-shape) refl
+
+    tail-room : c < length (w .card .tails)
+    tail-room = omega (arith, u .eight-tails, u .fine .range .few-cores)
+
+    own-tail : tailOf card₂ c ≡ tail
+    unfolding tailOf retiredCard
+    own-tail = getD-set-same (w .card .tails) c _ (newTail 0 0) tail-room ∙ rw (shape-up u) refl
+
+    other-tail : (a : ℕ) → a ≢ c → tailOf card₂ a ≡ tailOf (w .card) a
+    unfolding tailOf retiredCard
+    other-tail a ne = getD-set-other (w .card .tails) c a _ (newTail 0 0) ne
+
+    own-core : coreOf card₂ c ≡ retiredCore
+    unfolding coreOf retiredCard
+    own-core = getD-set-same (w .card .cores) c _ (freshCore 0) core-room
+
+    other-cores : (a : ℕ) → a ≢ c → coreOf card₂ a ≡ coreOf (w .card) a
+    unfolding coreOf retiredCard
+    other-cores a ne = getD-set-other (w .card .cores) c a _ (freshCore 0) ne
+
+    holder-after : (b : ℕ) → holderOf card₂ b ≡ releasedFrom t (holderOf (w .card) b)
+    unfolding holderOf retiredCard released
+    holder-after b = List·getD-map (releasedFrom t) (w .card .holders) b noHolder
+
+    -- the store
+    master-fits : 128 * 0 + 128 ≤ length (w .disk)
+    master-fits = omega (arith, u .disk .size)
+
+    abbrev block₂ : Bytes
+    block₂ = masterBlock (l .shape) (tailOf card₂)
+
+    master-size : length block₂ ≡ 128
+    master-size = length-master (shape-limits (u .fine .range)) (tailOf card₂)
+
+    master-bytes : IsBytes block₂
+    unfolding masterBlock
+    master-bytes = each-isBytes _ (each-block _)
+
+    master-elsewhere : (k : ℕ) → k ≢ 0 → blockAt (storeBlock (w .disk) 0 block₂) k ≡ blockAt (w .disk) k
+    master-elsewhere = block-other (w .disk) 0 block₂ master-fits master-size
+
+    journals-stay : (a q : ℕ) → journalAt (l .shape) (storeBlock (w .disk) 0 block₂) a q ≡ journalAt (l .shape) (w .disk) a q
+    unfolding journalAt
+    journals-stay a q = master-elsewhere (journalBlock (l .shape) a q) (λ z. home-apart (l .shape) a q 0 (omega arith) (sym z))
+
+    -- the journal without its first record
+    contents-past : contents l c ≡ recordOf l t ++ contents l₃ c
+    unfolding contents
+    contents-past =
+        let k = l .book in
+        let o = k .oldest c in
+        let i : k .uncommitted c - o ≡ suc (k .uncommitted c - suc o) = omega arith in
+        let v = newName c (k .uncommitted c) in
+        let f : ℕ → List Bytes = λ j. recordOf l (newName c (o + j)) in
+        let last = take (counted ((k .entry v) .stage)) (recordOf l v) in
+        let first : newName c (o + 0) ≡ t = ap (newName c) (omega arith) in
+        let rest : flatMap (λ (j : ℕ). recordOf l₃ (newName c (suc o + j))) (below (k .uncommitted c - suc o)) ≡ flatMap (λ (j : ℕ). f (suc j)) (below (k .uncommitted c - suc o)) =
+            flatMap-below _ _ (k .uncommitted c - suc o)
+            (λ j h. let s : suc o + j ≡ o + suc j = omega arith in record-stays l t retired o₂ (newName c (suc o + j)) ∙ ap (λ (m : ℕ). recordOf l (newName c m)) s) in
+        rw (raise-at c (k .oldest), closing-stays l t retired o₂ c (not-closing c) (not-current c), record-stays l t retired o₂ v, rest, i)
+        (ap (λ (y : List Bytes). y ++ last) (flatMap-first f (k .uncommitted c - suc o))
+        ∙ append-assoc (f 0) (flatMap (λ (j : ℕ). f (suc j)) (below (k .uncommitted c - suc o))) last
+        ∙ rw first refl)
+
+    fewer : (m : ℕ) → l .book .oldest c < m
+        → recordBlocks (l .book) c (l .book .oldest c) (m - l .book .oldest c) ≡ n + recordBlocks (l .book) c (suc (l .book .oldest c)) (m - suc (l .book .oldest c))
+    fewer m h =
+        let i : m - l .book .oldest c ≡ suc (m - suc (l .book .oldest c)) = omega arith in
+        rw i (records-cons (l .book) c (l .book .oldest c) (m - suc (l .book .oldest c)))
+
+    own-journal : JournalStands l₃ (storeBlock (w .disk) 0 block₂) c (tailOf card₂ c)
+    own-journal =
+        let j = u .disk .journals c in-range in
+        let p = (tailOf (w .card) c) .position in
+        let s = l .shape in
+        let past = contents-past in
+        rw own-tail
+        (journal-advanced l t retired o₂ c (not-closing c) (not-current c) (w .disk) (storeBlock (w .disk) 0 block₂) (tailOf (w .card) c) tail (journals-stay c)
+        (rw (raise-at c (l .book .oldest)) (omega arith)) (mod-lt (p + n) (omega (arith, u .fine .range .long)))
+        (λ q h.
+        let a : p + n + q ≡ p + (length (recordOf l t) + q) = omega (arith, size) in
+        let m = length-append (recordOf l t) (contents l₃ c) in
+        let b : length (recordOf l t) + q < length (contents l c) = rw past (omega arith) in
+        let wraps : journalAt s (w .disk) c ((p + n) % s .journal + q) ≡ journalAt s (w .disk) c (p + n + q) = unfold journalAt in ap (blockAt (w .disk)) (journal-wrap s c (p + n) q) in
+        wraps
+        ∙ ap (journalAt s (w .disk) c) a
+        ∙ j .stands (length (recordOf l t) + q) b
+        ∙ ap (λ (y : List Bytes). getD y (length (recordOf l t) + q) []) past
+        ∙ getD-append-add (recordOf l t) (contents l₃ c) q [])
+        (rw (raise-at c (l .book .oldest)) (omega (arith, fewer (l .book .next c) (omega (arith, u .fine .ranks c in-range .mid)))))
+        j)
+
+    master-disk : DiskStands l₃ (storeBlock (w .disk) 0 block₂) (tailOf card₂)
+    master-disk =
+        record {
+          size = length-store (w .disk) 0 block₂ master-fits master-size ∙ u .disk .size;
+          bytes = bytes-store (w .disk) 0 block₂ (u .disk .bytes) master-bytes;
+          master = block-stored (w .disk) 0 block₂ master-fits master-size;
+          journals =
+              λ a h.
+              elim (ℕ-discrete a c) [
+                | yes q ↦ subst (λ (i : ℕ). JournalStands l₃ (storeBlock (w .disk) 0 block₂) i (tailOf card₂ i)) (sym q) own-journal
+                | no ne ↦ rw (other-tail a ne)
+                    (journal-kept l t retired o₂ a (not-closing a) (not-current a) (w .disk) (storeBlock (w .disk) 0 block₂) (tailOf (w .card) a) (journals-stay a)
+                    (raise-other c (l .book .oldest) a ne) (u .disk .journals a h))
+              ];
+        }
+
+    master-core : (a : ℕ) → a < l .shape .cores → CoreUp l₃ (w .memory) a (coreOf card₂ a)
+    master-core a h =
+        let y = u .cores a h in
+        elim (ℕ-discrete a c) [
+          | yes q ↦ (let y₂ = u .cores c in-range in
+              let r = u .fine .ranks c in-range in
+              let up = raise-at c (l .book .oldest) in
+              rw (q, own-core)
+              (core-advanced l t retired o₂ c (not-closing c) (not-current c) (w .memory) x (x .used - n) 0
+              (rw up (omega (arith, y₂ .used, fewer (l .book .uncommitted c) some-committed)))
+              (rw up (λ g. ap (λ (v : Entry). v .stage) (change-other t (staged retired) (l .book .entry) (newName c (suc (l .book .oldest c))) (other-number c (omega arith))) ∙ r .done (suc (l .book .oldest c)) (omega arith) g))
+              (λ _. refl) y₂))
+          | no ne ↦ (let same = raise-other c (l .book .oldest) a ne in
+              rw (other-cores a ne)
+              (core-advanced l t retired o₂ a (not-closing a) (not-current a) (w .memory) (coreOf (w .card) a) ((coreOf (w .card) a) .used) ((coreOf (w .card) a) .homed) (rw same (y .used))
+              (rw same (λ g. ap (λ (v : Entry). v .stage) (change-other t (staged retired) (l .book .entry) (newName a (l .book .oldest a)) (other-core (l .book .oldest a) (l .book .oldest c) ne)) ∙ y .homed g))
+              (rw same (y .none-homed)) y))
+        ]
+
+    master-up : Fine l₃ → Up l₃ ((storing w card₂ 0 block₂) .world)
+    unfolding retiredCard released imageNow
+    master-up fine =
+        record {
+          phase = u .phase;
+          ledger = u .ledger;
+          shape = u .shape;
+          closes = u .closes;
+          memory = u .memory;
+          memory-bytes = u .memory-bytes;
+          eight-tails = length-set (w .card .tails) c _ ∙ u .eight-tails;
+          eight-cores = length-set (w .card .cores) c _ ∙ u .eight-cores;
+          holder-room = length-map (w .card .holders) _ ∙ u .holder-room;
+          fine = fine;
+          disk = master-disk;
+          cores = master-core;
+          holders =
+              λ b h.
+              holder-after b
+              ∙ ap (releasedFrom t) (u .holders b h)
+              ∙ released-holder t o₂ (l .book .uncommitted) (l .book .next) (l .book) b (l .book .writes);
+          images = λ b h g. u .images b h (still-held t (holderOf (w .card) b) (sym (ap (λ (v : Holder). v .held) (holder-after b)) ∙ g));
         }
