@@ -5,21 +5,20 @@ use Prim.Native.Nat.{ℕ, zero, suc, _+_, _-_, _*_, _%_, _≤_, _<_}
 use native.Mathlib.Omega.{arith}
 use native.Mathlib.Nat.{mod-lt}
 use native.Mathlib.Decide.{decLt, ℕ-discrete}
-use mathlib.Core.Path.{_≡_, refl, ap, ap₂, _∙_, sym, subst}
+use mathlib.Core.Path.{_≡_, refl, ap, _∙_, sym, subst}
 use mathlib.Core.Logic.{_≢_}
-use mathlib.Core.Bool.{Bool, true, false, cond, _&&_}
-use mathlib.Core.List.{List, [], _∷_, _++_, map, flatMap, append-assoc, append-nil, List·Memᴰ·head}
+use mathlib.Core.Bool.{true, cond, _&&_}
+use mathlib.Core.List.{List, [], _∷_, _++_, flatMap, append-assoc, List·Memᴰ·head}
 use mathlib.Core.Option.{Option, none, some}
-use lib.ListN.{length, take, getD, set, length-append, length-map, length-set, List·getD-map}
+use lib.ListN.{length, take, getD, length-append, length-map, length-set, List·getD-map}
 use lib.Seq.{getD-append-add, getD-set-same, getD-set-other}
-use lib.Dec.{ltb}
 use borrow.Author.Tests.{lt-ltb, le-ltb}
 use Rattle.model.specs.Lists.{below}
 use Rattle.model.specs.Bytes.{Bytes, blockAt, store as storeBlock}
 use Rattle.model.specs.Shape.{homeBlock, journalBlock}
 use Rattle.model.specs.Card.{newName, newTail, sameName, noHolder, freshCore, shapeOf, tailOf, coreOf, holderOf, committedCount, withCore}
-use Rattle.model.specs.Layout.{masterBlock, isCommit}
-use Rattle.model.specs.Journal.{journalAt, blocksOf, imageOf}
+use Rattle.model.specs.Layout.{masterBlock}
+use Rattle.model.specs.Journal.{journalAt}
 use Rattle.model.specs.Command.{World, Outcome, storing}
 use Rattle.model.specs.Checkpoint.{committedOf, oldest as oldestOf, storedHome, released, retiredCard, storedMaster, checkpointed}
 use Rattle.model.specs.declared.Name.{Name}
@@ -34,7 +33,7 @@ use Rattle.model.proofs.Words.{each-block}
 use Rattle.model.proofs.Encoding.{length-master}
 use Rattle.model.proofs.Journal.{home-apart, journal-wrap}
 use Rattle.model.proofs.Valid.{sameName-refl}
-use Rattle.crash.specs.Book.{Stage, absent, committed, retired, isClosed, isRetired, counted, Entry, Write, Book, raise, change, staged, holderIn, checkpoint}
+use Rattle.crash.specs.Book.{Stage, committed, retired, isClosed, isRetired, counted, Entry, Write, Book, raise, staged, holderIn, checkpoint}
 use Rattle.crash.specs.Ledger.{Ledger, withBook, imageNow, recordBlocks}
 use Rattle.crash.specs.Claims.{IsBytes}
 use Rattle.crash.proofs.Relation.{IsBlock, Fine, recordOf, contents, JournalStands, DiskStands, CoreUp, holderAs, Up}
@@ -131,7 +130,7 @@ module _ (l : Ledger) (t : Name) (g : Stage) (o : ℕ → ℕ) where
     journal-kept d d₂ tail at e j =
         journal-advanced d d₂ tail tail at (j .number ∙ sym e) (j .position) (rw (contents-kept e) (j .stands)) (rw e (omega arith)) j
 
--- the journal of the core whose oldest record goes
+-- the first of the numbers below a count
 module _ {A : Type 0} where
   flatMap-first : (f : ℕ → List A) (n : ℕ) → flatMap f (below (suc n)) ≡ f 0 ++ flatMap (λ (i : ℕ). f (suc i)) (below n)
   unfolding below flatMap
@@ -188,10 +187,16 @@ module _ {l : Ledger} {w : World} (u : Up l w) (c : ℕ) (in-range : c < l .shap
 
   -- it is neither the one being stored nor the running one, of any core
   not-closing : (a : ℕ) → newName a (l .book .uncommitted a) ≢ t
-  not-closing a q = let z : a ≡ c = ap (λ (n : Name). n .core) q in let y : l .book .uncommitted a ≡ l .book .oldest c = ap (λ (n : Name). n .number) q in let v : l .book .uncommitted a ≡ l .book .uncommitted c = ap (l .book .uncommitted) z in omega arith
+  not-closing a q =
+      let z : l .book .uncommitted a ≡ l .book .uncommitted c = ap (λ (v : Name). l .book .uncommitted (v .core)) q in
+      let y : l .book .uncommitted a ≡ l .book .oldest c = ap (λ (v : Name). v .number) q in
+      omega arith
 
   not-current : (a : ℕ) → newName a (l .book .next a) ≢ t
-  not-current a q = let z : a ≡ c = ap (λ (n : Name). n .core) q in let y : l .book .next a ≡ l .book .oldest c = ap (λ (n : Name). n .number) q in let v : l .book .next a ≡ l .book .next c = ap (l .book .next) z in omega (arith, u .fine .ranks c in-range .mid)
+  not-current a q =
+      let z : l .book .next a ≡ l .book .next c = ap (λ (v : Name). l .book .next (v .core)) q in
+      let y : l .book .next a ≡ l .book .oldest c = ap (λ (v : Name). v .number) q in
+      omega (arith, u .fine .ranks c in-range .mid)
 
   core-room : c < length (w .card .cores)
   core-room = omega (arith, u .eight-cores, u .fine .range .few-cores)
@@ -363,8 +368,8 @@ module _ {l : Ledger} {w : World} (u : Up l w) (c : ℕ) (in-range : c < l .shap
         let last = take (counted ((k .entry v) .stage)) (recordOf l v) in
         let first : newName c (o + 0) ≡ t = ap (newName c) (omega arith) in
         let rest : flatMap (λ (j : ℕ). recordOf l₃ (newName c (suc o + j))) (below (k .uncommitted c - suc o)) ≡ flatMap (λ (j : ℕ). f (suc j)) (below (k .uncommitted c - suc o)) =
-            flatMap-below _ _ (k .uncommitted c - suc o)
-            (λ j h. let s : suc o + j ≡ o + suc j = omega arith in record-stays l t retired o₂ (newName c (suc o + j)) ∙ ap (λ (m : ℕ). recordOf l (newName c m)) s) in
+        flatMap-below _ _ (k .uncommitted c - suc o)
+        (λ j h. let s : suc o + j ≡ o + suc j = omega arith in record-stays l t retired o₂ (newName c (suc o + j)) ∙ ap (λ (m : ℕ). recordOf l (newName c m)) s) in
         rw (raise-at c (k .oldest), closing-stays l t retired o₂ c (not-closing c) (not-current c), record-stays l t retired o₂ v, rest, i)
         (ap (λ (y : List Bytes). y ++ last) (flatMap-first f (k .uncommitted c - suc o))
         ∙ append-assoc (f 0) (flatMap (λ (j : ℕ). f (suc j)) (below (k .uncommitted c - suc o))) last
@@ -456,3 +461,41 @@ module _ {l : Ledger} {w : World} (u : Up l w) (c : ℕ) (in-range : c < l .shap
               ∙ released-holder t o₂ (l .book .uncommitted) (l .book .next) (l .book) b (l .book .writes);
           images = λ b h g. u .images b h (still-held t (holderOf (w .card) b) (sym (ap (λ (v : Holder). v .held) (holder-after b)) ∙ g));
         }
+
+  -- ---- either
+  pub checkpoint-up : Fine (withBook l (checkpoint c (l .book))) → Up (withBook l (checkpoint c (l .book))) ((checkpointed c w) .world)
+  checkpoint-up fine =
+      elim (decLt (x .homed) (length ((l .book .entry t) .blocks))) [
+        | yes more ↦ (let k = checkpoint-home (l .book) c (x .homed) stage-now more in rw (k, home-done more) (home-up more (rw k at fine)))
+        | no none-left ↦ (let all : x .homed ≡ length ((l .book .entry t) .blocks) = omega (arith, within) in
+            let k = checkpoint-retires (l .book) c (x .homed) stage-now all in
+            rw (k, master-done all) (master-up all (rw k at fine)))
+      ]
+
+  -- the disk, and the home blocks, by the ledger's count of checkpoints
+  module _ {m : ℕ} (stage : (l .book .entry t) .stage ≡ committed m) where
+    homed-now : x .homed ≡ m
+    homed-now = ap counted (sym stage-now ∙ stage)
+
+    module _ (more : m < length ((l .book .entry t) .blocks)) where
+      more-now : x .homed < length ((l .book .entry t) .blocks)
+      more-now = omega (arith, homed-now)
+
+      pub home-below : getD ((l .book .entry t) .blocks) m 0 < l .shape .blocks
+      home-below = rw (← homed-now) (home-low more-now)
+
+      pub home-store : (checkpointed c w) .world .disk ≡ storeBlock (w .disk) (homeBlock (getD ((l .book .entry t) .blocks) m 0)) (getD (l .images t) m [])
+      home-store = rw (← homed-now) (ap (λ (z : Outcome). z .world .disk) (home-done more-now))
+
+      pub home-stored : blockAt ((checkpointed c w) .world .disk) (homeBlock (getD ((l .book .entry t) .blocks) m 0)) ≡ getD (l .images t) m []
+      home-stored = rw (home-store, ← homed-now) (block-stored (w .disk) (homeBlock (b more-now)) (image more-now) (home-fits more-now) (image-block more-now .size))
+
+      pub home-others : (a : ℕ) → a ≢ getD ((l .book .entry t) .blocks) m 0 → blockAt ((checkpointed c w) .world .disk) (homeBlock a) ≡ blockAt (w .disk) (homeBlock a)
+      home-others a ne = rw (home-store, ← homed-now) (home-elsewhere more-now (homeBlock a) (λ q. ne (rw (← homed-now) (omega arith))))
+
+    module _ (all : m ≡ length ((l .book .entry t) .blocks)) where
+      pub master-store : (checkpointed c w) .world .disk ≡ storeBlock (w .disk) 0 (masterBlock (l .shape) (tailOf ((checkpointed c w) .world .card)))
+      master-store = rw (master-done (homed-now ∙ all)) refl
+
+      pub homes-stay : (a : ℕ) → blockAt ((checkpointed c w) .world .disk) (homeBlock a) ≡ blockAt (w .disk) (homeBlock a)
+      homes-stay a = rw (master-done (homed-now ∙ all)) (master-elsewhere (homed-now ∙ all) (homeBlock a) (omega arith))
