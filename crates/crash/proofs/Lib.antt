@@ -6,3 +6,4 @@ pub mod Records
 pub mod Entries
 pub mod Frames
 pub mod UpStore
+pub mod UpClose
