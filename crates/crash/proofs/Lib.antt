@@ -4,6 +4,8 @@ pub mod Stages
 pub mod Master
 pub mod Records
 pub mod Entries
+pub mod FineSteps
+pub mod FineWrite
 pub mod Frames
 pub mod UpStore
 pub mod UpClose
