@@ -19,7 +19,7 @@ use Rattle.model.specs.Layout.{maxNumber}
 use Rattle.model.specs.declared.Shape.{Shape}
 use Rattle.model.specs.declared.Name.{Name}
 use Rattle.model.proofs.Lists.{cases, getD-mem}
-use Rattle.crash.specs.Book.{Stage, absent, running, isRunning, isClosed, isRetired, Entry, Write, Book, change, staged, begin, holderIn, Meeting, own, running-holder, closed-holder, meets, ruled, holderAfter, note, wrote, image}
+use Rattle.crash.specs.Book.{Stage, absent, running, isRunning, isClosed, isRetired, Entry, Write, Book, change, staged, begin, holderIn, Meeting, no-holder, own, running-holder, closed-holder, meets, ruled, holderAfter, note, wrote, image}
 use Rattle.crash.specs.Ledger.{Ledger, withBook, imageNow, namesCount, holderNames, recordBlocks}
 use Rattle.crash.specs.Claims.{IsBytes}
 use Rattle.crash.proofs.Relation.{Limits, WriteFits, Frozen, Ranks, Fine}
@@ -132,15 +132,12 @@ snoc-distinct xs b h out i j hi hj e =
     ]
 
 -- ---- the write noted
-module _ (l : Ledger) (f : Fine l) (c b o : ℕ) (v : Bytes) (run : (l .book .entry (newName c (l .book .next c))) .stage ≡ running)
-    (fits : WriteFits (l .shape) (record { writer = newName c (l .book .next c); holder = newName c (l .book .next c); block = b; offset = o; bytes = v }))
+module _ (l : Ledger) (f : Fine l) (t₁ : Name) (last : t₁ .number ≡ l .book .next (t₁ .core)) (b o : ℕ) (v : Bytes) (run : (l .book .entry t₁) .stage ≡ running)
+    (fits : WriteFits (l .shape) (record { writer = t₁; holder = t₁; block = b; offset = o; bytes = v }))
     (holds : (u : Name) (x : ℕ) → (l .book .entry u) .stage ≡ running → List·Memᴰ x ((l .book .entry u) .blocks) → holderIn (l .book) x (l .book .writes) ≡ some u)
     (opens : (u : Name) (x : ℕ) → holderIn (l .book) x (l .book .writes) ≡ some u → (l .book .entry u) .stage ≢ absent) where
   abbrev k₁ : Book
   k₁ = l .book
-
-  abbrev t₁ : Name
-  t₁ = newName c (k₁ .next c)
 
   abbrev m : Meeting
   m = meets k₁ t₁ (holderIn k₁ b (k₁ .writes))
@@ -218,8 +215,8 @@ module _ (l : Ledger) (f : Fine l) (c b o : ℕ) (v : Bytes) (run : (l .book .en
               ranks-kept k₁ (note t₁ b o v k₁) a r refl refl refl
               (λ i ne. after-stage (newName a i))
               (λ i lt. ap length (ruled-blocks-other m t₁ b (k₁ .entry) (newName a i)
-                (λ e. let p : i ≡ k₁ .next c = ap (λ (n : Name). n .number) e in
-                  let q : k₁ .next a ≡ k₁ .next c = ap (λ (n : Name). k₁ .next (n .core)) e in omega arith)))
+                (λ e. let p : i ≡ t₁ .number = ap (λ (n : Name). n .number) e in
+                  let q : k₁ .next a ≡ k₁ .next (t₁ .core) = ap (λ (n : Name). k₁ .next (n .core)) e in omega arith)))
               (rw (after-stage (newName a (k₁ .next a))) (r .current));
           far = λ u h. rw (after-stage u) (f .far u h);
           limits = λ u h. same-or-not u t₁ (λ e. rw e writer-limits) (λ ne. other-limits u ne (rw (after-stage u) at h));
@@ -239,3 +236,178 @@ module _ (l : Ledger) (f : Fine l) (c b o : ℕ) (v : Bytes) (run : (l .book .en
               [ inl e ↦ rw e (record { block = fits .block; offset = fits .offset; size = fits .size; bytes = fits .bytes }) | inr q ↦ f .writes w q ];
           saved = f .saved;
         }
+
+-- ---- the book after a WRITE
+-- before the rules: the writer's transaction is open
+abbrev begun : ℕ → Book → Book
+begun c k = cond (isRunning ((k .entry (newName c (k .next c))) .stage)) k (begin (newName c (k .next c)) k)
+
+module _ (k : Book) (c : ℕ) (current : ((k .entry (newName c (k .next c))) .stage ≡ absent) ⊎ ((k .entry (newName c (k .next c))) .stage ≡ running)) where
+  begun-by : (P : Book → Type 0) → ((k .entry (newName c (k .next c))) .stage ≡ running → P k)
+      → ((k .entry (newName c (k .next c))) .stage ≡ absent → P (begin (newName c (k .next c)) k)) → P (begun c k)
+  begun-by P p q = elim current [ inl e ↦ rw (ap isRunning e) (q e) | inr e ↦ rw (ap isRunning e) (p e) ]
+
+  begun-fields : (begun c k .writes ≡ k .writes) × (begun c k .oldest ≡ k .oldest) × (begun c k .uncommitted ≡ k .uncommitted) × (begun c k .next ≡ k .next)
+  unfolding begin
+  begun-fields = begun-by (λ x. (x .writes ≡ k .writes) × (x .oldest ≡ k .oldest) × (x .uncommitted ≡ k .uncommitted) × (x .next ≡ k .next))
+      (λ e. (refl, refl, refl, refl)) (λ e. (refl, refl, refl, refl))
+
+  begun-same : {A : Type 0} (g : Entry → A) → ((k .entry (newName c (k .next c))) .stage ≡ absent → g (staged running (k .entry (newName c (k .next c)))) ≡ g (k .entry (newName c (k .next c))))
+      → (u : Name) → g (begun c k .entry u) ≡ g (k .entry u)
+  unfolding begin
+  begun-same g h u = begun-by (λ x. g (x .entry u) ≡ g (k .entry u)) (λ e. refl)
+      (λ e. change-by (newName c (k .next c)) (staged running) (k .entry) g (h e) u)
+
+  begun-other : (u : Name) → u ≢ newName c (k .next c) → begun c k .entry u ≡ k .entry u
+  unfolding begin
+  begun-other u ne = begun-by (λ x. x .entry u ≡ k .entry u) (λ e. refl) (λ e. change-other (newName c (k .next c)) (staged running) (k .entry) u ne)
+
+  begun-running : (begun c k .entry (newName c (k .next c))) .stage ≡ running
+  unfolding begin
+  begun-running = begun-by (λ x. (x .entry (newName c (k .next c))) .stage ≡ running) (λ e. e)
+      (λ e. ap (λ e. e .stage) (change-at (newName c (k .next c)) (staged running) (k .entry)))
+
+  begun-holder : (x : ℕ) (ws : List Write) → holderIn (begun c k) x ws ≡ holderIn k x ws
+  begun-holder = holder-same k (begun c k) (begun-same (λ e. isRetired (e .stage)) (λ e. sym (ap isRetired e)))
+
+  begun-meets : (b : ℕ) → meets (begun c k) (newName c (k .next c)) (holderIn (begun c k) b (begun c k .writes)) ≡ meets k (newName c (k .next c)) (holderIn k b (k .writes))
+  begun-meets b =
+      ap (meets (begun c k) (newName c (k .next c))) (begun-holder b (begun c k .writes) ∙ ap (holderIn k b) (begun-fields .0))
+      ∙ meets-same k (newName c (k .next c)) (begun c k) (begun-same (λ e. isClosed (e .stage)) (λ e. sym (ap isClosed e))) (holderIn k b (k .writes))
+
+  module _ (b o : ℕ) (v : Bytes) where
+    abbrev pub meeting : Meeting
+    meeting = meets k (newName c (k .next c)) (holderIn k b (k .writes))
+
+    pub wrote-entry : (wrote c b o v k) .entry ≡ ruled meeting (newName c (k .next c)) b (begun c k .entry)
+    unfolding wrote note
+    wrote-entry = ap (λ m. ruled m (newName c (k .next c)) b (begun c k .entry)) (begun-meets b)
+
+    pub wrote-writes : (wrote c b o v k) .writes
+        ≡ record { writer = newName c (k .next c); holder = holderAfter meeting (newName c (k .next c)); block = b; offset = o; bytes = v } ∷ k .writes
+    unfolding wrote note
+    wrote-writes = rw (begun-meets b, begun-fields .0)
+
+    pub wrote-numbers : ((wrote c b o v k) .oldest ≡ k .oldest) × ((wrote c b o v k) .uncommitted ≡ k .uncommitted) × ((wrote c b o v k) .next ≡ k .next)
+    unfolding wrote note
+    wrote-numbers = (begun-fields .1, begun-fields .2, begun-fields .3)
+
+    pub wrote-running : ((wrote c b o v k) .entry (newName c (k .next c))) .stage ≡ running
+    wrote-running = rw wrote-entry (ruled-stage meeting (newName c (k .next c)) b (begun c k .entry) (newName c (k .next c)) ∙ begun-running)
+
+    pub wrote-stage : (u : Name) → u ≢ newName c (k .next c) → ((wrote c b o v k) .entry u) .stage ≡ (k .entry u) .stage
+    wrote-stage u ne = rw wrote-entry (ruled-stage meeting (newName c (k .next c)) b (begun c k .entry) u ∙ ap (λ e. e .stage) (begun-other u ne))
+
+    pub wrote-blocks : ((wrote c b o v k) .entry (newName c (k .next c))) .blocks
+        ≡ cond (takes meeting) ((k .entry (newName c (k .next c))) .blocks ++ (b ∷ [])) ((k .entry (newName c (k .next c))) .blocks)
+    wrote-blocks =
+        rw wrote-entry (ruled-blocks meeting (newName c (k .next c)) b (begun c k .entry)
+        ∙ ap (λ (bs : List ℕ). cond (takes meeting) (bs ++ (b ∷ [])) bs) (begun-same (λ e. e .blocks) (λ e. refl) (newName c (k .next c))))
+
+    pub wrote-blocks-other : (u : Name) → u ≢ newName c (k .next c) → ((wrote c b o v k) .entry u) .blocks ≡ (k .entry u) .blocks
+    wrote-blocks-other u ne =
+        rw wrote-entry (ruled-blocks-other meeting (newName c (k .next c)) b (begun c k .entry) u ne ∙ ap (λ e. e .blocks) (begun-other u ne))
+
+    pub wrote-other : (u : Name) → u ≢ newName c (k .next c) → meeting ≢ running-holder u → (wrote c b o v k) .entry u ≡ k .entry u
+    wrote-other u ne nr = rw wrote-entry (ruled-other meeting (newName c (k .next c)) b (begun c k .entry) u ne nr ∙ begun-other u ne)
+
+    pub wrote-closed : (u : Name) → isClosed ((k .entry u) .stage) ≡ true → (wrote c b o v k) .entry u ≡ k .entry u
+    wrote-closed u h =
+        wrote-other u
+        (λ e. let p : isClosed ((k .entry (newName c (k .next c))) .stage) ≡ true = rw e at h in
+          let q : isClosed ((k .entry (newName c (k .next c))) .stage) ≡ false = elim current [ inl a ↦ ap isClosed a | inr a ↦ ap isClosed a ] in
+          let z : _≡_ {A = ℕ} 0 1 = cc in omega arith)
+        (λ e. let q = meets-running k (newName c (k .next c)) (holderIn k b (k .writes)) u e in let z : _≡_ {A = ℕ} 0 1 = cc in omega arith)
+
+    pub wrote-records : (a i n : ℕ) → (a ≡ c → i + n ≤ k .next c) → recordBlocks (wrote c b o v k) a i n ≡ recordBlocks k a i n
+    wrote-records a i n h =
+        records-same k (wrote c b o v k) a i n (λ j lo hi. ap length (wrote-blocks-other (newName a j)
+          (λ e. let p : j ≡ k .next c = ap (λ (n : Name). n .number) e in let q = h (ap (λ (n : Name). n .core) e) in omega arith)))
+
+    wrote-retired : (u : Name) → isRetired (((wrote c b o v k) .entry u) .stage) ≡ isRetired ((k .entry u) .stage)
+    wrote-retired u =
+        rw wrote-entry (ap isRetired (ruled-stage meeting (newName c (k .next c)) b (begun c k .entry) u)
+        ∙ begun-same (λ e. isRetired (e .stage)) (λ e. sym (ap isRetired e)) u)
+
+    holder-stays : (m : Meeting) → meeting ≡ m → isRetired (((wrote c b o v k) .entry (holderAfter m (newName c (k .next c)))) .stage) ≡ false
+    unfolding holderAfter
+    holder-stays no-holder e = ap isRetired wrote-running
+    holder-stays own e = ap isRetired wrote-running
+    holder-stays (running-holder u) e =
+        wrote-retired u ∙ holder-live k b (k .writes) u (meets-met k (newName c (k .next c)) (holderIn k b (k .writes)) u (ap met e) .0)
+    holder-stays (closed-holder u) e = ap isRetired wrote-running
+
+    pub wrote-holder : holderIn (wrote c b o v k) b ((wrote c b o v k) .writes) ≡ some (holderAfter meeting (newName c (k .next c)))
+    unfolding holderIn
+    wrote-holder = rw (wrote-writes, eq-eqb b b refl, holder-stays meeting refl)
+
+    pub wrote-holder-other : (x : ℕ) → x ≢ b → holderIn (wrote c b o v k) x ((wrote c b o v k) .writes) ≡ holderIn k x (k .writes)
+    unfolding holderIn
+    wrote-holder-other x ne =
+        holder-same k (wrote c b o v k) wrote-retired x ((wrote c b o v k) .writes) ∙ ap (holderIn k x) wrote-writes ∙ rw (ne-eqb x b ne)
+
+-- ---- the current images after a WRITE
+module _ (l : Ledger) (c b o : ℕ) (v : Bytes)
+    (current : ((l .book .entry (newName c (l .book .next c))) .stage ≡ absent) ⊎ ((l .book .entry (newName c (l .book .next c))) .stage ≡ running)) where
+  pub wrote-image : imageNow (withBook l (wrote c b o v (l .book))) b ≡ replaced o 4 (imageNow l b) v
+  unfolding imageNow image
+  wrote-image = rw (wrote-writes (l .book) c current b o v, eq-eqb b b refl)
+
+  pub wrote-image-other : (x : ℕ) → x ≢ b → imageNow (withBook l (wrote c b o v (l .book))) x ≡ imageNow l x
+  unfolding imageNow image
+  wrote-image-other x ne = rw (wrote-writes (l .book) c current b o v, ne-eqb x b ne)
+
+-- ---- WRITE keeps the ledger in order
+no-or : (a b : Bool) → (a || b) ≡ false → (a ≡ false) × (b ≡ false)
+no-or true b h = absurd (let z : _≡_ {A = ℕ} 0 1 = cc in omega arith)
+no-or false b h = (refl, h)
+
+-- The holders are as layer A has them: whoever runs and took a block holds it, and a holder is open.
+module _ (l : Ledger) (f : Fine l) (c b o : ℕ) (v : Bytes) (hc : c < l .shape .cores)
+    (fits : WriteFits (l .shape) (record { writer = newName c (l .book .next c); holder = newName c (l .book .next c); block = b; offset = o; bytes = v }))
+    (holds : (u : Name) (x : ℕ) → (l .book .entry u) .stage ≡ running → List·Memᴰ x ((l .book .entry u) .blocks) → holderIn (l .book) x (l .book .writes) ≡ some u)
+    (opens : (u : Name) (x : ℕ) → holderIn (l .book) x (l .book .writes) ≡ some u → (l .book .entry u) .stage ≢ absent) where
+  abbrev k₂ : Book
+  k₂ = l .book
+
+  abbrev t₂ : Name
+  t₂ = newName c (k₂ .next c)
+
+  abbrev k₃ : Book
+  k₃ = begun c k₂
+
+  module _ (current : ((k₂ .entry t₂) .stage ≡ absent) ⊎ ((k₂ .entry t₂) .stage ≡ running)) where
+    holder₃ : (x : ℕ) → holderIn k₃ x (k₃ .writes) ≡ holderIn k₂ x (k₂ .writes)
+    holder₃ x = begun-holder k₂ c current x (k₃ .writes) ∙ ap (holderIn k₂ x) (begun-fields k₂ c current .0)
+
+    holds₃ : (u : Name) (x : ℕ) → (k₃ .entry u) .stage ≡ running → List·Memᴰ x ((k₃ .entry u) .blocks) → holderIn k₃ x (k₃ .writes) ≡ some u
+    holds₃ u x h p =
+        let q : List·Memᴰ x ((k₂ .entry u) .blocks) = rw (begun-same k₂ c current (λ e. e .blocks) (λ e. refl) u) at p in
+        holder₃ x ∙ same-or-not u t₂
+          (λ e. elim current
+            [ inl a ↦ absurd (List·Memᴰ·not-nil (rw (e, f .unopened t₂ a .0) at q))
+            | inr a ↦ holds u x (rw e a) q ])
+          (λ ne. holds u x (rw (begun-other k₂ c current u ne) at h) q)
+
+    opens₃ : (u : Name) (x : ℕ) → holderIn k₃ x (k₃ .writes) ≡ some u → (k₃ .entry u) .stage ≢ absent
+    opens₃ u x h =
+        same-or-not u t₂
+        (λ e. rw e (running-open _ (begun-running k₂ c current)))
+        (λ ne. rw (begun-other k₂ c current u ne) (opens u x (sym (holder₃ x) ∙ h)))
+
+  pub fine-wrote : (ltb 12 (namesCount (wrote c b o v k₂) t₂) || ltb 12 (holderNames (wrote c b o v k₂) (meets k₂ t₂ (holderIn k₂ b (k₂ .writes))))) ≡ false
+      → ltb 8 (length (((wrote c b o v k₂) .entry t₂) .blocks)) ≡ false
+      → (not (isRunning ((k₂ .entry t₂) .stage)) && ltb maxNumber (k₂ .next c)) ≡ false
+      → Fine (withBook l (wrote c b o v k₂))
+  unfolding wrote note namesCount holderNames
+  fine-wrote no-24 no-25 no-27 =
+      let current = f .ranks c hc .current in
+      let n = no-or _ _ no-24 in
+      let fine₃ : Fine (withBook l k₃)
+            = begun-by k₂ c current (λ x. Fine (withBook l x)) (λ e. f)
+              (λ e. fine-begin l f c hc e (ltb-false maxNumber (k₂ .next c) (rw (ap isRunning e) at no-27))) in
+      fine-note (withBook l k₃) fine₃ t₂ (ap (λ (n : ℕ → ℕ). n c) (sym (begun-fields k₂ c current .3))) b o v (begun-running k₂ c current) fits (holds₃ current) (opens₃ current)
+      (ltb-false 12 _ (n .0))
+      (λ u e. let q : meets k₂ t₂ (holderIn k₂ b (k₂ .writes)) ≡ running-holder u = sym (begun-meets k₂ c current b) ∙ e in
+        ltb-false 12 _ (rw (q, holderNames, namesCount) at (n .1)))
+      (ltb-false 8 _ no-25)

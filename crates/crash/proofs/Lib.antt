@@ -7,5 +7,6 @@ pub mod Entries
 pub mod FineSteps
 pub mod FineWrite
 pub mod Frames
+pub mod Rules
 pub mod UpStore
 pub mod UpClose
