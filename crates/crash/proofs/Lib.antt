@@ -10,3 +10,4 @@ pub mod Frames
 pub mod Rules
 pub mod UpStore
 pub mod UpClose
+pub mod UpWrite

@@ -94,7 +94,7 @@ running-next {k} {a} r i h =
           ]
         ]
 
-present-open : (g : Stage) → g ≢ absent → isClosed g ≡ false → g ≡ running
+pub present-open : (g : Stage) → g ≢ absent → isClosed g ≡ false → g ≡ running
 present-open absent ne h = absurd (ne refl)
 present-open running ne h = refl
 present-open (closed n) ne h = absurd (let z : _≡_ {A = ℕ} 0 1 = cc in omega arith)
