@@ -13,3 +13,6 @@ pub mod Frames
 pub mod UpStore
 pub mod UpCheckpoint
 pub mod CheckpointRead
+pub mod Rules
+pub mod UpClose
+pub mod UpWrite

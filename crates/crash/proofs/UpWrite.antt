@@ -1,0 +1,256 @@
+-- WRITE keeps card and ledger in agreement: by the rule met, the writer's transaction and a running holder's change as
+-- their entries do, and so does the block's holder. The image written is the current one: a held block has it in memory,
+-- a free one is loaded from home. Closed transactions and the disk stay.
+use Prim.Native.Nat.{ℕ, zero, suc, _+_, _-_, _*_, _≤_, _<_}
+use native.Mathlib.Omega.{arith}
+use native.Mathlib.Decide.{decLt, ℕ-discrete}
+use mathlib.Core.Path.{_≡_, refl, ap, ap₂, _∙_, sym, subst}
+use mathlib.Core.Logic.{_⊎_, inl, inr, _≢_}
+use mathlib.Core.Bool.{Bool, true, false, cond}
+use mathlib.Core.List.{List, [], _∷_, _++_, append-assoc}
+use mathlib.Core.Option.{Option, none, some}
+use lib.ListN.{length, take, drop, getD, set, length-append, length-take, length-drop, length-set, take-append-drop}
+use lib.Seq.{length-take-le, take-at, drop-at, take-append-le, drop-append-le, take-append-add, drop-append-add, getD-set-same, getD-set-other}
+use Rattle.model.specs.Lists.{any}
+use Rattle.model.specs.Bytes.{Bytes, part, replaced, blockAt, store}
+use Rattle.model.specs.Shape.{homeBlock}
+use Rattle.model.specs.Card.{newName, sameName, noHolder, withBlock, withName, withRunning, tailOf, coreOf, holderOf, withCore, withHolder}
+use Rattle.model.specs.Command.{World}
+use Rattle.model.specs.Commit.{copyBlock}
+use Rattle.model.specs.Write.{writer, writerName, ruleFor, takesBlock, namesHolder, isNamedBack, loadsImage, writerAfter, writtenCard, writtenMemory, written}
+use Rattle.model.specs.declared.Name.{Name}
+use Rattle.model.specs.declared.Transaction.{Transaction}
+use Rattle.model.specs.declared.Core.{Core}
+use Rattle.model.specs.declared.Holder.{Holder}
+use Rattle.model.specs.declared.Card.{Card}
+use Rattle.model.specs.declared.Rule.the-variants.{Free, Own, Running, Closed}
+use Rattle.model.proofs.Lists.{cases}
+use Rattle.model.proofs.Store.{length-replaced, part-before, part-after, length-store, length-blockAt, block-stored, block-other}
+use Rattle.crash.specs.Book.{Stage, absent, running, isRunning, isClosed, counted, Entry, Book, begin, change, taking, naming, holderIn, Meeting, no-holder, own, running-holder, closed-holder, meets, ruled, holderAfter, wrote}
+use Rattle.crash.specs.Ledger.{Ledger, withBook, imageNow, recordBlocks}
+use Rattle.crash.specs.Claims.{IsBytes}
+use Rattle.crash.proofs.Relation.{Fine, Limits, JournalStands, DiskStands, Matches, CoreUp, holderAs, Up}
+use Rattle.crash.proofs.Entries.{other-number, other-core, change-at, change-other, meets-met, meets-running}
+use Rattle.crash.proofs.FineWrite.{wrote-entry, wrote-writes, wrote-numbers, wrote-running, wrote-stage, wrote-blocks-other, wrote-other, wrote-holder, wrote-holder-other, wrote-image, wrote-image-other}
+use Rattle.crash.proofs.Frames.{SameClosed, core-set, core-other, bytes-replaced, bytes-store, bytes-blockAt, none-stored, journal-stays, core-stays}
+use Rattle.crash.proofs.Rules.{matches-block, matches-name, running-next, present-open, live-runs, writer-name, writer-matches, MetHolder, Met, met-none, met-own, met-running, met-closed, rule-met}
+
+-- ---- bytes replaced within a block
+replaced-inner : (p x q v : Bytes) (o n : ℕ) → o + n ≤ length x → replaced (length p + o) n (p ++ (x ++ q)) v ≡ p ++ (replaced o n x v ++ q)
+unfolding replaced
+replaced-inner p x q v o n h =
+    let low : o ≤ length x = omega arith in
+    let rest : n ≤ length (drop o x) = simp length-drop (omega arith) in
+    rw (take-append-add p (x ++ q) o, drop-append-add p (x ++ q) o, take-append-le o x q low, drop-append-le o x q low, drop-append-le n (drop o x) q rest)
+    (simp append-assoc)
+
+module _ (n : ℕ) (d : Bytes) (len : length d ≡ 128 * n) (k o : ℕ) (v : Bytes) (in-range : k < n) (inside : o ≤ 124) (four : length v ≡ 4) where
+  pub block-written : blockAt (replaced (128 * k + o) 4 d v) k ≡ replaced o 4 (blockAt d k) v
+  unfolding blockAt part
+  block-written =
+      let p = take (128 * k) d in
+      let x = take 128 (drop (128 * k) d) in
+      let q = drop 128 (drop (128 * k) d) in
+      let lp : length p ≡ 128 * k = length-take-le (128 * k) d (omega arith) in
+      let lx : length x ≡ 128 = length-blockAt′ in
+      let whole : p ++ (x ++ q) ≡ d = ap (λ (z : Bytes). p ++ z) (take-append-drop 128 (drop (128 * k) d)) ∙ take-append-drop (128 * k) d in
+      let e : replaced (128 * k + o) 4 d v ≡ p ++ (replaced o 4 x v ++ q) =
+          ap₂ (λ (i : ℕ) (z : Bytes). replaced (i + o) 4 z v) (sym lp) (sym whole) ∙ replaced-inner p x q v o 4 (omega arith) in
+      ap (λ (z : Bytes). take 128 (drop (128 * k) z)) e
+      ∙ ap (take 128) (drop-at p (replaced o 4 x v ++ q) (128 * k) lp)
+      ∙ take-at (replaced o 4 x v) q 128 (length-replaced o 4 x v (omega arith) four ∙ lx)
+    where
+      length-blockAt′ : length (take 128 (drop (128 * k) d)) ≡ 128
+      length-blockAt′ = simp (length-take, length-drop) (omega arith)
+
+  pub block-unwritten : (j : ℕ) → j ≢ k → blockAt (replaced (128 * k + o) 4 d v) j ≡ blockAt d j
+  unfolding blockAt
+  block-unwritten j ne =
+      elim (decLt j k) [
+        | yes lt ↦ part-before (128 * k + o) 4 d v (omega arith) (128 * j) 128 (omega arith)
+        | no ge ↦ part-after (128 * k + o) 4 d v (omega arith) four (128 * j) 128 (omega arith)
+      ]
+
+-- ---- the card afterwards
+-- what WRITE leaves of a card
+record Kept (x y : Card) : Type 0 where
+  phase : y .phase ≡ x .phase
+  shape : y .shape ≡ x .shape
+  closes : y .closes ≡ x .closes
+  tails : y .tails ≡ x .tails
+  cores : length (y .cores) ≡ length (x .cores)
+  holders : length (y .holders) ≡ length (x .holders)
+
+module _ (x : Card) where
+  kept-cond : (t : Bool) {y z : Card} → Kept x y → Kept x z → Kept x (cond t y z)
+  kept-cond true p q = p
+  kept-cond false p q = q
+
+  kept-same : Kept x x
+  kept-same = record { phase = refl; shape = refl; closes = refl; tails = refl; cores = refl; holders = refl }
+
+  kept-core : (y : Card) (c : ℕ) (k : Core) → Kept x y → Kept x (withCore y c k)
+  kept-core y c k h = record { phase = h .phase; shape = h .shape; closes = h .closes; tails = h .tails; cores = length-set (y .cores) c k ∙ h .cores; holders = h .holders }
+
+  kept-holder : (y : Card) (b : ℕ) (n : Name) → Kept x y → Kept x (withHolder y b n)
+  kept-holder y b n h = record { phase = h .phase; shape = h .shape; closes = h .closes; tails = h .tails; cores = h .cores; holders = length-set (y .holders) b _ ∙ h .holders }
+
+  module _ (c b : ℕ) where
+    written-kept : Kept x (writtenCard x c b)
+    unfolding writtenCard
+    written-kept =
+        let r = ruleFor x c b in
+        let a = ((holderOf x b) .name) .core in
+        let x₁ = cond (isNamedBack r) (withCore x a (withRunning (coreOf x a) (withName ((coreOf x a) .running) (writerName x c)))) x in
+        let k₁ : Kept x x₁ = kept-cond (isNamedBack r) (kept-core x a _ kept-same) kept-same in
+        let x₂ = withCore x₁ c (withRunning (coreOf x₁ c) (writerAfter x c b)) in
+        let k₂ : Kept x x₂ = kept-core x₁ c _ k₁ in
+        kept-cond (takesBlock r) (kept-holder x₂ b (writerName x c) k₂) k₂
+
+    -- holders
+    written-taken : takesBlock (ruleFor x c b) ≡ true → b < length (x .holders) → holderOf (writtenCard x c b) b ≡ record { held = true; name = writerName x c }
+    unfolding writtenCard holderOf
+    written-taken h n =
+        cases (isNamedBack (ruleFor x c b)) (λ e. rw (h, e) (getD-set-same (x .holders) b _ noHolder n)) (λ e. rw (h, e) (getD-set-same (x .holders) b _ noHolder n))
+
+    written-other : (j : ℕ) → j ≢ b → holderOf (writtenCard x c b) j ≡ holderOf x j
+    unfolding writtenCard holderOf
+    written-other j ne =
+        cases (takesBlock (ruleFor x c b))
+        (λ h. cases (isNamedBack (ruleFor x c b)) (λ e. rw (h, e) (getD-set-other (x .holders) b j _ noHolder ne)) (λ e. rw (h, e) (getD-set-other (x .holders) b j _ noHolder ne)))
+        (λ h. cases (isNamedBack (ruleFor x c b)) (λ e. rw (h, e) refl) (λ e. rw (h, e) refl))
+
+    written-left : takesBlock (ruleFor x c b) ≡ false → holderOf (writtenCard x c b) b ≡ holderOf x b
+    unfolding writtenCard holderOf
+    written-left h = cases (isNamedBack (ruleFor x c b)) (λ e. rw (h, e) refl) (λ e. rw (h, e) refl)
+
+    -- cores: the writer's
+    written-writer : c < length (x .cores) → (isNamedBack (ruleFor x c b) ≡ true → ((holderOf x b) .name) .core ≢ c)
+        → coreOf (writtenCard x c b) c ≡ withRunning (coreOf x c) (writerAfter x c b)
+    unfolding writtenCard coreOf
+    written-writer n apart =
+        let a = ((holderOf x b) .name) .core in
+        let y = withCore x a (withRunning (coreOf x a) (withName ((coreOf x a) .running) (writerName x c))) in
+        let named : isNamedBack (ruleFor x c b) ≡ true → coreOf (withCore y c (withRunning (coreOf y c) (writerAfter x c b))) c ≡ withRunning (coreOf x c) (writerAfter x c b) =
+            λ e. core-set y c (withRunning (coreOf y c) (writerAfter x c b)) (omega (arith, length-set (x .cores) a (withRunning (coreOf x a) (withName ((coreOf x a) .running) (writerName x c)))))
+              ∙ ap (λ (k : Core). withRunning k (writerAfter x c b)) (core-other x a (withRunning (coreOf x a) (withName ((coreOf x a) .running) (writerName x c))) c (λ q. apart e (sym q))) in
+        cases (takesBlock (ruleFor x c b))
+        (λ h. cases (isNamedBack (ruleFor x c b)) (λ e. rw (h, e) (named e)) (λ e. rw (h, e) (core-set x c (withRunning (coreOf x c) (writerAfter x c b)) n)))
+        (λ h. cases (isNamedBack (ruleFor x c b)) (λ e. rw (h, e) (named e)) (λ e. rw (h, e) (core-set x c (withRunning (coreOf x c) (writerAfter x c b)) n)))
+
+    -- a running holder's
+    written-holder : (a : ℕ) → ((holderOf x b) .name) .core ≡ a → a < length (x .cores) → isNamedBack (ruleFor x c b) ≡ true → a ≢ c
+        → coreOf (writtenCard x c b) a ≡ withRunning (coreOf x a) (withName ((coreOf x a) .running) (writerName x c))
+    unfolding writtenCard coreOf
+    written-holder a q n e ne =
+        let k = withRunning (coreOf x a) (withName ((coreOf x a) .running) (writerName x c)) in
+        let y = withCore x a k in
+        let z = withRunning (coreOf y c) (writerAfter x c b) in
+        cases (takesBlock (ruleFor x c b)) (λ h. rw (h, e, q) (core-other y c z a ne ∙ core-set x a k n)) (λ h. rw (h, e, q) (core-other y c z a ne ∙ core-set x a k n))
+
+    -- another's
+    written-core : (a : ℕ) → a ≢ c → (isNamedBack (ruleFor x c b) ≡ true → a ≢ ((holderOf x b) .name) .core) → coreOf (writtenCard x c b) a ≡ coreOf x a
+    unfolding writtenCard coreOf
+    written-core a ne apart =
+        let i = ((holderOf x b) .name) .core in
+        let k = withRunning (coreOf x i) (withName ((coreOf x i) .running) (writerName x c)) in
+        let y = withCore x i k in
+        cases (takesBlock (ruleFor x c b))
+        (λ h. cases (isNamedBack (ruleFor x c b)) (λ e. rw (h, e) (core-other y c (withRunning (coreOf y c) (writerAfter x c b)) a ne ∙ core-other x i k a (apart e))) (λ e. rw (h, e) (core-other x c (withRunning (coreOf x c) (writerAfter x c b)) a ne)))
+        (λ h. cases (isNamedBack (ruleFor x c b)) (λ e. rw (h, e) (core-other y c (withRunning (coreOf y c) (writerAfter x c b)) a ne ∙ core-other x i k a (apart e))) (λ e. rw (h, e) (core-other x c (withRunning (coreOf x c) (writerAfter x c b)) a ne)))
+
+-- ---- WRITE
+module _ {l : Ledger} {w : World} (u : Up l w) (c : ℕ) (in-range : c < l .shape .cores) (b : ℕ) (low : b < l .shape .blocks) (o : ℕ) (inside : o ≤ 124)
+    (v : Bytes) (four : length v ≡ 4) (bytes : IsBytes v)
+    (opens : (n : Name) → holderIn (l .book) b (l .book .writes) ≡ some n → (l .book .entry n) .stage ≢ absent)
+    (home : holderIn (l .book) b (l .book .writes) ≡ none → blockAt (w .disk) (homeBlock b) ≡ imageNow l b)
+    (reserve : recordBlocks (l .book) c (l .book .oldest c) (l .book .next c - l .book .oldest c) + 2 + length (((wrote c b o v (l .book)) .entry (newName c (l .book .next c))) .blocks) ≤ l .shape .journal)
+    (fine : Fine (withBook l (wrote c b o v (l .book)))) where
+  abbrev t : Name
+  t = newName c (l .book .next c)
+
+  abbrev k₂ : Book
+  k₂ = wrote c b o v (l .book)
+
+  abbrev l₂ : Ledger
+  l₂ = withBook l k₂
+
+  abbrev x : Card
+  x = w .card
+
+  abbrev begun : Book
+  begun = cond (isRunning ((l .book .entry t) .stage)) (l .book) (begin t (l .book))
+
+  abbrev current : ((l .book .entry t) .stage ≡ absent) ⊎ ((l .book .entry t) .stage ≡ running)
+  current = u .fine .ranks c in-range .current
+
+  abbrev met : Met u c in-range b low opens
+  met = rule-met u c in-range b low opens
+
+  -- ---- memory
+  record Loaded (m : Bytes) : Type 0 where
+    size : length m ≡ 16384
+    all-bytes : IsBytes m
+    own-image : blockAt m b ≡ imageNow l b
+    others : (j : ℕ) → j ≢ b → blockAt m j ≡ blockAt (w .memory) j
+
+  small : b < 64
+  small = omega (arith, u .fine .range .few-blocks)
+
+  -- a held block has its current image in memory
+  held-loaded : (holderOf x b) .held ≡ true → Loaded (w .memory)
+  held-loaded h = record { size = u .memory; all-bytes = u .memory-bytes; own-image = u .images b low h; others = λ j ne. refl }
+
+  -- a free one gets it from home
+  home-loaded : holderIn (l .book) b (l .book .writes) ≡ none → Loaded (store (w .memory) b (blockAt (w .disk) (homeBlock b)))
+  home-loaded h =
+      let z = length-blockAt 257 (w .disk) (u .disk .size) (homeBlock b) (omega (arith, small)) in
+      let f : 128 * b + 128 ≤ length (w .memory) = omega (arith, u .memory, small) in
+      record {
+        size = length-store (w .memory) b (blockAt (w .disk) (homeBlock b)) f z ∙ u .memory;
+        all-bytes = bytes-store (w .memory) b (blockAt (w .disk) (homeBlock b)) (u .memory-bytes) (bytes-blockAt (w .disk) (homeBlock b) (u .disk .bytes));
+        own-image = block-stored (w .memory) b (blockAt (w .disk) (homeBlock b)) f z ∙ home h;
+        others = block-other (w .memory) b (blockAt (w .disk) (homeBlock b)) f z;
+      }
+
+  abbrev loaded : Bytes
+  loaded = cond (loadsImage (ruleFor x c b)) (store (w .memory) b (blockAt (w .disk) (homeBlock b))) (w .memory)
+
+  is-loaded : Loaded loaded
+  is-loaded =
+      elim met [
+        | met-none h _ r ↦ rw r (home-loaded h)
+        | met-own _ h _ r ↦ rw r (held-loaded h)
+        | met-running n h _ _ _ _ r ↦ rw r (held-loaded (h .held))
+        | met-closed n h _ _ r ↦ rw r (held-loaded (h .held))
+      ]
+
+  -- ---- the ledger's entries
+  t-limits : Limits (l .shape) t (k₂ .entry t)
+  t-limits = fine .limits t (λ e. let z : _≡_ {A = ℕ} 0 1 = cc (wrote-running (l .book) c current b o v, e) in omega arith)
+
+  entry-stays : (a : ℕ) → a < l .shape .cores → (i : ℕ) → i < l .book .next a → k₂ .entry (newName a i) ≡ l .book .entry (newName a i)
+  entry-stays a h i g =
+      wrote-other (l .book) c current b o v (newName a i)
+      (λ e. let p : i ≡ l .book .next c = ap (λ (n : Name). n .number) e in let q : l .book .next a ≡ l .book .next c = ap (λ (n : Name). l .book .next (n .core)) e in omega arith)
+      (λ e.
+      let q = meets-met (l .book) t (holderIn (l .book) b (l .book .writes)) (newName a i) (ap Rattle.crash.proofs.Entries.met e) .0 in
+      let p = meets-running (l .book) t (holderIn (l .book) b (l .book .writes)) (newName a i) e in
+      let r = present-open ((l .book .entry (newName a i)) .stage) (opens (newName a i) q) p in
+      omega (arith, running-next (u .fine .ranks a h) i (ap isRunning r)))
+
+  same : (a : ℕ) → a < l .shape .cores → SameClosed l l₂ a
+  same a h =
+      let n = wrote-numbers (l .book) c current b o v in
+      record {
+        shape = refl;
+        oldest = ap (λ (f : ℕ → ℕ). f a) (n .0);
+        uncommitted = ap (λ (f : ℕ → ℕ). f a) (n .1);
+        next = ap (λ (f : ℕ → ℕ). f a) (n .2);
+        entry = entry-stays a h;
+        stamp = λ i g. refl;
+        images = λ i g. refl;
+      }
+
+  other-stage : (a : ℕ) → a ≢ c → (k₂ .entry (newName a (l .book .next a))) .stage ≡ (l .book .entry (newName a (l .book .next a))) .stage
+  other-stage a ne = wrote-stage (l .book) c current b o v (newName a (l .book .next a)) (other-core (l .book .next a) (l .book .next c) ne)
