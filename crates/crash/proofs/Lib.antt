@@ -11,8 +11,8 @@ pub mod Newest
 pub mod FineWrite
 pub mod Frames
 pub mod UpStore
-pub mod UpCheckpoint
 pub mod CheckpointRead
 pub mod Rules
 pub mod UpClose
 pub mod UpWrite
+pub mod UpCheckpoint

@@ -8,7 +8,7 @@ use native.Mathlib.Decide.{decLt, ℕ-discrete}
 use mathlib.Core.Path.{_≡_, refl, ap, _∙_, sym, subst}
 use mathlib.Core.Logic.{_≢_}
 use mathlib.Core.Bool.{true, cond, _&&_}
-use mathlib.Core.List.{List, [], _∷_, _++_, flatMap, append-assoc, List·Memᴰ·head}
+use mathlib.Core.List.{List, [], _∷_, _++_, flatMap, append-assoc}
 use mathlib.Core.Option.{Option, none, some}
 use lib.ListN.{length, take, getD, length-append, length-map, length-set, List·getD-map}
 use lib.Seq.{getD-append-add, getD-set-same, getD-set-other}
@@ -16,11 +16,11 @@ use borrow.Author.Tests.{lt-ltb, le-ltb}
 use Rattle.model.specs.Lists.{below}
 use Rattle.model.specs.Bytes.{Bytes, blockAt, store as storeBlock}
 use Rattle.model.specs.Shape.{homeBlock, journalBlock}
-use Rattle.model.specs.Card.{newName, newTail, sameName, noHolder, freshCore, shapeOf, tailOf, coreOf, holderOf, committedCount, withCore}
+use Rattle.model.specs.Card.{newName, newTail, sameName, noHolder, freshCore, shapeOf, tailOf, coreOf, holderOf, withCore}
 use Rattle.model.specs.Layout.{masterBlock}
 use Rattle.model.specs.Journal.{journalAt}
 use Rattle.model.specs.Command.{World, Outcome, storing}
-use Rattle.model.specs.Checkpoint.{committedOf, oldest as oldestOf, storedHome, released, retiredCard, storedMaster, checkpointed}
+use Rattle.model.specs.Checkpoint.{storedHome, released, retiredCard, storedMaster, checkpointed}
 use Rattle.model.specs.declared.Name.{Name}
 use Rattle.model.specs.declared.Tail.{Tail}
 use Rattle.model.specs.declared.Core.{Core}
@@ -33,57 +33,35 @@ use Rattle.model.proofs.Words.{each-block}
 use Rattle.model.proofs.Encoding.{length-master}
 use Rattle.model.proofs.Journal.{home-apart, journal-wrap}
 use Rattle.model.proofs.Valid.{sameName-refl}
-use Rattle.crash.specs.Book.{Stage, committed, retired, isClosed, isRetired, counted, Entry, Write, Book, raise, staged, holderIn, checkpoint}
+use Rattle.crash.specs.Book.{Stage, committed, retired, isClosed, isRetired, counted, Entry, Write, Book, raise, holderIn, checkpoint}
 use Rattle.crash.specs.Ledger.{Ledger, withBook, imageNow, recordBlocks}
 use Rattle.crash.specs.Claims.{IsBytes}
 use Rattle.crash.proofs.Relation.{IsBlock, Fine, recordOf, contents, JournalStands, DiskStands, CoreUp, holderAs, Up}
 use Rattle.crash.proofs.Stages.{clash, closed-present}
 use Rattle.crash.proofs.Master.{shape-limits}
-use Rattle.crash.proofs.Records.{readRecord, readList, IsRead, length-record, journal-read, readList-first, readList-is}
-use Rattle.crash.proofs.Entries.{same-or-not, sameName-false, other-number, other-core, change-other, raise-at, raise-other, records-cons}
-use Rattle.crash.proofs.FineSteps.{restaged, restaged-blocks, restaged-names, restaged-at, restaged-records, restaged-holder, retired-none, retired-other, checkpoint-home, checkpoint-retires}
+use Rattle.crash.proofs.Records.{readRecord, IsRead, length-record}
+use Rattle.crash.proofs.Entries.{same-or-not, sameName-false, other-number, other-core, raise-at, raise-other, records-cons}
+use Rattle.crash.proofs.Books.{Restages, restaged, restages, restages-records, restages-holder, retired-none, retired-other, checkpoint-home, checkpoint-retires}
 use Rattle.crash.proofs.Frames.{core-set, core-other, bytes-store, each-isBytes, flatMap-below, record-same, contents-same}
-use Rattle.crash.proofs.UpStore.{shape-up}
-
--- ---- what the card works on
-module _ {l : Ledger} {w : World} (u : Up l w) (c : ℕ) (in-range : c < l .shape .cores) where
-  pub committed-count : committedCount (w .card) c ≡ l .book .uncommitted c - l .book .oldest c
-  unfolding committedCount
-  committed-count =
-      let y = u .cores c in-range in
-      let r = u .fine .ranks c in-range in
-      let j = u .disk .journals c in-range in
-      elim (decLt (l .book .uncommitted c) (l .book .next c)) [
-        | yes h ↦ rw (y .closing h .live) (omega (arith, y .next, j .number, r .high))
-        | no h ↦ rw (y .none-closing (omega (arith, r .mid))) (omega (arith, y .next, j .number, r .mid))
-      ]
-
-  pub committed-read : committedOf w c ≡ readList l c (tailOf (w .card) c)
-  unfolding committedOf
-  committed-read = rw (shape-up u) (journal-read (u .fine) (u .disk) c in-range (committedCount (w .card) c) (omega (arith, committed-count)))
-
-  module _ (some-committed : l .book .oldest c < l .book .uncommitted c) where
-    pub oldest-read : oldestOf (committedOf w c) ≡ readRecord l (newName c (l .book .oldest c)) ((tailOf (w .card) c) .position)
-    unfolding oldestOf
-    oldest-read = rw (committed-read, readList-first l c (tailOf (w .card) c) some-committed)
-
-    pub oldest-is : IsRead l (w .disk) c (readRecord l (newName c (l .book .oldest c)) ((tailOf (w .card) c) .position))
-    oldest-is = readList-is (u .fine) (u .disk) c in-range _ (rw (readList-first l c (tailOf (w .card) c) some-committed) (List·Memᴰ·head refl))
+use Rattle.crash.proofs.CheckpointRead.{shape-up, oldest-of, oldest-is}
 
 -- ---- the ledger with one stage and the oldest numbers changed
 module _ (l : Ledger) (t : Name) (g : Stage) (o : ℕ → ℕ) where
   abbrev advanced : Ledger
   advanced = withBook l (restaged t g o (l .book .uncommitted) (l .book .next) (l .book))
 
+  one-changed : Restages (l .book) (advanced .book) t g
+  one-changed = restages t g o (l .book .uncommitted) (l .book .next) (l .book)
+
   record-stays : (v : Name) → recordOf advanced v ≡ recordOf l v
-  record-stays v = record-same l advanced v (restaged-blocks t g (l .book) v) (restaged-names t g (l .book) v) refl refl
+  record-stays v = record-same l advanced v (one-changed .blocks v) (one-changed .names v) refl refl
 
   module _ (a : ℕ) (not-closing : newName a (l .book .uncommitted a) ≢ t) (not-current : newName a (l .book .next a) ≢ t) where
     closing-stays : advanced .book .entry (newName a (l .book .uncommitted a)) ≡ l .book .entry (newName a (l .book .uncommitted a))
-    closing-stays = change-other t (staged g) (l .book .entry) (newName a (l .book .uncommitted a)) not-closing
+    closing-stays = one-changed .other (newName a (l .book .uncommitted a)) not-closing
 
     current-stays : advanced .book .entry (newName a (l .book .next a)) ≡ l .book .entry (newName a (l .book .next a))
-    current-stays = change-other t (staged g) (l .book .entry) (newName a (l .book .next a)) not-current
+    current-stays = one-changed .other (newName a (l .book .next a)) not-current
 
     contents-kept : o a ≡ l .book .oldest a → contents advanced a ≡ contents l a
     contents-kept e =
@@ -96,7 +74,7 @@ module _ (l : Ledger) (t : Name) (g : Stage) (o : ℕ → ℕ) where
         → recordBlocks (l .book) a (o a) (l .book .next a - o a) ≤ recordBlocks (l .book) a (l .book .oldest a) (l .book .next a - l .book .oldest a)
         → JournalStands l d a tail → JournalStands advanced d₂ a tail₂
     journal-advanced d d₂ tail tail₂ at n p s fewer j =
-        let total = restaged-records t g (l .book) o (l .book .uncommitted) (l .book .next) a (o a) (l .book .next a - o a) in
+        let total = restages-records one-changed a (o a) (l .book .next a - o a) in
         record {
           number = n;
           position = p;
@@ -113,7 +91,7 @@ module _ (l : Ledger) (t : Name) (g : Stage) (o : ℕ → ℕ) where
     core-advanced m k used homed n h z y =
         record {
           next = y .next;
-          used = n ∙ sym (restaged-records t g (l .book) o (l .book .uncommitted) (l .book .next) a (o a) (l .book .uncommitted a - o a));
+          used = n ∙ sym (restages-records one-changed a (o a) (l .book .uncommitted a - o a));
           runs = rw current-stays (y .runs);
           idle = rw current-stays (y .idle);
           closing = rw closing-stays (y .closing);
@@ -145,16 +123,16 @@ module _ {A : Type 0} where
 abbrev releasedFrom : Name → Holder → Holder
 releasedFrom t h = cond (h .held && sameName (h .name) t) noHolder h
 
-released-holder : (t : Name) (o n m : ℕ → ℕ) (k : Book) (b : ℕ) (ws : List Write)
-    → releasedFrom t (holderAs (holderIn k b ws)) ≡ holderAs (holderIn (restaged t retired o n m k) b ws)
-released-holder t o n m k b ws = go (holderIn k b ws) refl
+released-holder : {k k₂ : Book} {t : Name} → Restages k k₂ t retired → (b : ℕ) (ws : List Write)
+    → releasedFrom t (holderAs (holderIn k b ws)) ≡ holderAs (holderIn k₂ b ws)
+released-holder {k} {k₂} {t} r b ws = go (holderIn k b ws) refl
   where
-    go : (h : Option Name) → holderIn k b ws ≡ h → releasedFrom t (holderAs h) ≡ holderAs (holderIn (restaged t retired o n m k) b ws)
-    go none e = rw (retired-other t o n m k b ws (λ q. let z : _≡_ {A = ℕ} 0 1 = cc in omega arith), e)
+    go : (h : Option Name) → holderIn k b ws ≡ h → releasedFrom t (holderAs h) ≡ holderAs (holderIn k₂ b ws)
+    go none e = rw (retired-other r b ws (λ q. let z : _≡_ {A = ℕ} 0 1 = cc in omega arith), e)
     go (some v) e =
         same-or-not v t
-        (λ q. rw (q, sameName-refl t, retired-none t o n m k b ws (e ∙ ap some q)))
-        (λ ne. rw (sameName-false v t ne, retired-other t o n m k b ws (λ q. ne (cc)), e))
+        (λ q. rw (q, sameName-refl t, retired-none r b ws (e ∙ ap some q)))
+        (λ ne. rw (sameName-false v t ne, retired-other r b ws (λ q. ne (cc)), e))
 
 still-held : (t : Name) (h : Holder) → (releasedFrom t h) .held ≡ true → h .held ≡ true
 still-held t h e = cases (h .held && sameName (h .name) t) (λ z. clash (rw z at e) refl) (λ z. rw z at e)
@@ -215,8 +193,8 @@ module _ {l : Ledger} {w : World} (u : Up l w) (c : ℕ) (in-range : c < l .shap
     home-done : checkpointed c w ≡ storing w (withCore (w .card) c homedCore) (homeBlock b) image
     unfolding checkpointed storedHome
     home-done =
-        let r = oldest-is u c in-range some-committed in
-        rw (oldest-read u c in-range some-committed, lt-ltb (x .homed) (length ((l .book .entry t) .blocks)) more, shape-up u, r .blocks, r .images (x .homed) more) refl
+        let r : IsRead l (w .disk) c e = rw (oldest-of u c in-range some-committed) at (oldest-is u c in-range some-committed) in
+        rw (oldest-of u c in-range some-committed, lt-ltb (x .homed) (length ((l .book .entry t) .blocks)) more, shape-up u, r .blocks, r .images (x .homed) more) refl
 
     home-low : b < l .shape .blocks
     home-low = u .fine .limits t (closed-present _ closed-now) .blocks b (getD-mem ((l .book .entry t) .blocks) (x .homed) 0 more)
@@ -249,16 +227,17 @@ module _ {l : Ledger} {w : World} (u : Up l w) (c : ℕ) (in-range : c < l .shap
     home-core : (a : ℕ) → a < l .shape .cores → CoreUp l₂ (w .memory) a (coreOf (withCore (w .card) c homedCore) a)
     home-core a h =
         let g = committed (suc (x .homed)) in
+        let changed = one-changed l t g (l .book .oldest) in
         let y = u .cores a h in
         elim (ℕ-discrete a c) [
           | yes q ↦ (let y₂ = u .cores c in-range in
               let z : x .homed + 1 ≡ suc (x .homed) = omega arith in
               rw (q, core-set (w .card) c homedCore core-room)
               (core-advanced l t g (l .book .oldest) c (not-closing c) (not-current c) (w .memory) x (x .used) (x .homed + 1) (y₂ .used)
-              (λ _. rw z (restaged-at t g (l .book))) (λ n. absurd (omega arith)) y₂))
+              (λ _. rw z (changed .stage)) (λ n. absurd (omega arith)) y₂))
           | no ne ↦ rw (core-other (w .card) c homedCore a ne)
               (core-advanced l t g (l .book .oldest) a (not-closing a) (not-current a) (w .memory) (coreOf (w .card) a) ((coreOf (w .card) a) .used) ((coreOf (w .card) a) .homed) (y .used)
-              (λ n. ap (λ (v : Entry). v .stage) (change-other t (staged g) (l .book .entry) (newName a (l .book .oldest a)) (other-core (l .book .oldest a) (l .book .oldest c) ne)) ∙ y .homed n) (y .none-homed) y)
+              (λ n. ap (λ (v : Entry). v .stage) (changed .other (newName a (l .book .oldest a)) (other-core (l .book .oldest a) (l .book .oldest c) ne)) ∙ y .homed n) (y .none-homed) y)
         ]
 
     home-up : Fine l₂ → Up l₂ ((storing w (withCore (w .card) c homedCore) (homeBlock b) image) .world)
@@ -280,7 +259,7 @@ module _ {l : Ledger} {w : World} (u : Up l w) (c : ℕ) (in-range : c < l .shap
           holders =
               λ b h.
               u .holders b h
-              ∙ ap holderAs (sym (restaged-holder t (committed (suc (x .homed))) (l .book) (l .book .oldest) (l .book .uncommitted) (l .book .next) (sym (ap isRetired stage-now)) b (l .book .writes)));
+              ∙ ap holderAs (sym (restages-holder (one-changed l t (committed (suc (x .homed))) (l .book .oldest)) (sym (ap isRetired stage-now)) b (l .book .writes)));
           images = u .images;
         }
 
@@ -310,7 +289,7 @@ module _ {l : Ledger} {w : World} (u : Up l w) (c : ℕ) (in-range : c < l .shap
 
     master-done : checkpointed c w ≡ storing w card₂ 0 (masterBlock (l .shape) (tailOf card₂))
     unfolding checkpointed storedMaster
-    master-done = rw (oldest-read u c in-range some-committed, le-ltb (x .homed) (length ((l .book .entry t) .blocks)) (omega arith), retired-shape) refl
+    master-done = rw (oldest-of u c in-range some-committed, le-ltb (x .homed) (length ((l .book .entry t) .blocks)) (omega arith), retired-shape) refl
 
     tail-room : c < length (w .card .tails)
     tail-room = omega (arith, u .eight-tails, u .fine .range .few-cores)
@@ -421,6 +400,7 @@ module _ {l : Ledger} {w : World} (u : Up l w) (c : ℕ) (in-range : c < l .shap
 
     master-core : (a : ℕ) → a < l .shape .cores → CoreUp l₃ (w .memory) a (coreOf card₂ a)
     master-core a h =
+        let changed = one-changed l t retired o₂ in
         let y = u .cores a h in
         elim (ℕ-discrete a c) [
           | yes q ↦ (let y₂ = u .cores c in-range in
@@ -429,12 +409,12 @@ module _ {l : Ledger} {w : World} (u : Up l w) (c : ℕ) (in-range : c < l .shap
               rw (q, own-core)
               (core-advanced l t retired o₂ c (not-closing c) (not-current c) (w .memory) x (x .used - n) 0
               (rw up (omega (arith, y₂ .used, fewer (l .book .uncommitted c) some-committed)))
-              (rw up (λ g. ap (λ (v : Entry). v .stage) (change-other t (staged retired) (l .book .entry) (newName c (suc (l .book .oldest c))) (other-number c (omega arith))) ∙ r .done (suc (l .book .oldest c)) (omega arith) g))
+              (rw up (λ g. ap (λ (v : Entry). v .stage) (changed .other (newName c (suc (l .book .oldest c))) (other-number c (omega arith))) ∙ r .done (suc (l .book .oldest c)) (omega arith) g))
               (λ _. refl) y₂))
           | no ne ↦ (let same = raise-other c (l .book .oldest) a ne in
               rw (other-cores a ne)
               (core-advanced l t retired o₂ a (not-closing a) (not-current a) (w .memory) (coreOf (w .card) a) ((coreOf (w .card) a) .used) ((coreOf (w .card) a) .homed) (rw same (y .used))
-              (rw same (λ g. ap (λ (v : Entry). v .stage) (change-other t (staged retired) (l .book .entry) (newName a (l .book .oldest a)) (other-core (l .book .oldest a) (l .book .oldest c) ne)) ∙ y .homed g))
+              (rw same (λ g. ap (λ (v : Entry). v .stage) (changed .other (newName a (l .book .oldest a)) (other-core (l .book .oldest a) (l .book .oldest c) ne)) ∙ y .homed g))
               (rw same (y .none-homed)) y))
         ]
 
@@ -458,7 +438,7 @@ module _ {l : Ledger} {w : World} (u : Up l w) (c : ℕ) (in-range : c < l .shap
               λ b h.
               holder-after b
               ∙ ap (releasedFrom t) (u .holders b h)
-              ∙ released-holder t o₂ (l .book .uncommitted) (l .book .next) (l .book) b (l .book .writes);
+              ∙ released-holder (one-changed l t retired o₂) b (l .book .writes);
           images = λ b h g. u .images b h (still-held t (holderOf (w .card) b) (sym (ap (λ (v : Holder). v .held) (holder-after b)) ∙ g));
         }
 
@@ -466,9 +446,9 @@ module _ {l : Ledger} {w : World} (u : Up l w) (c : ℕ) (in-range : c < l .shap
   pub checkpoint-up : Fine (withBook l (checkpoint c (l .book))) → Up (withBook l (checkpoint c (l .book))) ((checkpointed c w) .world)
   checkpoint-up fine =
       elim (decLt (x .homed) (length ((l .book .entry t) .blocks))) [
-        | yes more ↦ (let k = checkpoint-home (l .book) c (x .homed) stage-now more in rw (k, home-done more) (home-up more (rw k at fine)))
+        | yes more ↦ (let k = checkpoint-home c (x .homed) (l .book) stage-now more in rw (k, home-done more) (home-up more (rw k at fine)))
         | no none-left ↦ (let all : x .homed ≡ length ((l .book .entry t) .blocks) = omega (arith, within) in
-            let k = checkpoint-retires (l .book) c (x .homed) stage-now all in
+            let k = checkpoint-retires c (x .homed) (l .book) stage-now all in
             rw (k, master-done all) (master-up all (rw k at fine)))
       ]
 
