@@ -21,6 +21,11 @@ pub mod Records
 pub mod Valid
 pub mod Newest
 pub mod CheckpointRead
+pub mod Frames
+pub mod UpStore
+pub mod UpClose
+pub mod UpCheckpoint
 pub mod Given
+pub mod Rules
 pub mod Points
 pub mod Examples

@@ -104,7 +104,7 @@ distinct-of (h ∷ hs) z f =
     (λ e. let y : 0 ≡ suc (x .0) = f 0 (suc (x .0)) (omega arith) (omega (arith, x .1)) (e ∙ ap (λ (u : Held). u .block) (sym (x .2))) in omega arith))))
     (distinct-of hs z (λ i j a b e. let y : suc i ≡ suc j = f (suc i) (suc j) (omega arith) (omega arith) e in omega arith))
 
-sum-low : (k : Book) (n : ℕ) → ((c : ℕ) → c < n → k .next c ≤ 4000000001) → sumNext k n ≤ n * 4000000001
+pub sum-low : (k : Book) (n : ℕ) → ((c : ℕ) → c < n → k .next c ≤ 4000000001) → sumNext k n ≤ n * 4000000001
 unfolding sumNext
 sum-low k zero h = omega arith
 sum-low k (suc n) h = omega (arith, sum-low k n (λ c g. h c (omega arith)), h n (omega arith))
