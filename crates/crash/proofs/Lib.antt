@@ -28,4 +28,5 @@ pub mod UpCheckpoint
 pub mod Given
 pub mod Rules
 pub mod Points
+pub mod Theorem
 pub mod Examples

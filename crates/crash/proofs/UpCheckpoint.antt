@@ -38,7 +38,6 @@ use Rattle.crash.specs.Ledger.{Ledger, withBook, imageNow, recordBlocks}
 use Rattle.crash.specs.Claims.{IsBytes}
 use Rattle.crash.proofs.Relation.{IsBlock, Fine, recordOf, contents, JournalStands, DiskStands, CoreUp, holderAs, Up}
 use Rattle.crash.proofs.Stages.{clash, closed-present}
-
 use Rattle.crash.proofs.Records.{readRecord, IsRead, length-record}
 use Rattle.crash.proofs.Entries.{same-or-not, sameName-false, other-number, other-core, raise-at, raise-other, records-cons}
 use Rattle.crash.proofs.Books.{Restages, restaged, restages, restages-records, restages-holder, retired-none, retired-other, checkpoint-home, checkpoint-retires}

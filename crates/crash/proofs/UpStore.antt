@@ -14,7 +14,7 @@ use lib.Dec.{leb, eqb}
 use borrow.Author.Tests.{le-leb, lt-leb, leb-true, leb-false, eq-eqb, ne-eqb}
 use Rattle.model.specs.Lists.{below}
 use Rattle.model.specs.Bytes.{Bytes, blockAt, be4, part, number, block, store as storeBlock}
-use Rattle.model.specs.Shape.{journalBlock}
+use Rattle.model.specs.Shape.{homeBlock, journalBlock}
 use Rattle.model.specs.Card.{newName, noTransaction, taken, listed, recordSize, shapeOf, tailOf, coreOf, holderOf, withCore}
 use Rattle.model.specs.Layout.{Held, newHeld, hasHead, flagOf, escaped, descriptorBlock, commitBlock, isCommit}
 use Rattle.model.specs.Journal.{journalAt}
@@ -36,7 +36,6 @@ use Rattle.crash.specs.Ledger.{Ledger, withBook, imageNow, recordBlocks}
 use Rattle.crash.specs.Claims.{IsBytes}
 use Rattle.crash.proofs.Relation.{IsBlock, Frozen, Fine, heldOf, recordOf, contents, JournalStands, DiskStands, Matches, CoreUp, holderAs, Up}
 use Rattle.crash.proofs.Stages.{stored-unretired, closed-present}
-
 use Rattle.crash.proofs.Records.{record-sound, length-record}
 use Rattle.crash.proofs.Entries.{other-number, other-core, change-at, change-other, change-by, same-or-not, raise-at, raise-other, holder-same, records-same, records-snoc}
 use Rattle.crash.proofs.Frames.{SameClosed, core-set, core-other, bytes-append, bytes-store, each-isBytes, escaped-bytes, map-below, record-same, contents-same, flatMap-below, none-stored, journal-stays, core-stays}
@@ -67,7 +66,7 @@ module _ {l : Ledger} (f : Fine l) (t : Name) (h : isClosed ((l .book .entry t) 
       record-each (λ (i : ℕ) (b : Bytes). IsBlock b)
       (record { size = length-descriptor (t .number) (heldOf l t) (s .few); bytes = each-isBytes _ (each-block _) })
       (λ i g. let x = z .images i g in
-        record { size = length-escaped (getD (l .images t) i []) (omega (arith, x .size)) ∙ x .size; bytes = escaped-bytes (getD (l .images t) i []) (x .bytes) })
+      record { size = length-escaped (getD (l .images t) i []) (omega (arith, x .size)) ∙ x .size; bytes = escaped-bytes (getD (l .images t) i []) (x .bytes) })
       (record { size = length-commit (t .number) (l .stamp t) ((l .book .entry t) .names) (s .short); bytes = each-isBytes _ (each-block _) })
 
   -- none is a commit of a higher number; only the last is a commit
@@ -170,7 +169,7 @@ module _ {l : Ledger} {w : World} (u : Up l w) (c : ℕ) (in-range : c < l .shap
       let g = flatMap (λ (i : ℕ). recordOf l (newName c (o + i))) (below n) in
       let whole : length g ≡ x .used = length-whole (u .fine) c in-range n (omega (arith, r .low)) ∙ sym (u .cores c in-range .used) in
       let part : length (take (counted ((l .book .entry t) .stage)) (recordOf l t)) ≡ x .stored =
-          ap (λ (i : ℕ). length (take i (recordOf l t))) (ap counted stage-now) ∙ length-take-le (x .stored) (recordOf l t) (omega (arith, within, size)) in
+      ap (λ (i : ℕ). length (take i (recordOf l t))) (ap counted stage-now) ∙ length-take-le (x .stored) (recordOf l t) (omega (arith, within, size)) in
       length-append g (take (counted ((l .book .entry t) .stage)) (recordOf l t)) ∙ ap₂ _+_ whole part
 
   room : x .used + (length ((l .book .entry t) .blocks) + 2) ≤ l .shape .journal
@@ -268,11 +267,11 @@ module _ {l : Ledger} {w : World} (u : Up l w) (c : ℕ) (in-range : c < l .shap
         let a : o + n ≡ l .book .uncommitted c = omega (arith, r .low) in
         let e : flatMap (λ (i : ℕ). recordOf l₂ (newName c (o + i))) (below (suc n)) ≡ flatMap f (below (suc n)) = flatMap-below _ _ (suc n) (λ i h. new-record (newName c (o + i))) in
         let z : counted ((k₂ .entry v) .stage) ≡ 0 =
-            ap (λ (e : Entry). counted (e .stage)) (new-other v (other-number c (omega arith))) ∙ (rw next-is at (none-stored l (u .fine) c in-range)) in
+        ap (λ (e : Entry). counted (e .stage)) (new-other v (other-number c (omega arith))) ∙ (rw next-is at (none-stored l (u .fine) c in-range)) in
         let whole : flatMap f (below (suc n)) ≡ flatMap f (below n) ++ recordOf l t =
-            flatMap-append f (below n) (n ∷ []) ∙ ap (λ (b : List Bytes). flatMap f (below n) ++ b) (append-nil (f n) ∙ ap (λ (i : ℕ). recordOf l (newName c i)) a) in
+        flatMap-append f (below n) (n ∷ []) ∙ ap (λ (b : List Bytes). flatMap f (below n) ++ b) (append-nil (f n) ∙ ap (λ (i : ℕ). recordOf l (newName c i)) a) in
         let all : take (x .stored) (recordOf l t) ++ (getD (recordOf l t) (x .stored) [] ∷ []) ≡ recordOf l t =
-            sym (take-suc (recordOf l t) (x .stored) [] (omega (arith, size, within))) ∙ take-all (suc (x .stored)) (recordOf l t) (omega (arith, size)) in
+        sym (take-suc (recordOf l t) (x .stored) [] (omega (arith, size, within))) ∙ take-all (suc (x .stored)) (recordOf l t) (omega (arith, size)) in
         rw (same-numbers .0 c, last-uncommitted, m, z, e, whole, stage-now)
         (append-nil (flatMap f (below n) ++ recordOf l t)
         ∙ ap (λ (b : List Bytes). flatMap f (below n) ++ b) (sym all)
@@ -457,3 +456,9 @@ module _ {l : Ledger} {w : World} (u : Up l w) (c : ℕ) (in-range : c < l .shap
         holders = λ b h. u .holders b h ∙ ap holderAs (sym (holder-same (l .book) k₂ new-retired b (l .book .writes)));
         images = u .images;
       }
+
+  -- a journal block is no home block
+  pub store-homes : (b : ℕ) → b < l .shape .blocks → blockAt ((stored c w) .world .disk) (homeBlock b) ≡ blockAt (w .disk) (homeBlock b)
+  store-homes k h =
+      rw stored-disk
+      (elsewhere (homeBlock k) (home-apart (l .shape) c ((tailOf (w .card) c) .position + length (contents l c)) (homeBlock k) (omega arith)))
