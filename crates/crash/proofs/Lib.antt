@@ -6,3 +6,4 @@ pub mod Records
 pub mod Valid
 pub mod Entries
 pub mod FineSteps
+pub mod Newest

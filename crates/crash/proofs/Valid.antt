@@ -206,7 +206,8 @@ module _ {l : Ledger} {d : Bytes} {tailAt : ℕ → Tail} (f : Fine l) (z : Disk
         mem-any (eqb b) (flatMap-mem (blocksOf (l .shape) d) (r .1) (rw (valid-are (r .0) (r .1) .blocks, r .2) (x .1))) (x .2)))
         (below (l .shape .blocks))
 
-  -- ---- as RECOVER reads: from the master's own shape and tails
+-- ---- as RECOVER reads: from the master's own shape and tails
+module _ {l : Ledger} {d : Bytes} {tailAt : ℕ → Tail} (f : Fine l) (z : DiskStands l d tailAt) where
   pub own-tails : DiskStands l d (tailOn d)
   unfolding masterBlock
   own-tails =
@@ -219,3 +220,10 @@ module _ {l : Ledger} {d : Bytes} {tailAt : ℕ → Tail} (f : Fine l) (z : Disk
             (map-same tailAt (tailOn d) (below (l .shape .cores)) (λ c m. sym (tail-read f z c (mem-below (l .shape .cores) m))));
         journals = λ c h. subst (JournalStands l d c) (sym (tail-read f z c h)) (z .journals c h);
       }
+
+  pub valid-on : validOn d ≡ validSet (l .shape) d (tailOn d) (journals (l .shape) d (tailOn d) (λ (c : ℕ). l .shape .journal))
+  unfolding validOn committedOn
+  valid-on = rw (shape-read f z)
+
+  pub blocks-on : blocksHeld (shapeOn d) d (validOn d) ≡ blocksIn (l .shape .blocks) (l .book)
+  blocks-on = rw (shape-read f z, valid-on) (blocks-same f own-tails (λ (c : ℕ). l .shape .journal) (few-records f z))
