@@ -106,7 +106,7 @@ fine-fresh s saved first r fits firsts =
     }
 
 -- a ledger with the same transactions
-same-frozen : (l l′ : Ledger) (t : Name) → l′ .images t ≡ l .images t → l′ .stamp t ≡ l .stamp t → l′ .closes ≡ l .closes
+pub same-frozen : (l l′ : Ledger) (t : Name) → l′ .images t ≡ l .images t → l′ .stamp t ≡ l .stamp t → l′ .closes ≡ l .closes
     → (l′ .book .entry t) .blocks ≡ (l .book .entry t) .blocks → Frozen l t → Frozen l′ t
 same-frozen l l′ t i s c b z =
     record { count = rw (i, b) (z .count); images = rw i (z .images); low = rw s (z .low); high = rw (s, c) (z .high) }
@@ -313,7 +313,7 @@ module _ (l : Ledger) (f : Fine l) (t : Name) (g : Stage) (live : (l .book .entr
         }
 
 -- ---- the count of closes
-sum-same : (k k′ : Book) → ((c : ℕ) → k′ .next c ≡ k .next c) → (n : ℕ) → sumNext k′ n ≡ sumNext k n
+pub sum-same : (k k′ : Book) → ((c : ℕ) → k′ .next c ≡ k .next c) → (n : ℕ) → sumNext k′ n ≡ sumNext k n
 unfolding sumNext
 sum-same k k′ same zero = refl
 sum-same k k′ same (suc n) = rw (sum-same k k′ same n, same n)

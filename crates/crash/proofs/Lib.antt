@@ -7,3 +7,4 @@ pub mod Valid
 pub mod Entries
 pub mod FineSteps
 pub mod Newest
+pub mod FineWrite
