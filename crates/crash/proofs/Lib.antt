@@ -8,3 +8,6 @@ pub mod Entries
 pub mod FineSteps
 pub mod Newest
 pub mod FineWrite
+pub mod Frames
+pub mod UpStore
+pub mod UpClose

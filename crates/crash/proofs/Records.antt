@@ -104,7 +104,7 @@ distinct-of (h ∷ hs) z f =
     (λ e. let y : 0 ≡ suc (x .0) = f 0 (suc (x .0)) (omega arith) (omega (arith, x .1)) (e ∙ ap (λ (u : Held). u .block) (sym (x .2))) in omega arith))))
     (distinct-of hs z (λ i j a b e. let y : suc i ≡ suc j = f (suc i) (suc j) (omega arith) (omega arith) e in omega arith))
 
-sum-low : (k : Book) (n : ℕ) → ((c : ℕ) → c < n → k .next c ≤ 4000000001) → sumNext k n ≤ n * 4000000001
+pub sum-low : (k : Book) (n : ℕ) → ((c : ℕ) → c < n → k .next c ≤ 4000000001) → sumNext k n ≤ n * 4000000001
 unfolding sumNext
 sum-low k zero h = omega arith
 sum-low k (suc n) h = omega (arith, sum-low k n (λ c g. h c (omega arith)), h n (omega arith))
@@ -113,7 +113,7 @@ module _ {l : Ledger} (f : Fine l) (t : Name) (h : isClosed ((l .book .entry t) 
   abbrev limits-of : Limits (l .shape) t (l .book .entry t)
   limits-of = f .limits t (closed-present _ h)
 
-  record-sound : Sound (l .shape) (t .number) (heldOf l t) (l .stamp t) ((l .book .entry t) .names)
+  pub record-sound : Sound (l .shape) (t .number) (heldOf l t) (l .stamp t) ((l .book .entry t) .names)
   record-sound =
       let m = limits-of in
       let n = length-held l t in
@@ -163,7 +163,7 @@ module _ {l : Ledger} (f : Fine l) (t : Name) (h : isClosed ((l .book .entry t) 
             (λ i g. let w = getD (l .images t) i [] in mem-each IsByte w (λ x m. ltb-true x 256 (all-mem (λ (x : ℕ). ltb x 256) w (z .images i g .bytes) m)));
       }
 
-  length-record : length (recordOf l t) ≡ length ((l .book .entry t) .blocks) + 2
+  pub length-record : length (recordOf l t) ≡ length ((l .book .entry t) .blocks) + 2
   unfolding recordOf
   length-record = simp length-append (omega (arith, length-map (l .images t) escaped, f .frozen t h .count))
 

@@ -26,7 +26,7 @@ use Rattle.model.specs.declared.Holder.{Holder}
 use Rattle.model.specs.declared.Card.{Card}
 use Rattle.model.specs.declared.Committed.{Committed}
 use Rattle.model.proofs.Lists.{cases, Each, length-below}
-use Rattle.model.proofs.Command.{Order, order, orderOf, of-command}
+use Rattle.model.proofs.Command.{Order, order, orderOf, of-cond, of-command}
 
 pub record FitsTransaction (t : Transaction) : Type 0 where
   pub blocks : length (t .blocks) ≡ 8
@@ -56,10 +56,6 @@ module _ {A : Type 0} (P : A → Type 0) where
   each-map : {B : Type 0} (f : B → A) (ys : List B) → ((y : B) → P (f y)) → Each P (map f ys)
   each-map f [] p = tt
   each-map f (y ∷ ys) p = (p y, each-map f ys p)
-
-  of-cond : (t : Bool) {x y : A} → P x → P y → P (cond t x y)
-  of-cond true p q = p
-  of-cond false p q = q
 
 none-fits : FitsTransaction noTransaction
 none-fits = record { blocks = refl; names = refl }

@@ -153,6 +153,10 @@ module _ {A B : Type 0} (R : A → B → Type 0) where
       (cond-holds (eqb k 3) (λ h. p₃) (cond-holds (eqb k 4) (λ h. p₄) (cond-holds (eqb k 5) (λ h. p₅) (cond-holds (eqb k 6) (λ h. p₆) p₇)))))
 
 module _ {A : Type 0} (P : A → Type 0) where
+  pub of-cond : (t : Bool) {x y : A} → P x → P y → P (cond t x y)
+  of-cond true p q = p
+  of-cond false p q = q
+
   pub of-command : (k : ℕ) {x₁ x₂ x₃ x₄ x₅ x₆ x₇ : A} → P x₁ → (eqb k 2 ≡ true → P x₂) → P x₃ → P x₄ → P x₅ → P x₆ → P x₇ → P (byCommand k x₁ x₂ x₃ x₄ x₅ x₆ x₇)
   of-command k {x₁} {x₂} {x₃} {x₄} {x₅} {x₆} {x₇} p₁ =
       each-command (λ (x y : A). P x) k {y₁ = x₁} {y₂ = x₂} {y₃ = x₃} {y₄ = x₄} {y₅ = x₅} {y₆ = x₆} {y₇ = x₇} (λ h. p₁)

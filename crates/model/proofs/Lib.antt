@@ -13,3 +13,4 @@ pub mod Valid
 pub mod Command
 pub mod Tape
 pub mod Arrays
+pub mod OneStore

@@ -1,0 +1,192 @@
+-- What a command leaves alone: the journal of a core and the core itself, where its closed transactions stay.
+-- Both are read through the core's own entries, numbers, stamps and images alone, and nothing of the running one is
+-- stored; so they stay in agreement with the ledger.
+use Prim.Native.Nat.{ℕ, zero, suc, _+_, _-_, _*_, _≤_, _<_}
+use native.Mathlib.Omega.{arith}
+use native.Mathlib.Decide.{ℕ-discrete}
+use mathlib.Core.Path.{_≡_, refl, ap, ap₂, _∙_, sym, subst}
+use mathlib.Core.Logic.{_⊎_, inl, inr, _≢_}
+use mathlib.Core.Bool.{Bool, true, false}
+use mathlib.Core.List.{List, [], _∷_, _++_, map, flatMap, map-append}
+use lib.ListN.{length, take, drop, getD, take-append-drop}
+use lib.Seq.{getD-set-same, getD-set-other}
+use lib.Dec.{ltb, eqb}
+use borrow.Author.Tests.{lt-ltb}
+use Rattle.model.specs.Lists.{below, all}
+use Rattle.model.specs.Bytes.{Bytes, part, be4, blockAt, replaced, store}
+use Rattle.model.specs.Card.{newName, freshCore, coreOf, withCore, withRunning}
+use Rattle.model.specs.Layout.{mark, escaped}
+use Rattle.model.specs.Journal.{journalAt}
+use Rattle.model.specs.Commit.{copyBlock}
+use Rattle.model.specs.declared.Name.{Name}
+use Rattle.model.specs.declared.Tail.{Tail}
+use Rattle.model.specs.declared.Transaction.{Transaction}
+use Rattle.model.specs.declared.Core.{Core}
+use Rattle.model.specs.declared.Card.{Card}
+use Rattle.model.proofs.Lists.{cases, and-left, and-right, and-both, all-append, mem-all, mem-getD, flatMap-append, Each, each-getD}
+use Rattle.model.proofs.Words.{IsByte}
+use Rattle.crash.specs.Book.{Stage, absent, running, isRunning, counted, Entry}
+use Rattle.crash.specs.Ledger.{Ledger, recordBlocks}
+use Rattle.crash.specs.Claims.{IsBytes}
+use Rattle.crash.proofs.Entries.{records-same}
+use Rattle.crash.proofs.Relation.{Fine, heldOf, recordOf, contents, JournalStands, CoreUp, Matches}
+
+-- ---- bytes of a part replaced
+bytes-take : (n : ℕ) (s : Bytes) → IsBytes s → IsBytes (take n s)
+bytes-take n s h =
+    let p : ℕ → Bool = λ x. ltb x 256 in
+    and-left _ _ (sym (all-append p (take n s) (drop n s)) ∙ ap (all p) (take-append-drop n s) ∙ h)
+
+bytes-drop : (n : ℕ) (s : Bytes) → IsBytes s → IsBytes (drop n s)
+bytes-drop n s h =
+    let p : ℕ → Bool = λ x. ltb x 256 in
+    and-right (all p (take n s)) _ (sym (all-append p (take n s) (drop n s)) ∙ ap (all p) (take-append-drop n s) ∙ h)
+
+pub bytes-append : (s t : Bytes) → IsBytes s → IsBytes t → IsBytes (s ++ t)
+bytes-append s t p q = all-append (λ (x : ℕ). ltb x 256) s t ∙ and-both p q
+
+pub bytes-replaced : (at n : ℕ) (s b : Bytes) → IsBytes s → IsBytes b → IsBytes (replaced at n s b)
+unfolding replaced
+bytes-replaced at n s b p q =
+    bytes-append (take at s) (b ++ drop n (drop at s)) (bytes-take at s p) (bytes-append b (drop n (drop at s)) q (bytes-drop n (drop at s) (bytes-drop at s p)))
+
+pub bytes-store : (d : Bytes) (k : ℕ) (b : Bytes) → IsBytes d → IsBytes b → IsBytes (store d k b)
+unfolding store
+bytes-store d k b = bytes-replaced (128 * k) 128 d b
+
+pub bytes-blockAt : (d : Bytes) (k : ℕ) → IsBytes d → IsBytes (blockAt d k)
+unfolding blockAt part
+bytes-blockAt d k h = bytes-take 128 (drop (128 * k) d) (bytes-drop (128 * k) d h)
+
+pub each-isBytes : (s : Bytes) → Each IsByte s → IsBytes s
+each-isBytes s h = mem-all (λ (x : ℕ). ltb x 256) s (λ x m. let r = mem-getD m 0 in lt-ltb x 256 (subst IsByte (r .2) (each-getD IsByte s h (r .0) 0 (r .1))))
+
+pub escaped-bytes : (b : Bytes) → IsBytes b → IsBytes (escaped b)
+unfolding escaped
+escaped-bytes b h = cases (eqb (be4 b 0) mark) (λ e. rw e (bytes-append (0 ∷ 0 ∷ 0 ∷ 0 ∷ []) (drop 4 b) (unfold all in refl) (bytes-drop 4 b h))) (λ e. rw e h)
+
+-- ---- one core of the card replaced
+pub core-set : (x : Card) (c : ℕ) (k : Core) → c < length (x .cores) → coreOf (withCore x c k) c ≡ k
+unfolding coreOf
+core-set x c k h = getD-set-same (x .cores) c k (freshCore 0) h
+
+pub core-other : (x : Card) (c : ℕ) (k : Core) (a : ℕ) → a ≢ c → coreOf (withCore x c k) a ≡ coreOf x a
+unfolding coreOf
+core-other x c k a ne = getD-set-other (x .cores) c a k (freshCore 0) ne
+
+-- ---- records and what a journal holds
+module _ {A : Type 0} where
+  pub map-below : (f g : ℕ → A) (n : ℕ) → ((i : ℕ) → i < n → f i ≡ g i) → map f (below n) ≡ map g (below n)
+  unfolding below
+  map-below f g zero h = refl
+  map-below f g (suc n) h =
+      map-append f (below n) (n ∷ [])
+      ∙ ap₂ _++_ (map-below f g n (λ i l. h i (omega arith))) (ap (λ (x : A). x ∷ []) (h n (omega arith)))
+      ∙ sym (map-append g (below n) (n ∷ []))
+
+  pub flatMap-below : (f g : ℕ → List A) (n : ℕ) → ((i : ℕ) → i < n → f i ≡ g i) → flatMap f (below n) ≡ flatMap g (below n)
+  unfolding below flatMap
+  flatMap-below f g zero h = refl
+  flatMap-below f g (suc n) h =
+      flatMap-append f (below n) (n ∷ [])
+      ∙ ap₂ _++_ (flatMap-below f g n (λ i l. h i (omega arith))) (ap (λ (x : List A). x ++ []) (h n (omega arith)))
+      ∙ sym (flatMap-append g (below n) (n ∷ []))
+
+-- blocks and names of an entry, its images and its stamp make its record
+pub record-same : (l l₂ : Ledger) (t : Name) → (l₂ .book .entry t) .blocks ≡ (l .book .entry t) .blocks → (l₂ .book .entry t) .names ≡ (l .book .entry t) .names
+    → l₂ .images t ≡ l .images t → l₂ .stamp t ≡ l .stamp t → recordOf l₂ t ≡ recordOf l t
+unfolding recordOf heldOf
+record-same l l₂ t bs ns im st = simp (bs, ns, im, st)
+
+pub contents-same : (l l₂ : Ledger) (c : ℕ) → l₂ .book .oldest c ≡ l .book .oldest c → l₂ .book .uncommitted c ≡ l .book .uncommitted c
+    → ((i : ℕ) → i < l .book .uncommitted c → recordOf l₂ (newName c i) ≡ recordOf l (newName c i))
+    → take (counted ((l₂ .book .entry (newName c (l .book .uncommitted c))) .stage)) (recordOf l₂ (newName c (l .book .uncommitted c)))
+      ≡ take (counted ((l .book .entry (newName c (l .book .uncommitted c))) .stage)) (recordOf l (newName c (l .book .uncommitted c)))
+    → contents l₂ c ≡ contents l c
+unfolding contents
+contents-same l l₂ c o u f g =
+    rw (o, u, g)
+    (ap (λ (x : List Bytes). x ++ take (counted ((l .book .entry (newName c (l .book .uncommitted c))) .stage)) (recordOf l (newName c (l .book .uncommitted c))))
+    (flatMap-below (λ (i : ℕ). recordOf l₂ (newName c (l .book .oldest c + i))) (λ (i : ℕ). recordOf l (newName c (l .book .oldest c + i))) (l .book .uncommitted c - l .book .oldest c) (λ i h. f (l .book .oldest c + i) (omega arith))))
+
+-- ---- a core whose closed transactions stay
+pub record SameClosed (l l₂ : Ledger) (c : ℕ) : Type 0 where
+  pub shape : l₂ .shape ≡ l .shape
+  pub oldest : l₂ .book .oldest c ≡ l .book .oldest c
+  pub uncommitted : l₂ .book .uncommitted c ≡ l .book .uncommitted c
+  pub next : l₂ .book .next c ≡ l .book .next c
+  pub entry : (i : ℕ) → i < l .book .next c → l₂ .book .entry (newName c i) ≡ l .book .entry (newName c i)
+  pub stamp : (i : ℕ) → i < l .book .next c → l₂ .stamp (newName c i) ≡ l .stamp (newName c i)
+  pub images : (i : ℕ) → i < l .book .next c → l₂ .images (newName c i) ≡ l .images (newName c i)
+
+unstarted : (g : Stage) → (g ≡ absent) ⊎ (g ≡ running) → counted g ≡ 0
+unstarted g (inl e) = rw e
+unstarted g (inr e) = rw e
+
+module _ (l : Ledger) (fine : Fine l) (c : ℕ) (in-range : c < l .shape .cores) where
+  -- of the running one, or of the next to open, nothing is stored
+  pub none-stored : counted ((l .book .entry (newName c (l .book .next c))) .stage) ≡ 0
+  none-stored = unstarted ((l .book .entry (newName c (l .book .next c))) .stage) (fine .ranks c in-range .current)
+
+  module _ (l₂ : Ledger) (same : SameClosed l l₂ c) where
+    same-record : (i : ℕ) → i < l .book .next c → recordOf l₂ (newName c i) ≡ recordOf l (newName c i)
+    same-record i h = record-same l l₂ (newName c i) (ap (λ (e : Entry). e .blocks) (same .entry i h)) (ap (λ (e : Entry). e .names) (same .entry i h)) (same .images i h) (same .stamp i h)
+
+    pub contents-stay : counted ((l₂ .book .entry (newName c (l .book .next c))) .stage) ≡ 0 → contents l₂ c ≡ contents l c
+    contents-stay z =
+        let r = fine .ranks c in-range in
+        contents-same l l₂ c (same .oldest) (same .uncommitted) (λ i h. same-record i (omega (arith, r .mid)))
+        (elim (ℕ-discrete (l .book .uncommitted c) (l .book .next c)) [
+          | yes e ↦ rw (e, z, none-stored) refl
+          | no ne ↦ (let h : l .book .uncommitted c < l .book .next c = omega (arith, r .mid) in rw (same .entry (l .book .uncommitted c) h, same-record (l .book .uncommitted c) h) refl)
+        ])
+
+    pub total-stays : (n : ℕ) → n ≤ l .book .next c → recordBlocks (l₂ .book) c (l .book .oldest c) (n - l .book .oldest c) ≡ recordBlocks (l .book) c (l .book .oldest c) (n - l .book .oldest c)
+    total-stays n h =
+        records-same (l .book) (l₂ .book) c (l .book .oldest c) (n - l .book .oldest c) (λ j p q. ap (λ (e : Entry). length (e .blocks)) (same .entry j (omega arith)))
+
+    -- its journal, with the running one's reserve
+    pub journal-stays : (d d₂ : Bytes) (t : Tail) → counted ((l₂ .book .entry (newName c (l .book .next c))) .stage) ≡ 0
+        → (isRunning ((l₂ .book .entry (newName c (l .book .next c))) .stage) ≡ true
+          → recordBlocks (l .book) c (l .book .oldest c) (l .book .next c - l .book .oldest c) + (length ((l₂ .book .entry (newName c (l .book .next c))) .blocks) + 2) ≤ l .shape .journal)
+        → ((q : ℕ) → journalAt (l .shape) d₂ c q ≡ journalAt (l .shape) d c q) → JournalStands l d c t → JournalStands l₂ d₂ c t
+    journal-stays d d₂ t z reserve at j =
+        let r = fine .ranks c in-range in
+        let held : contents l₂ c ≡ contents l c = contents-stay z in
+        let total = total-stays (l .book .next c) (omega arith) in
+        record {
+          number = rw (same .oldest) (j .number);
+          position = rw (same .shape) (j .position);
+          stands = rw (held, same .shape) (λ q h. at (t .position + q) ∙ j .stands q h);
+          clear = rw (same .shape, same .uncommitted) (λ i q h. rw (at q) (j .clear i q h));
+          room = rw (same .oldest, same .next, same .shape, total) (j .room);
+          reserved = rw (same .oldest, same .next, same .shape, total) reserve;
+        }
+
+    -- the core of the card, with a running transaction that matches
+    pub core-stays : (m m₂ : Bytes) (k : Core) (t : Transaction)
+        → (isRunning ((l₂ .book .entry (newName c (l .book .next c))) .stage) ≡ true → Matches t (l₂ .book .entry (newName c (l .book .next c))))
+        → (isRunning ((l₂ .book .entry (newName c (l .book .next c))) .stage) ≡ false → t .live ≡ false)
+        → ((i : ℕ) → i < 8 → blockAt m₂ (copyBlock c i) ≡ blockAt m (copyBlock c i)) → CoreUp l m c k → CoreUp l₂ m₂ c (withRunning k t)
+    core-stays m m₂ k t run idle copy u =
+        let r = fine .ranks c in-range in
+        let n = l .book .uncommitted c in
+        let o = l .book .oldest c in
+        let e : n < l .book .next c → l₂ .book .entry (newName c n) ≡ l .book .entry (newName c n) = same .entry n in
+        record {
+          next = rw (same .next) (u .next);
+          used = rw (same .oldest, same .uncommitted, total-stays n (r .mid)) (u .used);
+          runs = rw (same .next) run;
+          idle = rw (same .next) idle;
+          closing = rw (same .uncommitted, same .next) (λ h. rw (e h) (u .closing h));
+          stored = rw (same .uncommitted, same .next) (λ h. rw (e h, same .stamp n h) (u .stored h));
+          copies = rw (same .uncommitted, same .next) (λ h. rw (e h, same .images n h) (λ i b. copy i (omega (arith, few h)) ∙ u .copies h i b));
+          none-closing = rw (same .uncommitted, same .next) (u .none-closing);
+          homed = rw (same .oldest, same .uncommitted) (λ h. rw (same .entry o (omega (arith, r .mid))) (u .homed h));
+          none-homed = rw (same .oldest, same .uncommitted) (u .none-homed);
+        }
+      where
+        few : l .book .uncommitted c < l .book .next c → length ((l .book .entry (newName c (l .book .uncommitted c))) .blocks) ≤ 8
+        few h =
+            let s = fine .ranks c in-range .storing h in
+            fine .limits (newName c (l .book .uncommitted c)) (λ a. let z : _≡_ {A = ℕ} 0 1 = cc (s .1, a) in omega arith) .few

@@ -1,0 +1,459 @@
+-- STORE keeps card and ledger in agreement: what it stores is the next block of the closed transaction's record, and it
+-- stands right after what its journal holds. The journal has room for the record, so nothing live is overwritten; the
+-- block is no commit of a number that is still uncommitted afterwards.
+use Prim.Native.Nat.{ℕ, zero, suc, _+_, _-_, _*_, _%_, _≤_, _<_}
+use native.Mathlib.Omega.{arith}
+use native.Mathlib.Decide.{decLt, ℕ-discrete}
+use mathlib.Core.Path.{_≡_, refl, ap, ap₂, _∙_, sym, subst}
+use mathlib.Core.Logic.{_⊎_, inl, inr, _≢_}
+use mathlib.Core.Bool.{Bool, true, false, cond}
+use mathlib.Core.List.{List, [], _∷_, _++_, map, flatMap, append-assoc, append-nil, map-append}
+use lib.ListN.{length, take, getD, set, length-append, length-map, length-set, List·getD-append, List·getD-map}
+use lib.Seq.{getD-at, take-suc, take-all, length-take-le, getD-set-same, getD-set-other}
+use lib.Dec.{leb, eqb}
+use borrow.Author.Tests.{le-leb, lt-leb, leb-true, leb-false, eq-eqb, ne-eqb}
+use Rattle.model.specs.Lists.{below}
+use Rattle.model.specs.Bytes.{Bytes, blockAt, be4, part, number, block, store as storeBlock}
+use Rattle.model.specs.Shape.{journalBlock}
+use Rattle.model.specs.Card.{newName, noTransaction, taken, listed, recordSize, shapeOf, tailOf, coreOf, holderOf, withCore}
+use Rattle.model.specs.Layout.{Held, newHeld, hasHead, flagOf, escaped, descriptorBlock, commitBlock, isCommit}
+use Rattle.model.specs.Journal.{journalAt}
+use Rattle.model.specs.Command.{World}
+use Rattle.model.specs.Commit.{copyBlock, heldCopies, nextStored, nextPosition, coreStored, stored}
+use Rattle.model.specs.declared.Shape.{Shape}
+use Rattle.model.specs.declared.Name.{Name}
+use Rattle.model.specs.declared.Tail.{Tail}
+use Rattle.model.specs.declared.Core.{Core}
+use Rattle.model.specs.declared.Card.{Card}
+use Rattle.model.proofs.Limits.{clamped-same}
+use Rattle.model.proofs.Lists.{cases, flatMap-append, length-below}
+use Rattle.model.proofs.Store.{length-store, block-stored, block-other}
+use Rattle.model.proofs.Words.{each-block}
+use Rattle.model.proofs.Encoding.{length-descriptor, length-commit, length-escaped, descriptor-head, commit-head, head-other, no-commit, escaped-head}
+use Rattle.model.proofs.Journal.{journal-low, home-apart, cores-apart, journal-apart}
+use Rattle.crash.specs.Book.{Stage, absent, closed, committed, isRunning, isClosed, isRetired, counted, Entry, Book, change, staged, store}
+use Rattle.crash.specs.Ledger.{Ledger, withBook, imageNow, recordBlocks}
+use Rattle.crash.specs.Claims.{IsBytes}
+use Rattle.crash.proofs.Relation.{IsBlock, Frozen, Fine, heldOf, recordOf, contents, JournalStands, DiskStands, Matches, CoreUp, holderAs, Up}
+use Rattle.crash.proofs.Stages.{stored-unretired, closed-present}
+use Rattle.crash.proofs.Master.{shape-limits}
+use Rattle.crash.proofs.Records.{record-sound, length-record}
+use Rattle.crash.proofs.Entries.{other-number, other-core, change-at, change-other, change-by, same-or-not, raise-at, raise-other, holder-same, records-same, records-snoc}
+use Rattle.crash.proofs.Frames.{SameClosed, core-set, core-other, bytes-append, bytes-store, each-isBytes, escaped-bytes, map-below, record-same, contents-same, flatMap-below, none-stored, journal-stays, core-stays}
+
+-- ---- the blocks of a record, one by one
+module _ {l : Ledger} (f : Fine l) (t : Name) (h : isClosed ((l .book .entry t) .stage) ≡ true) where
+  pub record-each : (P : ℕ → Bytes → Type 0) → P 0 (descriptorBlock (t .number) (heldOf l t))
+      → ((i : ℕ) → i < length (l .images t) → P (suc i) (escaped (getD (l .images t) i [])))
+      → P (suc (length (l .images t))) (commitBlock (t .number) (l .stamp t) ((l .book .entry t) .names))
+      → (i : ℕ) → i < length (recordOf l t) → P i (getD (recordOf l t) i [])
+  unfolding recordOf
+  record-each P a b c zero g = a
+  record-each P a b c (suc i) g =
+      let n = length-map (l .images t) escaped in
+      let last = commitBlock (t .number) (l .stamp t) ((l .book .entry t) .names) in
+      let at : getD (map escaped (l .images t)) i [] ≡ escaped (getD (l .images t) i []) = unfold escaped be4 part number in List·getD-map escaped (l .images t) i [] in
+      elim (decLt i (length (l .images t))) [
+        | yes lt ↦ subst (P (suc i)) (sym (List·getD-append (map escaped (l .images t)) (last ∷ []) [] i (omega arith) ∙ at)) (b i lt)
+        | no ge ↦ (let e : length (l .images t) ≡ i = omega (arith, length-append (map escaped (l .images t)) (last ∷ [])) in
+            subst (λ (j : ℕ). P (suc j) (getD (map escaped (l .images t) ++ (last ∷ [])) j [])) e (subst (P (suc (length (l .images t)))) (sym (getD-at (map escaped (l .images t)) last [] [] (length (l .images t)) n)) c))
+      ]
+
+  pub record-blocks : (i : ℕ) → i < length (recordOf l t) → IsBlock (getD (recordOf l t) i [])
+  unfolding descriptorBlock commitBlock
+  record-blocks =
+      let s = record-sound f t h in
+      let z = f .frozen t h in
+      record-each (λ (i : ℕ) (b : Bytes). IsBlock b)
+      (record { size = length-descriptor (t .number) (heldOf l t) (s .few); bytes = each-isBytes _ (each-block _) })
+      (λ i g. let x = z .images i g in
+        record { size = length-escaped (getD (l .images t) i []) (omega (arith, x .size)) ∙ x .size; bytes = escaped-bytes (getD (l .images t) i []) (x .bytes) })
+      (record { size = length-commit (t .number) (l .stamp t) ((l .book .entry t) .names) (s .short); bytes = each-isBytes _ (each-block _) })
+
+  -- none is a commit of a higher number; only the last is a commit
+  pub record-clear : (i n : ℕ) → i < length (recordOf l t) → t .number ≤ n → (suc i ≡ length (recordOf l t) → t .number < n)
+      → isCommit (l .shape) n (getD (recordOf l t) i []) ≡ false
+  record-clear i n g low last =
+      let s = record-sound f t h in
+      let size : length (recordOf l t) ≡ length (l .images t) + 2 = length-record f t h ∙ ap (λ (n : ℕ). n + 2) (sym (f .frozen t h .count)) in
+      no-commit (l .shape) n (getD (recordOf l t) i [])
+      (record-each (λ (j : ℕ) (b : Bytes). (suc j ≡ length (recordOf l t) → t .number < n) → hasHead 2 n b ≡ false)
+      (λ _. head-other 1 (t .number) 2 n _ (descriptor-head s) (λ e _. omega arith))
+      (λ j _ _. escaped-head (getD (l .images t) j []) 2 n)
+      (λ z. head-other 2 (t .number) 2 n _ (commit-head s) (λ _ e. omega (arith, z (omega arith))))
+      i g last)
+
+-- ---- what a journal holds, in blocks
+module _ {l : Ledger} (f : Fine l) (c : ℕ) (in-range : c < l .shape .cores) where
+  length-whole : (n : ℕ) → l .book .oldest c + n ≤ l .book .uncommitted c
+      → length (flatMap (λ (i : ℕ). recordOf l (newName c (l .book .oldest c + i))) (below n)) ≡ recordBlocks (l .book) c (l .book .oldest c) n
+  unfolding below flatMap recordBlocks
+  length-whole zero h = refl
+  length-whole (suc n) h =
+      let o = l .book .oldest c in
+      let g : ℕ → List Bytes = λ i. recordOf l (newName c (o + i)) in
+      let x = length-record f (newName c (o + n)) (stored-unretired (f .ranks c in-range) (o + n) (omega arith) (omega arith) .is-closed) in
+      let e : length (g n ++ []) ≡ length (g n) = ap length (append-nil (g n)) in
+      ap length (flatMap-append g (below n) (n ∷ []))
+      ∙ length-append (flatMap g (below n)) (g n ++ [])
+      ∙ omega (arith, length-whole n (omega arith), records-snoc (l .book) c o n)
+
+-- ---- STORE
+-- the shape of the card is read as it is
+pub shape-up : {l : Ledger} {w : World} → Up l w → shapeOf (w .card) ≡ l .shape
+unfolding shapeOf
+shape-up {l} {w} u = rw (u .shape) (clamped-same (l .shape) (u .fine .range))
+
+pub held-copies : (l : Ledger) (t : Name) (c : ℕ) (m : Bytes)
+    → ((i : ℕ) → i < length ((l .book .entry t) .blocks) → blockAt m (copyBlock c i) ≡ getD (l .images t) i [])
+    → heldCopies c ((l .book .entry t) .blocks) m ≡ heldOf l t
+unfolding heldCopies heldOf
+held-copies l t c m h =
+    let bs = (l .book .entry t) .blocks in
+    map-below (λ (i : ℕ). newHeld (getD bs i 0) (flagOf (blockAt m (copyBlock c i)))) (λ (i : ℕ). newHeld (getD bs i 0) (flagOf (getD (l .images t) i [])))
+    (length bs) (λ i g. ap (λ (b : Bytes). newHeld (getD bs i 0) (flagOf b)) (h i g))
+
+module _ {l : Ledger} {w : World} (u : Up l w) (c : ℕ) (in-range : c < l .shape .cores) (busy : l .book .uncommitted c < l .book .next c) where
+  abbrev t : Name
+  t = newName c (l .book .uncommitted c)
+
+  abbrev x : Core
+  x = coreOf (w .card) c
+
+  abbrev k₂ : Book
+  k₂ = store c (l .book)
+
+  abbrev l₂ : Ledger
+  l₂ = withBook l k₂
+
+  stage-now : (l .book .entry t) .stage ≡ closed (x .stored)
+  stage-now = u .cores c in-range .stored busy .0
+
+  closed-now : isClosed ((l .book .entry t) .stage) ≡ true
+  closed-now = ap isClosed stage-now
+
+  within : x .stored ≤ length ((l .book .entry t) .blocks) + 1
+  within =
+      let s = u .fine .ranks c in-range .storing busy in
+      let e : s .0 ≡ x .stored = ap counted (sym (s .1) ∙ stage-now) in
+      omega (arith, s .2)
+
+  size : length (recordOf l t) ≡ length ((l .book .entry t) .blocks) + 2
+  size = length-record (u .fine) t closed-now
+
+  next-now : x .next - 1 ≡ l .book .uncommitted c
+  next-now = omega (arith, u .cores c in-range .next, u .fine .ranks c in-range .high)
+
+  -- what is stored next is the record's next block
+  next-block : nextStored c x (w .memory) ≡ getD (recordOf l t) (x .stored) []
+  unfolding nextStored
+  next-block =
+      let y = u .cores c in-range in
+      let m = y .closing busy in
+      let n = u .fine .frozen t closed-now .count in
+      record-each (u .fine) t closed-now (λ (i : ℕ) (b : Bytes). x .stored ≡ i → nextStored c x (w .memory) ≡ b)
+      (λ e. rw (eq-eqb (x .stored) 0 e, m .blocks, next-now, held-copies l t c (w .memory) (y .copies busy)) refl)
+      (λ i g e.
+      let d : x .stored - 1 ≡ i = omega arith in
+      rw (ne-eqb (x .stored) 0 (omega arith), m .blocks, le-leb (x .stored) (length ((l .book .entry t) .blocks)) (omega arith), d, y .copies busy i (omega arith)) refl)
+      (λ e.
+      rw (ne-eqb (x .stored) 0 (omega arith), m .blocks, lt-leb (x .stored) (length ((l .book .entry t) .blocks)) (omega arith), next-now, m .names, y .stored busy .1) refl)
+      (x .stored) (omega (arith, within, size)) refl
+
+  -- and stands after what the journal holds
+  length-contents : length (contents l c) ≡ x .used + x .stored
+  unfolding contents
+  length-contents =
+      let r = u .fine .ranks c in-range in
+      let o = l .book .oldest c in
+      let n = l .book .uncommitted c - o in
+      let g = flatMap (λ (i : ℕ). recordOf l (newName c (o + i))) (below n) in
+      let whole : length g ≡ x .used = length-whole (u .fine) c in-range n (omega (arith, r .low)) ∙ sym (u .cores c in-range .used) in
+      let part : length (take (counted ((l .book .entry t) .stage)) (recordOf l t)) ≡ x .stored =
+          ap (λ (i : ℕ). length (take i (recordOf l t))) (ap counted stage-now) ∙ length-take-le (x .stored) (recordOf l t) (omega (arith, within, size)) in
+      length-append g (take (counted ((l .book .entry t) .stage)) (recordOf l t)) ∙ ap₂ _+_ whole part
+
+  room : x .used + (length ((l .book .entry t) .blocks) + 2) ≤ l .shape .journal
+  room =
+      let r = u .fine .ranks c in-range in
+      let o = l .book .oldest c in
+      let n = l .book .uncommitted c - o in
+      let e : l .book .next c - o ≡ suc n = omega (arith, r .low, r .high) in
+      let a : o + n ≡ l .book .uncommitted c = omega (arith, r .low) in
+      let z : recordBlocks (l .book) c o (suc n) ≤ l .shape .journal = rw e at (u .disk .journals c in-range .room) in
+      let s : recordBlocks (l .book) c o (suc n) ≡ recordBlocks (l .book) c o n + (length ((l .book .entry t) .blocks) + 2) = rw a at (records-snoc (l .book) c o n) in
+      omega (arith, u .cores c in-range .used)
+
+  -- ---- the ledger afterwards
+  new-other : (v : Name) → v ≢ t → k₂ .entry v ≡ l .book .entry v
+  unfolding store
+  new-other v ne = change-other t _ (l .book .entry) v ne
+
+  new-by : {A : Type 0} (f : Entry → A) → ((g : Stage) → f (staged g (l .book .entry t)) ≡ f (l .book .entry t)) → (v : Name) → f (k₂ .entry v) ≡ f (l .book .entry v)
+  unfolding store
+  new-by f h v = change-by t _ (l .book .entry) f (h _) v
+
+  new-record : (v : Name) → recordOf l₂ v ≡ recordOf l v
+  new-record v = record-same l l₂ v (new-by (λ (e : Entry). e .blocks) (λ g. refl) v) (new-by (λ (e : Entry). e .names) (λ g. refl) v) refl refl
+
+  new-uncommitted : (a : ℕ) → a ≢ c → k₂ .uncommitted a ≡ l .book .uncommitted a
+  unfolding store
+  new-uncommitted a ne =
+      cases (leb (length ((l .book .entry t) .blocks) + 2) (suc (counted ((l .book .entry t) .stage)))) (λ h. rw (h, raise-other c (l .book .uncommitted) a ne)) (λ h. rw h)
+
+  same-numbers : ((a : ℕ) → k₂ .oldest a ≡ l .book .oldest a) × ((a : ℕ) → k₂ .next a ≡ l .book .next a)
+  unfolding store
+  same-numbers = (λ a. refl, λ a. refl)
+
+  others : (a : ℕ) → a ≢ c → SameClosed l l₂ a
+  others a ne =
+      record {
+        shape = refl;
+        oldest = same-numbers .0 a;
+        uncommitted = new-uncommitted a ne;
+        next = same-numbers .1 a;
+        entry = λ i h. new-other (newName a i) (other-core i (l .book .uncommitted c) ne);
+        stamp = λ i h. refl;
+        images = λ i h. refl;
+      }
+
+  -- the block was not the last
+  module _ (more : x .stored ≤ length ((l .book .entry t) .blocks)) where
+    not-last : leb (length ((l .book .entry t) .blocks) + 2) (suc (counted ((l .book .entry t) .stage))) ≡ false
+    not-last = rw stage-now (lt-leb (length ((l .book .entry t) .blocks) + 2) (suc (x .stored)) (omega arith))
+
+    more-entry : k₂ .entry t ≡ staged (closed (suc (x .stored))) (l .book .entry t)
+    unfolding store
+    more-entry = change-at t _ (l .book .entry) ∙ rw (not-last, stage-now) refl
+
+    more-uncommitted : k₂ .uncommitted c ≡ l .book .uncommitted c
+    unfolding store
+    more-uncommitted = rw not-last
+
+    more-contents : contents l₂ c ≡ contents l c ++ (getD (recordOf l t) (x .stored) [] ∷ [])
+    unfolding contents
+    more-contents =
+        let o = l .book .oldest c in
+        let n = l .book .uncommitted c - o in
+        let g = flatMap (λ (i : ℕ). recordOf l (newName c (o + i))) (below n) in
+        let e : flatMap (λ (i : ℕ). recordOf l₂ (newName c (o + i))) (below n) ≡ g = flatMap-below _ _ n (λ i h. new-record (newName c (o + i))) in
+        rw (same-numbers .0 c, more-uncommitted, more-entry, new-record t, e, stage-now, take-suc (recordOf l t) (x .stored) [] (omega (arith, size)))
+        (sym (append-assoc g (take (x .stored) (recordOf l t)) (getD (recordOf l t) (x .stored) [] ∷ [])))
+
+  -- the block was the last
+  module _ (last : length ((l .book .entry t) .blocks) < x .stored) where
+    is-last : leb (length ((l .book .entry t) .blocks) + 2) (suc (counted ((l .book .entry t) .stage))) ≡ true
+    is-last = rw stage-now (le-leb (length ((l .book .entry t) .blocks) + 2) (suc (x .stored)) (omega arith))
+
+    last-entry : k₂ .entry t ≡ staged (committed 0) (l .book .entry t)
+    unfolding store
+    last-entry = change-at t _ (l .book .entry) ∙ rw is-last refl
+
+    last-uncommitted : k₂ .uncommitted c ≡ suc (l .book .uncommitted c)
+    unfolding store
+    last-uncommitted = rw is-last (raise-at c (l .book .uncommitted))
+
+    next-is : l .book .next c ≡ suc (l .book .uncommitted c)
+    next-is = omega (arith, u .fine .ranks c in-range .high)
+
+    last-contents : contents l₂ c ≡ contents l c ++ (getD (recordOf l t) (x .stored) [] ∷ [])
+    unfolding contents below flatMap
+    last-contents =
+        let r = u .fine .ranks c in-range in
+        let o = l .book .oldest c in
+        let n = l .book .uncommitted c - o in
+        let f : ℕ → List Bytes = λ i. recordOf l (newName c (o + i)) in
+        let v = newName c (suc (l .book .uncommitted c)) in
+        let m : suc (l .book .uncommitted c) - o ≡ suc n = omega (arith, r .low) in
+        let a : o + n ≡ l .book .uncommitted c = omega (arith, r .low) in
+        let e : flatMap (λ (i : ℕ). recordOf l₂ (newName c (o + i))) (below (suc n)) ≡ flatMap f (below (suc n)) = flatMap-below _ _ (suc n) (λ i h. new-record (newName c (o + i))) in
+        let z : counted ((k₂ .entry v) .stage) ≡ 0 =
+            ap (λ (e : Entry). counted (e .stage)) (new-other v (other-number c (omega arith))) ∙ (rw next-is at (none-stored l (u .fine) c in-range)) in
+        let whole : flatMap f (below (suc n)) ≡ flatMap f (below n) ++ recordOf l t =
+            flatMap-append f (below n) (n ∷ []) ∙ ap (λ (b : List Bytes). flatMap f (below n) ++ b) (append-nil (f n) ∙ ap (λ (i : ℕ). recordOf l (newName c i)) a) in
+        let all : take (x .stored) (recordOf l t) ++ (getD (recordOf l t) (x .stored) [] ∷ []) ≡ recordOf l t =
+            sym (take-suc (recordOf l t) (x .stored) [] (omega (arith, size, within))) ∙ take-all (suc (x .stored)) (recordOf l t) (omega (arith, size)) in
+        rw (same-numbers .0 c, last-uncommitted, m, z, e, whole, stage-now)
+        (append-nil (flatMap f (below n) ++ recordOf l t)
+        ∙ ap (λ (b : List Bytes). flatMap f (below n) ++ b) (sym all)
+        ∙ sym (append-assoc (flatMap f (below n)) (take (x .stored) (recordOf l t)) (getD (recordOf l t) (x .stored) [] ∷ [])))
+
+  by-last : {A : Type 0} → (x .stored ≤ length ((l .book .entry t) .blocks) → A) → (length ((l .book .entry t) .blocks) < x .stored → A) → A
+  by-last f g = elim (decLt (length ((l .book .entry t) .blocks)) (x .stored)) [ yes h ↦ g h | no h ↦ f (omega arith) ]
+
+  grown : contents l₂ c ≡ contents l c ++ (getD (recordOf l t) (x .stored) [] ∷ [])
+  grown = by-last more-contents last-contents
+
+  new-low : l .book .uncommitted c ≤ k₂ .uncommitted c
+  new-low = by-last (λ h. omega (arith, more-uncommitted h)) (λ h. omega (arith, last-uncommitted h))
+
+  new-retired : (v : Name) → isRetired ((k₂ .entry v) .stage) ≡ isRetired ((l .book .entry v) .stage)
+  new-retired v =
+      same-or-not v t
+      (λ e. rw e (by-last (λ h. rw (more-entry h, stage-now) refl) (λ h. rw (last-entry h, stage-now) refl)))
+      (λ ne. ap (λ (e : Entry). isRetired (e .stage)) (new-other v ne))
+
+  new-total : (n : ℕ) → recordBlocks k₂ c (l .book .oldest c) n ≡ recordBlocks (l .book) c (l .book .oldest c) n
+  new-total n = records-same (l .book) k₂ c (l .book .oldest c) n (λ j a b. new-by (λ (e : Entry). length (e .blocks)) (λ g. refl) (newName c j))
+
+  running-stays : k₂ .entry (newName c (l .book .next c)) ≡ l .book .entry (newName c (l .book .next c))
+  running-stays = new-other (newName c (l .book .next c)) (other-number c (omega arith))
+
+  -- ---- the disk afterwards
+  abbrev at : ℕ
+  at = journalBlock (l .shape) c ((tailOf (w .card) c) .position + length (contents l c))
+
+  abbrev b : Bytes
+  b = getD (recordOf l t) (x .stored) []
+
+  stored-disk : (stored c w) .world .disk ≡ storeBlock (w .disk) at b
+  unfolding stored nextPosition
+  stored-disk =
+      let p = (tailOf (w .card) c) .position in
+      let e : p + x .used + x .stored ≡ p + length (contents l c) = omega (arith, length-contents) in
+      rw (shape-up u, next-block, e) refl
+
+  is-block : IsBlock b
+  is-block = record-blocks (u .fine) t closed-now (x .stored) (omega (arith, size, within))
+
+  fits : 128 * at + 128 ≤ length (w .disk)
+  fits = omega (arith, u .disk .size, journal-low (shape-limits (u .fine .range)) c ((tailOf (w .card) c) .position + length (contents l c)) in-range)
+
+  elsewhere : (k : ℕ) → k ≢ at → blockAt (storeBlock (w .disk) at b) k ≡ blockAt (w .disk) k
+  elsewhere = block-other (w .disk) at b fits (is-block .size)
+
+  own-journal : JournalStands l₂ (storeBlock (w .disk) at b) c (tailOf (w .card) c)
+  unfolding journalAt
+  own-journal =
+      let j = u .disk .journals c in-range in
+      let p = (tailOf (w .card) c) .position in
+      let n = length (contents l c) in
+      let d₂ = storeBlock (w .disk) at b in
+      record {
+        number = rw (same-numbers .0 c) (j .number);
+        position = j .position;
+        stands =
+            rw grown
+            (λ q h.
+            elim (decLt q n) [
+              | yes lt ↦ elsewhere (journalBlock (l .shape) c (p + q)) (journal-apart (l .shape) c p q n (omega (arith, length-contents, room, within)) (omega (arith, length-contents, room, within)) (omega arith))
+                  ∙ j .stands q lt ∙ sym (List·getD-append (contents l c) (b ∷ []) [] q lt)
+              | no ge ↦ (let e : n ≡ q = omega (arith, length-append (contents l c) (b ∷ [])) in
+                  subst (λ (i : ℕ). blockAt d₂ (journalBlock (l .shape) c (p + i)) ≡ getD (contents l c ++ (b ∷ [])) i []) e
+                  (block-stored (w .disk) at b fits (is-block .size) ∙ sym (getD-at (contents l c) b [] [] n refl)))
+            ]);
+        clear =
+            λ i q h.
+            elim (ℕ-discrete (journalBlock (l .shape) c q) at) [
+              | yes e ↦ (let z : blockAt d₂ (journalBlock (l .shape) c q) ≡ b = ap (blockAt d₂) e ∙ block-stored (w .disk) at b fits (is-block .size) in
+                  rw z (record-clear (u .fine) t closed-now (x .stored) i (omega (arith, size, within)) (omega (arith, new-low)) (λ g. omega (arith, size, last-uncommitted (omega (arith, size))))))
+              | no ne ↦ ap (isCommit (l .shape) i) (elsewhere (journalBlock (l .shape) c q) ne) ∙ j .clear i q (omega (arith, new-low))
+            ];
+        room = rw (same-numbers .0 c, same-numbers .1 c, new-total (l .book .next c - l .book .oldest c)) (j .room);
+        reserved = rw (same-numbers .0 c, same-numbers .1 c, new-total (l .book .next c - l .book .oldest c), running-stays) (j .reserved);
+      }
+
+  disk-stands : DiskStands l₂ (storeBlock (w .disk) at b) (tailOf (w .card))
+  unfolding journalAt
+  disk-stands =
+      let d₂ = storeBlock (w .disk) at b in
+      let p = (tailOf (w .card) c) .position + length (contents l c) in
+      record {
+        size = length-store (w .disk) at b fits (is-block .size) ∙ u .disk .size;
+        bytes = bytes-store (w .disk) at b (u .disk .bytes) (is-block .bytes);
+        master = elsewhere 0 (home-apart (l .shape) c p 0 (omega arith)) ∙ u .disk .master;
+        journals =
+            λ a h.
+            elim (ℕ-discrete a c) [
+              | yes e ↦ subst (λ (i : ℕ). JournalStands l₂ d₂ i (tailOf (w .card) i)) (sym e) own-journal
+              | no ne ↦ (let v = new-other (newName a (l .book .next a)) (other-core (l .book .next a) (l .book .uncommitted c) ne) in
+                  journal-stays l (u .fine) a h l₂ (others a ne) (w .disk) d₂ (tailOf (w .card) a)
+                  (rw v (none-stored l (u .fine) a h)) (rw v (u .disk .journals a h .reserved))
+                  (λ q. elsewhere (journalBlock (l .shape) a q) (cores-apart (l .shape) a q c p (omega (arith, u .fine .range .long)) ne)) (u .disk .journals a h))
+            ];
+      }
+
+  -- ---- the card afterwards
+  own-core : CoreUp l₂ (w .memory) c (coreStored x)
+  unfolding coreStored recordSize
+  own-core =
+      let y = u .cores c in-range in
+      let r = u .fine .ranks c in-range in
+      let m = y .closing busy in
+      let bs = (l .book .entry t) .blocks in
+      let o = l .book .oldest c in
+      let n = l .book .uncommitted c in
+      by-last
+      (λ h.
+      let e = more-entry h in
+      let v = more-uncommitted h in
+      rw (m .blocks, le-leb (x .stored) (length bs) h)
+      (record {
+        next = rw (same-numbers .1 c) (y .next);
+        used = rw (same-numbers .0 c, v, new-total (n - o)) (y .used);
+        runs = rw (same-numbers .1 c, running-stays) (y .runs);
+        idle = rw (same-numbers .1 c, running-stays) (y .idle);
+        closing = rw (same-numbers .1 c, v, e) (λ _. record { live = m .live; blocks = m .blocks; count = m .count; names = m .names; named = m .named; block-room = m .block-room; name-room = m .name-room });
+        stored = rw (same-numbers .1 c, v, e) (λ _. (ap closed (omega arith), y .stored busy .1));
+        copies = rw (same-numbers .1 c, v, e) (y .copies);
+        none-closing = rw (same-numbers .1 c, v) (y .none-closing);
+        homed = rw (same-numbers .0 c, v) (λ g. rw (new-other (newName c o) (other-number c (omega arith))) (y .homed g));
+        none-homed = rw (same-numbers .0 c, v) (y .none-homed);
+      }))
+      (λ h.
+      let e = last-entry h in
+      let v = last-uncommitted h in
+      let z : suc n - o ≡ suc (n - o) = omega (arith, r .low) in
+      let a : o + (n - o) ≡ n = omega (arith, r .low) in
+      let total : recordBlocks (l .book) c o (suc (n - o)) ≡ recordBlocks (l .book) c o (n - o) + (length bs + 2) = rw a at (records-snoc (l .book) c o (n - o)) in
+      rw (m .blocks, lt-leb (x .stored) (length bs) h)
+      (record {
+        next = rw (same-numbers .1 c) (y .next);
+        used = rw (same-numbers .0 c, v, z, new-total (suc (n - o)), total) (omega (arith, y .used, room, u .fine .range .short));
+        runs = rw (same-numbers .1 c, running-stays) (y .runs);
+        idle = rw (same-numbers .1 c, running-stays) (y .idle);
+        closing = rw (same-numbers .1 c, v) (λ g. absurd (omega (arith, r .high)));
+        stored = rw (same-numbers .1 c, v) (λ g. absurd (omega (arith, r .high)));
+        copies = rw (same-numbers .1 c, v) (λ g. absurd (omega (arith, r .high)));
+        none-closing = λ _. refl;
+        homed =
+            rw (same-numbers .0 c, v)
+            (λ _.
+            elim (ℕ-discrete o n) [
+              | yes q ↦ rw (q, e, y .none-homed q) refl
+              | no ne ↦ rw (new-other (newName c o) (other-number c ne)) (y .homed (omega (arith, r .low)))
+            ]);
+        none-homed = rw (same-numbers .0 c, v) (λ g. absurd (omega (arith, r .low)));
+      }))
+
+  store-core : (a : ℕ) → a < l .shape .cores → CoreUp l₂ (w .memory) a (coreOf (withCore (w .card) c (coreStored x)) a)
+  store-core a h =
+      elim (ℕ-discrete a c) [
+        | yes e ↦ (let n : c < length (w .card .cores) = omega (arith, u .eight-cores, u .fine .range .few-cores) in
+            rw (e, core-set (w .card) c (coreStored x) n) own-core)
+        | no ne ↦ (let v = new-other (newName a (l .book .next a)) (other-core (l .book .next a) (l .book .uncommitted c) ne) in
+            let y = u .cores a h in
+            rw (core-other (w .card) c (coreStored x) a ne)
+            (core-stays l (u .fine) a h l₂ (others a ne) (w .memory) (w .memory) (coreOf (w .card) a) ((coreOf (w .card) a) .running)
+            (rw v (y .runs)) (rw v (y .idle)) (λ i _. refl) y))
+      ]
+
+  pub store-up : Fine l₂ → Up l₂ ((stored c w) .world)
+  unfolding stored store tailOf holderOf imageNow
+  store-up fine =
+      record {
+        phase = u .phase;
+        ledger = u .ledger;
+        shape = u .shape;
+        closes = u .closes;
+        memory = u .memory;
+        memory-bytes = u .memory-bytes;
+        eight-tails = u .eight-tails;
+        eight-cores = length-set (w .card .cores) c (coreStored x) ∙ u .eight-cores;
+        holder-room = u .holder-room;
+        fine = fine;
+        disk = subst (λ (d : Bytes). DiskStands l₂ d (tailOf (w .card))) (sym stored-disk) disk-stands;
+        cores = store-core;
+        holders = λ b h. u .holders b h ∙ ap holderAs (sym (holder-same (l .book) k₂ new-retired b (l .book .writes)));
+        images = u .images;
+      }
