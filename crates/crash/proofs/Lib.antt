@@ -11,3 +11,4 @@ pub mod FineWrite
 pub mod Frames
 pub mod UpStore
 pub mod UpClose
+pub mod Down
