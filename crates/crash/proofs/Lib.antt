@@ -12,3 +12,5 @@ pub mod Frames
 pub mod UpStore
 pub mod UpClose
 pub mod Down
+pub mod Fresh
+pub mod Format
