@@ -16,6 +16,7 @@ use Rattle.model.specs.Card.{isBlank, freshCard, emptyCard, downCard, tailOf}
 use Rattle.model.specs.Command.{World, Outcome, unstored, refusal, wrongLength}
 use Rattle.model.specs.Recovery.{cutConditions, cut}
 use Rattle.model.specs.declared.Phase.{Phase}
+use Rattle.model.specs.declared.Phase.the-variants.{Down as PhaseDown}
 use Rattle.model.specs.declared.Tail.{Tail}
 use Rattle.model.proofs.Lists.{cases, any-mem, mem-any, mem-below, each-replicate}
 use Rattle.model.proofs.Select.{select-mem, select-same}
@@ -109,10 +110,10 @@ module _ {l : Ledger} {d : Bytes} {tailAt : ℕ → Tail} (f : Fine l) (z : Disk
         memory-bytes = b;
         fine = fine-cut l f;
         tailAt = tailAt;
-        disk = stands-phased _ bs z;
+        disk = stands-phased PhaseDown bs z;
         left = all-left bs;
-        newest = λ i h. newest-phased _ bs (g .held i (held-low (l .shape .blocks) (l .book) h) h);
-        at-home = λ i h a. g .home i h a ∙ sym (target-phased _ bs l i);
+        newest = λ i h. newest-phased PhaseDown bs (g .held i (held-low (l .shape .blocks) (l .book) h) h);
+        at-home = λ i h a. g .home i h a ∙ sym (target-phased PhaseDown bs l i);
       }
 
   cut-over : (w : World) → w .disk ≡ d → length (w .memory) ≡ 16384 → isBlank (w .card .phase) ≡ false → DownBy (cutLedger l) ((cut w) .world)

@@ -14,3 +14,4 @@ pub mod UpClose
 pub mod Down
 pub mod Fresh
 pub mod Format
+pub mod Recovery
