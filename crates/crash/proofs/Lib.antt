@@ -15,3 +15,4 @@ pub mod Down
 pub mod Fresh
 pub mod Format
 pub mod Recovery
+pub mod Answers
