@@ -3,17 +3,17 @@
 -- card's own behind them is 8, and a disk that holds what the ledger says never meets it.
 use Prim.Native.Nat.{ℕ, _≤_}
 use native.Mathlib.Omega.{arith}
-use mathlib.Core.Path.{_≡_, refl, sym, ap, _∙_, subst}
+use mathlib.Core.Path.{_≡_, refl, sym, ap, _∙_}
 use mathlib.Core.Logic.{_⊎_, inl, inr}
-use mathlib.Core.Bool.{Bool, true, false, cond, not}
+use mathlib.Core.Bool.{Bool, true, false}
 use mathlib.Core.List.{List, [], _∷_}
 use lib.ListN.{length, getD}
 use lib.Dec.{eqb}
 use borrow.Author.Tests.{ne-eqb}
-use Rattle.model.specs.Bytes.{Bytes, blockAt, number, part}
+use Rattle.model.specs.Bytes.{Bytes, blockAt}
 use Rattle.model.specs.Card.{isBlank, isUp, isDown, freshCard, emptyCard, blankCard}
 use Rattle.model.specs.Layout.{isMaster}
-use Rattle.model.specs.Command.{World, Outcome, refusal, wrongLength, notUp}
+use Rattle.model.specs.Command.{World, refusal, wrongLength, notUp}
 use Rattle.model.specs.Format.{formatConditions}
 use Rattle.model.specs.Write.{writeConditions}
 use Rattle.model.specs.Commit.{closeConditions, storeConditions}
@@ -24,7 +24,7 @@ use Rattle.model.specs.declared.Phase.{Phase}
 use Rattle.model.specs.declared.Phase.the-variants.{Blank as PhaseBlank, Up as PhaseUp, Down as PhaseDown}
 use Rattle.model.specs.declared.Card.{Card}
 use Rattle.model.proofs.Lists.{cases}
-use Rattle.model.proofs.Command.{Order, orderOf, byCommand, each-command, step-answer}
+use Rattle.model.proofs.Command.{Order, orderOf, each-command, step-answer}
 use Rattle.crash.specs.Ledger.{Ledger, blankLedger, notUpFor, formatRefusals, writeRefusals, closeRefusals, storeRefusals, checkpointRefusals, refusalsOf}
 use Rattle.crash.proofs.Relation.{Up, DownBy}
 use Rattle.crash.proofs.Stages.{clash}

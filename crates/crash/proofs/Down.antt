@@ -1,18 +1,18 @@
 -- CUT leaves a card that is down by the ledger's cut: memory is lost, the disk and the transactions stay as they are.
 -- Nothing that recovery reads depends on the phase or on how far recovery is, so journals, the newest images and the
 -- area of the kept writes stay; and recovery, starting over, has all held blocks before it.
-use Prim.Native.Nat.{ℕ, zero, suc, _+_, _<_}
+use Prim.Native.Nat.{ℕ, _<_}
 use native.Mathlib.Omega.{arith}
 use mathlib.Core.Path.{_≡_, refl, sym, ap, _∙_, subst}
-use mathlib.Core.Bool.{Bool, true, false, not, _||_}
-use mathlib.Core.List.{List, [], _∷_, List·Memᴰ, Memᴰ·cast}
+use mathlib.Core.Bool.{true, false}
+use mathlib.Core.List.{List, List·Memᴰ, Memᴰ·cast}
 use lib.ListN.{length, replicate, length-replicate}
 use lib.Dec.{leb, eqb}
 use borrow.Author.Tests.{eqb-true, eq-eqb, le-leb}
 use Rattle.model.specs.Lists.{below, any, select}
 use Rattle.model.specs.Bytes.{Bytes, blockAt, zeroMemory}
 use Rattle.model.specs.Shape.{homeBlock}
-use Rattle.model.specs.Card.{isBlank, freshCard, emptyCard, downCard, tailOf}
+use Rattle.model.specs.Card.{isBlank, freshCard, emptyCard, downCard}
 use Rattle.model.specs.Command.{World, Outcome, unstored, refusal, wrongLength}
 use Rattle.model.specs.Recovery.{cutConditions, cut}
 use Rattle.model.specs.declared.Phase.{Phase}
@@ -73,11 +73,11 @@ pub held-low : (n : ℕ) (k : Book) {b : ℕ} → List·Memᴰ b (blocksIn n k) 
 unfolding blocksIn
 held-low n k {b} m = mem-below n (select-mem _ (below n) b m .0)
 
-pub block-any : {b : ℕ} {bs : List ℕ} → List·Memᴰ b bs → any (eqb b) bs ≡ true
+block-any : {b : ℕ} {bs : List ℕ} → List·Memᴰ b bs → any (eqb b) bs ≡ true
 block-any {b} m = mem-any (eqb b) m (eq-eqb b b refl)
 
 -- recovery before its first store has them all left
-pub all-left : (bs : List ℕ) → bs ≡ select (leb 0) bs
+all-left : (bs : List ℕ) → bs ≡ select (leb 0) bs
 all-left bs = sym (select-same (leb 0) bs (λ b m. le-leb 0 b (omega arith)))
 
 -- ---- CUT
@@ -127,7 +127,7 @@ pub cut-up : {l : Ledger} {w : World} → Up l w → Gives l (w .disk) → DownB
 cut-up {l} {w} u g = cut-over (u .fine) (u .disk) g w refl (u .memory) (ap isBlank (u .phase))
 
 -- 'a recovery under way starts over'
-pub down-gives : {l : Ledger} {w : World} → DownBy l w → Gives l (w .disk)
+down-gives : {l : Ledger} {w : World} → DownBy l w → Gives l (w .disk)
 down-gives {l} {w} v =
     let bs = blocksIn (l .shape .blocks) (l .book) in
     record {

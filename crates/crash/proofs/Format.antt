@@ -1,18 +1,18 @@
 -- FORMAT leaves a card that is up by the fresh ledger, over a disk that is blank but for the master: journals of zeros
 -- hold no commit, and each home block is the blank area's. A card that is down over such a disk is the other start:
 -- nothing is committed, so recovery has no block to store home and gives the blank area.
-use Prim.Native.Nat.{ℕ, zero, suc, _+_, _*_, _-_, _≤_, _<_}
+use Prim.Native.Nat.{ℕ, _+_, _*_, _-_, _≤_, _<_}
 use native.Mathlib.Omega.{arith}
-use mathlib.Core.Path.{_≡_, refl, sym, ap, ap₂, _∙_}
+use mathlib.Core.Path.{_≡_, refl, sym, ap, _∙_}
 use mathlib.Core.Logic.{_≢_}
 use mathlib.Core.Bool.{true, false}
-use mathlib.Core.List.{List, [], _∷_, _++_, List·Memᴰ, List·Memᴰ·not-nil}
-use lib.ListN.{length, take, drop, getD, replicate, length-replicate, getD-replicate, replicate-append-replicate}
+use mathlib.Core.List.{List, [], List·Memᴰ, List·Memᴰ·not-nil}
+use lib.ListN.{length, take, drop, replicate, length-replicate, getD-replicate, replicate-append-replicate}
 use lib.Seq.{take-at, drop-at}
 use Rattle.model.specs.Lists.{below, any, select}
-use Rattle.model.specs.Bytes.{Bytes, number, part, be4, blockAt, store, zeroDisk, zeroMemory}
+use Rattle.model.specs.Bytes.{Bytes, number, part, be4, blockAt, zeroDisk, zeroMemory}
 use Rattle.model.specs.Shape.{inRange, homeBlock, journalBlock}
-use Rattle.model.specs.Card.{newTail, freshCard}
+use Rattle.model.specs.Card.{newTail}
 use Rattle.model.specs.Layout.{hasHead, masterBlock, isCommit}
 use Rattle.model.specs.Journal.{journalAt}
 use Rattle.model.specs.Shrink.{shrink, shrinkIn}
@@ -22,18 +22,17 @@ use Rattle.model.specs.declared.Tail.{Tail}
 use Rattle.model.proofs.Limits.{InRange, range-test}
 use Rattle.model.proofs.Select.{select-mem}
 use Rattle.model.proofs.Store.{length-store, block-stored, block-other}
-use Rattle.model.proofs.Words.{each-block}
 use Rattle.model.proofs.Encoding.{length-master, no-commit}
 use Rattle.model.proofs.Journal.{journal-low, home-apart}
 use Rattle.crash.specs.Book.{Write, emptyBook, keptWrites, image, blank}
-use Rattle.crash.specs.Ledger.{Ledger, freshLedger, unretired, validIn, blocksIn}
+use Rattle.crash.specs.Ledger.{freshLedger, unretired, validIn, blocksIn}
 use Rattle.crash.specs.Claims.{IsBytes, downStart, downLedger}
 use Rattle.crash.proofs.Relation.{Up, target, DownBy}
 use Rattle.crash.proofs.Stages.{clash}
 use Rattle.crash.proofs.Master.{shape-limits}
-use Rattle.crash.proofs.Frames.{bytes-store, each-isBytes}
+use Rattle.crash.proofs.Frames.{bytes-store}
 use Rattle.crash.proofs.Down.{zero-bytes, Gives, down-over}
-use Rattle.crash.proofs.Fresh.{ComeUp, fresh-up, fresh-stands}
+use Rattle.crash.proofs.Fresh.{master-bytes, ComeUp, fresh-up}
 
 -- ---- blocks of zeros
 abbrev zeros : ℕ → Bytes
@@ -52,11 +51,6 @@ zero-block n k m e = rw e (zero-part (128 * k) 128 m)
 
 zero-commit : (s : Shape) (i : ℕ) → isCommit s i (zeros 128) ≡ false
 zero-commit s i = no-commit s i (zeros 128) (unfold hasHead be4 part number in refl)
-
--- a master is a block of bytes
-pub master-bytes : (s : Shape) (tailAt : ℕ → Tail) → IsBytes (masterBlock s tailAt)
-unfolding masterBlock
-master-bytes s tailAt = each-isBytes _ (each-block _)
 
 module _ (s : Shape) (r : InRange s) where
   abbrev formatTail : ℕ → Tail
@@ -98,7 +92,7 @@ module _ (s : Shape) (r : InRange s) where
         clear =
             λ c h i q k.
             let z : journalAt s newDisk c q ≡ zeros 128 =
-                unfold journalAt in format-block (journalBlock s c q) (λ e. home-apart s c q 0 (omega arith) (sym e)) (journal-low (shape-limits r) c q h) in
+            unfold journalAt in format-block (journalBlock s c q) (λ e. home-apart s c q 0 (omega arith) (sym e)) (journal-low (shape-limits r) c q h) in
             ap (isCommit s i) z ∙ zero-commit s i;
       }
 

@@ -1,26 +1,24 @@
--- RECOVER on a card that is down by the ledger: it is carried out, and its store is the one that the ledger says.
--- A home store of the lowest block left changes neither journals nor master, so the rest of recovery stays as it was,
--- and the blocks left are those above. With none left every home block is the target's, and the master store empties
--- all journals: no commit has an uncommitted number, so a fresh card has come up.
+-- RECOVER on a card that is down by the ledger is carried out, and its store is the one that the ledger says. A home store
+-- changes neither journals nor master, so the rest of recovery stays as it was. With no block left the home area is the
+-- target, and the master store empties all journals: no commit has an uncommitted number, so a fresh card has come up.
 use Prim.Native.Nat.{ℕ, zero, suc, _+_, _*_, _-_, _≤_, _<_, min}
 use native.Mathlib.Omega.{arith}
 use native.Mathlib.Decide.{ℕ-discrete}
-use mathlib.Core.Path.{_≡_, refl, sym, ap, ap₂, _∙_, subst}
-use mathlib.Core.Logic.{_⊎_, inl, inr, _≢_}
-use mathlib.Core.Bool.{Bool, true, false, _||_}
-use mathlib.Core.List.{List, [], _∷_, _++_, map, List·Memᴰ, List·Memᴰ·head, List·Memᴰ·tail, List·Memᴰ·not-nil, List·Memᴰ·cases-cons, List·Memᴰ·append-cases, List·Memᴰ·eq-of-singleton}
-use lib.ListN.{length, getD, length-map}
-use lib.Dec.{leb, ltb, eqb}
+use mathlib.Core.Path.{_≡_, refl, sym, ap, _∙_, subst}
+use mathlib.Core.Logic.{inl, inr, _≢_}
+use mathlib.Core.Bool.{Bool, false}
+use mathlib.Core.List.{List, [], _∷_, _++_, map, List·Memᴰ, List·Memᴰ·head, List·Memᴰ·tail, List·Memᴰ·not-nil, List·Memᴰ·append-cases, List·Memᴰ·eq-of-singleton}
+use lib.ListN.{length, length-map}
+use lib.Dec.{leb, eqb}
 use borrow.Author.Tests.{le-leb, lt-leb, leb-true, leb-false, lt-ltb, ne-eqb}
 use Rattle.model.specs.Lists.{below, any, select}
 use Rattle.model.specs.Bytes.{Bytes, blockAt, store}
 use Rattle.model.specs.Shape.{homeBlock, journalBlock}
-use Rattle.model.specs.Card.{isBlank, isUp, newTail, freshCard}
-use Rattle.model.specs.Layout.{maxNumber, masterBlock, isMaster, isCommit}
+use Rattle.model.specs.Card.{isUp, newTail, freshCard}
+use Rattle.model.specs.Layout.{maxNumber, masterBlock, isCommit}
 use Rattle.model.specs.Journal.{journal, journalAt}
-use Rattle.model.specs.Valid.{blocksHeld}
 use Rattle.model.specs.Command.{World, Outcome, storing, refusal}
-use Rattle.model.specs.Recovery.{shapeOn, tailOn, validOn, recoverConditions, blocksLeft, newestImage, recoveredTo, emptiedTail, broughtUp, recoverStep, recovered, recover}
+use Rattle.model.specs.Recovery.{tailOn, recoverConditions, blocksLeft, recoveredTo, emptiedTail, broughtUp, recoverStep, recovered, recover}
 use Rattle.model.specs.declared.Phase.the-variants.{Up as PhaseUp, Down as PhaseDown}
 use Rattle.model.specs.declared.Shape.{Shape}
 use Rattle.model.specs.declared.Tail.{Tail}
@@ -30,20 +28,18 @@ use Rattle.model.proofs.Store.{length-store, block-stored, block-other}
 use Rattle.model.proofs.Encoding.{length-master}
 use Rattle.model.proofs.Journal.{home-apart}
 use Rattle.model.proofs.Command.{unless-done}
-use Rattle.crash.specs.Book.{Write, keptWrites, image, blank}
+use Rattle.crash.specs.Book.{Write, keptWrites, blank}
 use Rattle.crash.specs.Ledger.{Ledger, freshLedger, blocksIn, recoverLedger}
-use Rattle.crash.specs.Claims.{IsBytes, recoverStore}
-use Rattle.crash.proofs.Relation.{IsBlock, WriteFits, Fine, JournalStands, DiskStands, Up, target, DownBy}
-use Rattle.crash.proofs.Stages.{clash}
-use Rattle.crash.proofs.Master.{shape-limits, master-stands, shape-read, tail-read}
-use Rattle.crash.proofs.Records.{readList, length-readList, few-records, journal-read}
+use Rattle.crash.specs.Claims.{recoverStore}
+use Rattle.crash.proofs.Relation.{IsBlock, WriteFits, Fine, DiskStands, Up, target, DownBy}
+use Rattle.crash.proofs.Master.{shape-limits, master-stands, shape-read}
+use Rattle.crash.proofs.Records.{length-readList, few-records, journal-read}
 use Rattle.crash.proofs.Valid.{own-tails, blocks-on}
 use Rattle.crash.proofs.Newest.{newest-image}
 use Rattle.crash.proofs.FineSteps.{image-block, blank-block, fine-home, fine-recovered}
 use Rattle.crash.proofs.Frames.{bytes-store}
 use Rattle.crash.proofs.Down.{phased, stands-phased, target-phased, newest-phased, held-low, right-length}
-use Rattle.crash.proofs.Fresh.{master-same, ComeUp, fresh-up}
-use Rattle.crash.proofs.Format.{master-bytes}
+use Rattle.crash.proofs.Fresh.{master-same, master-bytes, ComeUp, fresh-up}
 
 -- ---- ascending lists: those left after the first are those above it
 abbrev Ascending : List ℕ → Type 0
@@ -96,7 +92,7 @@ kept-fits : (l : Ledger) → Fine l → (x : Write) → List·Memᴰ x (keptWrit
 unfolding recoverLedger freshLedger
 kept-fits l f = fine-recovered l f .saved
 
-pub target-block : (l : Ledger) → Fine l → (b : ℕ) → IsBlock (target l b)
+target-block : (l : Ledger) → Fine l → (b : ℕ) → IsBlock (target l b)
 unfolding target
 target-block l f b =
     image-block (l .shape) blank b (blank-block b) (keptWrites (l .book) ++ l .saved) (kept-fits l f)
@@ -199,7 +195,7 @@ module _ {l : Ledger} {w : World} (v : DownBy l w) where
       let own = own-tails (v .fine) (v .disk) in
       let t = tailOn (w .disk) c in
       let k : length (journal (l .shape) (w .disk) c t (l .shape .journal)) ≡ l .book .uncommitted c - l .book .oldest c =
-          ap length (journal-read (v .fine) own c h (l .shape .journal) (few-records (v .fine) own c h)) ∙ length-readList l c t in
+      ap length (journal-read (v .fine) own c h (l .shape .journal) (few-records (v .fine) own c h)) ∙ length-readList l c t in
       let e : l .book .oldest c + (l .book .uncommitted c - l .book .oldest c + 1) ≡ l .book .uncommitted c + 1 = omega (arith, v .fine .ranks c h .low) in
       rw (shape-read (v .fine) (v .disk), lt-ltb c (l .shape .cores) h, k, own .journals c h .number, e)
 
