@@ -16,3 +16,4 @@ pub mod Fresh
 pub mod Format
 pub mod Recovery
 pub mod Answers
+pub mod CheckpointRead

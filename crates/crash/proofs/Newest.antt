@@ -1,20 +1,20 @@
 -- The image that recovery takes for a block is the target's: the newest valid record of it is that of the ledger's holder.
 -- The reader's choice has the highest stamp of those that took the block, the ledger's holder too, and no two closed
 -- transactions have one stamp. A transaction took a block once, so its place in the record is the ledger's.
-use Prim.Native.Nat.{ℕ, zero, suc, _-_, _≤_, _<_}
+use Prim.Native.Nat.{ℕ, _-_, _≤_, _<_}
 use native.Mathlib.Omega.{arith}
-use mathlib.Core.Path.{_≡_, refl, sym, ap, _∙_, subst}
+use mathlib.Core.Path.{_≡_, refl, sym, ap, _∙_}
 use mathlib.Core.Logic.{_⊎_, inl, inr}
-use mathlib.Core.Bool.{Bool, true, false, cond}
-use mathlib.Core.List.{List, [], _∷_, List·Memᴰ, List·Memᴰ·head, List·Memᴰ·tail, List·Memᴰ·not-nil, List·Memᴰ·cases-cons, Memᴰ·cast}
+use mathlib.Core.Bool.{true, false}
+use mathlib.Core.List.{List, [], _∷_, List·Memᴰ, List·Memᴰ·head, List·Memᴰ·tail, List·Memᴰ·not-nil, List·Memᴰ·eq-of-singleton, List·Memᴰ·cases-cons, Memᴰ·cast}
 use lib.ListN.{length, getD}
 use lib.Dec.{leb, eqb}
 use borrow.Author.Tests.{leb-true, leb-false, eqb-true, eq-eqb}
 use Rattle.model.specs.Lists.{any}
 use Rattle.model.specs.Bytes.{Bytes}
-use Rattle.model.specs.Journal.{journals, nameOf, blocksOf, took, imageOf}
+use Rattle.model.specs.Journal.{journals, nameOf, blocksOf, took}
 use Rattle.model.specs.Valid.{validSet, later, newest}
-use Rattle.model.specs.Recovery.{shapeOn, tailOn, validOn, placeOf, imageFound, newestImage}
+use Rattle.model.specs.Recovery.{shapeOn, validOn, placeOf, imageFound, newestImage}
 use Rattle.model.specs.declared.Shape.{Shape}
 use Rattle.model.specs.declared.Tail.{Tail}
 use Rattle.model.specs.declared.Name.{Name}
@@ -23,8 +23,8 @@ use Rattle.model.specs.declared.Found.{Found}
 use Rattle.model.specs.declared.Found.the-variants.{Whole, Miss}
 use Rattle.model.proofs.Lists.{cases, any-mem, mem-any, getD-mem}
 use Rattle.crash.specs.Book.{isClosed}
-use Rattle.crash.specs.Ledger.{Ledger, validIn}
-use Rattle.crash.proofs.Relation.{Limits, Fine, DiskStands, Newest, target}
+use Rattle.crash.specs.Ledger.{Ledger}
+use Rattle.crash.proofs.Relation.{Fine, DiskStands, Newest, target}
 use Rattle.crash.proofs.Stages.{clash, closed-present}
 use Rattle.crash.proofs.Master.{shape-read}
 use Rattle.crash.proofs.Records.{IsRead, few-records}
@@ -46,59 +46,50 @@ module _ (s : Shape) (d : Bytes) (b : ℕ) where
   unfolding newest
   newest-skip best x es h = rw h
 
-  highest-skip : {x y : Committed} (es : List Committed) {top : Committed} → took s d b x ≡ false → Highest (y ∷ es) top → Highest (y ∷ x ∷ es) top
-  highest-skip {x} {y} es {top} h r =
+  -- y stands for a and x: it is one of them, and neither has a higher stamp
+  highest-of : {a x y top : Committed} (es : List Committed) → (y ≡ a) ⊎ (y ≡ x) → took s d b y ≡ true → a .stamp ≤ y .stamp
+      → (took s d b x ≡ true → x .stamp ≤ y .stamp) → Highest (y ∷ es) top → Highest (a ∷ x ∷ es) top
+  highest-of {a} {x} {y} {top} es o t p q r =
+      let high : y .stamp ≤ top .stamp = r .most y (List·Memᴰ·head refl) t in
       record {
-        among = elim (List·Memᴰ·cases-cons (r .among)) [ inl e ↦ List·Memᴰ·head e | inr m ↦ List·Memᴰ·tail (List·Memᴰ·tail m) ];
+        among =
+            elim (List·Memᴰ·cases-cons (r .among)) [
+              | inl e ↦ elim o [ inl g ↦ List·Memᴰ·head (e ∙ g) | inr g ↦ List·Memᴰ·tail (List·Memᴰ·head (e ∙ g)) ]
+              | inr m ↦ List·Memᴰ·tail (List·Memᴰ·tail m)
+            ];
         took-it = r .took-it;
         most =
             λ e m g.
             elim (List·Memᴰ·cases-cons m) [
-              | inl q ↦ r .most e (List·Memᴰ·head q) g
-              | inr n ↦ elim (List·Memᴰ·cases-cons n) [ inl q ↦ clash g (ap (took s d b) q ∙ h) | inr i ↦ r .most e (List·Memᴰ·tail i) g ]
+              | inl i ↦ omega (arith, ap (λ (k : Committed). k .stamp) i)
+              | inr n ↦ elim (List·Memᴰ·cases-cons n) [
+                | inl i ↦ omega (arith, ap (λ (k : Committed). k .stamp) i, q (ap (took s d b) (sym i) ∙ g))
+                | inr j ↦ r .most e (List·Memᴰ·tail j) g
+              ]
             ];
       }
 
   newest-over : (a : Committed) (es : List Committed) → took s d b a ≡ true → (top : Committed) × (newest s d b (Whole a) es ≡ Whole top) × Highest (a ∷ es) top
   unfolding newest later
-  newest-over a [] h =
-      (a, refl, record { among = List·Memᴰ·head refl; took-it = h; most = λ e m g. elim (List·Memᴰ·cases-cons m) [ inl q ↦ rw q (omega arith) | inr n ↦ absurd (List·Memᴰ·not-nil n) ] })
+  newest-over a [] h = (
+    a,
+    refl,
+    record {
+      among = List·Memᴰ·head refl;
+      took-it = h;
+      most = λ e m g. omega (arith, ap (λ (k : Committed). k .stamp) (List·Memᴰ·eq-of-singleton m));
+    },
+  )
   newest-over a (x ∷ es) h =
       cases (took s d b x)
       (λ k.
       cases (leb (a .stamp) (x .stamp))
-      (λ o.
-      let r = newest-over x es k in
-      let v = r .2 in
-      let w : a .stamp ≤ x .stamp = leb-true (a .stamp) (x .stamp) o in
-      (
-        r .0,
-        newest-later (Whole a) x es k ∙ rw o (r .1),
-        record {
-          among = List·Memᴰ·tail (v .among);
-          took-it = v .took-it;
-          most = λ e m g. elim (List·Memᴰ·cases-cons m) [ inl q ↦ rw q (omega (arith, v .most x (List·Memᴰ·head refl) k)) | inr n ↦ v .most e n g ];
-        },
-      ))
+      (λ o. let r = newest-over x es k in (r .0, newest-later (Whole a) x es k ∙ rw o (r .1), highest-of es (inr refl) k (leb-true _ _ o) (λ t. omega arith) (r .2)))
       (λ o.
       let r = newest-over a es h in
-      let v = r .2 in
       let w : x .stamp < a .stamp = leb-false (a .stamp) (x .stamp) o in
-      (
-        r .0,
-        newest-later (Whole a) x es k ∙ rw o (r .1),
-        record {
-          among = elim (List·Memᴰ·cases-cons (v .among)) [ inl e ↦ List·Memᴰ·head e | inr m ↦ List·Memᴰ·tail (List·Memᴰ·tail m) ];
-          took-it = v .took-it;
-          most =
-              λ e m g.
-              elim (List·Memᴰ·cases-cons m) [
-                | inl q ↦ v .most e (List·Memᴰ·head q) g
-                | inr n ↦ elim (List·Memᴰ·cases-cons n) [ inl q ↦ rw q (omega (arith, v .most a (List·Memᴰ·head refl) h)) | inr i ↦ v .most e (List·Memᴰ·tail i) g ]
-              ];
-        },
-      )))
-      (λ k. let r = newest-over a es h in (r .0, newest-skip (Whole a) x es k ∙ r .1, highest-skip es k (r .2)))
+      (r .0, newest-later (Whole a) x es k ∙ rw o (r .1), highest-of es (inl refl) h (omega arith) (λ t. omega arith) (r .2))))
+      (λ k. let r = newest-over a es h in (r .0, newest-skip (Whole a) x es k ∙ r .1, highest-of es (inl refl) h (omega arith) (λ t. clash t k) (r .2)))
 
   newest-highest : (es : List Committed) (e : Committed) → List·Memᴰ e es → took s d b e ≡ true → (top : Committed) × (newest s d b Miss es ≡ Whole top) × Highest es top
   unfolding later
@@ -110,14 +101,14 @@ module _ (s : Shape) (d : Bytes) (b : ℕ) where
       elim (List·Memᴰ·cases-cons m) [
         | inl q ↦ clash h (ap (took s d b) q ∙ k)
         | inr n ↦ (let r = newest-highest es e n h in let v = r .2 in (
-            r .0,
-            newest-skip Miss x es k ∙ r .1,
-            record {
-              among = List·Memᴰ·tail (v .among);
-              took-it = v .took-it;
-              most = λ f i g. elim (List·Memᴰ·cases-cons i) [ inl q ↦ clash g (ap (took s d b) q ∙ k) | inr j ↦ v .most f j g ];
-            },
-          ))
+          r .0,
+          newest-skip Miss x es k ∙ r .1,
+          record {
+            among = List·Memᴰ·tail (v .among);
+            took-it = v .took-it;
+            most = λ f i g. elim (List·Memᴰ·cases-cons i) [ inl q ↦ clash g (ap (took s d b) q ∙ k) | inr j ↦ v .most f j g ];
+          },
+        ))
       ])
 
 -- ---- a block's place in a list
@@ -158,10 +149,9 @@ module _ {l : Ledger} {d : Bytes} {tailAt : ℕ → Tail} (f : Fine l) (z : Disk
       let v = r .2 in
       let y = valid-are f z most enough e (v .among) in
       let m : l .stamp (nameOf e) ≤ l .stamp (n .holder) =
-          n .highest (nameOf e) (valid-name f z most enough e (v .among)) (any-block b ((l .book .entry (nameOf e)) .blocks) (sym (took-read b y) ∙ v .took-it)) in
+      n .highest (nameOf e) (valid-name f z most enough e (v .among)) (any-block b ((l .book .entry (nameOf e)) .blocks) (sym (took-read b y) ∙ v .took-it)) in
       let o : h .0 .stamp ≡ l .stamp (n .holder) = x .stamp ∙ ap (l .stamp) (h .2) in
-      let closed : isClosed ((l .book .entry (n .holder)) .stage) ≡ true = rw (h .2) at (x .unretired .is-closed) in
-      (
+      let closed : isClosed ((l .book .entry (n .holder)) .stage) ≡ true = rw (h .2) at (x .unretired .is-closed) in (
         e,
         r .1,
         v .among,
@@ -174,7 +164,7 @@ module _ {l : Ledger} {d : Bytes} {tailAt : ℕ → Tail} (f : Fine l) (z : Disk
       let bs = (l .book .entry (n .holder)) .blocks in
       let p = place-in b bs taken-by in
       let same : placeOf b bs ≡ n .place =
-          f .limits (n .holder) (closed-present _ (rw h at (r .unretired .is-closed))) .distinct (placeOf b bs) (n .place) (p .0) (n .within) (p .1 ∙ sym (n .block)) in
+      f .limits (n .holder) (closed-present _ (rw h at (r .unretired .is-closed))) .distinct (placeOf b bs) (n .place) (p .0) (n .within) (p .1 ∙ sym (n .block)) in
       let blocks : blocksOf (l .shape) d e ≡ bs = r .blocks ∙ ap (λ (t : Name). (l .book .entry t) .blocks) h in
       let count : e .count ≡ length bs = r .count ∙ ap (λ (t : Name). length ((l .book .entry t) .blocks)) h in
       rw (shape-read f z, blocks, same)

@@ -7,31 +7,31 @@ use native.Mathlib.Nat.{add-zero}
 use native.Mathlib.Numerals.{add-one}
 use native.Mathlib.Decide.{ℕ-discrete}
 use mathlib.Core.Path.{_≡_, refl, sym, ap, _∙_, subst}
-use mathlib.Core.Bool.{Bool, true, false, not}
-use mathlib.Core.List.{List, [], _∷_, _++_, map, flatMap, append-assoc, List·Memᴰ, List·Memᴰ·head, List·Memᴰ·tail, List·Memᴰ·not-nil, List·Memᴰ·cases-cons, Memᴰ·of-map}
-use mathlib.Core.Logic.{_⊎_, inl, inr}
-use lib.ListN.{length, take, getD, length-append, length-map, List·getD-append, List·getD-map}
+use mathlib.Core.Bool.{true, false, not}
+use mathlib.Core.List.{List, [], _∷_, _++_, map, flatMap, append-assoc, List·Memᴰ, List·Memᴰ·head, List·Memᴰ·tail, List·Memᴰ·not-nil, List·Memᴰ·cases-cons}
+use mathlib.Core.Logic.{inl, inr}
+use lib.ListN.{length, getD, length-append, length-map, List·getD-append, List·getD-map}
 use lib.Seq.{getD-at, getD-append-add, ext-getD}
-use lib.Dec.{ltb, leb, eqb}
+use lib.Dec.{ltb, eqb}
 use borrow.Author.Tests.{le-leb, lt-ltb, ltb-true, ne-eqb}
 use Rattle.model.specs.Lists.{below, all}
 use Rattle.model.specs.Bytes.{Bytes, be4, part, number}
 use Rattle.model.specs.Card.{newName}
-use Rattle.model.specs.Layout.{Held, newHeld, distinct, isHeld, isListable, isCommit, descriptorBlock, commitBlock, flagOf, escaped, mark}
+use Rattle.model.specs.Layout.{Held, newHeld, distinct, isHeld, isListable, isCommit, commitBlock, flagOf, escaped, mark}
 use Rattle.model.specs.Journal.{journalAt, recordAt, recordsFrom, journal, nameOf, heldBy, blocksOf, namesOf, imageOf}
 use Rattle.model.specs.declared.Shape.{Shape}
 use Rattle.model.specs.declared.Tail.{Tail}
 use Rattle.model.specs.declared.Name.{Name}
 use Rattle.model.specs.declared.Committed.{Committed}
 use Rattle.model.specs.declared.Found.the-variants.{Whole}
-use Rattle.model.proofs.Lists.{cases, and-both, all-mem, mem-all, getD-mem, mem-getD, flatMap-append, length-below, mem-below, getD-map-below, Each, getD-each, mem-each}
+use Rattle.model.proofs.Lists.{cases, and-both, all-mem, mem-all, getD-mem, mem-getD, flatMap-append, length-below, getD-map-below, Each, getD-each, mem-each}
 use Rattle.model.proofs.Words.{IsByte, IsWord}
 use Rattle.model.proofs.Encoding.{Sound}
 use Rattle.model.proofs.Journal.{IsBlock, Images, Stands, asRead, journal-wrap, record-read, held-read, names-read, image-read, records-miss, records-hit, miss-commit}
-use Rattle.crash.specs.Book.{Stage, absent, isClosed, Entry, Book}
-use Rattle.crash.specs.Ledger.{Ledger, Stored, recordBlocks, storedOf, storedSince}
-use Rattle.crash.specs.Claims.{IsBytes, readAs, JournalsRead}
-use Rattle.crash.proofs.Relation.{Limits, Frozen, Ranks, sumNext, Fine, heldOf, recordOf, contents, JournalStands, DiskStands}
+use Rattle.crash.specs.Book.{isClosed, Book}
+use Rattle.crash.specs.Ledger.{Ledger, recordBlocks, storedOf, storedSince}
+use Rattle.crash.specs.Claims.{readAs, JournalsRead}
+use Rattle.crash.proofs.Relation.{Limits, sumNext, Fine, heldOf, recordOf, contents, DiskStands}
 use Rattle.crash.proofs.Stages.{closed-present, Unretired, stored-unretired}
 use Rattle.crash.proofs.Master.{shape-limits, shape-read, tail-read}
 
@@ -64,11 +64,11 @@ recordsOf l c i zero = []
 recordsOf l c i (suc n) = recordOf l (newName c i) ++ recordsOf l c (suc i) n
 
 -- ---- a record of the ledger keeps the rules of the format
-length-held : (l : Ledger) (t : Name) → length (heldOf l t) ≡ length ((l .book .entry t) .blocks)
+pub length-held : (l : Ledger) (t : Name) → length (heldOf l t) ≡ length ((l .book .entry t) .blocks)
 unfolding heldOf
 length-held l t = length-map (below (length ((l .book .entry t) .blocks))) _ ∙ length-below (length ((l .book .entry t) .blocks))
 
-getD-held : (l : Ledger) (t : Name) (i : ℕ) → i < length ((l .book .entry t) .blocks)
+pub getD-held : (l : Ledger) (t : Name) (i : ℕ) → i < length ((l .book .entry t) .blocks)
     → getD (heldOf l t) i (newHeld 0 0) ≡ newHeld (getD ((l .book .entry t) .blocks) i 0) (flagOf (getD (l .images t) i []))
 unfolding heldOf
 getD-held l t i h =
@@ -146,7 +146,7 @@ module _ {l : Ledger} (f : Fine l) (t : Name) (h : isClosed ((l .book .entry t) 
         numbers = mem-each (λ (n : Name). IsWord (n .number)) ((l .book .entry t) .names) (λ u x. omega (arith, named u x .high));
       }
 
-  record-images : Images (heldOf l t) (l .images t)
+  pub record-images : Images (heldOf l t) (l .images t)
   record-images =
       let n = length-held l t in
       let z = f .frozen t h in
@@ -170,9 +170,9 @@ module _ {l : Ledger} (f : Fine l) (t : Name) (h : isClosed ((l .book .entry t) 
   as-read : (p : ℕ) → asRead (t .core) p (t .number) (heldOf l t) (l .stamp t) ((l .book .entry t) .names) ≡ readRecord l t p
   as-read p = rw (length-held l t)
 
--- ---- blocks that stand one after the other
+-- ---- blocks that stand one after the other, from a position on
 module _ (s : Shape) (d : Bytes) (c : ℕ) where
-  abbrev BlocksStand : ℕ → List Bytes → Type 0
+  abbrev pub BlocksStand : ℕ → List Bytes → Type 0
   BlocksStand p xs = (q : ℕ) → q < length xs → journalAt s d c (p + q) ≡ getD xs q []
 
   stand-left : (p : ℕ) (xs ys : List Bytes) → BlocksStand p (xs ++ ys) → BlocksStand p xs
@@ -188,7 +188,7 @@ module _ (s : Shape) (d : Bytes) (c : ℕ) where
   stand-wrap p xs z q h = rw (journal-wrap s c p q) (z q h)
 
 -- a record of the ledger whose blocks stand
-record-stands : {l : Ledger} (f : Fine l) (t : Name) → isClosed ((l .book .entry t) .stage) ≡ true → (d : Bytes) (p : ℕ)
+pub record-stands : {l : Ledger} (f : Fine l) (t : Name) → isClosed ((l .book .entry t) .stage) ≡ true → (d : Bytes) (p : ℕ)
     → BlocksStand (l .shape) d (t .core) p (recordOf l t)
     → Stands (l .shape) d (t .core) p (t .number) (heldOf l t) (l .stamp t) ((l .book .entry t) .names) (l .images t)
 unfolding recordOf
@@ -261,7 +261,7 @@ module _ {l : Ledger} (f : Fine l) (d : Bytes) (c : ℕ) where
   rest-stands i p n z = (
     λ j a b. z .0 j (omega arith) (omega arith),
     stand-wrap (l .shape) d c (p + (length ((l .book .entry (newName c i)) .blocks) + 2)) (recordsOf l c (suc i) n)
-    (rw (← (length-record f (newName c i) (z .0 i (omega arith) (omega arith)))) (stand-right (l .shape) d c p (recordOf l (newName c i)) (recordsOf l c (suc i) n) (z .1))),
+        (rw (← (length-record f (newName c i) (z .0 i (omega arith) (omega arith)))) (stand-right (l .shape) d c p (recordOf l (newName c i)) (recordsOf l c (suc i) n) (z .1))),
   )
 
   -- the reading of n records, with none of the next number
@@ -277,7 +277,7 @@ module _ {l : Ledger} (f : Fine l) (d : Bytes) (c : ℕ) where
       let x = z .0 i (omega arith) (omega arith) in
       let e = length-held l t in
       let hit : recordAt (l .shape) d c i p left ≡ Whole (readRecord l t p) =
-          record-read (record-sound f t x) (first-stands i p n z) left (omega arith) ∙ ap Whole (as-read f t x p) in
+      record-read (record-sound f t x) (first-stands i p n z) left (omega arith) ∙ ap Whole (as-read f t x p) in
       let s : i + suc n ≡ suc i + n = omega arith in
       records-hit (l .shape) d c i p left most (readRecord l t p) hit
       ∙ rw add-one
@@ -408,8 +408,8 @@ module _ {l : Ledger} {d : Bytes} {tailAt : ℕ → Tail} (f : Fine l) (z : Disk
   journal-standing = (
     stored-closed,
     (unfold contents in
-    stand-left (l .shape) d c ((tailAt c) .position) (recordsOf l c (l .book .oldest c) count-of) _
-    (rw (records-cons l c (l .book .oldest c) count-of) at (z .journals c in-range .stands))),
+        stand-left (l .shape) d c ((tailAt c) .position) (recordsOf l c (l .book .oldest c) count-of) _
+        (rw (records-cons l c (l .book .oldest c) count-of) at (z .journals c in-range .stands))),
   )
 
   -- no record is shorter than two blocks, and all fit: J bounds their number
@@ -435,6 +435,10 @@ module _ {l : Ledger} {d : Bytes} {tailAt : ℕ → Tail} (f : Fine l) (z : Disk
       (omega (arith, r .mid, j .room, blocks-more k c (k .oldest c) count-of (k .next c - k .oldest c) (omega (arith, r .mid))))
       (λ q. j .clear (k .oldest c + count-of) q (omega (arith, r .low))))
 
+  pub length-journal : (most : ℕ) → l .book .uncommitted c - l .book .oldest c ≤ most
+      → length (journal (l .shape) d c (tailAt c) most) ≡ l .book .uncommitted c - l .book .oldest c
+  length-journal most h = ap length (journal-read most h) ∙ length-readList l c (tailAt c)
+
   pub readList-is : (e : Committed) → List·Memᴰ e (readList l c (tailAt c)) → IsRead l d c e
   unfolding readList
   readList-is = each-is f d c in-range (l .book .oldest c) ((tailAt c) .position) count-of journal-standing (omega arith) (omega (arith, f .ranks c in-range .low))
@@ -447,8 +451,8 @@ stored-as {l} f d c e r =
     let z = f .frozen t (r .unretired .is-closed) in
     let n : length (map (imageOf (l .shape) d e) (below (e .count))) ≡ e .count = length-map (below (e .count)) (imageOf (l .shape) d e) ∙ length-below (e .count) in
     let i : map (imageOf (l .shape) d e) (below (e .count)) ≡ l .images t =
-        ext-getD [] (map (imageOf (l .shape) d e) (below (e .count))) (l .images t) (n ∙ r .count ∙ sym (z .count))
-        (λ i h. getD-map-below (imageOf (l .shape) d e) (e .count) i [] (omega arith) ∙ r .images i (omega arith)) in
+    ext-getD [] (map (imageOf (l .shape) d e) (below (e .count))) (l .images t) (n ∙ r .count ∙ sym (z .count))
+    (λ i h. getD-map-below (imageOf (l .shape) d e) (e .count) i [] (omega arith) ∙ r .images i (omega arith)) in
     rw (r .blocks, i, r .names, r .stamp)
 
 module _ {l : Ledger} {d : Bytes} {tailAt : ℕ → Tail} (f : Fine l) (z : DiskStands l d tailAt) where

@@ -6,19 +6,18 @@ use native.Mathlib.Omega.{arith}
 use native.Mathlib.Decide.{decLt}
 use mathlib.Core.Path.{_≡_, refl, sym, ap, ap₂, _∙_, subst}
 use mathlib.Core.Logic.{_⊎_, inl, inr}
-use mathlib.Core.Bool.{Bool, true, false, not, cond, _&&_, _||_}
-use mathlib.Core.List.{List, [], _∷_, _++_, map, flatMap, List·Memᴰ, List·Memᴰ·head, List·Memᴰ·tail, Memᴰ·cast, Memᴰ·map, Memᴰ·of-map}
+use mathlib.Core.Bool.{Bool, true, false, not, _&&_, _||_}
+use mathlib.Core.List.{List, [], _∷_, map, flatMap, List·Memᴰ, List·Memᴰ·head, List·Memᴰ·tail, Memᴰ·cast, Memᴰ·map, Memᴰ·of-map}
 use lib.Dec.{ltb, eqb}
 use borrow.Author.Tests.{not-true}
 use Rattle.model.specs.Lists.{below, all, any, select}
 use Rattle.model.specs.Bytes.{Bytes, block}
-use Rattle.model.specs.Card.{newName, sameName}
+use Rattle.model.specs.Card.{sameName}
 use Rattle.model.specs.Layout.{mark, pairWords, masterBlock}
 use Rattle.model.specs.Journal.{journal, journals, nameOf, blocksOf, namesOf}
 use Rattle.model.specs.Shrink.{Closed, Within}
 use Rattle.model.specs.Valid.{isIn, isMet, namesMet, validSet, blocksHeld}
 use Rattle.model.specs.Recovery.{shapeOn, tailOn, committedOn, validOn}
-use Rattle.model.specs.declared.Shape.{Shape}
 use Rattle.model.specs.declared.Tail.{Tail}
 use Rattle.model.specs.declared.Name.{Name}
 use Rattle.model.specs.declared.Committed.{Committed}
@@ -28,7 +27,7 @@ use Rattle.model.proofs.Shrink.{Monotone, shrink-closed, shrink-within, shrink-
 use Rattle.model.proofs.Valid.{sameName-true, sameName-refl, valid-within, valid-largest, valid-names}
 use Rattle.crash.specs.Book.{isCommitted, isRetired, Book}
 use Rattle.crash.specs.Ledger.{Ledger, unretired, metIn, validIn, blocksIn}
-use Rattle.crash.proofs.Relation.{Ranks, Fine, JournalStands, DiskStands}
+use Rattle.crash.proofs.Relation.{Fine, JournalStands, DiskStands}
 use Rattle.crash.proofs.Stages.{clash, closed-present, committed-rank}
 use Rattle.crash.proofs.Master.{shape-read, tail-read}
 use Rattle.crash.proofs.Records.{readList, IsRead, readList-has, readList-is, journal-read, few-records}
@@ -77,25 +76,25 @@ module _ {l : Ledger} {d : Bytes} {tailAt : ℕ → Tail} (f : Fine l) (z : Disk
 
   module _ (most : ℕ → ℕ) (enough : (c : ℕ) → c < l .shape .cores → l .book .uncommitted c - l .book .oldest c ≤ most c) where
     -- ---- all journals
-    pub journals-known : (e : Committed) → List·Memᴰ e (journals (l .shape) d tailAt most)
+    pub journals-listed : (e : Committed) → List·Memᴰ e (journals (l .shape) d tailAt most)
         → (e .core < l .shape .cores) × List·Memᴰ e (readList l (e .core) (tailAt (e .core)))
     unfolding journals
-    journals-known e m =
+    journals-listed e m =
         let r = mem-flatMap (λ (c : ℕ). journal (l .shape) d c (tailAt c) (most c)) (below (l .shape .cores)) m in
         let h = mem-below (l .shape .cores) (r .1) in
         let x : List·Memᴰ e (readList l (r .0) (tailAt (r .0))) = rw (journal-read f z (r .0) h (most (r .0)) (enough (r .0) h)) at (r .2) in
         let c : e .core ≡ r .0 = readList-is f z (r .0) h e x .core in
         subst (λ (i : ℕ). (i < l .shape .cores) × List·Memᴰ e (readList l i (tailAt i))) (sym c) (h, x)
 
-    pub journals-have : (e : Committed) → e .core < l .shape .cores → List·Memᴰ e (readList l (e .core) (tailAt (e .core)))
+    pub listed-journals : (e : Committed) → e .core < l .shape .cores → List·Memᴰ e (readList l (e .core) (tailAt (e .core)))
         → List·Memᴰ e (journals (l .shape) d tailAt most)
     unfolding journals
-    journals-have e h m =
+    listed-journals e h m =
         flatMap-mem (λ (c : ℕ). journal (l .shape) d c (tailAt c) (most c)) (below-mem (l .shape .cores) (e .core) h)
         (rw (journal-read f z (e .core) h (most (e .core)) (enough (e .core) h)) m)
 
     pub journals-are : (e : Committed) → List·Memᴰ e (journals (l .shape) d tailAt most) → IsRead l d (e .core) e
-    journals-are e m = let r = journals-known e m in readList-is f z (e .core) (r .0) e (r .1)
+    journals-are e m = let r = journals-listed e m in readList-is f z (e .core) (r .0) e (r .1)
 
     -- ---- they are the ledger's committed unretired transactions
     pub read-unretired : (e : Committed) → List·Memᴰ e (journals (l .shape) d tailAt most) → List·Memᴰ (nameOf e) (unretired (l .book))
@@ -115,7 +114,7 @@ module _ {l : Ledger} {d : Bytes} {tailAt : ℕ → Tail} (f : Fine l) (z : Disk
           | yes c ↦ (let i = committed-rank (f .ranks (t .core) c) (t .number) a b in
               let r = readList-has l (t .core) (tailAt (t .core)) (t .number) (i .0) (i .1) in
               let e = subst (λ (i : ℕ). (i < l .shape .cores) × List·Memᴰ (r .0) (readList l i (tailAt i))) (sym (ap (λ (n : Name). n .core) (r .2))) (c, r .1) in
-              (r .0, journals-have (r .0) (e .0) (e .1), r .2))
+              (r .0, listed-journals (r .0) (e .0) (e .1), r .2))
           | no c ↦ clash a (ap isCommitted (f .far t (omega arith)))
         ]
 
@@ -128,18 +127,18 @@ module _ {l : Ledger} {d : Bytes} {tailAt : ℕ → Tail} (f : Fine l) (z : Disk
         let k = l .book in
         let ts = map nameOf vs in
         let within : Within ts (unretired k) =
-            λ t i. let r = Memᴰ·of-map nameOf vs i in Memᴰ·cast (sym (r .2)) (read-unretired (r .0) (valid-within (l .shape) d tailAt es (r .0) (r .1))) in
+        λ t i. let r = Memᴰ·of-map nameOf vs i in Memᴰ·cast (sym (r .2)) (read-unretired (r .0) (valid-within (l .shape) d tailAt es (r .0) (r .1))) in
         let closed : Closed (metIn k) ts =
-            λ t i.
-            let r = Memᴰ·of-map nameOf vs i in
-            let x = journals-are (r .0) (valid-within (l .shape) d tailAt es (r .0) (r .1)) in
-            mem-all (λ (n : Name). belowOldest k n || any (sameName n) ts) ((k .entry t) .names)
-            (λ n j.
-            let listed : List·Memᴰ n (namesOf (l .shape) d (r .0)) = rw (x .names, r .2) j in
-            elim (valid-names (l .shape) d tailAt es (r .0) (r .1) n listed) [
-              | inl b ↦ or-left (any (sameName n) ts) (sym (below-tail t n j) ∙ b)
-              | inr u ↦ or-right (belowOldest k n) (name-any n ts (Memᴰ·cast (u .2) (Memᴰ·map nameOf (u .1))))
-            ]) in
+        λ t i.
+        let r = Memᴰ·of-map nameOf vs i in
+        let x = journals-are (r .0) (valid-within (l .shape) d tailAt es (r .0) (r .1)) in
+        mem-all (λ (n : Name). belowOldest k n || any (sameName n) ts) ((k .entry t) .names)
+        (λ n j.
+        let listed : List·Memᴰ n (namesOf (l .shape) d (r .0)) = rw (x .names, r .2) j in
+        elim (valid-names (l .shape) d tailAt es (r .0) (r .1) n listed) [
+          | inl b ↦ or-left (any (sameName n) ts) (sym (below-tail t n j) ∙ b)
+          | inr u ↦ or-right (belowOldest k n) (name-any n ts (Memᴰ·cast (u .2) (Memᴰ·map nameOf (u .1))))
+        ]) in
         shrink-largest (metIn k) (metIn-monotone k) (unretired k) ts within closed (nameOf e) (Memᴰ·map nameOf m)
 
     pub name-valid : (e : Committed) → List·Memᴰ e (journals (l .shape) d tailAt most) → List·Memᴰ (nameOf e) (validIn (l .book))
@@ -151,19 +150,30 @@ module _ {l : Ledger} {d : Bytes} {tailAt : ℕ → Tail} (f : Fine l) (z : Disk
         let test : Committed → Bool = λ x. any (sameName (nameOf x)) (validIn k) in
         let ss = select test es in
         let closed : Closed (namesMet (l .shape) d tailAt) ss =
-            λ x i.
-            let r = select-mem test es x i in
-            let y = journals-are x (r .0) in
-            mem-all (isMet tailAt ss) (namesOf (l .shape) d x)
-            (λ n j.
-            let listed : List·Memᴰ n ((k .entry (nameOf x)) .names) = rw (y .names) at j in
-            elim (valid-met k (nameOf x) n (any-name (nameOf x) (validIn k) (r .1)) listed) [
-              | inl b ↦ or-left (isIn ss n) (below-tail (nameOf x) n listed ∙ b)
-              | inr u ↦ or-right (ltb (n .number) ((tailAt (n .core)) .number))
-                  (let w = unretired-read n (valid-unretired k n (any-name n (validIn k) u)) in
-                  mem-any (λ (g : Committed). sameName n (nameOf g)) (mem-select test es (w .0) (w .1) (rw (w .2) u)) (rw (w .2) (sameName-refl n)))
-            ]) in
+        λ x i.
+        let r = select-mem test es x i in
+        let y = journals-are x (r .0) in
+        mem-all (isMet tailAt ss) (namesOf (l .shape) d x)
+        (λ n j.
+        let listed : List·Memᴰ n ((k .entry (nameOf x)) .names) = rw (y .names) at j in
+        elim (valid-met k (nameOf x) n (any-name (nameOf x) (validIn k) (r .1)) listed) [
+          | inl b ↦ or-left (isIn ss n) (below-tail (nameOf x) n listed ∙ b)
+          | inr u ↦ or-right (ltb (n .number) ((tailAt (n .core)) .number))
+              (let w = unretired-read n (valid-unretired k n (any-name n (validIn k) u)) in
+              mem-any (λ (g : Committed). sameName n (nameOf g)) (mem-select test es (w .0) (w .1) (rw (w .2) u)) (rw (w .2) (sameName-refl n)))
+        ]) in
         valid-largest (l .shape) d tailAt es ss (λ x i. select-mem test es x i .0) closed e (mem-select test es e m (name-any (nameOf e) (validIn k) v))
+
+    -- the valid set is the records of the ledger's valid transactions
+    pub valid-listed : (e : Committed) → List·Memᴰ e (validSet (l .shape) d tailAt (journals (l .shape) d tailAt most))
+        → (e .core < l .shape .cores) × List·Memᴰ e (readList l (e .core) (tailAt (e .core))) × List·Memᴰ (nameOf e) (validIn (l .book))
+    valid-listed e m =
+        let r = journals-listed e (valid-within (l .shape) d tailAt (journals (l .shape) d tailAt most) e m) in
+        (r .0, r .1, valid-name e m)
+
+    pub listed-valid : (e : Committed) → e .core < l .shape .cores → List·Memᴰ e (readList l (e .core) (tailAt (e .core)))
+        → List·Memᴰ (nameOf e) (validIn (l .book)) → List·Memᴰ e (validSet (l .shape) d tailAt (journals (l .shape) d tailAt most))
+    listed-valid e h m v = name-valid e (listed-journals e h m) v
 
     -- a valid transaction of the ledger is read, as a valid one
     pub valid-read : (t : Name) → List·Memᴰ t (validIn (l .book))
@@ -181,9 +191,9 @@ module _ {l : Ledger} {d : Bytes} {tailAt : ℕ → Tail} (f : Fine l) (z : Disk
         let vs = validSet (l .shape) d tailAt (journals (l .shape) d tailAt most) in
         same-test
         (λ h. let r = any-mem (λ (e : Committed). sameName n (nameOf e)) vs h in
-          name-any n (validIn (l .book)) (Memᴰ·cast (sameName-true n (nameOf (r .0)) (r .2)) (valid-name (r .0) (r .1))))
+        name-any n (validIn (l .book)) (Memᴰ·cast (sameName-true n (nameOf (r .0)) (r .2)) (valid-name (r .0) (r .1))))
         (λ h. let r = valid-read n (any-name n (validIn (l .book)) h) in
-          mem-any (λ (e : Committed). sameName n (nameOf e)) (r .1) (rw (r .2) (sameName-refl n)))
+        mem-any (λ (e : Committed). sameName n (nameOf e)) (r .1) (rw (r .2) (sameName-refl n)))
 
     -- ---- the home blocks held in it
     pub blocks-same : blocksHeld (l .shape) d (validSet (l .shape) d tailAt (journals (l .shape) d tailAt most)) ≡ blocksIn (l .shape .blocks) (l .book)
