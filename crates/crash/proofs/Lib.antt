@@ -5,6 +5,7 @@ pub mod Master
 pub mod Records
 pub mod Valid
 pub mod Entries
+pub mod Books
 pub mod FineSteps
 pub mod Newest
 pub mod FineWrite
