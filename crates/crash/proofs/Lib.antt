@@ -16,5 +16,5 @@ pub mod Down
 pub mod Fresh
 pub mod Format
 pub mod Recovery
-pub mod Answers
+pub mod PhaseAnswers
 pub mod CheckpointRead

@@ -24,7 +24,7 @@ use Rattle.model.specs.declared.Phase.{Phase}
 use Rattle.model.specs.declared.Phase.the-variants.{Blank as PhaseBlank, Up as PhaseUp, Down as PhaseDown}
 use Rattle.model.specs.declared.Card.{Card}
 use Rattle.model.proofs.Lists.{cases}
-use Rattle.model.proofs.Command.{Order, orderOf, each-command, step-answer}
+use Rattle.model.proofs.Command.{Row, rowOf, each-command, step-answer}
 use Rattle.crash.specs.Ledger.{Ledger, blankLedger, notUpFor, formatRefusals, writeRefusals, closeRefusals, storeRefusals, checkpointRefusals, refusalsOf}
 use Rattle.crash.proofs.Relation.{Up, DownBy}
 use Rattle.crash.proofs.Stages.{clash}
@@ -59,11 +59,11 @@ module _ (l : Ledger) (w : World) (sizes : wrongLength w ≡ false) where
   -- while the card is not up
   phase-answers : (p : Phase) → isUp p ≡ false → (isDown p ≡ true → isMaster (blockAt (w .disk) 0) ≡ true) → w .card .phase ≡ p → l .phase ≡ p
       → (k : ℕ) (a : Bytes) → (step k a w) .answer ≡ refusal (refusalsOf k a l)
-  unfolding orderOf refusalsOf writeConditions writeRefusals closeConditions closeRefusals storeConditions storeRefusals checkpointConditions checkpointRefusals
+  unfolding rowOf refusalsOf writeConditions writeRefusals closeConditions closeRefusals storeConditions storeRefusals checkpointConditions checkpointRefusals
   phase-answers p h m i j k a =
       let c = getD a 0 0 in
       step-answer k a w
-      ∙ each-command (λ (r : Order) (ts : List (Bool × ℕ)). refusal (r .conditions) ≡ refusal ts) k
+      ∙ each-command (λ (r : Row) (ts : List (Bool × ℕ)). refusal (r .conditions) ≡ refusal ts) k
       (λ e. format-answer c (getD a 1 0) (getD a 2 0) (i ∙ sym j))
       (λ e. not-up-answer p h i j c _ _)
       (not-up-answer p h i j c _ _)
@@ -85,7 +85,7 @@ blank-answers w e d m = phase-answers blankLedger w (right-length w d m) PhaseBl
 
 -- ---- up: FORMAT 21, CUT 0, RECOVER 23
 pub up-answers : {l : Ledger} {w : World} → Up l w → (k : ℕ) (a : Bytes) → (k ≡ 1) ⊎ (6 ≤ k) → (step k a w) .answer ≡ refusal (refusalsOf k a l)
-unfolding orderOf refusalsOf
+unfolding rowOf refusalsOf
 up-answers {l} {w} u k a (inl e) =
     let n = right-length w (u .disk .size) (u .memory) in
     step-answer k a w ∙ rw e (format-answer l w n (getD a 0 0) (getD a 1 0) (getD a 2 0) (u .phase ∙ sym (u .ledger)))
