@@ -29,7 +29,6 @@ use Rattle.crash.specs.Ledger.{freshLedger, unretired, validIn, blocksIn
 use Rattle.crash.specs.Claims.{IsBytes, downStart, downLedger}
 use Rattle.crash.proofs.Relation.{Up, target, DownBy}
 use Rattle.crash.proofs.Stages.{clash}
-use Rattle.crash.proofs.Master.{shape-limits}
 use Rattle.crash.proofs.Frames.{bytes-store}
 use Rattle.crash.proofs.Down.{zero-bytes, Gives, down-over}
 use Rattle.crash.proofs.Fresh.{master-bytes, ComeUp, fresh-up}
@@ -64,7 +63,7 @@ module _ (s : Shape) (r : InRange s) where
   zero-fits = rw (length-replicate {A = ℕ} 32896 0) (omega arith)
 
   master-size : length (masterBlock s formatTail) ≡ 128
-  master-size = length-master (shape-limits r) formatTail
+  master-size = length-master r formatTail
 
   -- every block but the master is zero
   format-block : (k : ℕ) → k ≢ 0 → k < 257 → blockAt newDisk k ≡ zeros 128
@@ -92,7 +91,7 @@ module _ (s : Shape) (r : InRange s) where
         clear =
             λ c h i q k.
             let z : journalAt s newDisk c q ≡ zeros 128 =
-            unfold journalAt in format-block (journalBlock s c q) (λ e. home-apart s c q 0 (omega arith) (sym e)) (journal-low (shape-limits r) c q h) in
+            unfold journalAt in format-block (journalBlock s c q) (λ e. home-apart s c q 0 (omega arith) (sym e)) (journal-low r c q h) in
             ap (isCommit s i) z ∙ zero-commit s i;
       }
 

@@ -1,4 +1,15 @@
 -- Why the claims are true. Layer A: one block's history. Layer B: the bytes. Layer C: from one coming up to the next.
+pub mod Tests
+pub mod History
+pub mod Steps
+pub mod Largest
+pub mod Invariant
+pub mod Commands
+pub mod Write
+pub mod Images
+pub mod Cut
+pub mod Rename
+pub mod Agreement
 pub mod Relation
 pub mod Stages
 pub mod Master
@@ -9,6 +20,7 @@ pub mod Books
 pub mod FineSteps
 pub mod Newest
 pub mod FineWrite
+pub mod CheckpointRead
 pub mod Frames
 pub mod UpStore
 pub mod UpClose
@@ -17,4 +29,8 @@ pub mod Fresh
 pub mod Format
 pub mod Recovery
 pub mod PhaseAnswers
-pub mod CheckpointRead
+pub mod UpCheckpoint
+pub mod Given
+pub mod Rules
+pub mod Points
+pub mod Examples

@@ -10,15 +10,10 @@ use Rattle.model.specs.Bytes.{Bytes, blockAt}
 use Rattle.model.specs.Shape.{between}
 use Rattle.model.specs.Layout.{maxNumber, isTail, isMaster, shapeIn, tailIn}
 use Rattle.model.specs.Recovery.{shapeOn, tailOn}
-use Rattle.model.specs.declared.Shape.{Shape}
 use Rattle.model.specs.declared.Tail.{Tail}
-use Rattle.model.proofs.Limits.{InRange, test-range}
-use Rattle.model.proofs.Encoding.{Limits, range-limits, master-shape, master-tail, master-read}
+use Rattle.model.proofs.Encoding.{master-shape, master-tail, master-read}
 use Rattle.crash.specs.Ledger.{Ledger}
 use Rattle.crash.proofs.Relation.{Fine, DiskStands}
-
-pub shape-limits : {s : Shape} → InRange s → Limits s
-shape-limits {s} r = range-limits s (test-range s r)
 
 module _ {l : Ledger} {d : Bytes} {tailAt : ℕ → Tail} (f : Fine l) (z : DiskStands l d tailAt) where
   tail-fits : (c : ℕ) → c < l .shape .cores → isTail (l .shape) (tailAt c) ≡ true
@@ -33,12 +28,12 @@ module _ {l : Ledger} {d : Bytes} {tailAt : ℕ → Tail} (f : Fine l) (z : Disk
       )
 
   pub master-stands : isMaster (blockAt d 0) ≡ true
-  master-stands = ap isMaster (z .master) ∙ master-read (shape-limits (f .range)) tailAt tail-fits
+  master-stands = ap isMaster (z .master) ∙ master-read (f .range) tailAt tail-fits
 
   pub shape-read : shapeOn d ≡ l .shape
   unfolding shapeOn
-  shape-read = ap shapeIn (z .master) ∙ master-shape (shape-limits (f .range)) tailAt tail-fits
+  shape-read = ap shapeIn (z .master) ∙ master-shape (f .range) tailAt tail-fits
 
   pub tail-read : (c : ℕ) → c < l .shape .cores → tailOn d c ≡ tailAt c
   unfolding tailOn
-  tail-read c h = ap (λ (m : Bytes). tailIn m c) (z .master) ∙ master-tail (shape-limits (f .range)) tailAt tail-fits c h
+  tail-read c h = ap (λ (m : Bytes). tailIn m c) (z .master) ∙ master-tail (f .range) tailAt tail-fits c h

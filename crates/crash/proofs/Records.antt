@@ -14,7 +14,7 @@ use lib.ListN.{length, getD, length-append, length-map, List·getD-append, List�
 use lib.Seq.{getD-at, getD-append-add, ext-getD}
 use lib.Dec.{ltb, eqb}
 use borrow.Author.Tests.{le-leb, lt-ltb, ltb-true, ne-eqb}
-use Rattle.model.specs.Lists.{below, all}
+use Rattle.model.specs.Lists.{below}
 use Rattle.model.specs.Bytes.{Bytes, be4, part, number}
 use Rattle.model.specs.Card.{newName}
 use Rattle.model.specs.Layout.{Held, newHeld, distinct, isHeld, isListable, isCommit, commitBlock, flagOf, escaped, mark}
@@ -33,7 +33,7 @@ use Rattle.crash.specs.Ledger.{Ledger, recordBlocks, storedOf, storedSin
 use Rattle.crash.specs.Claims.{readAs, JournalsRead}
 use Rattle.crash.proofs.Relation.{Limits, sumNext, Fine, heldOf, recordOf, contents, DiskStands}
 use Rattle.crash.proofs.Stages.{closed-present, Unretired, stored-unretired}
-use Rattle.crash.proofs.Master.{shape-limits, shape-read, tail-read}
+use Rattle.crash.proofs.Master.{shape-read, tail-read}
 
 -- ---- the list that the reader finds
 -- the record of transaction t at a position
@@ -120,7 +120,7 @@ module _ {l : Ledger} (f : Fine l) (t : Name) (h : isClosed ((l .book .entry t) 
       let z = f .frozen t h in
       let named : (u : Name) → List·Memᴰ u ((l .book .entry t) .names) → Limits (l .shape) u (l .book .entry u) = λ u x. f .limits u (f .named t u x) in
       record {
-        shape = shape-limits (f .range);
+        shape = f .range;
         number = m .high;
         few = omega (arith, m .few);
         held =

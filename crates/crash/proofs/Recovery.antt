@@ -32,7 +32,7 @@ use Rattle.crash.specs.Book.{Write, keptWrites, blank}
 use Rattle.crash.specs.Ledger.{Ledger, freshLedger, blocksIn, recoverLedger}
 use Rattle.crash.specs.Claims.{recoverStore}
 use Rattle.crash.proofs.Relation.{IsBlock, WriteFits, Fine, DiskStands, Up, target, DownBy}
-use Rattle.crash.proofs.Master.{shape-limits, master-stands, shape-read}
+use Rattle.crash.proofs.Master.{master-stands, shape-read}
 use Rattle.crash.proofs.Records.{length-readList, few-records, journal-read}
 use Rattle.crash.proofs.Valid.{own-tails, blocks-on}
 use Rattle.crash.proofs.Newest.{newest-image}
@@ -203,7 +203,7 @@ module _ {l : Ledger} {w : World} (v : DownBy l w) where
   master-fits = rw (v .disk .size) (omega arith)
 
   master-size : length (masterBlock (l .shape) firstTail) ≡ 128
-  master-size = length-master (shape-limits (v .fine .range)) firstTail
+  master-size = length-master (v .fine .range) firstTail
 
   module _ (e : l .left ≡ []) where
     master-outcome : recovered w ≡ storing w (broughtUp (w .disk)) 0 (masterBlock (l .shape) firstTail)

@@ -1,18 +1,18 @@
 -- What holds of ledger and card at every point of a run: the ledger is in order (`Fine`), the disk holds what the ledger
 -- says (`DiskStands`), and card and memory agree with it (`Up`), or recovery will give the kept writes (`DownBy`).
 -- Each command keeps this; the claims follow from it.
-use Prim.Native.Nat.{ℕ, zero, suc, _+_, _-_, _*_, _≤_, _<_}
+use Prim.Native.Nat.{ℕ, zero, suc, _+_, _-_, _≤_, _<_}
 use mathlib.Core.Path.{_≡_}
 use mathlib.Core.Logic.{_⊎_, _≢_}
 use mathlib.Core.List.{List, [], _∷_, _++_, map, flatMap, List·Memᴰ}
 use mathlib.Core.Option.{Option, none, some}
-use mathlib.Core.Bool.{Bool, true, false, not}
+use mathlib.Core.Bool.{true, false}
 use lib.ListN.{length, take, getD}
-use lib.Dec.{ltb, leb, eqb}
-use Rattle.model.specs.Lists.{below, any, all, select}
+use lib.Dec.{leb, eqb}
+use Rattle.model.specs.Lists.{below, any, select}
 use Rattle.model.specs.Bytes.{Bytes, blockAt}
 use Rattle.model.specs.Shape.{homeBlock}
-use Rattle.model.specs.Card.{newName, sameName, taken, listed, noHolder, tailOf, coreOf, holderOf}
+use Rattle.model.specs.Card.{newName, taken, listed, noHolder, tailOf, coreOf, holderOf}
 use Rattle.model.specs.Layout.{Held, newHeld, flagOf, escaped, descriptorBlock, commitBlock, masterBlock, isCommit}
 use Rattle.model.specs.Journal.{journalAt}
 use Rattle.model.specs.Commit.{copyBlock}
@@ -25,7 +25,7 @@ use Rattle.model.specs.declared.Transaction.{Transaction}
 use Rattle.model.specs.declared.Core.{Core}
 use Rattle.model.specs.declared.Holder.{Holder}
 use Rattle.model.proofs.Limits.{InRange}
-use Rattle.crash.specs.Book.{Stage, absent, running, closed, committed, retired, isRunning, isClosed, isCommitted, isRetired, counted, Entry, Write, Book, holderIn, keptWrites, image, blank}
+use Rattle.crash.specs.Book.{absent, running, closed, committed, retired, isRunning, isClosed, counted, Entry, Write, Book, holderIn, keptWrites, image, blank}
 use Rattle.crash.specs.Ledger.{Ledger, imageNow, validIn, blocksIn, recordBlocks}
 use Rattle.crash.specs.Claims.{IsBytes}
 

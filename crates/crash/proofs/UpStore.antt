@@ -36,7 +36,7 @@ use Rattle.crash.specs.Ledger.{Ledger, withBook, imageNow, recordBlocks}
 use Rattle.crash.specs.Claims.{IsBytes}
 use Rattle.crash.proofs.Relation.{IsBlock, Frozen, Fine, heldOf, recordOf, contents, JournalStands, DiskStands, Matches, CoreUp, holderAs, Up}
 use Rattle.crash.proofs.Stages.{stored-unretired, closed-present}
-use Rattle.crash.proofs.Master.{shape-limits}
+
 use Rattle.crash.proofs.Records.{record-sound, length-record}
 use Rattle.crash.proofs.Entries.{other-number, other-core, change-at, change-other, change-by, same-or-not, raise-at, raise-other, holder-same, records-same, records-snoc}
 use Rattle.crash.proofs.Frames.{SameClosed, core-set, core-other, bytes-append, bytes-store, each-isBytes, escaped-bytes, map-below, record-same, contents-same, flatMap-below, none-stored, journal-stays, core-stays}
@@ -317,7 +317,7 @@ module _ {l : Ledger} {w : World} (u : Up l w) (c : ℕ) (in-range : c < l .shap
   is-block = record-blocks (u .fine) t closed-now (x .stored) (omega (arith, size, within))
 
   fits : 128 * at + 128 ≤ length (w .disk)
-  fits = omega (arith, u .disk .size, journal-low (shape-limits (u .fine .range)) c ((tailOf (w .card) c) .position + length (contents l c)) in-range)
+  fits = omega (arith, u .disk .size, journal-low (u .fine .range) c ((tailOf (w .card) c) .position + length (contents l c)) in-range)
 
   elsewhere : (k : ℕ) → k ≢ at → blockAt (storeBlock (w .disk) at b) k ≡ blockAt (w .disk) k
   elsewhere = block-other (w .disk) at b fits (is-block .size)

@@ -10,7 +10,7 @@ use mathlib.Core.Bool.{Bool, true, false, not, _&&_, _||_}
 use mathlib.Core.List.{List, [], _∷_, map, flatMap, List·Memᴰ, List·Memᴰ·head, List·Memᴰ·tail, Memᴰ·cast, Memᴰ·map, Memᴰ·of-map}
 use lib.Dec.{ltb, eqb}
 use borrow.Author.Tests.{not-true}
-use Rattle.model.specs.Lists.{below, all, any, select}
+use Rattle.model.specs.Lists.{below, any, select}
 use Rattle.model.specs.Bytes.{Bytes, block}
 use Rattle.model.specs.Card.{sameName}
 use Rattle.model.specs.Layout.{mark, pairWords, masterBlock}

@@ -1,11 +1,11 @@
 -- A book of transactions: section 'What a cut brings back'. Service book and ledger are kept by these same rules.
-use Prim.Native.Nat.{ℕ, zero, suc, _+_, _<_}
-use mathlib.Core.List.{List, [], _∷_, _++_, flatMap}
+use Prim.Native.Nat.{ℕ, suc, _+_}
+use mathlib.Core.List.{List, [], _∷_, _++_}
 use mathlib.Core.Option.{Option, none, some}
-use mathlib.Core.Bool.{Bool, true, false, cond, _&&_}
+use mathlib.Core.Bool.{Bool, true, false, cond}
 use lib.ListN.{length, replicate}
 use lib.Dec.{eqb, leb}
-use Rattle.model.specs.Lists.{below, all, any, select}
+use Rattle.model.specs.Lists.{all, any, select}
 use Rattle.model.specs.Bytes.{Bytes, replaced}
 use Rattle.model.specs.Card.{newName, sameName}
 use Rattle.model.specs.Shrink.{shrink}

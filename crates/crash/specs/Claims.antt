@@ -3,7 +3,7 @@ use Prim.Native.Nat.{ℕ, suc, _+_, _*_, _<_, min}
 use mathlib.Core.Path.{_≡_}
 use mathlib.Core.Logic.{_≢_}
 use mathlib.Core.List.{List, [], _∷_, _++_, map, List·Memᴰ}
-use mathlib.Core.Bool.{Bool, true, false, not}
+use mathlib.Core.Bool.{true, false, not}
 use lib.ListN.{length}
 use lib.Dec.{ltb, eqb}
 use Rattle.model.specs.Lists.{below, all}
@@ -12,7 +12,7 @@ use Rattle.model.specs.Shape.{between, inRange, homeBlock}
 use Rattle.model.specs.Card.{isBlank, isUp, newTail, blankCard, downCard, shapeOf}
 use Rattle.model.specs.Layout.{maxNumber, masterBlock}
 use Rattle.model.specs.Journal.{journal, nameOf, blocksOf, namesOf, imageOf}
-use Rattle.model.specs.Command.{World, Outcome, refusal}
+use Rattle.model.specs.Command.{World, refusal}
 use Rattle.model.specs.Format.{formatted}
 use Rattle.model.specs.Recovery.{shapeOn, tailOn}
 use Rattle.model.specs.Reading.{readNumber}

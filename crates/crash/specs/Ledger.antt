@@ -3,7 +3,7 @@
 -- stated without the card's state.
 use Prim.Native.Nat.{ℕ, zero, suc, _+_, _-_, min}
 use mathlib.Core.List.{List, [], _∷_, _++_, map}
-use mathlib.Core.Bool.{Bool, true, false, cond, not, _&&_, _||_}
+use mathlib.Core.Bool.{Bool, cond, not, _&&_, _||_}
 use lib.ListN.{length, getD}
 use lib.Dec.{ltb, leb, eqb}
 use Rattle.model.specs.Lists.{below, all, any, select}
@@ -17,7 +17,7 @@ use Rattle.model.specs.declared.Name.{Name}
 use Rattle.model.specs.declared.Phase.{Phase}
 use Rattle.model.specs.declared.Phase.the-variants.{Blank, Up, Down}
 use Rattle.model.specs.declared.Shape.{Shape}
-use Rattle.crash.specs.Book.{Book, Write, Stage, Entry, isRunning, isClosed, isCommitted, isRetired, emptyBook, holderIn, Meeting, no-holder, own, running-holder, closed-holder, meets, wrote, close, keptWrites, image, blank}
+use Rattle.crash.specs.Book.{Book, Write, isRunning, isClosed, isCommitted, isRetired, emptyBook, holderIn, Meeting, no-holder, own, running-holder, closed-holder, meets, wrote, close, keptWrites, image, blank}
 use Rattle.crash.specs.Service.{noted}
 
 pub record Ledger : Type 0 where

@@ -1,7 +1,7 @@
 -- The service book: 'fed each command with its answer, and nothing of the card's disk, memory or state'.
 use Prim.Native.Nat.{ℕ, zero, suc}
-use mathlib.Core.List.{List, [], _∷_, _++_, flatMap}
-use mathlib.Core.Bool.{Bool, cond}
+use mathlib.Core.List.{List, [], _++_, flatMap}
+use mathlib.Core.Bool.{cond}
 use lib.ListN.{getD}
 use lib.Dec.{eqb}
 use Rattle.model.specs.Lists.{below}

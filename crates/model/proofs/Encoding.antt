@@ -8,17 +8,18 @@ use mathlib.Core.Bool.{true, false, _&&_}
 use mathlib.Core.List.{List, [], _∷_, _++_, map, flatMap}
 use lib.ListN.{length, take, drop, getD, length-map, length-drop, take-append-drop}
 use lib.Seq.{getD-drop, ext-getD, length-take-le}
-use lib.Dec.{eqb, leb, ltb}
+use lib.Dec.{eqb, ltb}
 use borrow.Author.Tests.{le-leb, eq-eqb, leb-true, ltb-true, eqb-true}
 use Rattle.model.specs.Lists.{below, all}
 use Rattle.model.specs.Bytes.{Bytes, bytes, number, part, be4, block}
-use Rattle.model.specs.Shape.{between, inRange}
+use Rattle.model.specs.Shape.{between}
 use Rattle.model.specs.Card.{newTail, newName}
 use Rattle.model.specs.Layout.{mark, maxNumber, hasHead, pairWords, pairAt, pairsIn, masterBlock, shapeIn, tailIn, isTail, isMaster, Held, newHeld, descriptorBlock, blockCount, heldIn, distinct, isHeld, isDescriptor, commitBlock, stampIn, nameCount, namesIn, isListable, isCommit, flagOf, escaped, unescaped}
 use Rattle.model.specs.declared.Shape.{Shape}
 use Rattle.model.specs.declared.Tail.{Tail}
 use Rattle.model.specs.declared.Name.{Name}
 use Rattle.model.proofs.Lists.{cases, and-left, and-right, all-mem, mem-all, length-below, getD-map-below, mem-below, Each, each-getD, getD-each, mem-each, each-take, getD-mem}
+use Rattle.model.proofs.Limits.{InRange, between-known, test-range}
 use Rattle.model.proofs.Words.{IsByte, IsWord, word-of, length-block, bytes-number}
 
 -- ---- pairs
@@ -62,33 +63,6 @@ module _ {A : Type 0} (f g : A → ℕ) where
         ext-getD d (map (pairAt make (block ws) (4 * j)) (below (length xs))) xs l
         (λ i h. getD-map-below (pairAt make (block ws) (4 * j)) (length xs) i d (omega arith) ∙ pair-of i d (omega arith))
 
--- ---- a shape within the limits of the paper
-pub record Limits (s : Shape) : Type 0 where
-  pub core : 1 ≤ s .cores
-  pub cores : s .cores ≤ 8
-  pub block : 1 ≤ s .blocks
-  pub blocks : s .blocks ≤ 64
-  pub four : 4 ≤ s .journal
-  pub journal : s .journal ≤ 24
-
-between-known : (low x high : ℕ) → between low x high ≡ true → (low ≤ x) × (x ≤ high)
-unfolding between
-between-known low x high h = (leb-true low x (and-left _ _ h), leb-true x high (and-right (leb low x) _ h))
-
-pub range-limits : (s : Shape) → inRange (s .cores) (s .blocks) (s .journal) ≡ true → Limits s
-unfolding inRange
-range-limits s h =
-    let cb = and-left _ _ h in
-    let c = between-known 1 (s .cores) 8 (and-left _ _ cb) in
-    let b = between-known 1 (s .blocks) 64 (and-right (between 1 (s .cores) 8) _ cb) in
-    let j = between-known 4 (s .journal) 24 (and-right (between 1 (s .cores) 8 && between 1 (s .blocks) 64) _ h) in
-    record { core = c .0; cores = c .1; block = b .0; blocks = b .1; four = j .0; journal = j .1 }
-
-pub limits-range : {s : Shape} → Limits s → inRange (s .cores) (s .blocks) (s .journal) ≡ true
-unfolding inRange between
-limits-range {s} l =
-    rw (le-leb 1 (s .cores) (l .core), le-leb (s .cores) 8 (l .cores), le-leb 1 (s .blocks) (l .block), le-leb (s .blocks) 64 (l .blocks), le-leb 4 (s .journal) (l .four), le-leb (s .journal) 24 (l .journal))
-
 -- ---- master
 pub tail-limits : (s : Shape) (t : Tail) → isTail s t ≡ true → (1 ≤ t .number) × (t .number ≤ suc maxNumber) × (t .position < s .journal)
 unfolding isTail
@@ -100,12 +74,12 @@ unfoldable masterWords : Shape → (ℕ → Tail) → List ℕ
 masterWords s tailAt =
     mark ∷ 4 ∷ 0 ∷ s .cores ∷ s .blocks ∷ s .journal ∷ pairWords (λ (t : Tail). t .number) (λ (t : Tail). t .position) (map tailAt (below (s .cores)))
 
-module _ {s : Shape} (l : Limits s) (tailAt : ℕ → Tail) where
+module _ {s : Shape} (l : InRange s) (tailAt : ℕ → Tail) where
   pub length-master : length (masterBlock s tailAt) ≡ 128
   unfolding masterBlock
   length-master =
       length-block _
-      (omega (arith, l .cores, length-pairs (λ (t : Tail). t .number) (λ (t : Tail). t .position) (map tailAt (below (s .cores))), length-map (below (s .cores)) tailAt, length-below (s .cores)))
+      (omega (arith, l .few-cores, length-pairs (λ (t : Tail). t .number) (λ (t : Tail). t .position) (map tailAt (below (s .cores))), length-map (below (s .cores)) tailAt, length-below (s .cores)))
 
   module _ (tails : (c : ℕ) → c < s .cores → isTail s (tailAt c) ≡ true) where
     master-fit : Each IsWord (masterWords s tailAt)
@@ -116,18 +90,18 @@ module _ {s : Shape} (l : Limits s) (tailAt : ℕ → Tail) where
         (λ i h.
         let n : i < s .cores = omega (arith, length-map (below (s .cores)) tailAt, length-below (s .cores)) in
         let r = tail-limits s (tailAt i) (tails i n) in
-        rw (getD-map-below tailAt (s .cores) i (newTail 0 0) n) (omega arith, omega (arith, l .journal))) in (
+        rw (getD-map-below tailAt (s .cores) i (newTail 0 0) n) (omega arith, omega (arith, l .short))) in (
           omega arith,
           (
             omega arith,
             (
               omega arith,
               (
-                omega (arith, l .cores),
+                omega (arith, l .few-cores),
                 (
-                  omega (arith, l .blocks),
+                  omega (arith, l .few-blocks),
                   (
-                    omega (arith, l .journal),
+                    omega (arith, l .short),
                     each-pairs (λ (t : Tail). t .number) (λ (t : Tail). t .position) (map tailAt (below (s .cores))) pairs,
                   ),
                 ),
@@ -157,11 +131,11 @@ module _ {s : Shape} (l : Limits s) (tailAt : ℕ → Tail) where
         let m = masterBlock s tailAt in
         let t : all (λ (c : ℕ). isTail s (tailIn m c)) (below (s .cores)) ≡ true =
         mem-all (λ (c : ℕ). isTail s (tailIn m c)) (below (s .cores)) (λ c h. let n = mem-below (s .cores) h in ap (isTail s) (master-tail c n) ∙ tails c n) in
-        simp (master-shape, master-word 0, master-word 1, limits-range l, t)
+        simp (master-shape, master-word 0, master-word 1, test-range s l, t)
 
 -- ---- a transaction that keeps the rules of the format: its number, the blocks that it took, its stamp, its names
 pub record Sound (s : Shape) (k : ℕ) (hs : List Held) (stamp : ℕ) (ns : List Name) : Type 0 where
-  pub shape : Limits s
+  pub shape : InRange s
   pub number : k ≤ maxNumber
   pub few : length hs ≤ 8
   pub held : all (isHeld s) hs ≡ true
@@ -199,7 +173,7 @@ module _ {s : Shape} {k : ℕ} {hs : List Held} {stamp : ℕ} {ns : List Name} (
   descriptor-fit : Each IsWord (descriptorWords k hs)
   unfolding descriptorWords
   descriptor-fit =
-      let pairs : Each (λ (h : Held). IsWord (h .block) × IsWord (h .flag)) hs = mem-each _ hs (λ h m. let r = held-limits s h (all-mem (isHeld s) hs (g .held) m) in (omega (arith, g .shape .blocks), omega arith)) in
+      let pairs : Each (λ (h : Held). IsWord (h .block) × IsWord (h .flag)) hs = mem-each _ hs (λ h m. let r = held-limits s h (all-mem (isHeld s) hs (g .held) m) in (omega (arith, g .shape .few-blocks), omega arith)) in
       (omega arith, (omega arith, (omega (arith, g .number), (omega (arith, g .few), each-pairs (λ (h : Held). h .block) (λ (h : Held). h .flag) hs pairs))))
 
   descriptor-word : (i : ℕ) → be4 (descriptorBlock k hs) (4 * i) ≡ getD (descriptorWords k hs) i 0
@@ -228,7 +202,7 @@ module _ {s : Shape} {k : ℕ} {hs : List Held} {stamp : ℕ} {ns : List Name} (
   commit-fit =
       let pairs : Each (λ (n : Name). IsWord (n .core) × IsWord (n .number)) ns =
       getD-each _ ns (newName 0 0)
-      (λ i h. (omega (arith, g .shape .cores, listable-core s (getD ns i (newName 0 0)) (all-mem (isListable s) ns (g .listable) (getD-mem ns i (newName 0 0) h))), each-getD (λ (n : Name). IsWord (n .number)) ns (g .numbers) i (newName 0 0) h)) in (
+      (λ i h. (omega (arith, g .shape .few-cores, listable-core s (getD ns i (newName 0 0)) (all-mem (isListable s) ns (g .listable) (getD-mem ns i (newName 0 0) h))), each-getD (λ (n : Name). IsWord (n .number)) ns (g .numbers) i (newName 0 0) h)) in (
         omega arith,
         (
           omega arith,

@@ -26,14 +26,15 @@ use Rattle.model.specs.declared.Found.the-variants.{Whole, Miss}
 use Rattle.model.proofs.Lists.{cases, and-left, and-right, Each, each-append, each-getD}
 use Rattle.model.proofs.Store.{length-store, block-stored, block-other}
 use Rattle.model.proofs.Words.{IsByte}
-use Rattle.model.proofs.Encoding.{Limits, Sound, length-descriptor, length-commit, descriptor-count, descriptor-held, descriptor-read, commit-stamp, commit-count, commit-names, commit-read, length-escaped, unescaped-escaped}
+use Rattle.model.proofs.Limits.{InRange}
+use Rattle.model.proofs.Encoding.{Sound, length-descriptor, length-commit, descriptor-count, descriptor-held, descriptor-read, commit-stamp, commit-count, commit-names, commit-read, length-escaped, unescaped-escaped}
 
 -- ---- where the blocks of a journal stand
-pub journal-low : {s : Shape} → Limits s → (c p : ℕ) → c < s .cores → journalBlock s c p < 257
+pub journal-low : {s : Shape} → InRange s → (c p : ℕ) → c < s .cores → journalBlock s c p < 257
 unfolding journalBlock
 journal-low {s} l c p h =
-    let j : 0 < s .journal = omega (arith, l .four) in
-    omega (arith, l .blocks, l .journal, mod-lt p j, mul-le-mul {n₁ = c} {n₂ = 7} (omega (arith, l .cores)) (l .journal))
+    let j : 0 < s .journal = omega (arith, l .long) in
+    omega (arith, l .few-blocks, l .short, mod-lt p j, mul-le-mul {n₁ = c} {n₂ = 7} (omega (arith, l .few-cores)) (l .short))
 
 -- the master block and the home blocks are no journal blocks
 pub home-apart : (s : Shape) (c p k : ℕ) → k ≤ s .blocks → k ≢ journalBlock s c p
@@ -80,7 +81,7 @@ IsBlock b = length b ≡ 128
 next : (p i : ℕ) → p + suc i ≡ p + 1 + i
 next p i = omega arith
 
-module _ {s : Shape} (l : Limits s) (c : ℕ) (in-range : c < s .cores) where
+module _ {s : Shape} (l : InRange s) (c : ℕ) (in-range : c < s .cores) where
   fits : (p : ℕ) (d : Bytes) → length d ≡ 32896 → 128 * journalBlock s c p + 128 ≤ length d
   fits p d n = omega (arith, journal-low l c p in-range)
 

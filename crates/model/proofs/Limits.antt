@@ -1,13 +1,13 @@
 -- A shape within its limits: what the test says, and that clamping gives one and changes none.
-use Prim.Native.Nat.{ℕ, _+_, _*_, _%_, _≤_, _<_}
+use Prim.Native.Nat.{ℕ, _≤_}
 use native.Mathlib.Omega.{arith}
-use native.Mathlib.Nat.{mod-lt, mul-le-mul}
 use native.Mathlib.Decide.{decLt}
-use mathlib.Core.Path.{_≡_, refl, _∙_, sym}
-use mathlib.Core.Bool.{Bool, true, false, cond, _&&_}
-use lib.Dec.{ltb, leb}
+use mathlib.Core.Path.{_≡_, refl}
+use mathlib.Core.Bool.{true, _&&_}
+use lib.Dec.{leb}
 use borrow.Author.Tests.{lt-ltb, le-ltb, le-leb, leb-true}
-use Rattle.model.specs.Shape.{between, inRange, nearest, clamped, journalBlock}
+use Rattle.model.proofs.Lists.{and-left, and-right}
+use Rattle.model.specs.Shape.{between, inRange, nearest, clamped}
 use Rattle.model.specs.declared.Shape.{Shape}
 
 pub record InRange (s : Shape) : Type 0 where
@@ -53,27 +53,19 @@ clamped-same s r =
       nearest-within 4 (s .journal) 24 (omega arith) .same (r .long) (r .short),
     )
 
--- the test and the limits are the same
-and-split : (a b : Bool) → a && b ≡ true → (a ≡ true) × (b ≡ true)
-and-split true b h = (refl, h)
-and-split false b h = (h, absurd (let z : _≡_ {A = Bool} false true = h in let y : _≡_ {A = ℕ} 0 1 = cc in omega arith))
+-- ---- the test and the limits are the same
+pub between-known : (low x high : ℕ) → between low x high ≡ true → (low ≤ x) × (x ≤ high)
+unfolding between
+between-known low x high h = (leb-true low x (and-left _ _ h), leb-true x high (and-right (leb low x) _ h))
 
 pub range-test : (s : Shape) → inRange (s .cores) (s .blocks) (s .journal) ≡ true → InRange s
-unfolding inRange between
+unfolding inRange
 range-test s h =
-    let p = and-split (between 1 (s .cores) 8 && between 1 (s .blocks) 64) (between 4 (s .journal) 24) h in
-    let q = and-split (between 1 (s .cores) 8) (between 1 (s .blocks) 64) (p .0) in
-    let c = and-split (leb 1 (s .cores)) (leb (s .cores) 8) (q .0) in
-    let b = and-split (leb 1 (s .blocks)) (leb (s .blocks) 64) (q .1) in
-    let j = and-split (leb 4 (s .journal)) (leb (s .journal) 24) (p .1) in
-    record {
-      a-core = leb-true 1 (s .cores) (c .0);
-      few-cores = leb-true (s .cores) 8 (c .1);
-      a-block = leb-true 1 (s .blocks) (b .0);
-      few-blocks = leb-true (s .blocks) 64 (b .1);
-      long = leb-true 4 (s .journal) (j .0);
-      short = leb-true (s .journal) 24 (j .1);
-    }
+    let cb = and-left _ _ h in
+    let c = between-known 1 (s .cores) 8 (and-left _ _ cb) in
+    let b = between-known 1 (s .blocks) 64 (and-right (between 1 (s .cores) 8) _ cb) in
+    let j = between-known 4 (s .journal) 24 (and-right (between 1 (s .cores) 8 && between 1 (s .blocks) 64) _ h) in
+    record { a-core = c .0; few-cores = c .1; a-block = b .0; few-blocks = b .1; long = j .0; short = j .1 }
 
 pub test-range : (s : Shape) → InRange s → inRange (s .cores) (s .blocks) (s .journal) ≡ true
 unfolding inRange between

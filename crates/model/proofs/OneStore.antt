@@ -7,9 +7,9 @@ use mathlib.Core.Bool.{Bool, true, false, true≢false, _&&_}
 use mathlib.Core.List.{List, [], _∷_, List·Memᴰ, List·Memᴰ·head}
 use lib.ListN.{length, getD, length-map, length-take}
 use lib.Dec.{ltb, leb, eqb}
-use borrow.Author.Tests.{ltb-true, ltb-false, leb-true, leb-false, eqb-true, not-false}
+use borrow.Author.Tests.{ltb-true, leb-true, leb-false, eqb-true, not-false}
 use Rattle.model.specs.Bytes.{Bytes, be4, blockAt, store}
-use Rattle.model.specs.Shape.{inRange, nearest, clamped, homeBlock, journalBlock}
+use Rattle.model.specs.Shape.{inRange, homeBlock, journalBlock}
 use Rattle.model.specs.Card.{taken, listed, shapeOf, tailOf, coreOf, committedCount}
 use Rattle.model.specs.Layout.{mark, isMaster, shapeIn}
 use Rattle.model.specs.Journal.{journal, imageOf}
@@ -28,9 +28,10 @@ use Rattle.model.specs.declared.Card.{Card}
 use Rattle.model.specs.declared.Committed.{Committed}
 use Rattle.model.specs.declared.Found.{Found}
 use Rattle.model.specs.declared.Found.the-variants.{Whole, Miss}
+use Rattle.model.proofs.Limits.{InRange, clamped-range, range-test}
 use Rattle.model.proofs.Lists.{cases, and-left, and-right, mem-below, length-below, Each, mem-each}
 use Rattle.model.proofs.Store.{length-blockAt}
-use Rattle.model.proofs.Encoding.{Limits, range-limits, length-master, length-descriptor, length-commit, length-escaped}
+use Rattle.model.proofs.Encoding.{length-master, length-descriptor, length-commit, length-escaped}
 use Rattle.model.proofs.Journal.{journal-low}
 use Rattle.model.proofs.Records.{known-below, journal-known, journals-known, oldest-mem, length-imageOf, IfFound, newest-holds}
 use Rattle.model.proofs.Select.{select-mem}
@@ -39,27 +40,13 @@ use Rattle.model.proofs.Command.{Clear, clear-refusal, refusedWith, unl
 use Rattle.model.proofs.Arrays.{FitsTransaction, FitsCore, Arrays, core-fits}
 
 -- ---- shapes within the limits
-nearest-within : (low x high : ℕ) → low ≤ high → (low ≤ nearest low x high) × (nearest low x high ≤ high)
-unfolding nearest
-nearest-within low x high h =
-    cases (ltb x low)
-    (λ a. rw a (omega arith, omega arith))
-    (λ a. cases (ltb high x)
-    (λ b. rw (a, b) (omega arith, omega arith))
-    (λ b. rw (a, b) (ltb-false x low a, ltb-false high x b)))
+pub shape-limits : (x : Card) → InRange (shapeOf x)
+unfolding shapeOf
+shape-limits x = clamped-range (x .shape)
 
-pub shape-limits : (x : Card) → Limits (shapeOf x)
-unfolding shapeOf clamped
-shape-limits x =
-    let s = x .shape in
-    let c = nearest-within 1 (s .cores) 8 (omega arith) in
-    let b = nearest-within 1 (s .blocks) 64 (omega arith) in
-    let j = nearest-within 4 (s .journal) 24 (omega arith) in
-    record { core = c .0; cores = c .1; block = b .0; blocks = b .1; four = j .0; journal = j .1 }
-
-pub master-limits : (m : Bytes) → isMaster m ≡ true → Limits (shapeIn m)
+pub master-limits : (m : Bytes) → isMaster m ≡ true → InRange (shapeIn m)
 unfolding isMaster
-master-limits m h = range-limits (shapeIn m) (and-right (eqb (be4 m 0) mark && eqb (be4 m 4) 4) _ (and-left _ _ h))
+master-limits m h = range-test (shapeIn m) (and-right (eqb (be4 m 0) mark && eqb (be4 m 4) 4) _ (and-left _ _ h))
 
 -- slices of the lengths that 1 asks for
 pub right-lengths : (w : World) → wrongLength w ≡ false → (length (w .disk) ≡ 32896) × (length (w .memory) ≡ 16384)
@@ -81,7 +68,7 @@ pub data OneStore (s : Shape) (d : Bytes) (o : Outcome) : Type 0 where
   none-stored : o .world .disk ≡ d → o .stores ≡ 0 → OneStore s d o
   one-stored : {k : ℕ} → Stored s k → (b : Bytes) → length b ≡ 128 → o .world .disk ≡ store d k b → o .stores ≡ 1 → OneStore s d o
 
-pub stored-low : {s : Shape} {k : ℕ} → Limits s → Stored s k → k < 257
+pub stored-low : {s : Shape} {k : ℕ} → InRange s → Stored s k → k < 257
 stored-low l master = omega arith
 stored-low l (home h) = omega arith
 stored-low l (position h p) = journal-low l _ p h
@@ -141,7 +128,7 @@ module _ (c : ℕ) (w : World) where
       (λ h. rw h (one-stored master _ (length-master (shape-limits (retiredCard c e (w .card))) _) refl refl))
 
 -- ---- RECOVER
-module _ (d : Bytes) (l : Limits (shapeOn d)) (n : length d ≡ 32896) where
+module _ (d : Bytes) (l : InRange (shapeOn d)) (n : length d ≡ 32896) where
   valid-cores : Each (λ (e : Committed). e .core < (shapeOn d) .cores) (validOn d)
   unfolding validOn committedOn
   valid-cores =
@@ -150,7 +137,7 @@ module _ (d : Bytes) (l : Limits (shapeOn d)) (n : length d ≡ 32896) where
 
   length-imageFound : (b : ℕ) (f : Found) → b < (shapeOn d) .blocks → IfFound (λ (e : Committed). e .core < (shapeOn d) .cores) f → length (imageFound d b f) ≡ 128
   unfolding imageFound
-  length-imageFound b Miss h p = length-blockAt 257 d n (homeBlock b) (omega (arith, l .blocks))
+  length-imageFound b Miss h p = length-blockAt 257 d n (homeBlock b) (omega (arith, l .few-blocks))
   length-imageFound b (Whole e) h p = length-imageOf l d n e _ p
 
   pub length-newestImage : (b : ℕ) → b < (shapeOn d) .blocks → length (newestImage d b) ≡ 128
@@ -163,7 +150,7 @@ unfolding blocksLeft blocksHeld
 left-below w {b} m = mem-below _ (select-mem _ _ b (select-mem _ _ b m .0) .0)
 
 module _ (w : World) where
-  recoverStep-store : Limits (shapeOn (w .disk)) → length (w .disk) ≡ 32896 → (bs : List ℕ) → ((b : ℕ) → List·Memᴰ b bs → b < (shapeOn (w .disk)) .blocks)
+  recoverStep-store : InRange (shapeOn (w .disk)) → length (w .disk) ≡ 32896 → (bs : List ℕ) → ((b : ℕ) → List·Memᴰ b bs → b < (shapeOn (w .disk)) .blocks)
       → OneStore (shapeOn (w .disk)) (w .disk) (recoverStep bs w)
   unfolding recoverStep
   recoverStep-store l n [] f = one-stored master _ (length-master l (emptiedTail (w .disk))) refl refl
@@ -171,7 +158,7 @@ module _ (w : World) where
       let h = f b (List·Memᴰ·head refl) in
       one-stored (home h) (newestImage (w .disk) b) (length-newestImage (w .disk) l n b h) refl refl
 
-  recover-limits : Clear (recoverConditions w) → Limits (shapeOn (w .disk))
+  recover-limits : Clear (recoverConditions w) → InRange (shapeOn (w .disk))
   unfolding recoverConditions shapeOn
   recover-limits cl = master-limits (blockAt (w .disk) 0) (not-false (isMaster (blockAt (w .disk) 0)) (cl .1 .1 .1 .0))
 
@@ -196,11 +183,11 @@ row-store k a w f h =
     (λ e. absurd (true≢false (sym e ∙ h))) (λ e cl. none-stored refl refl) (λ cl. none-stored refl refl)
     (store-store c w f) (checkpoint-store c w) (λ cl. none-stored refl refl) (recover-store w)
 
-pub row-limits : (k : ℕ) (a : Bytes) (w : World) → Clear ((rowOf k a w) .conditions) → Limits (storedShape k w)
+pub row-limits : (k : ℕ) (a : Bytes) (w : World) → Clear ((rowOf k a w) .conditions) → InRange (storedShape k w)
 unfolding rowOf storedShape
 row-limits k a w =
     let l = shape-limits (w .card) in
-    each-command (λ (r : Row) (s : Shape). Clear (r .conditions) → Limits s) k (λ e cl. l) (λ e cl. l) (λ cl. l) (λ cl. l) (λ cl. l) (λ cl. l) (recover-limits w)
+    each-command (λ (r : Row) (s : Shape). Clear (r .conditions) → InRange s) k (λ e cl. l) (λ e cl. l) (λ cl. l) (λ cl. l) (λ cl. l) (λ cl. l) (recover-limits w)
 
 one-refused : (s : Shape) (w : World) (n : ℕ) → OneStore s (w .disk) (refusedWith n w)
 one-refused s w n = none-stored refl refl
@@ -220,6 +207,6 @@ pub format-done : (c b j : ℕ) (w : World) → Clear (formatConditions c b j w)
 unfolding format
 format-done c b j w cl = unless-done (formatConditions c b j w) w _ (clear-refusal (formatConditions c b j w) cl)
 
-pub format-limits : (c b j : ℕ) (w : World) → Clear (formatConditions c b j w) → Limits (record { cores = c; blocks = b; journal = j })
+pub format-limits : (c b j : ℕ) (w : World) → Clear (formatConditions c b j w) → InRange (record { cores = c; blocks = b; journal = j })
 unfolding formatConditions
-format-limits c b j w cl = range-limits (record { cores = c; blocks = b; journal = j }) (not-false (inRange c b j) (cl .1 .1 .0))
+format-limits c b j w cl = range-test (record { cores = c; blocks = b; journal = j }) (not-false (inRange c b j) (cl .1 .1 .0))

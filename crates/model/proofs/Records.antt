@@ -21,9 +21,10 @@ use Rattle.model.specs.declared.Name.{Name}
 use Rattle.model.specs.declared.Committed.{Committed}
 use Rattle.model.specs.declared.Found.{Found}
 use Rattle.model.specs.declared.Found.the-variants.{Whole, Miss}
+use Rattle.model.proofs.Limits.{InRange}
 use Rattle.model.proofs.Lists.{and-left, and-right, all-mem, getD-mem, mem-getD, mem-flatMap, mem-below, length-below, Each}
 use Rattle.model.proofs.Store.{length-blockAt}
-use Rattle.model.proofs.Encoding.{Limits, length-unescaped}
+use Rattle.model.proofs.Encoding.{length-unescaped}
 use Rattle.model.proofs.Journal.{journal-low, Known, records-known}
 use Rattle.model.proofs.Shrink.{Distinct}
 use Rattle.model.proofs.Command.{of-cond}
@@ -73,7 +74,7 @@ oldest-mem [] i h = absurd (omega arith)
 oldest-mem (e ∷ es) i h = List·Memᴰ·head refl
 
 -- ---- blocks read are blocks
-module _ {s : Shape} (l : Limits s) (d : Bytes) (n : length d ≡ 32896) where
+module _ {s : Shape} (l : InRange s) (d : Bytes) (n : length d ≡ 32896) where
   pub length-journalAt : (c p : ℕ) → c < s .cores → length (journalAt s d c p) ≡ 128
   unfolding journalAt
   length-journalAt c p h = length-blockAt 257 d n (journalBlock s c p) (journal-low l c p h)

@@ -21,9 +21,10 @@ use Rattle.model.specs.Recovery.{blocksLeft, recoverStep, recovered}
 use Rattle.model.specs.Tape.{step, operandLengths, operandLength, commandByte, operandsAt, endsEarly, commandAt, Point}
 use Rattle.model.specs.declared.Shape.{Shape}
 use Rattle.model.specs.declared.Phase.the-variants.{Blank}
+use Rattle.model.proofs.Limits.{InRange}
 use Rattle.model.proofs.Lists.{cases, Each}
 use Rattle.model.proofs.Store.{length-replaced, length-store, length-blockAt}
-use Rattle.model.proofs.Encoding.{Limits, length-master}
+use Rattle.model.proofs.Encoding.{length-master}
 use Rattle.model.proofs.Command.{Clear, Decided, refused, carried-out, of-cond, of-command, Row, row, rowOf, step-decided, command-decided}
 use Rattle.model.proofs.Tape.{Runs, at-end, one-more}
 use Rattle.model.proofs.Arrays.{Arrays, core-fits, empty-arrays, row-arrays}
@@ -35,11 +36,11 @@ pub record Sized (w : World) : Type 0 where
   pub arrays : Arrays (w .card)
 
 -- ---- the disk
-one-length : {s : Shape} {d : Bytes} {o : Outcome} → Limits s → length d ≡ 32896 → OneStore s d o → length (o .world .disk) ≡ 32896
+one-length : {s : Shape} {d : Bytes} {o : Outcome} → InRange s → length d ≡ 32896 → OneStore s d o → length (o .world .disk) ≡ 32896
 one-length l n (none-stored e z) = ap length e ∙ n
 one-length {d = d} l n (one-stored {k} p b h e z) = ap length e ∙ (length-store d k b (omega (arith, stored-low l p)) h ∙ n)
 
-formatted-disk : (s : Shape) → Limits s → length ((formatted s) .world .disk) ≡ 32896
+formatted-disk : (s : Shape) → InRange s → length ((formatted s) .world .disk) ≡ 32896
 unfolding formatted zeroDisk
 formatted-disk s l = length-store (replicate 32896 0) 0 _ (rw length-replicate (omega arith)) (length-master l _) ∙ length-replicate {A = ℕ} 32896 0
 

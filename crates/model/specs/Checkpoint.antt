@@ -2,22 +2,19 @@
 -- then the master with the tail moved past it, which retires it'.
 use Prim.Native.Nat.{ℕ, _+_, _-_, _%_}
 use mathlib.Core.List.{List, [], _∷_, map}
-use mathlib.Core.Bool.{Bool, true, false, cond, not, _&&_, _||_}
+use mathlib.Core.Bool.{Bool, cond, not, _&&_, _||_}
 use lib.ListN.{length, getD, set}
 use lib.Dec.{ltb, eqb}
 use Rattle.model.specs.Lists.{below, any}
-use Rattle.model.specs.Bytes.{Bytes}
 use Rattle.model.specs.Shape.{homeBlock}
 use Rattle.model.specs.Card.{newTail, sameName, noHolder, taken, shapeOf, tailOf, coreOf, committedCount, withCore}
 use Rattle.model.specs.Layout.{masterBlock}
 use Rattle.model.specs.Journal.{journal, journals, nameOf, blocksOf, imageOf}
 use Rattle.model.specs.Valid.{isIn, validSet}
 use Rattle.model.specs.Command.{World, Outcome, storing, unless, notUp, noCore}
-use Rattle.model.specs.declared.Tail.{Tail}
 use Rattle.model.specs.declared.Name.{Name}
 use Rattle.model.specs.declared.Transaction.{Transaction}
 use Rattle.model.specs.declared.Holder.{Holder}
-use Rattle.model.specs.declared.Core.{Core}
 use Rattle.model.specs.declared.Card.{Card}
 use Rattle.model.specs.declared.Committed.{Committed}
 

@@ -1,7 +1,7 @@
 -- Section 'Bytes of the blocks': one definition of the bytes for storing and for reading.
-use Prim.Native.Nat.{ℕ, zero, suc, _+_, _*_, _/_, _%_, _^_}
+use Prim.Native.Nat.{ℕ, suc, _+_, _*_, _/_, _%_, _^_}
 use mathlib.Core.List.{List, [], _∷_, _++_, map, flatMap}
-use mathlib.Core.Bool.{Bool, true, false, cond, not, _&&_}
+use mathlib.Core.Bool.{Bool, true, cond, not, _&&_}
 use lib.ListN.{drop, length, replicate}
 use lib.Dec.{ltb, leb, eqb}
 use Rattle.model.specs.Lists.{below, all}

@@ -7,8 +7,8 @@ use lib.Dec.{ltb, leb, eqb}
 use Rattle.model.specs.Lists.{below, select}
 use Rattle.model.specs.Bytes.{Bytes, blockAt, zeroMemory}
 use Rattle.model.specs.Shape.{homeBlock}
-use Rattle.model.specs.Card.{isBlank, isUp, newTail, freshCard, downCard, tailOf}
-use Rattle.model.specs.Layout.{Held, maxNumber, masterBlock, isMaster, shapeIn, tailIn}
+use Rattle.model.specs.Card.{isBlank, isUp, newTail, freshCard, downCard}
+use Rattle.model.specs.Layout.{maxNumber, masterBlock, isMaster, shapeIn, tailIn}
 use Rattle.model.specs.Journal.{journal, journals, blocksOf, imageOf}
 use Rattle.model.specs.Valid.{validSet, blocksHeld, newest}
 use Rattle.model.specs.Command.{World, Outcome, unstored, storing, unless, wrongLength}

@@ -2,20 +2,19 @@
 use Prim.Native.Nat.{ℕ, zero, suc, _+_, max}
 use mathlib.Core.List.{List, [], _∷_, map}
 use mathlib.Core.Bool.{Bool, true, false, cond, not, _&&_}
-use lib.ListN.{take, drop, length, getD}
-use lib.Dec.{ltb, leb, eqb}
+use lib.ListN.{take, length, getD}
+use lib.Dec.{ltb, eqb}
 use Rattle.model.specs.Lists.{below, all, select}
 use Rattle.model.specs.Bytes.{Bytes, number, part, blockAt, zeroDisk, zeroMemory}
 use Rattle.model.specs.Shape.{between, homeBlock}
 use Rattle.model.specs.Card.{blankCard, shapeOf}
 use Rattle.model.specs.Layout.{isMaster}
-use Rattle.model.specs.Command.{World, Outcome, refusal, unless, wrongLength}
+use Rattle.model.specs.Command.{World, Outcome, unless, wrongLength}
 use Rattle.model.specs.Format.{format}
 use Rattle.model.specs.Write.{write}
 use Rattle.model.specs.Commit.{close, storeNext}
 use Rattle.model.specs.Checkpoint.{checkpoint}
 use Rattle.model.specs.Recovery.{cut, recover, shapeOn}
-use Rattle.model.specs.declared.Phase.{Phase}
 use Rattle.model.specs.declared.Phase.the-variants.{Blank, Up, Down}
 
 -- a card: what it makes of a command byte and its operands

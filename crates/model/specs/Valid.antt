@@ -1,8 +1,7 @@
 -- The valid set, and the newest image of a block in it.
 use Prim.Native.Nat.{ℕ}
 use mathlib.Core.List.{List, [], _∷_, flatMap}
-use mathlib.Core.Bool.{Bool, true, false, cond, _||_}
-use lib.ListN.{length}
+use mathlib.Core.Bool.{Bool, cond, _||_}
 use lib.Dec.{ltb, leb, eqb}
 use Rattle.model.specs.Lists.{below, all, any, select}
 use Rattle.model.specs.Bytes.{Bytes}

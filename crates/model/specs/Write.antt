@@ -2,11 +2,10 @@
 use Prim.Native.Nat.{ℕ, _+_, _*_}
 use mathlib.Core.List.{List, [], _∷_}
 use mathlib.Core.Bool.{Bool, true, false, cond, not, _&&_, _||_}
-use lib.ListN.{length, set}
 use lib.Dec.{ltb, leb, eqb}
 use Rattle.model.specs.Bytes.{Bytes, blockAt, store, replaced}
 use Rattle.model.specs.Shape.{homeBlock}
-use Rattle.model.specs.Card.{newName, sameName, opened, taken, lists, withBlock, withName, withRunning, recordSize, shapeOf, coreOf, holderOf, withCore, withHolder}
+use Rattle.model.specs.Card.{newName, sameName, opened, lists, withBlock, withName, withRunning, recordSize, shapeOf, coreOf, holderOf, withCore, withHolder}
 use Rattle.model.specs.Layout.{maxNumber}
 use Rattle.model.specs.Command.{World, Outcome, unstored, unless, notUp, noCore, noBlock}
 use Rattle.model.specs.declared.Name.{Name}

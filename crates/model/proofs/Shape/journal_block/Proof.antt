@@ -1,5 +1,5 @@
 -- `model::Shape::journal_block` meets its contract: the clamped shape is within the limits, so nothing wraps.
-use Prim.Native.Nat.{ℕ, _+_, _*_, _≤_, _<_}
+use Prim.Native.Nat.{ℕ, _*_, _≤_, _<_}
 use native.Mathlib.Omega.{arith}
 use native.Mathlib.Nat.{mod-lt, mul-le-mul}
 use mathlib.Core.Path.{_≡_, subst, sym}

@@ -1,0 +1,58 @@
+-- The claims are not empty: computed runs on which the card comes up with kept writes, with a committed transaction that
+-- is not kept, and after a cut inside recovery.
+use Prim.Native.Nat.{ℕ}
+use mathlib.Core.Path.{_≡_, refl}
+use mathlib.Core.Bool.{Bool, not, _&&_}
+use mathlib.Core.List.{List, [], _∷_, _++_, map}
+use lib.ListN.{length}
+use lib.Dec.{eqb}
+use Rattle.model.specs.Lists.{select}
+use Rattle.model.specs.Bytes.{Bytes, part}
+use Rattle.model.specs.Reading.{readNumber}
+use Rattle.model.specs.Tape.{Point, step, run, blankWorld}
+use Rattle.model.proofs.Computes.{computes}
+use Rattle.crash.specs.Book.{emptyBook, change, raise, begin, holderIn, meets, ruled, holderAfter, note, wrote, close, store, checkpoint, committedIn, namesIn, kept, keptWrites}
+use Rattle.crash.specs.Service.{Service, emptyService, noted, cutService, fed}
+use Rattle.crash.specs.Claims.{homeArea, fedPoint}
+
+-- a RECOVER that leaves the card up
+abbrev comesUp : Point → Bool
+comesUp p = eqb (p .byte) 7 && eqb (p .outcome .answer) 0 && eqb (readNumber 0 (p .before)) 22 && not (eqb (readNumber 0 (p .outcome .world)) 22)
+
+-- the first eight bytes of home block 3 wherever the card comes up
+abbrev blockThree : Bytes → List Bytes
+blockThree t = map (λ (p : Point). part 384 8 (homeArea (p .outcome .world))) (select comesUp (run step t blankWorld))
+
+-- P1 up to the last STORE but one, and that STORE
+abbrev before : Bytes
+before =
+    1 ∷ 2 ∷ 4 ∷ 12 ∷ 2 ∷ 0 ∷ 0 ∷ 3 ∷ 0 ∷ 0x41 ∷ 0x42 ∷ 0x43 ∷ 0x44 ∷ 2 ∷ 1 ∷ 0 ∷ 3 ∷ 4 ∷ 0x45 ∷ 0x46 ∷ 0x47 ∷ 0x48 ∷
+    3 ∷ 0 ∷ 4 ∷ 0 ∷ 4 ∷ 0 ∷ 4 ∷ 0 ∷ 5 ∷ 0 ∷ 3 ∷ 1 ∷ 4 ∷ 1 ∷ []
+
+abbrev written : Bytes
+written = 0x41 ∷ 0x42 ∷ 0x43 ∷ 0x44 ∷ 0x45 ∷ 0x46 ∷ 0x47 ∷ 0x48 ∷ []
+
+pub comes-up-with-writes : blockThree (before ++ (4 ∷ 1 ∷ 6 ∷ 7 ∷ 7 ∷ [])) ≡ written ∷ []
+unfolding computes homeArea
+comes-up-with-writes = refl
+
+pub cut-inside-recovery : blockThree (before ++ (4 ∷ 1 ∷ 6 ∷ 7 ∷ 6 ∷ 7 ∷ 7 ∷ [])) ≡ written ∷ []
+unfolding computes homeArea
+cut-inside-recovery = refl
+
+-- without the last STORE core 1's transaction, which core 0's names, is not committed
+pub comes-up-without : blockThree (before ++ (6 ∷ 7 ∷ [])) ≡ (0 ∷ 0 ∷ 0 ∷ 0 ∷ 0 ∷ 0 ∷ 0 ∷ 0 ∷ []) ∷ []
+unfolding computes homeArea
+comes-up-without = refl
+
+abbrev fedAll : Service → List Point → Service
+fedAll v [] = v
+fedAll v (p ∷ ps) = fedAll (fedPoint p v) ps
+
+-- how many the book has as committed, and how many it keeps
+abbrev counts : Service → List ℕ
+counts v = length (committedIn (v .book)) ∷ length (kept (v .book)) ∷ []
+
+pub committed-not-kept : counts (fedAll emptyService (run step before blankWorld)) ≡ 1 ∷ 0 ∷ []
+unfolding computes emptyBook change raise begin holderIn meets ruled holderAfter note wrote close store checkpoint committedIn namesIn kept keptWrites emptyService noted cutService fed fedPoint
+committed-not-kept = refl

@@ -1,0 +1,291 @@
+-- Layer C: along a tape. If each command keeps a relation `At` of ledger and world and answers what the ledger says, then
+-- at every point of every run the claims hold: the ledger's by going along the points, demand 3 because service book and
+-- ledger keep the same writes and the last RECOVER leaves the area that they give.
+use Prim.Native.Nat.{ℕ, zero, suc, _+_, _-_, _*_, min, _≤_, _<_}
+use native.Mathlib.Omega.{arith}
+use mathlib.Core.Path.{_≡_, refl, sym, ap, _∙_, subst}
+use mathlib.Core.Bool.{Bool, true, false, not, true≢false}
+use mathlib.Core.List.{List, [], _∷_, _++_, flatMap, append-nil}
+use lib.ListN.{length, take, drop, length-take, length-drop}
+use lib.Seq.{take-add, drop-drop}
+use lib.Dec.{ltb, eqb}
+use borrow.Author.Tests.{lt-ltb, le-ltb, ltb-true, ltb-false, not-false}
+use Rattle.model.specs.Lists.{below, all}
+use Rattle.model.specs.Bytes.{Bytes, part, blockAt}
+use Rattle.model.specs.Shape.{between, inRange, homeBlock}
+use Rattle.model.specs.Card.{isBlank, isUp, isDown, shapeOf}
+use Rattle.model.specs.Command.{World, Outcome, refusal, wrongLength}
+use Rattle.model.specs.Reading.{readConditions, readNumber}
+use Rattle.model.specs.Tape.{step, operandLength, commandByte, operandsAt, isUnknown, endsEarly, commandAt, Point}
+use Rattle.model.specs.declared.Phase.{Phase}
+use Rattle.model.specs.declared.Shape.{Shape}
+use Rattle.model.specs.declared.Phase.the-variants.{Blank, Up, Down}
+use Rattle.model.proofs.Lists.{cases, and-left, and-right, and-both, flatMap-append}
+use Rattle.model.proofs.Command.{unless-done, unless-refused, refusedWith}
+use Rattle.model.proofs.Tape.{pointAt, Runs, at-end, one-more, run-runs}
+use Rattle.crash.specs.Book.{keptWrites, image, blank}
+use Rattle.crash.specs.Service.{Service, bookArea}
+use Rattle.crash.specs.Ledger.{Ledger, freshLedger, blankLedger, recoverLedger, entered, writeRefusals, closeRefusals, storeRefusals, checkpointRefusals, refusalsOf}
+use Rattle.crash.proofs.Agreement.{Agrees, Suits, blank-agrees, down-agrees, fed-agrees, area-same}
+use Rattle.crash.specs.Claims.{IsBytes, answerOf, JournalsRead, recoverStore, PointKept, LedgerKept, ComesUp, AreaKept, homeArea, fedPoint, blankStart, downStart, downLedger, Claim, Demands}
+
+-- ---- a command of the tape as a point: 2 and 3 by what stands on the tape
+module _ (t : Bytes) (at : ℕ) (on-tape : at < length t) where
+  unknown-is : isUnknown t at ≡ not (between 1 (commandByte t at) 7)
+  unfolding isUnknown
+  unknown-is = rw (lt-ltb at (length t) on-tape)
+
+  -- the operands end early exactly where fewer bytes follow
+  early-is : endsEarly t at ≡ ltb (length (operandsAt t at)) (operandLength (commandByte t at))
+  unfolding endsEarly operandsAt part
+  early-is =
+      let n = operandLength (commandByte t at) in
+      let l : length (take n (drop (at + 1) t)) ≡ min n (length t - (at + 1)) = length-take n (drop (at + 1) t) ∙ ap (min n) (length-drop (at + 1) t) in
+      cases (ltb (length t) (at + 1 + n))
+      (λ h. rw h (sym (lt-ltb _ n (omega (arith, l, ltb-true (length t) (at + 1 + n) h)))))
+      (λ h. rw h (sym (le-ltb _ n (omega (arith, l, ltb-false (length t) (at + 1 + n) h)))))
+
+-- bytes of a part of bytes
+take-bytes : (n : ℕ) (s : Bytes) → IsBytes s → IsBytes (take n s)
+unfolding all
+take-bytes zero s h = refl
+take-bytes (suc n) [] h = refl
+take-bytes (suc n) (x ∷ s) h = and-both (and-left (ltb x 256) _ h) (take-bytes n s (and-right (ltb x 256) _ h))
+
+drop-bytes : (n : ℕ) (s : Bytes) → IsBytes s → IsBytes (drop n s)
+unfolding all
+drop-bytes zero s h = h
+drop-bytes (suc n) [] h = refl
+drop-bytes (suc n) (x ∷ s) h = drop-bytes n s (and-right (ltb x 256) _ h)
+
+-- ---- what each command keeps of a relation of ledger and world
+pub record Kept (At : Ledger → World → Type 0) (l : Ledger) (w : World) (k : ℕ) (a : Bytes) : Type 0 where
+  pub answer : (step k a w) .answer ≡ refusal (refusalsOf k a l)
+  pub next : At (entered k a ((step k a w) .answer) l) ((step k a w) .world)
+  pub stores : k ≡ 7 → (step k a w) .answer ≡ 0 → (step k a w) .world .disk ≡ recoverStore l (l .left) (w .disk)
+  pub comes-up : k ≡ 7 → (step k a w) .answer ≡ 0 → isUp ((step k a w) .world .card .phase) ≡ eqb (length (l .left)) 0
+  -- the last RECOVER leaves the home area that the kept writes give
+  pub home : k ≡ 7 → (step k a w) .answer ≡ 0 → l .left ≡ [] → (b : ℕ) → b < l .shape .blocks
+      → blockAt ((step k a w) .world .disk) (homeBlock b) ≡ image blank (keptWrites (l .book) ++ l .saved) b
+
+pub record Relates (At : Ledger → World → Type 0) : Type 0 where
+  pub sizes : (l : Ledger) (w : World) → At l w → wrongLength w ≡ false
+  pub phase : (l : Ledger) (w : World) → At l w → w .card .phase ≡ l .phase
+  pub journals : (l : Ledger) (w : World) → At l w → isBlank (w .card .phase) ≡ false → JournalsRead l (w .disk)
+  pub keeps : (l : Ledger) (w : World) → At l w → (k : ℕ) (a : Bytes) → between 1 k 7 ≡ true → length a ≡ operandLength k → IsBytes a → Kept At l w k a
+  pub shape : (l : Ledger) (w : World) → At l w → isUp (w .card .phase) ≡ true → shapeOf (w .card) ≡ l .shape
+
+module _ (At : Ledger → World → Type 0) (r : Relates At) where
+  -- a point and the relation after it
+  pub record Goes (l : Ledger) (p : Point) : Type 0 where
+    pub kept : PointKept l p
+    pub next : At (entered (p .byte) (p .operands) (p .outcome .answer) l) (p .outcome .world)
+    pub home : p .byte ≡ 7 → p .outcome .answer ≡ 0 → l .left ≡ [] → (b : ℕ) → b < l .shape .blocks
+        → blockAt (p .outcome .world .disk) (homeBlock b) ≡ image blank (keptWrites (l .book) ++ l .saved) b
+
+  module _ (t : Bytes) (bytes : IsBytes t) (at n : ℕ) (on-tape : at < length t) (l : Ledger) (w : World) (here : At l w) where
+    abbrev k : ℕ
+    k = commandByte t at
+
+    abbrev a : Bytes
+    a = operandsAt t at
+
+    abbrev p : Point
+    p = pointAt step t at n w
+
+    -- a command refused with 2 or 3
+    refused : (m : ℕ) → p .outcome ≡ refusedWith (suc (suc m)) w → answerOf l p ≡ suc (suc m) → Goes l p
+    refused m o e =
+        let i : p .outcome .answer ≡ suc (suc m) = ap (λ (x : Outcome). x .answer) o in
+        let u : p .outcome .world ≡ w = ap (λ (x : Outcome). x .world) o in
+        record {
+          kept =
+              record {
+                answer = i ∙ sym e;
+                phase = r .phase l w here;
+                journals = r .journals l w here;
+                recovers = λ s z. absurd (zero-suc (sym z ∙ i));
+              };
+          next = rw (i, u) (unfold entered in here);
+          home = λ s z. absurd (zero-suc (sym z ∙ i));
+        }
+      where
+        zero-suc : {m : ℕ} → 0 ≡ suc (suc m) → ⊥
+        zero-suc h = omega arith
+
+    -- one that reaches the card
+    reaches : p .outcome ≡ step k a w → not (between 1 k 7) ≡ false → ltb (length a) (operandLength k) ≡ false → Goes l p
+    unfolding answerOf refusal
+    reaches o known whole =
+        let size : length a ≡ operandLength k = unfold operandsAt part in omega (arith, ltb-false (length (operandsAt t at)) (operandLength (commandByte t at)) whole, length-take (operandLength k) (drop (at + 1) t)) in
+        let b : IsBytes a = unfold operandsAt part in take-bytes (operandLength k) (drop (at + 1) t) (drop-bytes (at + 1) t bytes) in
+        let g : Kept At l w k a = r .keeps l w here k a (not-false _ known) size b in
+        record {
+          kept =
+              record {
+                answer = ap (λ (x : Outcome). x .answer) o ∙ g .answer ∙ sym (rw (known, whole));
+                phase = r .phase l w here;
+                journals = r .journals l w here;
+                recovers =
+                    λ s z. record {
+                      stores = ap (λ (x : Outcome). x .world .disk) o ∙ g .stores s (sym (ap (λ (x : Outcome). x .answer) o) ∙ z);
+                      comes-up = ap (λ (x : Outcome). isUp (x .world .card .phase)) o ∙ g .comes-up s (sym (ap (λ (x : Outcome). x .answer) o) ∙ z);
+                    };
+              };
+          next = subst (λ (x : Outcome). At (entered k a (x .answer) l) (x .world)) (sym o) (g .next);
+          home = λ s z f b q. ap (λ (x : Outcome). blockAt (x .world .disk) (homeBlock b)) o ∙ g .home s (sym (ap (λ (x : Outcome). x .answer) o) ∙ z) f b q;
+        }
+
+    pub goes : Goes l p
+    unfolding commandAt answerOf refusal
+    goes =
+        let z = r .sizes l w here in
+        let u = unknown-is t at on-tape in
+        let e = early-is t at on-tape in
+        cases (not (between 1 k 7))
+        (λ x. refused 0 (unless-refused _ w (step k a w) 2 (rw (z, u, x)) (omega arith)) (rw x))
+        (λ x. cases (ltb (length a) (operandLength k))
+        (λ y. refused 1 (unless-refused _ w (step k a w) 3 (rw (z, u, x, e, y)) (omega arith)) (rw (x, y)))
+        (λ y. reaches (unless-done _ w (step k a w) (rw (z, u, x, e, y))) x y))
+
+  -- Demands 1 and 2 and the course of recovery, at every point of a run.
+  pub ledger-kept : (t : Bytes) → IsBytes t → {at n : ℕ} {l : Ledger} {w : World} {ps : List Point} → At l w → Runs step t at n w ps → LedgerKept l w ps
+  ledger-kept t b {l = l} {w = w} here (at-end h) = (r .phase l w here, r .journals l w here)
+  ledger-kept t b {at} {n} {l} {w} here (one-more h e rest) =
+      let g : Goes l _ = subst (Goes l) (sym e) (goes t b at n h l w here) in
+      (g .kept, ledger-kept t b (g .next) rest)
+
+-- ---- the home area by its blocks
+area-blocks : (d : Bytes) (n : ℕ) → part 128 (128 * n) d ≡ flatMap (λ (b : ℕ). blockAt d (homeBlock b)) (below n)
+unfolding part blockAt below flatMap
+area-blocks d zero = refl
+area-blocks d (suc n) =
+    let e : 128 * suc n ≡ 128 * n + 128 = omega arith in
+    let f : 128 + 128 * n ≡ 128 * (1 + n) = omega arith in
+    rw (e, take-add (128 * n) 128 (drop 128 d), drop-drop (128 * n) 128 d, f, flatMap-append (λ (b : ℕ). blockAt d (homeBlock b)) (below n) (n ∷ []), append-nil (take 128 (drop (128 * (1 + n)) d)))
+    (ap (λ (x : Bytes). x ++ take 128 (drop (128 * (1 + n)) d)) (area-blocks d n))
+
+blocks-same : (f g : ℕ → Bytes) (n : ℕ) → ((b : ℕ) → b < n → f b ≡ g b) → flatMap f (below n) ≡ flatMap g (below n)
+unfolding below flatMap
+blocks-same f g zero h = refl
+blocks-same f g (suc n) h =
+    rw (flatMap-append f (below n) (n ∷ []), flatMap-append g (below n) (n ∷ []), blocks-same f g n (λ b l. h b (omega arith)), h n (omega arith))
+
+-- ---- an answer 0 suits the phase
+module _ (l : Ledger) where
+  up-suits : (rest : List (Bool × ℕ)) → refusal ((isBlank (l .phase), 20) ∷ (isDown (l .phase), 22) ∷ rest) ≡ 0 → isDown (l .phase) ≡ false
+  unfolding refusal
+  up-suits rest z =
+      cases (isBlank (l .phase)) (λ b. absurd (let y : 20 ≡ 0 = rw b at z in omega arith))
+      (λ b. cases (isDown (l .phase)) (λ d. absurd (let y : 22 ≡ 0 = rw (b, d) at z in omega arith)) (λ d. d))
+
+  down-only : (p : Phase) → isBlank p ≡ false → isUp p ≡ false → isDown p ≡ true
+  down-only Blank b u = absurd (true≢false b)
+  down-only Up b u = absurd (true≢false u)
+  down-only Down b u = refl
+
+  down-suits : refusal ((isBlank (l .phase), 20) ∷ (isUp (l .phase), 23) ∷ []) ≡ 0 → isDown (l .phase) ≡ true
+  unfolding refusal
+  down-suits z =
+      cases (isBlank (l .phase)) (λ b. absurd (let y : 20 ≡ 0 = rw b at z in omega arith))
+      (λ b. cases (isUp (l .phase)) (λ u. absurd (let y : 23 ≡ 0 = rw (b, u) at z in omega arith)) (λ u. down-only (l .phase) b u))
+
+  -- the commands from WRITE to CHECKPOINT are carried out only while the card is not down
+  four-suits : (a : Bytes) (k : ℕ) → 2 ≤ k → k ≤ 5 → refusal (refusalsOf k a l) ≡ 0 → isDown (l .phase) ≡ false
+  unfolding refusalsOf writeRefusals closeRefusals storeRefusals checkpointRefusals
+  four-suits a zero h i z = absurd (omega arith)
+  four-suits a (suc zero) h i z = absurd (omega arith)
+  four-suits a (suc (suc zero)) h i z = up-suits _ z
+  four-suits a (suc (suc (suc zero))) h i z = up-suits _ z
+  four-suits a (suc (suc (suc (suc zero)))) h i z = up-suits _ z
+  four-suits a (suc (suc (suc (suc (suc zero))))) h i z = up-suits _ z
+  four-suits a (suc (suc (suc (suc (suc (suc k)))))) h i z = absurd (omega arith)
+
+  recover-suits : (a : Bytes) (k : ℕ) → k ≡ 7 → refusal (refusalsOf k a l) ≡ 0 → isDown (l .phase) ≡ true
+  unfolding refusalsOf
+  recover-suits a k e z = down-suits (rw e at z)
+
+  pub suits : (p : Point) → p .outcome .answer ≡ answerOf l p → p .outcome .answer ≡ 0 → Suits (p .byte) (l .phase)
+  unfolding answerOf refusal
+  suits p h z =
+      let y : refusal (refusalsOf (p .byte) (p .operands) l) ≡ 0 =
+      cases (not (between 1 (p .byte) 7)) (λ x. absurd (let q : 2 ≡ 0 = rw x at (sym h ∙ z) in omega arith))
+      (λ x. cases (ltb (length (p .operands)) (operandLength (p .byte))) (λ x₂. absurd (let q : 3 ≡ 0 = rw (x, x₂) at (sym h ∙ z) in omega arith))
+      (λ x₂. rw (x, x₂) at (sym h ∙ z))) in
+      record { before-cut = λ a b. four-suits (p .operands) (p .byte) a b y; after-cut = λ e. recover-suits (p .operands) (p .byte) e y }
+
+-- ---- demand 3
+module _ (At : Ledger → World → Type 0) (r : Relates At) where
+  -- a card that is down is read with 22
+  down-reads : (l : Ledger) (w : World) → At l w → isDown (w .card .phase) ≡ true → readNumber 0 w ≡ 22
+  unfolding readNumber readConditions refusal
+  down-reads l w here d = let b : isBlank (w .card .phase) ≡ false = not-blank (w .card .phase) d in rw (r .sizes l w here, b, d)
+    where
+      not-blank : (p : Phase) → isDown p ≡ true → isBlank p ≡ false
+      not-blank Blank d = absurd (true≢false (sym d))
+      not-blank Up d = refl
+      not-blank Down d = refl
+
+  recover-enters : (a : Bytes) (l : Ledger) → entered 7 a 0 l ≡ recoverLedger (l .left) l
+  unfolding entered
+  recover-enters a l = refl
+
+  module _ (v : Service) (l : Ledger) (p : Point) (g : Goes At r l p) (agrees : Agrees v l) (c : ComesUp p) where
+    after-is : entered (p .byte) (p .operands) (p .outcome .answer) l ≡ recoverLedger (l .left) l
+    after-is = rw (c .is-recover, c .is-done) (recover-enters (p .operands) l)
+
+    agrees-after : Agrees (fedPoint p v) (recoverLedger (l .left) l)
+    unfolding fedPoint
+    agrees-after =
+        rw after-is at (fed-agrees (p .byte) (p .operands) (p .outcome .answer) v l (λ z. suits l p (g .kept .answer) z) agrees)
+
+    next-after : At (recoverLedger (l .left) l) (p .outcome .world)
+    next-after = rw after-is at (g .next)
+
+    -- while a home store is left, the card stays down
+    none-left : (bs : List ℕ) → l .left ≡ bs → l .left ≡ []
+    unfolding recoverLedger
+    none-left [] e = e
+    none-left (b ∷ bs) e =
+        let n : At (recoverLedger (b ∷ bs) l) (p .outcome .world) = rw e at next-after in
+        let d : isDown (p .outcome .world .card .phase) ≡ true = ap isDown (r .phase _ _ n) in
+        absurd (c .is-up (down-reads _ _ n d))
+
+    pub area-at : homeArea (p .outcome .world) ≡ bookArea (fedPoint p v) ((shapeOf (p .outcome .world .card)) .blocks)
+    unfolding homeArea bookArea recoverLedger freshLedger
+    area-at =
+        let e = none-left (l .left) refl in
+        let n : At (recoverLedger [] l) (p .outcome .world) = rw e at next-after in
+        let s : Agrees (fedPoint p v) (recoverLedger [] l) = rw e at agrees-after in
+        let u : isUp (p .outcome .world .card .phase) ≡ true = ap isUp (r .phase _ _ n) in
+        let z : shapeOf (p .outcome .world .card) ≡ l .shape = r .shape _ _ n u in
+        area-blocks (p .outcome .world .disk) ((shapeOf (p .outcome .world .card)) .blocks)
+        ∙ rw z
+        (blocks-same (λ (b : ℕ). blockAt (p .outcome .world .disk) (homeBlock b)) (image blank ((fedPoint p v) .saved)) (l .shape .blocks)
+        (λ b h. g .home (c .is-recover) (c .is-done) e b h ∙ sym (area-same (fedPoint p v) (recoverLedger [] l) refl s b)))
+
+  -- At every point of a run where the card comes up, the home area is the book's area.
+  pub area-kept : (t : Bytes) → IsBytes t → {at n : ℕ} {v : Service} {l : Ledger} {w : World} {ps : List Point} → At l w → Agrees v l → Runs step t at n w ps → AreaKept v ps
+  unfolding fedPoint
+  area-kept t b here agrees (at-end h) = tt
+  area-kept t b {at} {n} {v} {l} {w} here agrees (one-more {p = p} h e rest) =
+      let g : Goes At r l p = subst (Goes At r l) (sym e) (goes At r t b at n h l w here) in (
+        area-at v l p g agrees,
+        area-kept t b (g .next) (fed-agrees (p .byte) (p .operands) (p .outcome .answer) v l (λ z. suits l p (g .kept .answer) z) agrees) rest,
+      )
+
+-- ---- from both starts
+module _ (At : Ledger → World → Type 0) (r : Relates At)
+    (from-blank : (d m : Bytes) → IsBytes d → IsBytes m → length d ≡ 32896 → length m ≡ 16384 → At blankLedger (blankStart d m))
+    (from-down : (s : Shape) (m : Bytes) → inRange (s .cores) (s .blocks) (s .journal) ≡ true → IsBytes m → length m ≡ 16384 → At (downLedger s) (downStart s m)) where
+  pub claimed : Claim step
+  claimed = (
+    λ t d m bt bd bm ld lm. area-kept At r t bt (from-blank d m bd bm ld lm) blank-agrees (run-runs step t (blankStart d m)),
+    λ t m s h bt bm lm. area-kept At r t bt (from-down s m h bm lm) (down-agrees s) (run-runs step t (downStart s m)),
+  )
+
+  pub demanded : Demands step
+  demanded = (
+    λ t d m bt bd bm ld lm. ledger-kept At r t bt (from-blank d m bd bm ld lm) (run-runs step t (blankStart d m)),
+    λ t m s h bt bm lm. ledger-kept At r t bt (from-down s m h bm lm) (run-runs step t (downStart s m)),
+  )

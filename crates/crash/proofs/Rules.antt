@@ -1,0 +1,183 @@
+-- The rule that the card finds for a WRITE is what the ledger's writer meets: no holder, itself, a running one, a closed one.
+-- Running ones are the cores' current ones, in the card and in the ledger, and holders agree.
+-- What the rules do to a transaction of the card they do to its entry in the ledger.
+use Prim.Native.Nat.{ℕ, suc, _+_, _≤_, _<_}
+use native.Mathlib.Omega.{arith}
+use native.Mathlib.Numerals.{add-one}
+use native.Mathlib.Decide.{decLt, ℕ-discrete}
+use mathlib.Core.Path.{_≡_, refl, ap, ap₂, _∙_, sym, subst}
+use mathlib.Core.Logic.{_⊎_, inl, inr, _≢_}
+use mathlib.Core.Bool.{Bool, true, false, cond, not, _&&_, and-false, and-true}
+use mathlib.Core.List.{List, [], _∷_, _++_}
+use mathlib.Core.Option.{Option, none, some}
+use lib.ListN.{length, take, set, length-append, length-set}
+use lib.Seq.{take-suc-set}
+use lib.Dec.{eqb}
+use borrow.Author.Tests.{eq-eqb, ne-eqb}
+use Rattle.model.specs.Lists.{any}
+use Rattle.model.specs.Bytes.{Bytes}
+use Rattle.model.specs.Card.{newName, sameName, noHolder, opened, taken, listed, lists, withBlock, withName, coreOf, holderOf}
+use Rattle.model.specs.Command.{World}
+use Rattle.model.specs.Write.{writer, writerName, isRunning as isRunningIn, ruleFor}
+use Rattle.model.specs.declared.Name.{Name}
+use Rattle.model.specs.declared.Transaction.{Transaction}
+use Rattle.model.specs.declared.Holder.{Holder}
+use Rattle.model.specs.declared.Rule.the-variants.{Free, Own, Running, Closed}
+use Rattle.model.proofs.Lists.{cases}
+use Rattle.model.proofs.Valid.{sameName-refl}
+use Rattle.crash.specs.Book.{Stage, absent, running, closed, committed, retired, isRunning, isClosed, Entry, Book, staged, taking, naming, begin, holderIn, Meeting, no-holder, own, running-holder, closed-holder, meets}
+use Rattle.crash.specs.Ledger.{Ledger}
+use Rattle.crash.proofs.Relation.{Ranks, Fine, Matches, CoreUp, holderAs, Up}
+use Rattle.crash.proofs.Stages.{committed-stage}
+use Rattle.crash.proofs.Entries.{same-or-not, sameName-false, change-at}
+
+-- ---- a transaction of the card and its entry
+pub matches-block : {t : Transaction} {e : Entry} → Matches t e → (b : ℕ) → length (e .blocks) < 8 → Matches (withBlock t b) (taking b e)
+unfolding taken listed
+matches-block {t} {e} m b h =
+    let n : t .count < length (t .blocks) = omega (arith, m .count, m .block-room) in
+    record {
+      live = m .live;
+      blocks = rw add-one (take-suc-set (t .blocks) (t .count) b n ∙ ap (λ (l : List ℕ). l ++ (b ∷ [])) (m .blocks));
+      count = omega (arith, m .count, length-append (e .blocks) (b ∷ []));
+      names = m .names;
+      named = m .named;
+      block-room = length-set (t .blocks) (t .count) b ∙ m .block-room;
+      name-room = m .name-room;
+    }
+
+pub matches-name : {t : Transaction} {e : Entry} → Matches t e → (n : Name) → (any (sameName n) (e .names) ≡ false → length (e .names) < 12) → Matches (withName t n) (naming n e)
+unfolding taken listed withName lists
+matches-name {t} {e} m n h =
+    cases (any (sameName n) (e .names))
+    (λ yes. rw (m .names, yes) (record { live = m .live; blocks = m .blocks; count = m .count; names = m .names; named = m .named; block-room = m .block-room; name-room = m .name-room }))
+    (λ no.
+    let g = h no in
+    let z : t .named < length (t .names) = omega (arith, m .named, m .name-room) in
+    rw (m .names, no)
+    (record {
+      live = m .live;
+      blocks = m .blocks;
+      count = m .count;
+      names = rw add-one (take-suc-set (t .names) (t .named) n z ∙ ap (λ (l : List Name). l ++ (n ∷ [])) (m .names));
+      named = omega (arith, m .named, length-append (e .names) (n ∷ []));
+      block-room = m .block-room;
+      name-room = length-set (t .names) (t .named) n ∙ m .name-room;
+    }))
+
+-- one just opened
+pub matches-opened : (e : Entry) → e .blocks ≡ [] → e .names ≡ [] → Matches opened e
+unfolding taken listed
+matches-opened e b n = record { live = refl; blocks = rw b refl; count = rw b refl; names = rw n refl; named = rw n refl; block-room = refl; name-room = refl }
+
+-- ---- running ones
+-- only the current one runs
+pub running-next : {k : Book} {a : ℕ} → Ranks k a → (i : ℕ) → isRunning ((k .entry (newName a i)) .stage) ≡ true → i ≡ k .next a
+running-next {k} {a} r i h =
+    elim (decLt i (k .next a)) [
+      | yes lt ↦ absurd (let g : isRunning ((k .entry (newName a i)) .stage) ≡ false = past lt in let z : _≡_ {A = ℕ} 0 1 = cc in omega arith)
+      | no ge ↦ elim (ℕ-discrete i (k .next a)) [
+        | yes e ↦ e
+        | no ne ↦ absurd (let g : isRunning ((k .entry (newName a i)) .stage) ≡ false = ap isRunning (r .rest i (omega arith)) in let z : _≡_ {A = ℕ} 0 1 = cc in omega arith)
+      ]
+    ]
+  where
+    past : i < k .next a → isRunning ((k .entry (newName a i)) .stage) ≡ false
+    past lt =
+        elim (decLt i (k .oldest a)) [
+          | yes o ↦ elim (r .old i o) [ inl e ↦ ap isRunning e | inr e ↦ ap isRunning e ]
+          | no o ↦ elim (decLt i (k .uncommitted a)) [
+            | yes q ↦ ap isRunning (committed-stage r i (omega arith) q .1)
+            | no q ↦ (let s = r .storing (omega arith) in
+                let e : k .uncommitted a ≡ i = omega (arith, r .high) in
+                subst (λ (j : ℕ). isRunning ((k .entry (newName a j)) .stage) ≡ false) e (ap isRunning (s .1)))
+          ]
+        ]
+
+pub present-open : (g : Stage) → g ≢ absent → isClosed g ≡ false → g ≡ running
+present-open absent ne h = absurd (ne refl)
+present-open running ne h = refl
+present-open (closed n) ne h = absurd (let z : _≡_ {A = ℕ} 0 1 = cc in omega arith)
+present-open (committed n) ne h = absurd (let z : _≡_ {A = ℕ} 0 1 = cc in omega arith)
+present-open retired ne h = absurd (let z : _≡_ {A = ℕ} 0 1 = cc in omega arith)
+
+closed-idle : (g : Stage) → isClosed g ≡ true → isRunning g ≡ false
+closed-idle absent h = refl
+closed-idle running h = absurd (let z : _≡_ {A = ℕ} 0 1 = cc in omega arith)
+closed-idle (closed n) h = refl
+closed-idle (committed n) h = refl
+closed-idle retired h = refl
+
+module _ {l : Ledger} {w : World} (u : Up l w) where
+  -- a core's transaction runs in the card where it does in the ledger
+  pub live-runs : (a : ℕ) → a < l .shape .cores → (coreOf (w .card) a) .running .live ≡ isRunning ((l .book .entry (newName a (l .book .next a))) .stage)
+  live-runs a h =
+      cases (isRunning ((l .book .entry (newName a (l .book .next a))) .stage))
+      (λ e. u .cores a h .runs e .live ∙ sym e)
+      (λ e. u .cores a h .idle e ∙ sym e)
+
+  pub runs-in : (n : Name) → n .core < l .shape .cores → isRunningIn (w .card) n ≡ isRunning ((l .book .entry n) .stage)
+  unfolding isRunningIn
+  runs-in n h =
+      elim (ℕ-discrete (l .book .next (n .core)) (n .number)) [
+        | yes e ↦ rw (u .cores (n .core) h .next, eq-eqb (l .book .next (n .core)) (n .number) e, live-runs (n .core) h, e) (and-true _)
+        | no ne ↦ rw (u .cores (n .core) h .next, ne-eqb (l .book .next (n .core)) (n .number) ne, and-false)
+            (sym (cases (isRunning ((l .book .entry n) .stage)) (λ e. absurd (ne (sym (running-next (u .fine .ranks (n .core) h) (n .number) e)))) (λ e. e)))
+      ]
+
+  module _ (c : ℕ) (in-range : c < l .shape .cores) where
+    pub writer-name : writerName (w .card) c ≡ newName c (l .book .next c)
+    unfolding writerName
+    writer-name = rw (u .cores c in-range .next)
+
+    -- the writer, opened where none runs, and its entry
+    pub writer-matches : Matches (writer (w .card) c) ((cond (isRunning ((l .book .entry (newName c (l .book .next c))) .stage)) (l .book) (begin (newName c (l .book .next c)) (l .book))) .entry (newName c (l .book .next c)))
+    unfolding writer begin
+    writer-matches =
+        let t = newName c (l .book .next c) in
+        rw (live-runs c in-range)
+        (elim (u .fine .ranks c in-range .current) [
+          | inl e ↦ (let z = u .fine .unopened t e in
+              rw (ap isRunning e, change-at t (staged running) (l .book .entry)) (matches-opened (staged running (l .book .entry t)) (z .0) (z .1)))
+          | inr e ↦ rw (ap isRunning e) (u .cores c in-range .runs (ap isRunning e))
+        ])
+
+    module _ (b : ℕ) (low : b < l .shape .blocks) (opens : (n : Name) → holderIn (l .book) b (l .book .writes) ≡ some n → (l .book .entry n) .stage ≢ absent) where
+      -- another that holds the block
+      pub record MetHolder (n : Name) : Type 0 where
+        pub holder : holderIn (l .book) b (l .book .writes) ≡ some n
+        pub name : (holderOf (w .card) b) .name ≡ n
+        pub held : (holderOf (w .card) b) .held ≡ true
+        pub other : n ≢ newName c (l .book .next c)
+        pub core : n .core < l .shape .cores
+
+      abbrev pub meeting : Meeting
+      meeting = meets (l .book) (newName c (l .book .next c)) (holderIn (l .book) b (l .book .writes))
+
+      pub data Met : Type 0 where
+        met-none : holderIn (l .book) b (l .book .writes) ≡ none → meeting ≡ no-holder → ruleFor (w .card) c b ≡ Free → Met
+        met-own : holderIn (l .book) b (l .book .writes) ≡ some (newName c (l .book .next c)) → (holderOf (w .card) b) .held ≡ true → meeting ≡ own → ruleFor (w .card) c b ≡ Own → Met
+        met-running : (n : Name) → MetHolder n → (l .book .entry n) .stage ≡ running → n ≡ newName (n .core) (l .book .next (n .core)) → n .core ≢ c
+            → meeting ≡ running-holder n → ruleFor (w .card) c b ≡ Running → Met
+        met-closed : (n : Name) → MetHolder n → isClosed ((l .book .entry n) .stage) ≡ true → meeting ≡ closed-holder n → ruleFor (w .card) c b ≡ Closed → Met
+
+      pub rule-met : Met
+      unfolding ruleFor meets
+      rule-met = go (holderIn (l .book) b (l .book .writes)) refl
+        where
+          go : (h : Option Name) → holderIn (l .book) b (l .book .writes) ≡ h → Met
+          go none e = let q = u .holders b low ∙ ap holderAs e in met-none e (rw e refl) (rw q refl)
+          go (some n) e =
+              let q : holderOf (w .card) b ≡ record { held = true; name = n } = u .holders b low ∙ ap holderAs e in
+              let t = newName c (l .book .next c) in
+              same-or-not n t
+              (λ s. met-own (e ∙ ap some s) (rw q refl) (rw (e, s, sameName-refl t) refl) (rw (q, writer-name, s, sameName-refl t) refl))
+              (λ ne.
+              let core : n .core < l .shape .cores = u .fine .limits n (opens n e) .core in
+              let m : MetHolder n = record { holder = e; name = rw q refl; held = rw q refl; other = ne; core = core } in
+              cases (isClosed ((l .book .entry n) .stage))
+              (λ k. met-closed n m k (rw (e, sameName-false n t ne, k) refl) (rw (q, writer-name, sameName-false n t ne, runs-in n core, closed-idle ((l .book .entry n) .stage) k) refl))
+              (λ k.
+              let r = present-open ((l .book .entry n) .stage) (opens n e) k in
+              let x : n .number ≡ l .book .next (n .core) = running-next (u .fine .ranks (n .core) core) (n .number) (ap isRunning r) in
+              met-running n m r (ap (newName (n .core)) x) (λ y. ne (ap₂ newName y (x ∙ ap (l .book .next) y))) (rw (e, sameName-false n t ne, k) refl) (rw (q, writer-name, sameName-false n t ne, runs-in n core, r) refl)))

@@ -1,0 +1,481 @@
+-- CHECKPOINT keeps card and ledger in agreement: the card's oldest record is that of the ledger's oldest committed one.
+-- A home store puts its next image into its home block and touches nothing else; the master store moves the tail past its
+-- record, so the journal holds the same without that record, and its blocks have no holder any more.
+use Prim.Native.Nat.{ℕ, zero, suc, _+_, _-_, _*_, _%_, _≤_, _<_}
+use native.Mathlib.Omega.{arith}
+use native.Mathlib.Nat.{mod-lt}
+use native.Mathlib.Decide.{decLt, ℕ-discrete}
+use mathlib.Core.Path.{_≡_, refl, ap, _∙_, sym, subst}
+use mathlib.Core.Logic.{_≢_}
+use mathlib.Core.Bool.{true, cond, _&&_}
+use mathlib.Core.List.{List, [], _∷_, _++_, flatMap, append-assoc}
+use mathlib.Core.Option.{Option, none, some}
+use lib.ListN.{length, take, getD, length-append, length-map, length-set, List·getD-map}
+use lib.Seq.{getD-append-add, getD-set-same, getD-set-other}
+use borrow.Author.Tests.{lt-ltb, le-ltb}
+use Rattle.model.specs.Lists.{below}
+use Rattle.model.specs.Bytes.{Bytes, blockAt, store as storeBlock}
+use Rattle.model.specs.Shape.{homeBlock, journalBlock}
+use Rattle.model.specs.Card.{newName, newTail, sameName, noHolder, freshCore, shapeOf, tailOf, coreOf, holderOf, withCore}
+use Rattle.model.specs.Layout.{masterBlock}
+use Rattle.model.specs.Journal.{journalAt}
+use Rattle.model.specs.Command.{World, Outcome, storing}
+use Rattle.model.specs.Checkpoint.{storedHome, released, retiredCard, storedMaster, checkpointed}
+use Rattle.model.specs.declared.Name.{Name}
+use Rattle.model.specs.declared.Tail.{Tail}
+use Rattle.model.specs.declared.Core.{Core}
+use Rattle.model.specs.declared.Holder.{Holder}
+use Rattle.model.specs.declared.Card.{Card}
+use Rattle.model.specs.declared.Committed.{Committed}
+use Rattle.model.proofs.Lists.{cases, flatMap-append, getD-mem}
+use Rattle.model.proofs.Store.{length-store, block-stored, block-other}
+use Rattle.model.proofs.Words.{each-block}
+use Rattle.model.proofs.Encoding.{length-master}
+use Rattle.model.proofs.Journal.{home-apart, journal-wrap}
+use Rattle.model.proofs.Valid.{sameName-refl}
+use Rattle.crash.specs.Book.{Stage, committed, retired, isClosed, isRetired, counted, Entry, Write, Book, raise, holderIn, checkpoint}
+use Rattle.crash.specs.Ledger.{Ledger, withBook, imageNow, recordBlocks}
+use Rattle.crash.specs.Claims.{IsBytes}
+use Rattle.crash.proofs.Relation.{IsBlock, Fine, recordOf, contents, JournalStands, DiskStands, CoreUp, holderAs, Up}
+use Rattle.crash.proofs.Stages.{clash, closed-present}
+
+use Rattle.crash.proofs.Records.{readRecord, IsRead, length-record}
+use Rattle.crash.proofs.Entries.{same-or-not, sameName-false, other-number, other-core, raise-at, raise-other, records-cons}
+use Rattle.crash.proofs.Books.{Restages, restaged, restages, restages-records, restages-holder, retired-none, retired-other, checkpoint-home, checkpoint-retires}
+use Rattle.crash.proofs.Frames.{core-set, core-other, bytes-store, each-isBytes, flatMap-below, record-same, contents-same}
+use Rattle.crash.proofs.CheckpointRead.{shape-up, oldest-of, oldest-is}
+
+-- ---- the ledger with one stage and the oldest numbers changed
+module _ (l : Ledger) (t : Name) (g : Stage) (o : ℕ → ℕ) where
+  abbrev advanced : Ledger
+  advanced = withBook l (restaged t g o (l .book .uncommitted) (l .book .next) (l .book))
+
+  one-changed : Restages (l .book) (advanced .book) t g
+  one-changed = restages t g o (l .book .uncommitted) (l .book .next) (l .book)
+
+  record-stays : (v : Name) → recordOf advanced v ≡ recordOf l v
+  record-stays v = record-same l advanced v (one-changed .blocks v) (one-changed .names v) refl refl
+
+  module _ (a : ℕ) (not-closing : newName a (l .book .uncommitted a) ≢ t) (not-current : newName a (l .book .next a) ≢ t) where
+    closing-stays : advanced .book .entry (newName a (l .book .uncommitted a)) ≡ l .book .entry (newName a (l .book .uncommitted a))
+    closing-stays = one-changed .other (newName a (l .book .uncommitted a)) not-closing
+
+    current-stays : advanced .book .entry (newName a (l .book .next a)) ≡ l .book .entry (newName a (l .book .next a))
+    current-stays = one-changed .other (newName a (l .book .next a)) not-current
+
+    contents-kept : o a ≡ l .book .oldest a → contents advanced a ≡ contents l a
+    contents-kept e =
+        contents-same l advanced a e refl (λ i h. record-stays (newName a i))
+        (rw (closing-stays, record-stays (newName a (l .book .uncommitted a))) refl)
+
+    journal-advanced : (d d₂ : Bytes) (tail tail₂ : Tail) → ((q : ℕ) → journalAt (l .shape) d₂ a q ≡ journalAt (l .shape) d a q)
+        → tail₂ .number ≡ o a → tail₂ .position < l .shape .journal
+        → ((q : ℕ) → q < length (contents advanced a) → journalAt (l .shape) d a (tail₂ .position + q) ≡ getD (contents advanced a) q [])
+        → recordBlocks (l .book) a (o a) (l .book .next a - o a) ≤ recordBlocks (l .book) a (l .book .oldest a) (l .book .next a - l .book .oldest a)
+        → JournalStands l d a tail → JournalStands advanced d₂ a tail₂
+    journal-advanced d d₂ tail tail₂ at n p s fewer j =
+        let total = restages-records one-changed a (o a) (l .book .next a - o a) in
+        record {
+          number = n;
+          position = p;
+          stands = λ q h. at (tail₂ .position + q) ∙ s q h;
+          clear = λ i q h. rw (at q) (j .clear i q h);
+          room = omega (arith, j .room);
+          reserved = rw (current-stays, total) (λ h. omega (arith, j .reserved h));
+        }
+
+    core-advanced : (m : Bytes) (k : Core) (used homed : ℕ) → used ≡ recordBlocks (l .book) a (o a) (l .book .uncommitted a - o a)
+        → (o a < l .book .uncommitted a → (advanced .book .entry (newName a (o a))) .stage ≡ committed homed) → (o a ≡ l .book .uncommitted a → homed ≡ 0)
+        → CoreUp l m a k
+        → CoreUp advanced m a (record { next = k .next; used = used; stored = k .stored; homed = homed; running = k .running; closed = k .closed })
+    core-advanced m k used homed n h z y =
+        record {
+          next = y .next;
+          used = n ∙ sym (restages-records one-changed a (o a) (l .book .uncommitted a - o a));
+          runs = rw current-stays (y .runs);
+          idle = rw current-stays (y .idle);
+          closing = rw closing-stays (y .closing);
+          stored = rw closing-stays (y .stored);
+          copies = rw closing-stays (y .copies);
+          none-closing = y .none-closing;
+          homed = h;
+          none-homed = z;
+        }
+
+    -- a core that keeps its oldest number
+    journal-kept : (d d₂ : Bytes) (tail : Tail) → ((q : ℕ) → journalAt (l .shape) d₂ a q ≡ journalAt (l .shape) d a q) → o a ≡ l .book .oldest a
+        → JournalStands l d a tail → JournalStands advanced d₂ a tail
+    journal-kept d d₂ tail at e j =
+        journal-advanced d d₂ tail tail at (j .number ∙ sym e) (j .position) (rw (contents-kept e) (j .stands)) (rw e (omega arith)) j
+
+-- the first of the numbers below a count
+module _ {A : Type 0} where
+  flatMap-first : (f : ℕ → List A) (n : ℕ) → flatMap f (below (suc n)) ≡ f 0 ++ flatMap (λ (i : ℕ). f (suc i)) (below n)
+  unfolding below flatMap
+  flatMap-first f zero = refl
+  flatMap-first f (suc n) =
+      flatMap-append f (below (suc n)) (suc n ∷ [])
+      ∙ ap (λ (x : List A). x ++ (f (suc n) ++ [])) (flatMap-first f n)
+      ∙ append-assoc (f 0) (flatMap (λ (i : ℕ). f (suc i)) (below n)) (f (suc n) ++ [])
+      ∙ ap (λ (x : List A). f 0 ++ x) (sym (flatMap-append (λ (i : ℕ). f (suc i)) (below n) (n ∷ [])))
+
+-- ---- who held a block holds it no more
+abbrev releasedFrom : Name → Holder → Holder
+releasedFrom t h = cond (h .held && sameName (h .name) t) noHolder h
+
+released-holder : {k k₂ : Book} {t : Name} → Restages k k₂ t retired → (b : ℕ) (ws : List Write)
+    → releasedFrom t (holderAs (holderIn k b ws)) ≡ holderAs (holderIn k₂ b ws)
+released-holder {k} {k₂} {t} r b ws = go (holderIn k b ws) refl
+  where
+    go : (h : Option Name) → holderIn k b ws ≡ h → releasedFrom t (holderAs h) ≡ holderAs (holderIn k₂ b ws)
+    go none e = rw (retired-other r b ws (λ q. let z : _≡_ {A = ℕ} 0 1 = cc in omega arith), e)
+    go (some v) e =
+        same-or-not v t
+        (λ q. rw (q, sameName-refl t, retired-none r b ws (e ∙ ap some q)))
+        (λ ne. rw (sameName-false v t ne, retired-other r b ws (λ q. ne (cc)), e))
+
+still-held : (t : Name) (h : Holder) → (releasedFrom t h) .held ≡ true → h .held ≡ true
+still-held t h e = cases (h .held && sameName (h .name) t) (λ z. clash (rw z at e) refl) (λ z. rw z at e)
+
+-- ---- CHECKPOINT
+module _ {l : Ledger} {w : World} (u : Up l w) (c : ℕ) (in-range : c < l .shape .cores) (some-committed : l .book .oldest c < l .book .uncommitted c) where
+  abbrev t : Name
+  t = newName c (l .book .oldest c)
+
+  abbrev x : Core
+  x = coreOf (w .card) c
+
+  abbrev e : Committed
+  e = readRecord l t ((tailOf (w .card) c) .position)
+
+  stage-now : (l .book .entry t) .stage ≡ committed (x .homed)
+  stage-now = u .cores c in-range .homed some-committed
+
+  closed-now : isClosed ((l .book .entry t) .stage) ≡ true
+  closed-now = ap isClosed stage-now
+
+  within : x .homed ≤ length ((l .book .entry t) .blocks)
+  within =
+      let s = u .fine .ranks c in-range .first some-committed in
+      let q : s .0 ≡ x .homed = ap counted (sym (s .1) ∙ stage-now) in
+      omega (arith, s .2)
+
+  size : length (recordOf l t) ≡ length ((l .book .entry t) .blocks) + 2
+  size = length-record (u .fine) t closed-now
+
+  -- it is neither the one being stored nor the running one, of any core
+  not-closing : (a : ℕ) → newName a (l .book .uncommitted a) ≢ t
+  not-closing a q =
+      let z : l .book .uncommitted a ≡ l .book .uncommitted c = ap (λ (v : Name). l .book .uncommitted (v .core)) q in
+      let y : l .book .uncommitted a ≡ l .book .oldest c = ap (λ (v : Name). v .number) q in
+      omega arith
+
+  not-current : (a : ℕ) → newName a (l .book .next a) ≢ t
+  not-current a q =
+      let z : l .book .next a ≡ l .book .next c = ap (λ (v : Name). l .book .next (v .core)) q in
+      let y : l .book .next a ≡ l .book .oldest c = ap (λ (v : Name). v .number) q in
+      omega (arith, u .fine .ranks c in-range .mid)
+
+  core-room : c < length (w .card .cores)
+  core-room = omega (arith, u .eight-cores, u .fine .range .few-cores)
+
+  -- ---- a home store
+  module _ (more : x .homed < length ((l .book .entry t) .blocks)) where
+    abbrev b : ℕ
+    b = getD ((l .book .entry t) .blocks) (x .homed) 0
+
+    abbrev image : Bytes
+    image = getD (l .images t) (x .homed) []
+
+    abbrev homedCore : Core
+    homedCore = record { next = x .next; used = x .used; stored = x .stored; homed = x .homed + 1; running = x .running; closed = x .closed }
+
+    home-done : checkpointed c w ≡ storing w (withCore (w .card) c homedCore) (homeBlock b) image
+    unfolding checkpointed storedHome
+    home-done =
+        let r : IsRead l (w .disk) c e = rw (oldest-of u c in-range some-committed) at (oldest-is u c in-range some-committed) in
+        rw (oldest-of u c in-range some-committed, lt-ltb (x .homed) (length ((l .book .entry t) .blocks)) more, shape-up u, r .blocks, r .images (x .homed) more) refl
+
+    home-low : b < l .shape .blocks
+    home-low = u .fine .limits t (closed-present _ closed-now) .blocks b (getD-mem ((l .book .entry t) .blocks) (x .homed) 0 more)
+
+    image-block : IsBlock image
+    image-block = let z = u .fine .frozen t closed-now in z .images (x .homed) (omega (arith, z .count))
+
+    home-fits : 128 * homeBlock b + 128 ≤ length (w .disk)
+    home-fits = omega (arith, home-low, u .disk .size, u .fine .range .few-blocks)
+
+    home-elsewhere : (k : ℕ) → k ≢ homeBlock b → blockAt (storeBlock (w .disk) (homeBlock b) image) k ≡ blockAt (w .disk) k
+    home-elsewhere = block-other (w .disk) (homeBlock b) image home-fits (image-block .size)
+
+    abbrev l₂ : Ledger
+    l₂ = advanced l t (committed (suc (x .homed))) (l .book .oldest)
+
+    home-disk : DiskStands l₂ (storeBlock (w .disk) (homeBlock b) image) (tailOf (w .card))
+    unfolding journalAt
+    home-disk =
+        record {
+          size = length-store (w .disk) (homeBlock b) image home-fits (image-block .size) ∙ u .disk .size;
+          bytes = bytes-store (w .disk) (homeBlock b) image (u .disk .bytes) (image-block .bytes);
+          master = home-elsewhere 0 (omega arith) ∙ u .disk .master;
+          journals =
+              λ a h.
+              journal-kept l t (committed (suc (x .homed))) (l .book .oldest) a (not-closing a) (not-current a) (w .disk) (storeBlock (w .disk) (homeBlock b) image) (tailOf (w .card) a)
+              (λ q. home-elsewhere (journalBlock (l .shape) a q) (λ z. home-apart (l .shape) a q (homeBlock b) (omega (arith, home-low)) (sym z))) refl (u .disk .journals a h);
+        }
+
+    home-core : (a : ℕ) → a < l .shape .cores → CoreUp l₂ (w .memory) a (coreOf (withCore (w .card) c homedCore) a)
+    home-core a h =
+        let g = committed (suc (x .homed)) in
+        let changed = one-changed l t g (l .book .oldest) in
+        let y = u .cores a h in
+        elim (ℕ-discrete a c) [
+          | yes q ↦ (let y₂ = u .cores c in-range in
+              let z : x .homed + 1 ≡ suc (x .homed) = omega arith in
+              rw (q, core-set (w .card) c homedCore core-room)
+              (core-advanced l t g (l .book .oldest) c (not-closing c) (not-current c) (w .memory) x (x .used) (x .homed + 1) (y₂ .used)
+              (λ _. rw z (changed .stage)) (λ n. absurd (omega arith)) y₂))
+          | no ne ↦ rw (core-other (w .card) c homedCore a ne)
+              (core-advanced l t g (l .book .oldest) a (not-closing a) (not-current a) (w .memory) (coreOf (w .card) a) ((coreOf (w .card) a) .used) ((coreOf (w .card) a) .homed) (y .used)
+              (λ n. ap (λ (v : Entry). v .stage) (changed .other (newName a (l .book .oldest a)) (other-core (l .book .oldest a) (l .book .oldest c) ne)) ∙ y .homed n) (y .none-homed) y)
+        ]
+
+    home-up : Fine l₂ → Up l₂ ((storing w (withCore (w .card) c homedCore) (homeBlock b) image) .world)
+    unfolding tailOf holderOf imageNow
+    home-up fine =
+        record {
+          phase = u .phase;
+          ledger = u .ledger;
+          shape = u .shape;
+          closes = u .closes;
+          memory = u .memory;
+          memory-bytes = u .memory-bytes;
+          eight-tails = u .eight-tails;
+          eight-cores = length-set (w .card .cores) c homedCore ∙ u .eight-cores;
+          holder-room = u .holder-room;
+          fine = fine;
+          disk = home-disk;
+          cores = home-core;
+          holders =
+              λ b h.
+              u .holders b h
+              ∙ ap holderAs (sym (restages-holder (one-changed l t (committed (suc (x .homed))) (l .book .oldest)) (sym (ap isRetired stage-now)) b (l .book .writes)));
+          images = u .images;
+        }
+
+  -- ---- the master store
+  module _ (all-home : x .homed ≡ length ((l .book .entry t) .blocks)) where
+    abbrev n : ℕ
+    n = length ((l .book .entry t) .blocks) + 2
+
+    abbrev tail : Tail
+    tail = newTail (l .book .oldest c + 1) (((tailOf (w .card) c) .position + n) % l .shape .journal)
+
+    abbrev retiredCore : Core
+    retiredCore = record { next = x .next; used = x .used - n; stored = x .stored; homed = 0; running = x .running; closed = x .closed }
+
+    abbrev card₂ : Card
+    card₂ = retiredCard c e (w .card)
+
+    abbrev o₂ : ℕ → ℕ
+    o₂ = raise c (l .book .oldest)
+
+    abbrev l₃ : Ledger
+    l₃ = advanced l t retired o₂
+
+    retired-shape : shapeOf card₂ ≡ l .shape
+    unfolding retiredCard shapeOf
+    retired-shape = unfold shapeOf in shape-up u
+
+    master-done : checkpointed c w ≡ storing w card₂ 0 (masterBlock (l .shape) (tailOf card₂))
+    unfolding checkpointed storedMaster
+    master-done = rw (oldest-of u c in-range some-committed, le-ltb (x .homed) (length ((l .book .entry t) .blocks)) (omega arith), retired-shape) refl
+
+    tail-room : c < length (w .card .tails)
+    tail-room = omega (arith, u .eight-tails, u .fine .range .few-cores)
+
+    own-tail : tailOf card₂ c ≡ tail
+    unfolding tailOf retiredCard
+    own-tail = getD-set-same (w .card .tails) c _ (newTail 0 0) tail-room ∙ rw (shape-up u) refl
+
+    other-tail : (a : ℕ) → a ≢ c → tailOf card₂ a ≡ tailOf (w .card) a
+    unfolding tailOf retiredCard
+    other-tail a ne = getD-set-other (w .card .tails) c a _ (newTail 0 0) ne
+
+    own-core : coreOf card₂ c ≡ retiredCore
+    unfolding coreOf retiredCard
+    own-core = getD-set-same (w .card .cores) c _ (freshCore 0) core-room
+
+    other-cores : (a : ℕ) → a ≢ c → coreOf card₂ a ≡ coreOf (w .card) a
+    unfolding coreOf retiredCard
+    other-cores a ne = getD-set-other (w .card .cores) c a _ (freshCore 0) ne
+
+    holder-after : (b : ℕ) → holderOf card₂ b ≡ releasedFrom t (holderOf (w .card) b)
+    unfolding holderOf retiredCard released
+    holder-after b = List·getD-map (releasedFrom t) (w .card .holders) b noHolder
+
+    -- the store
+    master-fits : 128 * 0 + 128 ≤ length (w .disk)
+    master-fits = omega (arith, u .disk .size)
+
+    abbrev block₂ : Bytes
+    block₂ = masterBlock (l .shape) (tailOf card₂)
+
+    master-size : length block₂ ≡ 128
+    master-size = length-master (u .fine .range) (tailOf card₂)
+
+    master-bytes : IsBytes block₂
+    unfolding masterBlock
+    master-bytes = each-isBytes _ (each-block _)
+
+    master-elsewhere : (k : ℕ) → k ≢ 0 → blockAt (storeBlock (w .disk) 0 block₂) k ≡ blockAt (w .disk) k
+    master-elsewhere = block-other (w .disk) 0 block₂ master-fits master-size
+
+    journals-stay : (a q : ℕ) → journalAt (l .shape) (storeBlock (w .disk) 0 block₂) a q ≡ journalAt (l .shape) (w .disk) a q
+    unfolding journalAt
+    journals-stay a q = master-elsewhere (journalBlock (l .shape) a q) (λ z. home-apart (l .shape) a q 0 (omega arith) (sym z))
+
+    -- the journal without its first record
+    contents-past : contents l c ≡ recordOf l t ++ contents l₃ c
+    unfolding contents
+    contents-past =
+        let k = l .book in
+        let o = k .oldest c in
+        let i : k .uncommitted c - o ≡ suc (k .uncommitted c - suc o) = omega arith in
+        let v = newName c (k .uncommitted c) in
+        let f : ℕ → List Bytes = λ j. recordOf l (newName c (o + j)) in
+        let last = take (counted ((k .entry v) .stage)) (recordOf l v) in
+        let first : newName c (o + 0) ≡ t = ap (newName c) (omega arith) in
+        let rest : flatMap (λ (j : ℕ). recordOf l₃ (newName c (suc o + j))) (below (k .uncommitted c - suc o)) ≡ flatMap (λ (j : ℕ). f (suc j)) (below (k .uncommitted c - suc o)) =
+        flatMap-below _ _ (k .uncommitted c - suc o)
+        (λ j h. let s : suc o + j ≡ o + suc j = omega arith in record-stays l t retired o₂ (newName c (suc o + j)) ∙ ap (λ (m : ℕ). recordOf l (newName c m)) s) in
+        rw (raise-at c (k .oldest), closing-stays l t retired o₂ c (not-closing c) (not-current c), record-stays l t retired o₂ v, rest, i)
+        (ap (λ (y : List Bytes). y ++ last) (flatMap-first f (k .uncommitted c - suc o))
+        ∙ append-assoc (f 0) (flatMap (λ (j : ℕ). f (suc j)) (below (k .uncommitted c - suc o))) last
+        ∙ rw first refl)
+
+    fewer : (m : ℕ) → l .book .oldest c < m
+        → recordBlocks (l .book) c (l .book .oldest c) (m - l .book .oldest c) ≡ n + recordBlocks (l .book) c (suc (l .book .oldest c)) (m - suc (l .book .oldest c))
+    fewer m h =
+        let i : m - l .book .oldest c ≡ suc (m - suc (l .book .oldest c)) = omega arith in
+        rw i (records-cons (l .book) c (l .book .oldest c) (m - suc (l .book .oldest c)))
+
+    own-journal : JournalStands l₃ (storeBlock (w .disk) 0 block₂) c (tailOf card₂ c)
+    own-journal =
+        let j = u .disk .journals c in-range in
+        let p = (tailOf (w .card) c) .position in
+        let s = l .shape in
+        let past = contents-past in
+        rw own-tail
+        (journal-advanced l t retired o₂ c (not-closing c) (not-current c) (w .disk) (storeBlock (w .disk) 0 block₂) (tailOf (w .card) c) tail (journals-stay c)
+        (rw (raise-at c (l .book .oldest)) (omega arith)) (mod-lt (p + n) (omega (arith, u .fine .range .long)))
+        (λ q h.
+        let a : p + n + q ≡ p + (length (recordOf l t) + q) = omega (arith, size) in
+        let m = length-append (recordOf l t) (contents l₃ c) in
+        let b : length (recordOf l t) + q < length (contents l c) = rw past (omega arith) in
+        let wraps : journalAt s (w .disk) c ((p + n) % s .journal + q) ≡ journalAt s (w .disk) c (p + n + q) = unfold journalAt in ap (blockAt (w .disk)) (journal-wrap s c (p + n) q) in
+        wraps
+        ∙ ap (journalAt s (w .disk) c) a
+        ∙ j .stands (length (recordOf l t) + q) b
+        ∙ ap (λ (y : List Bytes). getD y (length (recordOf l t) + q) []) past
+        ∙ getD-append-add (recordOf l t) (contents l₃ c) q [])
+        (rw (raise-at c (l .book .oldest)) (omega (arith, fewer (l .book .next c) (omega (arith, u .fine .ranks c in-range .mid)))))
+        j)
+
+    master-disk : DiskStands l₃ (storeBlock (w .disk) 0 block₂) (tailOf card₂)
+    master-disk =
+        record {
+          size = length-store (w .disk) 0 block₂ master-fits master-size ∙ u .disk .size;
+          bytes = bytes-store (w .disk) 0 block₂ (u .disk .bytes) master-bytes;
+          master = block-stored (w .disk) 0 block₂ master-fits master-size;
+          journals =
+              λ a h.
+              elim (ℕ-discrete a c) [
+                | yes q ↦ subst (λ (i : ℕ). JournalStands l₃ (storeBlock (w .disk) 0 block₂) i (tailOf card₂ i)) (sym q) own-journal
+                | no ne ↦ rw (other-tail a ne)
+                    (journal-kept l t retired o₂ a (not-closing a) (not-current a) (w .disk) (storeBlock (w .disk) 0 block₂) (tailOf (w .card) a) (journals-stay a)
+                    (raise-other c (l .book .oldest) a ne) (u .disk .journals a h))
+              ];
+        }
+
+    master-core : (a : ℕ) → a < l .shape .cores → CoreUp l₃ (w .memory) a (coreOf card₂ a)
+    master-core a h =
+        let changed = one-changed l t retired o₂ in
+        let y = u .cores a h in
+        elim (ℕ-discrete a c) [
+          | yes q ↦ (let y₂ = u .cores c in-range in
+              let r = u .fine .ranks c in-range in
+              let up = raise-at c (l .book .oldest) in
+              rw (q, own-core)
+              (core-advanced l t retired o₂ c (not-closing c) (not-current c) (w .memory) x (x .used - n) 0
+              (rw up (omega (arith, y₂ .used, fewer (l .book .uncommitted c) some-committed)))
+              (rw up (λ g. ap (λ (v : Entry). v .stage) (changed .other (newName c (suc (l .book .oldest c))) (other-number c (omega arith))) ∙ r .done (suc (l .book .oldest c)) (omega arith) g))
+              (λ _. refl) y₂))
+          | no ne ↦ (let same = raise-other c (l .book .oldest) a ne in
+              rw (other-cores a ne)
+              (core-advanced l t retired o₂ a (not-closing a) (not-current a) (w .memory) (coreOf (w .card) a) ((coreOf (w .card) a) .used) ((coreOf (w .card) a) .homed) (rw same (y .used))
+              (rw same (λ g. ap (λ (v : Entry). v .stage) (changed .other (newName a (l .book .oldest a)) (other-core (l .book .oldest a) (l .book .oldest c) ne)) ∙ y .homed g))
+              (rw same (y .none-homed)) y))
+        ]
+
+    master-up : Fine l₃ → Up l₃ ((storing w card₂ 0 block₂) .world)
+    unfolding retiredCard released imageNow
+    master-up fine =
+        record {
+          phase = u .phase;
+          ledger = u .ledger;
+          shape = u .shape;
+          closes = u .closes;
+          memory = u .memory;
+          memory-bytes = u .memory-bytes;
+          eight-tails = length-set (w .card .tails) c _ ∙ u .eight-tails;
+          eight-cores = length-set (w .card .cores) c _ ∙ u .eight-cores;
+          holder-room = length-map (w .card .holders) _ ∙ u .holder-room;
+          fine = fine;
+          disk = master-disk;
+          cores = master-core;
+          holders =
+              λ b h.
+              holder-after b
+              ∙ ap (releasedFrom t) (u .holders b h)
+              ∙ released-holder (one-changed l t retired o₂) b (l .book .writes);
+          images = λ b h g. u .images b h (still-held t (holderOf (w .card) b) (sym (ap (λ (v : Holder). v .held) (holder-after b)) ∙ g));
+        }
+
+  -- ---- either
+  pub checkpoint-up : Fine (withBook l (checkpoint c (l .book))) → Up (withBook l (checkpoint c (l .book))) ((checkpointed c w) .world)
+  checkpoint-up fine =
+      elim (decLt (x .homed) (length ((l .book .entry t) .blocks))) [
+        | yes more ↦ (let k = checkpoint-home c (x .homed) (l .book) stage-now more in rw (k, home-done more) (home-up more (rw k at fine)))
+        | no none-left ↦ (let all : x .homed ≡ length ((l .book .entry t) .blocks) = omega (arith, within) in
+            let k = checkpoint-retires c (x .homed) (l .book) stage-now all in
+            rw (k, master-done all) (master-up all (rw k at fine)))
+      ]
+
+  -- the disk, and the home blocks, by the ledger's count of checkpoints
+  module _ {m : ℕ} (stage : (l .book .entry t) .stage ≡ committed m) where
+    homed-now : x .homed ≡ m
+    homed-now = ap counted (sym stage-now ∙ stage)
+
+    module _ (more : m < length ((l .book .entry t) .blocks)) where
+      more-now : x .homed < length ((l .book .entry t) .blocks)
+      more-now = omega (arith, homed-now)
+
+      pub home-below : getD ((l .book .entry t) .blocks) m 0 < l .shape .blocks
+      home-below = rw (← homed-now) (home-low more-now)
+
+      pub home-store : (checkpointed c w) .world .disk ≡ storeBlock (w .disk) (homeBlock (getD ((l .book .entry t) .blocks) m 0)) (getD (l .images t) m [])
+      home-store = rw (← homed-now) (ap (λ (z : Outcome). z .world .disk) (home-done more-now))
+
+      pub home-stored : blockAt ((checkpointed c w) .world .disk) (homeBlock (getD ((l .book .entry t) .blocks) m 0)) ≡ getD (l .images t) m []
+      home-stored = rw (home-store, ← homed-now) (block-stored (w .disk) (homeBlock (b more-now)) (image more-now) (home-fits more-now) (image-block more-now .size))
+
+      pub home-others : (a : ℕ) → a ≢ getD ((l .book .entry t) .blocks) m 0 → blockAt ((checkpointed c w) .world .disk) (homeBlock a) ≡ blockAt (w .disk) (homeBlock a)
+      home-others a ne = rw (home-store, ← homed-now) (home-elsewhere more-now (homeBlock a) (λ q. ne (rw (← homed-now) (omega arith))))
+
+    module _ (all : m ≡ length ((l .book .entry t) .blocks)) where
+      pub master-store : (checkpointed c w) .world .disk ≡ storeBlock (w .disk) 0 (masterBlock (l .shape) (tailOf ((checkpointed c w) .world .card)))
+      master-store = rw (master-done (homed-now ∙ all)) refl
+
+      pub homes-stay : (a : ℕ) → blockAt ((checkpointed c w) .world .disk) (homeBlock a) ≡ blockAt (w .disk) (homeBlock a)
+      homes-stay a = rw (master-done (homed-now ∙ all)) (master-elsewhere (homed-now ∙ all) (homeBlock a) (omega arith))

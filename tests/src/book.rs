@@ -1,0 +1,178 @@
+// book.rs: the service book: fed each command with its answer and nothing of the card, it knows what a cut brings back.
+
+use crate::command::Command;
+use crate::layout::{BLOCK, CORES, HOMES};
+use std::collections::VecDeque;
+
+/// A transaction of the book; its place in `entries` is its identity.
+#[derive(Default)]
+struct Entry {
+    took: Vec<u8>,
+    names: Vec<usize>,
+    stores: usize,
+    home_stores: usize,
+    committed: bool,
+}
+
+#[derive(Default)]
+struct BookCore {
+    running: Option<usize>,
+    closed: Option<usize>,
+    committed: VecDeque<usize>,
+}
+
+struct NotedWrite {
+    entry: usize,
+    at: usize,
+    data: [u8; 4],
+}
+
+pub struct Book {
+    entries: Vec<Entry>,
+    cores: [BookCore; CORES],
+    holders: [Option<usize>; HOMES],
+    writes: Vec<NotedWrite>,
+    /// The blank area with the kept writes made so far, in order.
+    area: Vec<u8>,
+}
+
+impl Default for Book {
+    fn default() -> Self {
+        Book::new(0)
+    }
+}
+
+impl Book {
+    fn new(blocks: u8) -> Book {
+        Book {
+            entries: Vec::new(),
+            cores: Default::default(),
+            holders: [None; HOMES],
+            writes: Vec::new(),
+            area: vec![0; blocks as usize * BLOCK],
+        }
+    }
+
+    pub fn area(&self) -> &[u8] {
+        &self.area
+    }
+
+    /// A refused command changes nothing in the book, and RECOVER does nothing.
+    pub fn feed(&mut self, command: Command, answer: u8) {
+        if answer != 0 {
+            return;
+        }
+        match command {
+            Command::Format { blocks, .. } => *self = Book::new(blocks),
+            Command::Write { core, block, offset, data } => self.write(core, block as usize, offset, data),
+            Command::Close { core } => self.close(core),
+            Command::Store { core } => self.store(core),
+            Command::Checkpoint { core } => self.checkpoint(core),
+            Command::Cut => self.cut(),
+            Command::Recover => {}
+        }
+    }
+
+    fn write(&mut self, core: u8, block: usize, offset: u8, data: [u8; 4]) {
+        let at = block * BLOCK + offset as usize;
+        if core as usize >= CORES || at + 4 > self.area.len() {
+            return;
+        }
+        let writer = self.running_of(core);
+        match self.holders[block] {
+            None => self.take(writer, block),
+            Some(holder) if holder == writer => {}
+            Some(holder) if self.is_running(holder) => {
+                self.add_name(writer, holder);
+                self.add_name(holder, writer);
+            }
+            Some(holder) => {
+                self.take(writer, block);
+                self.add_name(writer, holder);
+            }
+        }
+        self.writes.push(NotedWrite { entry: writer, at, data });
+    }
+
+    /// The core's running transaction, opened if there is none.
+    fn running_of(&mut self, core: u8) -> usize {
+        let fresh = self.entries.len();
+        let running = *self.cores[core as usize].running.get_or_insert(fresh);
+        if running == fresh {
+            self.entries.push(Entry::default());
+        }
+        running
+    }
+
+    fn is_running(&self, entry: usize) -> bool {
+        self.cores.iter().any(|core| core.running == Some(entry))
+    }
+
+    fn take(&mut self, entry: usize, block: usize) {
+        self.entries[entry].took.push(block as u8);
+        self.holders[block] = Some(entry);
+    }
+
+    fn add_name(&mut self, entry: usize, name: usize) {
+        if !self.entries[entry].names.contains(&name) {
+            self.entries[entry].names.push(name);
+        }
+    }
+
+    fn close(&mut self, core: u8) {
+        let Some(core) = self.cores.get_mut(core as usize) else { return };
+        if let Some(running) = core.running.take() {
+            core.closed = Some(running);
+        }
+    }
+
+    fn store(&mut self, core: u8) {
+        let Some(core) = self.cores.get_mut(core as usize) else { return };
+        let Some(closed) = core.closed else { return };
+        let entry = &mut self.entries[closed];
+        entry.stores += 1;
+        if entry.stores == entry.took.len() + 2 {
+            entry.committed = true;
+            core.closed = None;
+            core.committed.push_back(closed);
+        }
+    }
+
+    fn checkpoint(&mut self, core: u8) {
+        let Some(core) = self.cores.get_mut(core as usize) else { return };
+        let Some(&oldest) = core.committed.front() else { return };
+        let entry = &mut self.entries[oldest];
+        entry.home_stores += 1;
+        if entry.home_stores == entry.took.len() + 1 {
+            core.committed.pop_front();
+            self.holders.iter_mut().filter(|holder| **holder == Some(oldest)).for_each(|holder| *holder = None);
+        }
+    }
+
+    fn cut(&mut self) {
+        let kept = self.kept();
+        for write in self.writes.iter().filter(|write| kept[write.entry]) {
+            self.area[write.at..write.at + 4].copy_from_slice(&write.data);
+        }
+        let area = std::mem::take(&mut self.area);
+        *self = Book { area, ..Book::new(0) };
+    }
+
+    /// The largest set of committed ones in which each has all that it depends on there:
+    /// whoever depends on one that is not committed is lost, and all others stay.
+    fn kept(&self) -> Vec<bool> {
+        let mut named_by = vec![Vec::new(); self.entries.len()];
+        for (i, entry) in self.entries.iter().enumerate() {
+            entry.names.iter().for_each(|name| named_by[*name].push(i));
+        }
+        let mut kept = vec![true; self.entries.len()];
+        let mut lost: Vec<usize> = (0..self.entries.len()).filter(|i| !self.entries[*i].committed).collect();
+        while let Some(entry) = lost.pop() {
+            if kept[entry] {
+                kept[entry] = false;
+                lost.extend(&named_by[entry]);
+            }
+        }
+        kept
+    }
+}

@@ -1,0 +1,79 @@
+// command.rs: the commands of a tape, read from its bytes and written to them.
+
+#[derive(Clone, Copy, PartialEq, Eq, Debug)]
+pub enum Command {
+    Format { cores: u8, blocks: u8, journal: u8 },
+    Write { core: u8, block: u16, offset: u8, data: [u8; 4] },
+    Close { core: u8 },
+    Store { core: u8 },
+    Checkpoint { core: u8 },
+    Cut,
+    Recover,
+}
+
+/// Operand bytes of a command byte; none for a byte that is no command.
+pub fn operand_width(byte: u8) -> Option<usize> {
+    match byte {
+        1 => Some(3),
+        2 => Some(8),
+        3..=5 => Some(1),
+        6 | 7 => Some(0),
+        _ => None,
+    }
+}
+
+/// A tape offset read: a whole command and the offset past it, or the refusal 2 or 3.
+pub fn read(tape: &[u8], offset: usize) -> Result<(Command, usize), u8> {
+    let Some(&byte) = tape.get(offset) else { return Err(3) };
+    let Some(width) = operand_width(byte) else { return Err(2) };
+    let next = offset + 1 + width;
+    let Some(operands) = tape.get(offset + 1..next) else { return Err(3) };
+    Ok((Command::from_parts(byte, operands), next))
+}
+
+impl Command {
+    /// Only called with a known byte and as many operands as it takes.
+    fn from_parts(byte: u8, o: &[u8]) -> Command {
+        match byte {
+            1 => Command::Format { cores: o[0], blocks: o[1], journal: o[2] },
+            2 => Command::Write {
+                core: o[0],
+                block: u16::from_be_bytes([o[1], o[2]]),
+                offset: o[3],
+                data: [o[4], o[5], o[6], o[7]],
+            },
+            3 => Command::Close { core: o[0] },
+            4 => Command::Store { core: o[0] },
+            5 => Command::Checkpoint { core: o[0] },
+            6 => Command::Cut,
+            _ => Command::Recover,
+        }
+    }
+
+    pub fn write_to(&self, tape: &mut Vec<u8>) {
+        match *self {
+            Command::Format { cores, blocks, journal } => tape.extend([1, cores, blocks, journal]),
+            Command::Write { core, block, offset, data } => {
+                let [high, low] = block.to_be_bytes();
+                tape.extend([2, core, high, low, offset]);
+                tape.extend(data);
+            }
+            Command::Close { core } => tape.extend([3, core]),
+            Command::Store { core } => tape.extend([4, core]),
+            Command::Checkpoint { core } => tape.extend([5, core]),
+            Command::Cut => tape.push(6),
+            Command::Recover => tape.push(7),
+        }
+    }
+}
+
+/// Every command is at least one byte and known bytes say how many follow, so hex is enough to replay a run.
+pub fn hex(tape: &[u8]) -> String {
+    tape.iter().map(|byte| format!("{byte:02x}")).collect()
+}
+
+/// Bytes from hex digits; blanks and bars, as the paper's tapes have them, are passed over.
+pub fn from_hex(text: &str) -> Vec<u8> {
+    let digits: Vec<u8> = text.chars().filter_map(|c| c.to_digit(16)).map(|d| d as u8).collect();
+    digits.chunks_exact(2).map(|pair| pair[0] * 16 + pair[1]).collect()
+}

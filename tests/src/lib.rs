@@ -1,0 +1,21 @@
+// lib.rs: an independent model of the revision D storage card, with a service book, a ledger, tapes and checks.
+
+pub mod book;
+pub mod card;
+pub mod checks;
+pub mod command;
+pub mod few;
+pub mod foreign;
+pub mod generator;
+pub mod journal;
+pub mod layout;
+pub mod ledger;
+pub mod program;
+pub mod random;
+pub mod second_reader;
+pub mod shrink;
+pub mod twin;
+pub mod wrong;
+
+mod recovery;
+mod transaction;

@@ -1,0 +1,189 @@
+// recovery.rs: the card's CHECKPOINT and RECOVER: images going home and tails moving on.
+
+use crate::card::{Card, Done, Lent};
+use crate::journal::{Journals, Record, Set};
+use crate::layout::{copy_of, master, read_master, Block, Shape, Tail, Tails, CORES, LAST_TAIL, ZERO};
+use crate::wrong::Wrong;
+
+impl Card {
+    pub(crate) fn checkpoint(&mut self, lent: &mut Lent, core: u8) -> Done {
+        self.check_core(core)?;
+        if self.is(Wrong::CheckpointAlways32) {
+            return Err(32);
+        }
+        let journals = self.journals(lent.disk);
+        let oldest = *journals.of_core(core).first().ok_or(31)?;
+        let valid = self.valid_set(&journals);
+        if valid >> journals.first_of(core) & 1 == 0 && !self.is(Wrong::No32) {
+            return Err(32);
+        }
+        if self.has_older_sharer(&journals, &oldest) && !self.is(Wrong::No33) {
+            return Err(33);
+        }
+        let step = self.cores[core as usize].home as usize;
+        let master_step = if self.is(Wrong::RetiresAtOnce) { 0 } else { oldest.blocks.len() };
+        if step == master_step {
+            self.retire(lent, &oldest);
+        } else {
+            self.store_home(lent, &oldest, step);
+        }
+        Ok(1)
+    }
+
+    fn store_home(&mut self, lent: &mut Lent, oldest: &Record, step: usize) {
+        let block = oldest.blocks[step];
+        let image = if self.is(Wrong::CheckpointFromMemory) {
+            copy_of(lent.memory, block as usize)
+        } else {
+            self.image(lent.disk, self.shape, oldest, step)
+        };
+        self.put(lent.disk, self.shape.home(block), &image);
+        self.cores[oldest.core as usize].home += 1;
+    }
+
+    /// The master with the tail moved past the oldest one, which holds nothing from then on.
+    fn retire(&mut self, lent: &mut Lent, oldest: &Record) {
+        let length = oldest.length() as u8;
+        let journal = self.shape.journal;
+        let mine = &mut self.cores[oldest.core as usize];
+        mine.tail = Tail { number: mine.tail.number + 1, position: (mine.tail.position + length) % journal };
+        mine.committed -= 1;
+        mine.length = mine.length.saturating_sub(length);
+        mine.home = 0;
+        let block = master(self.shape, &self.tails());
+        self.put(lent.disk, 0, &block);
+        for holder in self.holders.iter_mut().filter(|_| self.wrong != Wrong::HolderKept) {
+            if *holder == Some(oldest.name()) {
+                *holder = None;
+            }
+        }
+    }
+
+    fn valid_set(&self, journals: &Journals) -> Set {
+        let all = journals.everything();
+        match self.wrong {
+            Wrong::AllCommittedValid => all,
+            Wrong::ValidityOneDeep => one_name_deep(journals),
+            _ => journals.valid(all),
+        }
+    }
+
+    /// Whether an unretired transaction with a lower stamp took a block of this one.
+    fn has_older_sharer(&self, journals: &Journals, oldest: &Record) -> bool {
+        let committed = journals.records.iter().any(|r| r.stamp < oldest.stamp && r.shares_a_block(&oldest.blocks));
+        let closed = self.cores.iter().filter_map(|core| core.closed);
+        let waiting = closed.filter(|t| t.stamp != 0 && t.stamp < oldest.stamp);
+        let uncommitted = waiting.into_iter().any(|t| oldest.shares_a_block(&t.blocks));
+        committed || uncommitted && !self.is(Wrong::Only33Committed)
+    }
+
+    fn image(&self, disk: &[u8], shape: Shape, record: &Record, i: usize) -> Block {
+        let mut seen = *record;
+        if self.is(Wrong::FlagIgnored) {
+            seen.flags[i] = false;
+        }
+        seen.image(disk, shape, i)
+    }
+
+    pub(crate) fn recover(&mut self, lent: &mut Lent) -> Done {
+        let (shape, tails) = read_master(lent.disk).ok_or(8)?;
+        let journals = Journals::read(lent.disk, shape, &tails, &[usize::MAX; CORES]);
+        let valid = self.valid_set(&journals);
+        match self.next_home(lent.disk, shape, &journals, valid) {
+            Some((block, image)) => {
+                self.put(lent.disk, shape.home(block), &image);
+                self.place = self.place_after(shape, block);
+            }
+            None => self.empty_journals(lent, shape, &journals),
+        }
+        Ok(1)
+    }
+
+    fn place_after(&self, shape: Shape, block: u8) -> u8 {
+        if self.is(Wrong::RecoverHighestFirst) {
+            shape.blocks - block
+        } else {
+            block + 1
+        }
+    }
+
+    /// The lowest block not passed yet that the valid set holds, with its newest image.
+    fn next_home(&self, disk: &[u8], shape: Shape, journals: &Journals, valid: Set) -> Option<(u8, Block)> {
+        match self.wrong {
+            Wrong::UpBeforeHome => return None,
+            Wrong::BlankAlways => return (self.place < shape.blocks).then_some((self.place, ZERO)),
+            _ => {}
+        }
+        let backwards = self.is(Wrong::RecoverHighestFirst);
+        let order = (self.place..shape.blocks).map(|b| if backwards { shape.blocks - 1 - b } else { b });
+        let (block, record) = order.into_iter().find_map(|b| Some((b, self.newest(journals, b, valid)?)))?;
+        let i = record.blocks.iter().position(|each| *each == block)?;
+        Some((block, self.image(disk, shape, record, i)))
+    }
+
+    fn newest<'a>(&self, journals: &'a Journals, block: u8, valid: Set) -> Option<&'a Record> {
+        let newest = journals.newest(block, valid)?;
+        let members = journals.records.iter().enumerate().filter(|(i, _)| valid >> i & 1 == 1).map(|(_, r)| r);
+        let mut holders = members.filter(|record| record.took(block));
+        match self.wrong {
+            Wrong::NewestByOrder => holders.next_back(),
+            Wrong::TieFirst => holders.find(|record| record.stamp == newest.stamp),
+            _ => Some(newest),
+        }
+    }
+
+    /// One master store that empties all journals and brings the card up.
+    fn empty_journals(&mut self, lent: &mut Lent, shape: Shape, journals: &Journals) {
+        let mut tails = Tails::default();
+        for core in 0..shape.cores {
+            tails[core as usize] = Tail { number: self.fresh_number(journals, core), position: 0 };
+        }
+        if self.is(Wrong::TailsCoreByCore) {
+            return self.empty_one_journal(lent, shape, journals, &tails);
+        }
+        self.put(lent.disk, 0, &master(shape, &tails));
+        self.come_up(shape, &tails);
+    }
+
+    fn empty_one_journal(&mut self, lent: &mut Lent, shape: Shape, journals: &Journals, fresh: &Tails) {
+        let mut tails = journals.tails;
+        tails[self.aside as usize] = fresh[self.aside as usize];
+        self.put(lent.disk, 0, &master(shape, &tails));
+        self.place = shape.blocks;
+        self.aside += 1;
+        if self.aside == shape.cores as u64 {
+            self.aside = 0;
+            self.come_up(shape, &tails);
+        }
+    }
+
+    /// Two above the last committed number read, one above the old tail where none was read, and capped.
+    fn fresh_number(&self, journals: &Journals, core: u8) -> u32 {
+        let reused = self.is(Wrong::NumbersReused);
+        let above = 2 - (reused || self.is(Wrong::TailOneAbove)) as u32;
+        let number = match journals.of_core(core).last() {
+            _ if self.is(Wrong::NumbersFromOne) => 1,
+            _ if self.is(Wrong::TailUnchanged) => journals.tails[core as usize].number,
+            Some(record) => record.number + above,
+            None if reused || self.is(Wrong::TailKept) => journals.tails[core as usize].number,
+            None => journals.tails[core as usize].number + 1,
+        };
+        if self.is(Wrong::CapMissing) {
+            number
+        } else {
+            number.min(LAST_TAIL)
+        }
+    }
+}
+
+/// The wrong validity: only the names listed are looked at, against all committed ones.
+fn one_name_deep(journals: &Journals) -> Set {
+    let all = journals.everything();
+    let mut set = all;
+    for (i, record) in journals.records.iter().enumerate() {
+        if record.names.iter().any(|name| !journals.is_met(*name, all)) {
+            set &= !(1 << i);
+        }
+    }
+    set
+}

@@ -1,0 +1,251 @@
+// transaction.rs: the card's WRITE, CLOSE and STORE: a transaction from its opening to its commit.
+
+use crate::card::{Card, Done, Lent, Transaction};
+use crate::few::Few;
+use crate::layout::{
+    begins_with_mark, block_at, commit, copy_of, descriptor, escaped, Block, Name, BLOCK, HOMES, LAST_NUMBER, NAMES,
+    TAKEN,
+};
+use crate::wrong::Wrong;
+
+/// What a WRITE would do, settled before anything is changed.
+struct Plan {
+    writer: Name,
+    opens: bool,
+    takes: bool,
+    /// Memory gets the home image first.
+    loads: bool,
+    /// The writer as it would stand before this write's own changes.
+    transaction: Transaction,
+    /// The name that goes into the writer's list.
+    names: Option<Name>,
+    /// The running holder whose list names the writer.
+    names_back: Option<Name>,
+}
+
+impl Card {
+    pub(crate) fn write(&mut self, lent: &mut Lent, core: u8, block: u16, offset: u8, data: [u8; 4]) -> Done {
+        self.check_core(core)?;
+        if block >= self.shape.blocks as u16 {
+            return Err(6);
+        }
+        if offset > 124 {
+            return Err(7);
+        }
+        let plan = self.plan(core, block as u8);
+        self.refuse_write(&plan)?;
+        self.carry_out(&plan, block as u8);
+        let at = block as usize * BLOCK;
+        if plan.loads && !self.is_mute() && !self.is(Wrong::NotLoaded) {
+            lent.memory[at..at + BLOCK].copy_from_slice(block_at(lent.disk, self.shape.home(block as u8)));
+        }
+        if !self.is_mute() {
+            lent.memory[at + offset as usize..at + offset as usize + 4].copy_from_slice(&data);
+        }
+        Ok(0)
+    }
+
+    fn is_running(&self, name: Name) -> bool {
+        self.cores[name.core as usize].running.is_some_and(|running| running.number == name.number)
+    }
+
+    fn is_committed(&self, name: Name) -> bool {
+        let core = &self.cores[name.core as usize];
+        name.number.checked_sub(core.tail.number).is_some_and(|above| above < core.committed as u32)
+    }
+
+    fn is_retired(&self, name: Name) -> bool {
+        name.number < self.cores[name.core as usize].tail.number
+    }
+
+    /// The four rules for the holder of a block.
+    fn plan(&self, core: u8, block: u8) -> Plan {
+        let mine = &self.cores[core as usize];
+        let fresh = Transaction { number: mine.next, ..Transaction::default() };
+        let transaction = mine.running.unwrap_or(fresh);
+        let writer = Name { core, number: transaction.number };
+        let holder = self.holders[block as usize];
+        let other = holder.filter(|name| *name != writer);
+        let tied = other.filter(|name| self.is_running(*name) && !self.is(Wrong::WriterTakesRunning));
+        let mut plan = Plan {
+            writer,
+            opens: mine.running.is_none(),
+            takes: holder.is_none() || other.is_some() && tied.is_none(),
+            loads: holder.is_none(),
+            transaction,
+            names: other,
+            names_back: tied,
+        };
+        self.misplan(&mut plan);
+        plan
+    }
+
+    fn misplan(&self, plan: &mut Plan) {
+        match self.wrong {
+            Wrong::NoNameForCommitted => plan.names = plan.names.filter(|name| !self.is_committed(*name)),
+            Wrong::OnlyWriterNames => plan.names_back = None,
+            Wrong::OnlyHolderNames if plan.names_back.is_some() => plan.names = None,
+            _ => {}
+        }
+    }
+
+    /// A list with a name added: the same list where it stands there already.
+    fn with_name(&self, list: &Few<Name, NAMES>, name: Option<Name>) -> (Few<Name, NAMES>, bool) {
+        let mut longer = *list;
+        let Some(name) = name else { return (longer, true) };
+        if list.contains(&name) && !self.is(Wrong::NameTwice) {
+            return (longer, true);
+        }
+        if list.len() == NAMES && self.is(Wrong::RetiredNamesNotCounted) {
+            longer = list.keep(|each| !self.is_retired(*each));
+        }
+        let fits = longer.len() < NAMES;
+        longer.push(name);
+        (longer, fits)
+    }
+
+    fn holders_list(&self, plan: &Plan) -> Option<(Few<Name, NAMES>, bool)> {
+        let holder = self.cores[plan.names_back?.core as usize].running?;
+        Some(self.with_name(&holder.names, Some(plan.writer)))
+    }
+
+    /// Refusals 24 to 27, judged on what the WRITE would leave.
+    fn refuse_write(&self, plan: &Plan) -> Result<(), u8> {
+        let (_, writer_fits) = self.with_name(&plan.transaction.names, plan.names);
+        let holder_fits = self.holders_list(plan).is_none_or(|(_, fits)| fits);
+        if !writer_fits || !holder_fits && !self.is(Wrong::HolderListUnlimited) {
+            return Err(24);
+        }
+        let taken = plan.transaction.blocks.len() + plan.takes as usize;
+        if taken > TAKEN {
+            return Err(25);
+        }
+        let untested = self.is(Wrong::No26OnOpen) && !plan.takes;
+        if self.closed_length(plan.writer.core) + 2 + taken > self.shape.journal as usize && !untested {
+            return Err(26);
+        }
+        if plan.opens && plan.transaction.number > LAST_NUMBER {
+            return Err(27);
+        }
+        Ok(())
+    }
+
+    /// Blocks of the records of a core's closed unretired transactions, stored yet or not.
+    fn closed_length(&self, core: u8) -> usize {
+        let core = &self.cores[core as usize];
+        let closed = core.closed.filter(|_| core.stored > 0 || !self.is(Wrong::Only26Stored));
+        core.length as usize + closed.map_or(0, |closed| closed.blocks.len() + 2)
+    }
+
+    fn carry_out(&mut self, plan: &Plan, block: u8) {
+        let mut transaction = plan.transaction;
+        if plan.opens && self.is(Wrong::StampAtOpen) {
+            self.closes += 1;
+            transaction.stamp = self.closes;
+        }
+        transaction.names = self.with_name(&transaction.names, plan.names).0;
+        if let (Some((list, _)), Some(holder)) = (self.holders_list(plan), plan.names_back) {
+            self.cores[holder.core as usize].running.as_mut().expect("a running holder").names = list;
+        }
+        if plan.takes {
+            transaction.blocks.push(block);
+            self.holders[block as usize] = Some(plan.writer);
+        }
+        let mine = &mut self.cores[plan.writer.core as usize];
+        mine.next += plan.opens as u32;
+        mine.running = Some(transaction);
+    }
+
+    pub(crate) fn close(&mut self, lent: &mut Lent, core: u8) -> Done {
+        self.check_core(core)?;
+        let mut transaction = self.cores[core as usize].running.ok_or(28)?;
+        if self.cores[core as usize].closed.is_some() && !self.is(Wrong::No29) {
+            return Err(29);
+        }
+        if !self.is(Wrong::StampAtOpen) && !self.is(Wrong::StampAtCommit) {
+            self.closes += 1;
+            transaction.stamp = self.closes;
+        }
+        for (i, block) in transaction.blocks.iter().enumerate() {
+            let image = copy_of(lent.memory, *block as usize);
+            let at = copy_place(core, i) * BLOCK;
+            if !self.is_mute() {
+                lent.memory[at..at + BLOCK].copy_from_slice(&image);
+            }
+        }
+        let mine = &mut self.cores[core as usize];
+        mine.running = None;
+        mine.closed = Some(transaction);
+        mine.stored = 0;
+        Ok(self.is(Wrong::InventedCount) as u8)
+    }
+
+    pub(crate) fn store(&mut self, lent: &mut Lent, core: u8) -> Done {
+        self.check_core(core)?;
+        if self.is(Wrong::StoreAlways30) {
+            return Err(30);
+        }
+        let mine = self.cores[core as usize];
+        let mut closed = mine.closed.ok_or(30)?;
+        let step = mine.stored as usize;
+        let ends = step == closed.blocks.len() + 1;
+        if ends && self.is(Wrong::StampAtCommit) {
+            self.closes += 1;
+            closed.stamp = self.closes;
+        }
+        let block = self.record_block(lent, core, &closed, step);
+        let start = mine.tail.position as usize + mine.length as usize;
+        let index = self.record_place(core, start, step);
+        self.put(lent.disk, index, &block);
+        self.count_store(core, &closed, ends);
+        Ok(1)
+    }
+
+    fn count_store(&mut self, core: u8, closed: &Transaction, ends: bool) {
+        let mine = &mut self.cores[core as usize];
+        mine.stored += 1;
+        if ends {
+            mine.closed = None;
+            mine.stored = 0;
+            mine.committed = mine.committed.saturating_add(1);
+            mine.length = mine.length.saturating_add(closed.blocks.len() as u8 + 2);
+            self.aside += self.is(Wrong::FirstRecordOnly) as u64;
+        }
+    }
+
+    fn record_place(&self, core: u8, start: usize, step: usize) -> usize {
+        if self.is(Wrong::NoWrap) {
+            self.shape.place(core, start) + step
+        } else {
+            self.shape.place(core, start + step)
+        }
+    }
+
+    /// The block that a step of STORE puts down: descriptor, data in the order taken, commit.
+    fn record_block(&self, lent: &Lent, core: u8, closed: &Transaction, step: usize) -> Block {
+        let blocks = &closed.blocks;
+        if step == 0 {
+            let mut flags = Few::<bool, TAKEN>::new();
+            for i in 0..blocks.len() {
+                flags.push(begins_with_mark(self.source(lent, core, closed, i)) && !self.is(Wrong::NoEscape));
+            }
+            return descriptor(closed.number, blocks, &flags);
+        }
+        if step <= blocks.len() {
+            let image = self.source(lent, core, closed, step - 1);
+            return if self.is(Wrong::NoEscape) { copy_of(image, 0) } else { escaped(image) };
+        }
+        let most = if self.is(Wrong::TwelfthNameDropped) { NAMES - 1 } else { NAMES };
+        commit(closed.number, closed.stamp, &closed.names[..closed.names.len().min(most)])
+    }
+
+    fn source<'a>(&self, lent: &'a Lent, core: u8, closed: &Transaction, i: usize) -> &'a [u8] {
+        let from_images = self.is(Wrong::StoreFromImages);
+        block_at(lent.memory, if from_images { closed.blocks[i] as usize } else { copy_place(core, i) })
+    }
+}
+
+/// The memory block of a core's i-th closed copy.
+pub fn copy_place(core: u8, i: usize) -> usize {
+    HOMES + TAKEN * core as usize + i
+}

@@ -1,0 +1,68 @@
+// wrong.rs: the switches that make a card wrong in one rule.
+
+macro_rules! wrong_cards {
+    ($($name:ident = $words:expr),* $(,)?) => {
+        /// `No` is the right card; every other one breaks a single rule.
+        #[derive(Clone, Copy, PartialEq, Eq, Debug)]
+        pub enum Wrong {
+            No,
+            $($name),*
+        }
+
+        /// All wrong cards, with what is wrong in plain words.
+        pub const ALL: &[(Wrong, &str)] = &[$((Wrong::$name, $words)),*];
+    };
+}
+
+wrong_cards! {
+    TailOneAbove = "tail only one above the last committed one read",
+    TailKept = "tail kept where none was read",
+    NumbersReused = "numbers used again after recovery (both of the above)",
+    TailUnchanged = "tail number unchanged by recovery, whatever was read",
+    NumbersFromOne = "numbers from 1 again after recovery",
+    CapMissing = "tail number after recovery without the cap",
+    NoEscape = "no escape of the mark",
+    FlagIgnored = "flag 1 not looked at when an image is read",
+    NoNameForCommitted = "no name for a holder already committed",
+    ValidityOneDeep = "validity one name deep",
+    AllCommittedValid = "recovery takes all committed ones as valid",
+    TwelfthNameDropped = "a twelfth name dropped from the commit",
+    RetiredNamesNotCounted = "retired names not counted to 12",
+    NameTwice = "a name twice in a list",
+    HolderListUnlimited = "24 not tested for the holder's list",
+    StampAtOpen = "stamp given at open",
+    StampAtCommit = "stamp given at commit",
+    StampsGoOn = "stamps going on after recovery",
+    No32 = "32 missing",
+    No33 = "33 missing",
+    Only33Committed = "33 only against committed ones (equivalent)",
+    No29 = "29 missing: a second CLOSE replaces the closed one",
+    RecoverHighestFirst = "recovery from the highest block to the lowest",
+    NewestByOrder = "newest image by core and number instead of stamp",
+    TieFirst = "equal stamps: the first instead of the last",
+    TailsCoreByCore = "tails emptied core by core, one master store each",
+    CutKeepsPlace = "a cut in recovery does not start it over",
+    CutKeepsMemory = "memory not zeroed by a cut",
+    WriterTakesRunning = "the writer takes a running holder's block",
+    OnlyWriterNames = "running holder: only the writer's list names",
+    OnlyHolderNames = "running holder: only the holder's list names",
+    HolderKept = "a retired transaction still holds its blocks",
+    NotLoaded = "image not loaded from home when taken",
+    UpBeforeHome = "RECOVER reports up before its home stores",
+    FirstRecordOnly = "stores the first record, afterwards only counts",
+    InventedCount = "an invented store count (CLOSE counts too)",
+    NothingChanges = "commands that change nothing",
+    BlankAlways = "recovers a blank area always",
+    StoreAlways30 = "STORE always 30",
+    CheckpointAlways32 = "CHECKPOINT always 32",
+    CheckpointFromMemory = "home image from memory instead of the journal",
+    RetiresAtOnce = "CHECKPOINT retires without its home stores",
+    StoreFromImages = "data stored from current images, not closed copies",
+    NoWrap = "a record that does not wrap",
+    No26OnOpen = "26 not tested for a WRITE that opens without a block",
+    Only26Stored = "26 does not count a closed one not yet stored",
+}
+
+pub fn words(wrong: Wrong) -> &'static str {
+    ALL.iter().find(|(each, _)| *each == wrong).map_or("the right card", |(_, words)| words)
+}

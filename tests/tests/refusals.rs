@@ -1,0 +1,185 @@
+// refusals.rs: every number of the paper's list is answered, on a short run made for it and in generated ones.
+
+use card_tests::card::{Card, Outcome};
+use card_tests::checks::{Bench, Checks};
+use card_tests::command::from_hex;
+use card_tests::layout::{master, Shape, Tail, Tails, DISK, LAST_NUMBER, LAST_TAIL, MEMORY};
+use card_tests::wrong::Wrong;
+
+struct Run {
+    card: Card,
+    disk: Vec<u8>,
+    memory: Vec<u8>,
+}
+
+impl Run {
+    fn blank() -> Run {
+        Run { card: Card::blank(), disk: vec![0x5A; DISK], memory: vec![0x5A; MEMORY] }
+    }
+
+    fn down_over(master: &[u8]) -> Run {
+        let mut disk = vec![0; DISK];
+        disk[..master.len()].copy_from_slice(master);
+        Run { card: Card::down(), disk, memory: vec![0; MEMORY] }
+    }
+
+    /// The answers of a tape; a refusal must leave everything as it was.
+    fn answers(&mut self, tape: &str) -> Vec<u8> {
+        let tape = from_hex(tape);
+        let (mut offset, mut answers) = (0, Vec::new());
+        while offset < tape.len() {
+            let before = (self.card, self.disk.clone(), self.memory.clone());
+            let outcome = self.card.command(&mut self.disk, &mut self.memory, &tape, offset);
+            if outcome.answer != 0 {
+                assert_eq!(outcome.stores, 0);
+                assert!(before == (self.card, self.disk.clone(), self.memory.clone()), "a refusal changed something");
+            }
+            answers.push(outcome.answer);
+            offset = outcome.next;
+        }
+        answers
+    }
+}
+
+fn write(core: u8, block: u16) -> String {
+    format!("02 {core:02x} {block:04x} 00 01020304 ")
+}
+
+fn commit(core: u8, blocks: usize) -> String {
+    format!("03 {core:02x} ") + &format!("04 {core:02x} ").repeat(blocks + 2)
+}
+
+/// The last answer of a tape on a blank card.
+fn last(tape: &str) -> u8 {
+    *Run::blank().answers(tape).last().unwrap()
+}
+
+#[test]
+fn refusal_1_comes_first() {
+    let mut run = Run::blank();
+    let tape = from_hex("01 01 01 04 | 63 | 02 00");
+    for (disk, memory) in [(0, 0), (DISK - 1, MEMORY), (DISK, MEMORY - 1), (DISK, 0)] {
+        let mut at = |offset| run.card.command(&mut run.disk[..disk], &mut run.memory[..memory], &tape, offset);
+        let refused = |next| Outcome { answer: 1, stores: 0, next };
+        assert_eq!([at(0), at(4), at(5)], [refused(4), refused(7), refused(7)]);
+    }
+    let (mut long, mut memory) = (vec![7; DISK + 1], vec![7; MEMORY + 128]);
+    assert_eq!(run.card.command(&mut long, &mut memory, &tape, 0).answer, 1);
+    assert_eq!(run.card.read_number(&long, &memory, 0), 1);
+    assert!(long.iter().chain(&memory).all(|byte| *byte == 7) && run.card == Card::blank());
+}
+
+#[test]
+fn past_the_end_there_is_no_command() {
+    let mut run = Run::blank();
+    for offset in [2, 3, 900] {
+        let outcome = run.card.command(&mut run.disk, &mut run.memory, &[6, 6], offset);
+        assert_eq!(outcome, Outcome { answer: 3, stores: 0, next: offset });
+    }
+}
+
+#[test]
+fn refusals_of_the_operands() {
+    let up = "01 02 03 0C ";
+    assert_eq!(last("01 01 01 04 00"), 2);
+    assert_eq!(last("01 01 01 04 05"), 3);
+    for bad in ["00 01 04", "09 01 04", "01 00 04", "01 41 04", "01 01 03", "01 01 19"] {
+        assert_eq!(last(&format!("01 {bad}")), 4, "{bad}");
+    }
+    assert_eq!(last(&(up.to_string() + &write(2, 9))), 5);
+    assert_eq!([3, 4, 5].map(|byte| last(&format!("{up} {byte:02x} 02"))), [5; 3]);
+    assert_eq!(last(&(up.to_string() + &write(1, 3))), 6);
+    assert_eq!(last(&format!("{up} 02 00 0100 FF 00000000")), 6);
+    assert_eq!(last(&format!("{up} 02 00 0000 7D 00000000")), 7);
+}
+
+#[test]
+fn refusal_8_looks_at_the_fields_named_and_no_other() {
+    let shape = Shape::new(2, 64, 24).unwrap();
+    let mut tails = Tails::default();
+    tails[..2].fill(Tail { number: LAST_TAIL, position: 23 });
+    let good = master(shape, &tails);
+    let with = |at: usize, byte: u8| {
+        let mut block = good;
+        block[at] = byte;
+        Run::down_over(&block).answers("07")[0]
+    };
+    let unread = [8, 11, 40, 43, 44, 127].map(|at| with(at, 0xFF));
+    assert_eq!(unread, [0; 6]);
+    let header = [(0, 0), (3, 0), (7, 1), (12, 1), (15, 0), (15, 9)];
+    let others = [(19, 0), (19, 65), (23, 3), (23, 25), (27, 0xFF), (31, 24)];
+    assert_eq!(header.map(|(at, byte)| with(at, byte)), [8; 6]);
+    assert_eq!(others.map(|(at, byte)| with(at, byte)), [8; 6]);
+    let mut none = good;
+    none[32..36].fill(0);
+    assert_eq!(Run::down_over(&none).answers("07 06 07"), [8, 0, 8]);
+}
+
+#[test]
+fn refusals_of_the_phase() {
+    let mut run = Run::blank();
+    assert_eq!(run.answers("02 00 0000 00 00000000 03 00 04 00 05 00 06 07"), [20; 6]);
+    assert_eq!(run.card.read_number(&run.disk, &run.memory, 0), 20);
+    assert_eq!(run.answers("01 01 01 04 01 01 01 04 01 00 00 00 07 06"), [0, 21, 21, 23, 0]);
+    assert_eq!(run.answers("01 00 00 00 02 09 0000 00 00000000 03 09 04 00 05 00 06"), [21, 22, 22, 22, 22, 0]);
+    assert_eq!(run.card.read_number(&run.disk, &run.memory, 99), 22);
+    assert_eq!(run.answers("07 07"), [0, 23]);
+    assert_eq!(run.card.read_number(&run.disk, &run.memory, 1), 6);
+    assert_eq!(run.card.read_number(&run.disk, &run.memory, 0), 0);
+}
+
+#[test]
+fn refusal_24_for_the_holder_and_for_the_writer() {
+    let visit = write(1, 0) + &commit(1, 0);
+    let holder = "01 02 09 18".to_string() + &write(0, 0) + &visit.repeat(12);
+    assert_eq!(last(&holder), 0);
+    // The twelve records fill core 1's journal, so a thirteenth visit comes from core 2 of a wider card.
+    let wider = holder.replacen("01 02 09 18", "01 03 09 18", 1);
+    assert_eq!(last(&(wider.clone() + &write(2, 0))), 24);
+    // The holder's own list is full too: as a writer it may not take a closed one's block.
+    assert_eq!(last(&(wider.clone() + &write(2, 1) + &commit(2, 1) + &write(0, 1))), 24);
+    assert_eq!(last(&(wider + &write(0, 1))), 0);
+}
+
+#[test]
+fn refusals_25_to_27() {
+    let nine: String = (0..9).map(|block| write(0, block)).collect();
+    assert_eq!(last(&("01 01 09 18".to_string() + &nine)), 25);
+    assert_eq!(last(&("01 01 09 0A".to_string() + &nine)), 25);
+    let three = write(0, 0) + &write(0, 1) + &write(0, 2);
+    assert_eq!(last(&("01 01 03 04".to_string() + &three)), 26);
+    // Opening without a block needs room for two records as well.
+    let opens = write(0, 0) + &write(1, 1) + &write(1, 2) + "03 01" + &write(1, 0);
+    assert_eq!(last(&("01 02 03 04".to_string() + &opens)), 26);
+    assert_eq!(last(&("01 02 03 06".to_string() + &opens)), 0);
+    let mut tails = Tails::default();
+    tails[0] = Tail { number: LAST_NUMBER - 1, position: 3 };
+    let mut run = Run::down_over(&master(Shape::new(1, 1, 4).unwrap(), &tails));
+    let once = write(0, 0) + &commit(0, 1) + "05 00 05 00";
+    assert_eq!(run.answers(&("07".to_string() + &once + &write(0, 0))), [0, 0, 0, 0, 0, 0, 0, 0, 27]);
+    assert_eq!(run.answers(&("06 07".to_string() + &write(0, 0) + "06 07")), [0, 0, 27, 0, 0]);
+    assert_eq!(run.disk[24..28], LAST_TAIL.to_be_bytes());
+}
+
+#[test]
+fn refusals_28_to_33() {
+    let up = "01 02 02 18".to_string();
+    assert_eq!(last(&(up.clone() + "03 00")), 28);
+    assert_eq!(last(&(up.clone() + &write(0, 0) + "03 00" + &write(0, 0) + "04 00 04 00 03 00")), 29);
+    assert_eq!(last(&(up.clone() + &write(0, 0) + "04 00")), 30);
+    assert_eq!(last(&(up.clone() + &write(0, 0) + &commit(0, 1) + "04 00")), 30);
+    assert_eq!(last(&(up.clone() + &write(0, 0) + "03 00 04 00 04 00 05 00")), 31);
+    assert_eq!(last(&(up.clone() + &write(0, 0) + &write(1, 0) + &commit(0, 1) + "05 00")), 32);
+    let shared = up + &write(0, 0) + "03 00" + &write(1, 0) + &commit(1, 1);
+    assert_eq!(last(&(shared.clone() + "05 01")), 32);
+    assert_eq!(last(&(shared.clone() + "04 00 04 00 04 00 05 01")), 33);
+    assert_eq!(last(&(shared + "04 00 04 00 04 00 05 00 05 00 05 01")), 0);
+}
+
+#[test]
+fn generated_runs_meet_every_number() {
+    let mut bench = Bench::new(Wrong::No, Checks::ALL, None);
+    bench.soak(300_000, 3).expect("all checks hold");
+    let unmet: Vec<usize> = (0..=8).chain(20..=33).filter(|answer| bench.tally.answers[*answer] == 0).collect();
+    assert_eq!(unmet, [0; 0], "numbers never answered");
+}

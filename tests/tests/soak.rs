@@ -1,0 +1,28 @@
+// soak.rs: generated tapes on the right card with every check, and tapes of random bytes.
+
+use card_tests::checks::{Bench, Checks};
+use card_tests::random::Random;
+use card_tests::wrong::Wrong;
+
+#[test]
+fn the_right_card_passes_every_check() {
+    let mut bench = Bench::new(Wrong::No, Checks::ALL, None);
+    if let Err(failure) = bench.soak(600_000, 7) {
+        panic!("{}: {}\ntape {}", failure.check, failure.detail, card_tests::command::hex(&failure.tape));
+    }
+    assert!(bench.tally.recoveries > 1000 && bench.tally.foreign_disks > 100 && bench.tally.longest_list == 12);
+}
+
+#[test]
+fn tapes_of_random_bytes_pass_every_check() {
+    let mut random = Random::new(11);
+    let mut bench = Bench::new(Wrong::No, Checks::ALL, None);
+    for _ in 0..2000 {
+        let mut tape = vec![1, random.between(1, 8) as u8, random.between(1, 64) as u8, random.between(4, 24) as u8];
+        for _ in 0..random.below(200) {
+            // Small bytes are often commands, and operands in range.
+            tape.push(random.below(8) as u8);
+        }
+        bench.run_tape(&tape).expect("all checks hold");
+    }
+}

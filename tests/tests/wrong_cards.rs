@@ -1,0 +1,69 @@
+// wrong_cards.rs: every wrong card is caught by the book or the ledger, and the equivalent one is not.
+
+use card_tests::checks::{Bench, Checks};
+use card_tests::twin::Twin;
+use card_tests::wrong::{words, Wrong, ALL};
+
+fn is_caught(wrong: Wrong, checks: Checks, commands: u64) -> bool {
+    Bench::new(wrong, checks, None).soak(commands, 1).is_err()
+}
+
+#[test]
+fn every_wrong_card_is_caught() {
+    for (wrong, words) in ALL.iter().filter(|(wrong, _)| *wrong != Wrong::Only33Committed) {
+        assert!(is_caught(*wrong, Checks::ALL, 400_000), "not caught: {words}");
+    }
+}
+
+/// Demand 3 sees these by itself: the book and the home area are all that is compared.
+#[test]
+fn the_book_alone_catches_those_that_lose_or_invent_writes() {
+    let caught = [
+        Wrong::TailUnchanged,
+        Wrong::NumbersFromOne,
+        Wrong::FlagIgnored,
+        Wrong::NoNameForCommitted,
+        Wrong::ValidityOneDeep,
+        Wrong::AllCommittedValid,
+        Wrong::TwelfthNameDropped,
+        Wrong::HolderListUnlimited,
+        Wrong::StampAtOpen,
+        Wrong::StampAtCommit,
+        Wrong::No32,
+        Wrong::No33,
+        Wrong::No29,
+        Wrong::NewestByOrder,
+        Wrong::TailsCoreByCore,
+        Wrong::WriterTakesRunning,
+        Wrong::OnlyWriterNames,
+        Wrong::OnlyHolderNames,
+        Wrong::NotLoaded,
+        Wrong::UpBeforeHome,
+        Wrong::FirstRecordOnly,
+        Wrong::NothingChanges,
+        Wrong::BlankAlways,
+        Wrong::CheckpointFromMemory,
+        Wrong::RetiresAtOnce,
+        Wrong::StoreFromImages,
+        Wrong::NoWrap,
+        Wrong::No26OnOpen,
+        Wrong::Only26Stored,
+    ];
+    for wrong in caught {
+        assert!(is_caught(wrong, Checks::AREA, 200_000), "not caught by the book alone: {}", words(wrong));
+    }
+}
+
+#[test]
+fn a_card_that_tests_33_against_committed_ones_only_never_differs() {
+    let mut twin = Twin::default();
+    let mut bench = Bench::new(Wrong::Only33Committed, Checks::ALL, Some(&mut twin));
+    bench.soak(300_000, 5).expect("an equivalent card");
+}
+
+#[test]
+fn the_right_card_does_not_differ_from_itself() {
+    let mut twin = Twin::default();
+    let mut bench = Bench::new(Wrong::No, Checks::NONE, Some(&mut twin));
+    bench.soak(50_000, 9).expect("the same card");
+}
