@@ -4,11 +4,11 @@
 use Prim.Native.Nat.{ℕ, _<_}
 use native.Mathlib.Omega.{arith}
 use mathlib.Core.Path.{_≡_, refl, sym, ap, _∙_, subst}
-use mathlib.Core.Bool.{true, false}
-use mathlib.Core.List.{List, List·Memᴰ, Memᴰ·cast}
+use mathlib.Core.Bool.{false}
+use mathlib.Core.List.{List, List·Memᴰ}
 use lib.ListN.{length, replicate, length-replicate}
 use lib.Dec.{leb, eqb}
-use borrow.Author.Tests.{eqb-true, eq-eqb, le-leb}
+use borrow.Author.Tests.{eq-eqb, le-leb}
 use Rattle.model.specs.Lists.{below, any, select}
 use Rattle.model.specs.Bytes.{Bytes, blockAt, zeroMemory}
 use Rattle.model.specs.Shape.{homeBlock}
@@ -18,7 +18,7 @@ use Rattle.model.specs.Recovery.{cutConditions, cut}
 use Rattle.model.specs.declared.Phase.{Phase}
 use Rattle.model.specs.declared.Phase.the-variants.{Down as PhaseDown}
 use Rattle.model.specs.declared.Tail.{Tail}
-use Rattle.model.proofs.Lists.{cases, any-mem, mem-any, mem-below, each-replicate}
+use Rattle.model.proofs.Lists.{cases, mem-below, each-replicate}
 use Rattle.model.proofs.Select.{select-mem, select-same}
 use Rattle.model.proofs.Words.{IsByte}
 use Rattle.model.proofs.Command.{unless-done}
@@ -26,7 +26,7 @@ use Rattle.crash.specs.Book.{Book}
 use Rattle.crash.specs.Ledger.{Ledger, blocksIn, cutLedger}
 use Rattle.crash.specs.Claims.{IsBytes}
 use Rattle.crash.proofs.Relation.{Fine, heldOf, recordOf, contents, JournalStands, DiskStands, Up, target, Newest, DownBy}
-use Rattle.crash.proofs.Stages.{clash}
+use Rattle.crash.proofs.Tests.{clash, any-in, in-any, blockEquality}
 use Rattle.crash.proofs.FineSteps.{fine-cut}
 use Rattle.crash.proofs.Frames.{each-isBytes}
 
@@ -72,9 +72,6 @@ module _ (p : Phase) (bs : List ℕ) {l : Ledger} where
 pub held-low : (n : ℕ) (k : Book) {b : ℕ} → List·Memᴰ b (blocksIn n k) → b < n
 unfolding blocksIn
 held-low n k {b} m = mem-below n (select-mem _ (below n) b m .0)
-
-block-any : {b : ℕ} {bs : List ℕ} → List·Memᴰ b bs → any (eqb b) bs ≡ true
-block-any {b} m = mem-any (eqb b) m (eq-eqb b b refl)
 
 -- recovery before its first store has them all left
 all-left : (bs : List ℕ) → bs ≡ select (leb 0) bs
@@ -137,9 +134,8 @@ down-gives {l} {w} v =
           v .at-home b h
           (cases (any (eqb b) (l .left))
           (λ y.
-          let r = any-mem (eqb b) (l .left) y in
-          let q : List·Memᴰ b (select (leb (w .card .recovered)) bs) = subst (List·Memᴰ b) (v .left) (Memᴰ·cast (eqb-true b (r .0) (r .2)) (r .1)) in
-          clash (block-any (select-mem (leb (w .card .recovered)) bs b q .0)) a)
+          let q : List·Memᴰ b (select (leb (w .card .recovered)) bs) = subst (List·Memᴰ b) (v .left) (any-in blockEquality b (l .left) y) in
+          clash (in-any blockEquality (select-mem (leb (w .card .recovered)) bs b q .0)) a)
           (λ y. y));
     }
 
