@@ -254,3 +254,193 @@ module _ {l : Ledger} {w : World} (u : Up l w) (c : ℕ) (in-range : c < l .shap
 
   other-stage : (a : ℕ) → a ≢ c → (k₂ .entry (newName a (l .book .next a))) .stage ≡ (l .book .entry (newName a (l .book .next a))) .stage
   other-stage a ne = wrote-stage (l .book) c current b o v (newName a (l .book .next a)) (other-core (l .book .next a) (l .book .next c) ne)
+
+  -- ---- transactions
+  -- a list that has grown by one at the most
+  more-blocks : (e : Entry) → length ((taking b e) .blocks) ≤ 8 → length (e .blocks) < 8
+  more-blocks e h = omega (arith, length-append (e .blocks) (b ∷ []))
+
+  more-names : (n : Name) (e : Entry) → length ((naming n e) .names) ≤ 12 → any (sameName n) (e .names) ≡ false → length (e .names) < 12
+  more-names n e h q = let g : length (e .names ++ (n ∷ [])) ≤ 12 = rw q at h in omega (arith, length-append (e .names) (n ∷ []))
+
+  writer-after : Matches (writerAfter x c b) (k₂ .entry t)
+  unfolding writerAfter ruled
+  writer-after =
+      let m = writer-matches u c in-range in
+      let entry : k₂ .entry ≡ ruled (meets (l .book) t (holderIn (l .book) b (l .book .writes))) t b (begun .entry) = wrote-entry (l .book) c current b o v in
+      elim met [
+        | met-none _ e r ↦ (let q : k₂ .entry t ≡ taking b (begun .entry t) = ap (λ (f : Name → Entry). f t) (entry ∙ ap (λ (m : Meeting). ruled m t b (begun .entry)) e) ∙ change-at t (taking b) (begun .entry) in
+            let z : length ((taking b (begun .entry t)) .blocks) ≤ 8 = rw q at (t-limits .few) in
+            rw (r, q) (matches-block m b (more-blocks (begun .entry t) z)))
+        | met-own _ _ e r ↦ (let q : k₂ .entry t ≡ begun .entry t = ap (λ (f : Name → Entry). f t) (entry ∙ ap (λ (m : Meeting). ruled m t b (begun .entry)) e) in rw (r, q) m)
+        | met-running n h _ _ _ e r ↦ (let q : k₂ .entry t ≡ naming n (begun .entry t) =
+              ap (λ (f : Name → Entry). f t) (entry ∙ ap (λ (m : Meeting). ruled m t b (begun .entry)) e)
+              ∙ change-other n (naming t) (change t (naming n) (begun .entry)) t (λ s. h .other (sym s)) ∙ change-at t (naming n) (begun .entry) in
+            let z : length ((naming n (begun .entry t)) .names) ≤ 12 = rw q at (t-limits .short) in
+            rw (r, q, h .name) (matches-name m n (more-names n (begun .entry t) z)))
+        | met-closed n h _ e r ↦ (let q : k₂ .entry t ≡ taking b (naming n (begun .entry t)) =
+              ap (λ (f : Name → Entry). f t) (entry ∙ ap (λ (m : Meeting). ruled m t b (begun .entry)) e)
+              ∙ change-at t (λ (e : Entry). taking b (naming n e)) (begun .entry) in
+            let z : length ((naming n (begun .entry t)) .names) ≤ 12 = rw q at (t-limits .short) in
+            let y : length ((taking b (naming n (begun .entry t))) .blocks) ≤ 8 = rw q at (t-limits .few) in
+            rw (r, q, h .name) (matches-block (matches-name m n (more-names n (begun .entry t) z)) b (more-blocks (naming n (begun .entry t)) y)))
+      ]
+
+  -- a running holder's list
+  holder-after : (n : Name) → MetHolder u c in-range b low opens n → (l .book .entry n) .stage ≡ running → n ≡ newName (n .core) (l .book .next (n .core))
+      → meets (l .book) t (holderIn (l .book) b (l .book .writes)) ≡ running-holder n
+      → Matches (withName ((coreOf x (n .core)) .running) (writerName x c)) (k₂ .entry n)
+  unfolding ruled begin
+  holder-after n h runs is e =
+      let entry : k₂ .entry ≡ ruled (meets (l .book) t (holderIn (l .book) b (l .book .writes))) t b (begun .entry) = wrote-entry (l .book) c current b o v in
+      let kept : begun .entry n ≡ l .book .entry n =
+          cases (isRunning ((l .book .entry t) .stage)) (λ q. rw q refl) (λ q. rw q (change-other t _ (l .book .entry) n (h .other))) in
+      let q : k₂ .entry n ≡ naming t (l .book .entry n) =
+          ap (λ (f : Name → Entry). f n) (entry ∙ ap (λ (m : Meeting). ruled m t b (begun .entry)) e)
+          ∙ change-at n (naming t) (change t (naming n) (begun .entry)) ∙ ap (naming t) (change-other t (naming n) (begun .entry) n (h .other) ∙ kept) in
+      let live : isRunning ((l .book .entry (newName (n .core) (l .book .next (n .core)))) .stage) ≡ true = rw (← is) (ap isRunning runs) in
+      let m : Matches ((coreOf x (n .core)) .running) (l .book .entry n) = rw (← is) at (u .cores (n .core) (h .core) .runs live) in
+      let stage : (k₂ .entry n) .stage ≡ running = wrote-stage (l .book) c current b o v n (h .other) ∙ runs in
+      let z : length ((naming t (l .book .entry n)) .names) ≤ 12 = rw q at (fine .limits n (λ s. let y : _≡_ {A = ℕ} 0 1 = cc (stage, s) in omega arith) .short) in
+      rw (q, writer-name u c in-range) (matches-name m t (more-names t (l .book .entry n) z))
+
+  eight : c < length (x .cores)
+  eight = omega (arith, u .eight-cores, u .fine .range .few-cores)
+
+  -- ---- memory afterwards
+  abbrev m₂ : Bytes
+  m₂ = writtenMemory w c b o v
+
+  memory-own : blockAt m₂ b ≡ replaced o 4 (imageNow l b) v
+  unfolding writtenMemory
+  memory-own = block-written 128 loaded (is-loaded .size) b o v (omega (arith, small)) inside four ∙ ap (λ (d : Bytes). replaced o 4 d v) (is-loaded .own-image)
+
+  memory-other : (j : ℕ) → j ≢ b → blockAt m₂ j ≡ blockAt (w .memory) j
+  unfolding writtenMemory
+  memory-other j ne = block-unwritten 128 loaded (is-loaded .size) b o v (omega (arith, small)) inside four j ne ∙ is-loaded .others j ne
+
+  memory-size : length m₂ ≡ 16384
+  unfolding writtenMemory
+  memory-size = length-replaced (128 * b + o) 4 loaded v (omega (arith, is-loaded .size, small)) four ∙ is-loaded .size
+
+  memory-bytes : IsBytes m₂
+  unfolding writtenMemory
+  memory-bytes = bytes-replaced (128 * b + o) 4 loaded v (is-loaded .all-bytes) bytes
+
+  copies-stay : (a i : ℕ) → blockAt m₂ (copyBlock a i) ≡ blockAt (w .memory) (copyBlock a i)
+  unfolding copyBlock
+  copies-stay a i = memory-other (64 + 8 * a + i) (omega (arith, small))
+
+  -- ---- cores
+  stays : (a : ℕ) (h : a < l .shape .cores) (r : Transaction) → coreOf (writtenCard x c b) a ≡ withRunning (coreOf x a) r
+      → (isRunning ((k₂ .entry (newName a (l .book .next a))) .stage) ≡ true → Matches r (k₂ .entry (newName a (l .book .next a))))
+      → (isRunning ((k₂ .entry (newName a (l .book .next a))) .stage) ≡ false → r .live ≡ false)
+      → CoreUp l₂ m₂ a (coreOf (writtenCard x c b) a)
+  stays a h r e p q = rw e (core-stays l (u .fine) a h l₂ (same a h) (w .memory) m₂ (coreOf x a) r p q (λ i _. copies-stay a i) (u .cores a h))
+
+  runs-now : isRunning ((k₂ .entry t) .stage) ≡ true
+  runs-now = ap isRunning (wrote-running (l .book) c current b o v)
+
+  writer-core : (isNamedBack (ruleFor x c b) ≡ true → ((holderOf x b) .name) .core ≢ c) → CoreUp l₂ m₂ c (coreOf (writtenCard x c b) c)
+  writer-core apart =
+      stays c in-range (writerAfter x c b) (written-writer x c b eight apart) (λ _. writer-after) (λ q. absurd (let z : _≡_ {A = ℕ} 0 1 = cc (runs-now, q) in omega arith))
+
+  -- a core that neither writes nor holds
+  other-core-up : (a : ℕ) (h : a < l .shape .cores) → a ≢ c → (isNamedBack (ruleFor x c b) ≡ true → a ≢ ((holderOf x b) .name) .core)
+      → meets (l .book) t (holderIn (l .book) b (l .book .writes)) ≢ running-holder (newName a (l .book .next a)) → CoreUp l₂ m₂ a (coreOf (writtenCard x c b) a)
+  other-core-up a h ne apart nr =
+      let e = wrote-other (l .book) c current b o v (newName a (l .book .next a)) (other-core (l .book .next a) (l .book .next c) ne) nr in
+      stays a h ((coreOf x a) .running) (written-core x c b a ne apart) (rw e (u .cores a h .runs)) (rw e (u .cores a h .idle))
+
+  write-core : (a : ℕ) → a < l .shape .cores → CoreUp l₂ m₂ a (coreOf (writtenCard x c b) a)
+  write-core a h =
+      elim (ℕ-discrete a c) [
+        | yes e ↦ subst (λ (i : ℕ). CoreUp l₂ m₂ i (coreOf (writtenCard x c b) i)) (sym e)
+            (elim met [
+              | met-none _ _ r ↦ writer-core (λ q. absurd (let z : isNamedBack (ruleFor x c b) ≡ false = rw r refl in let y : _≡_ {A = ℕ} 0 1 = cc in omega arith))
+              | met-own _ _ _ r ↦ writer-core (λ q. absurd (let z : isNamedBack (ruleFor x c b) ≡ false = rw r refl in let y : _≡_ {A = ℕ} 0 1 = cc in omega arith))
+              | met-running n g _ _ apart _ r ↦ writer-core (λ q. rw (g .name) apart)
+              | met-closed n g _ _ r ↦ writer-core (λ q. absurd (let z : isNamedBack (ruleFor x c b) ≡ false = rw r refl in let y : _≡_ {A = ℕ} 0 1 = cc in omega arith))
+            ])
+        | no ne ↦ elim met [
+          | met-none _ m r ↦ other-core-up a h ne (λ q. absurd (let z : isNamedBack (ruleFor x c b) ≡ false = rw r refl in let y : _≡_ {A = ℕ} 0 1 = cc in omega arith))
+              (λ q. let y : _≡_ {A = ℕ} 0 1 = cc in omega arith)
+          | met-own _ _ m r ↦ other-core-up a h ne (λ q. absurd (let z : isNamedBack (ruleFor x c b) ≡ false = rw r refl in let y : _≡_ {A = ℕ} 0 1 = cc in omega arith))
+              (λ q. let y : _≡_ {A = ℕ} 0 1 = cc in omega arith)
+          | met-closed n g _ m r ↦ other-core-up a h ne (λ q. absurd (let z : isNamedBack (ruleFor x c b) ≡ false = rw r refl in let y : _≡_ {A = ℕ} 0 1 = cc in omega arith))
+              (λ q. let y : _≡_ {A = ℕ} 0 1 = cc in omega arith)
+          | met-running n g runs is apart m r ↦ elim (ℕ-discrete a (n .core)) [
+            | yes e ↦ (let back : isNamedBack (ruleFor x c b) ≡ true = rw r refl in
+                let size : n .core < length (x .cores) = omega (arith, u .eight-cores, u .fine .range .few-cores, g .core) in
+                let run : isRunning ((k₂ .entry (newName (n .core) (l .book .next (n .core)))) .stage) ≡ true =
+                    ap isRunning (other-stage (n .core) apart) ∙ (let z : isRunning ((l .book .entry (newName (n .core) (l .book .next (n .core)))) .stage) ≡ true = rw (← is) (ap isRunning runs) in z) in
+                subst (λ (i : ℕ). CoreUp l₂ m₂ i (coreOf (writtenCard x c b) i)) (sym e)
+                (stays (n .core) (g .core) (withName ((coreOf x (n .core)) .running) (writerName x c)) (written-holder x c b (n .core) (ap (λ (n : Name). n .core) (g .name)) size back apart)
+                (λ _. rw (← is) (holder-after n g runs is m)) (λ q. absurd (let y : _≡_ {A = ℕ} 0 1 = cc (run, q) in omega arith))))
+            | no away ↦ other-core-up a h ne (λ _ q. away (q ∙ ap (λ (n : Name). n .core) (g .name)))
+                (λ q. away (let s : n ≡ newName a (l .book .next a) = cc in sym (ap (λ (n : Name). n .core) s)))
+          ]
+        ]
+      ]
+
+  -- ---- holders
+  same-after : (j : ℕ) → j < l .shape .blocks → holderOf (writtenCard x c b) j ≡ holderAs (holderIn k₂ j (k₂ .writes))
+  unfolding holderAfter
+  same-after j h =
+      let room : b < length (x .holders) = omega (arith, u .holder-room, small) in
+      let after = wrote-holder (l .book) c current b o v in
+      elim (ℕ-discrete j b) [
+        | no ne ↦ written-other x c b j ne ∙ u .holders j h ∙ ap holderAs (sym (wrote-holder-other (l .book) c current b o v j ne))
+        | yes e ↦ rw e (elim met [
+          | met-none _ m r ↦ (let takes : takesBlock (ruleFor x c b) ≡ true = rw r refl in
+              written-taken x c b takes room ∙ rw (after, m, writer-name u c in-range) refl)
+          | met-own held _ m r ↦ (let leaves : takesBlock (ruleFor x c b) ≡ false = rw r refl in
+              written-left x c b leaves ∙ u .holders b low ∙ rw (after, m, held) refl)
+          | met-running n g _ _ _ m r ↦ (let leaves : takesBlock (ruleFor x c b) ≡ false = rw r refl in
+              written-left x c b leaves ∙ u .holders b low ∙ rw (after, m, g .holder) refl)
+          | met-closed n g _ m r ↦ (let takes : takesBlock (ruleFor x c b) ≡ true = rw r refl in
+              written-taken x c b takes room ∙ rw (after, m, writer-name u c in-range) refl)
+        ])
+      ]
+
+  -- ---- journals
+  journals-stand : (a : ℕ) → a < l .shape .cores → JournalStands l₂ (w .disk) a (tailOf x a)
+  journals-stand a h =
+      elim (ℕ-discrete a c) [
+        | yes e ↦ subst (λ (i : ℕ). JournalStands l₂ (w .disk) i (tailOf x i)) (sym e)
+            (journal-stays l (u .fine) c in-range l₂ (same c in-range) (w .disk) (w .disk) (tailOf x c)
+            (ap counted (wrote-running (l .book) c current b o v)) (λ _. omega (arith, reserve)) (λ q. refl) (u .disk .journals c in-range))
+        | no ne ↦ (let s = other-stage a ne in
+            let n = ap length (wrote-blocks-other (l .book) c current b o v (newName a (l .book .next a)) (other-core (l .book .next a) (l .book .next c) ne)) in
+            journal-stays l (u .fine) a h l₂ (same a h) (w .disk) (w .disk) (tailOf x a)
+            (ap counted s ∙ none-stored l (u .fine) a h) (rw (s, n) (u .disk .journals a h .reserved)) (λ q. refl) (u .disk .journals a h))
+      ]
+
+  -- the images of held blocks are the current ones
+  images-now : (j : ℕ) → j < l .shape .blocks → (holderOf (writtenCard x c b) j) .held ≡ true → blockAt m₂ j ≡ imageNow l₂ j
+  images-now j h held =
+      elim (ℕ-discrete j b) [
+        | yes e ↦ rw e (memory-own ∙ sym (wrote-image l c b o v current))
+        | no ne ↦ memory-other j ne ∙ u .images j h (ap (λ (z : Holder). z .held) (sym (written-other x c b j ne)) ∙ held) ∙ sym (wrote-image-other l c b o v current j ne)
+      ]
+
+  pub write-up : Up l₂ ((written c b o v w) .world)
+  unfolding written tailOf
+  write-up =
+      let z = written-kept x c b in
+      record {
+        phase = z .phase ∙ u .phase;
+        ledger = u .ledger;
+        shape = z .shape ∙ u .shape;
+        closes = z .closes ∙ u .closes;
+        memory = memory-size;
+        memory-bytes = memory-bytes;
+        eight-tails = ap length (z .tails) ∙ u .eight-tails;
+        eight-cores = z .cores ∙ u .eight-cores;
+        holder-room = z .holders ∙ u .holder-room;
+        fine = fine;
+        disk = rw (z .tails) (record { size = u .disk .size; bytes = u .disk .bytes; master = u .disk .master; journals = journals-stand });
+        cores = write-core;
+        holders = same-after;
+        images = images-now;
+      }
