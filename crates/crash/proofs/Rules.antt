@@ -18,18 +18,19 @@ use Rattle.model.specs.Lists.{any}
 use Rattle.model.specs.Bytes.{Bytes}
 use Rattle.model.specs.Card.{newName, sameName, noHolder, opened, taken, listed, lists, withBlock, withName, coreOf, holderOf}
 use Rattle.model.specs.Command.{World}
-use Rattle.model.specs.Write.{writer, writerName, isRunning as isRunningIn, ruleFor}
+use Rattle.model.specs.Write.{writer, writerName, isRunning as isRunningIn, ruleFor, writerAfter}
 use Rattle.model.specs.declared.Name.{Name}
 use Rattle.model.specs.declared.Transaction.{Transaction}
 use Rattle.model.specs.declared.Holder.{Holder}
 use Rattle.model.specs.declared.Rule.the-variants.{Free, Own, Running, Closed}
 use Rattle.model.proofs.Lists.{cases}
 use Rattle.model.proofs.Valid.{sameName-refl}
-use Rattle.crash.specs.Book.{Stage, absent, running, closed, committed, retired, isRunning, isClosed, Entry, Book, staged, taking, naming, begin, holderIn, Meeting, no-holder, own, running-holder, closed-holder, meets}
+use Rattle.crash.specs.Book.{Stage, absent, running, closed, committed, retired, isRunning, isClosed, Entry, Book, staged, taking, naming, begin, holderIn, Meeting, no-holder, own, running-holder, closed-holder, meets, ruled, change, wrote}
 use Rattle.crash.specs.Ledger.{Ledger}
 use Rattle.crash.proofs.Relation.{Ranks, Fine, Matches, CoreUp, holderAs, Up}
 use Rattle.crash.proofs.Stages.{committed-stage}
-use Rattle.crash.proofs.Entries.{same-or-not, sameName-false, change-at}
+use Rattle.crash.proofs.Entries.{same-or-not, sameName-false, change-at, change-other}
+use Rattle.crash.proofs.FineWrite.{wrote-entry}
 
 -- ---- a transaction of the card and its entry
 pub matches-block : {t : Transaction} {e : Entry} → Matches t e → (b : ℕ) → length (e .blocks) < 8 → Matches (withBlock t b) (taking b e)
@@ -69,6 +70,55 @@ matches-name {t} {e} m n h =
 pub matches-opened : (e : Entry) → e .blocks ≡ [] → e .names ≡ [] → Matches opened e
 unfolding taken listed
 matches-opened e b n = record { live = refl; blocks = rw b refl; count = rw b refl; names = rw n refl; named = rw n refl; block-room = refl; name-room = refl }
+
+-- ---- entries after a WRITE
+-- before the rules: the writer's transaction is open
+abbrev pub begun : ℕ → Book → Book
+begun c k = cond (isRunning ((k .entry (newName c (k .next c))) .stage)) k (begin (newName c (k .next c)) k)
+
+module _ (k : Book) (c : ℕ) (current : ((k .entry (newName c (k .next c))) .stage ≡ absent) ⊎ ((k .entry (newName c (k .next c))) .stage ≡ running)) (b o : ℕ) (v : Bytes) where
+  abbrev t : Name
+  t = newName c (k .next c)
+
+  ruled-by : (m : Meeting) → meets k t (holderIn k b (k .writes)) ≡ m → (n : Name) → (wrote c b o v k) .entry n ≡ ruled m t b (begun c k .entry) n
+  ruled-by m e n = ap (λ (f : Name → Entry). f n) (wrote-entry k c current b o v ∙ ap (λ (m : Meeting). ruled m t b (begun c k .entry)) e)
+
+  pub entry-free : meets k t (holderIn k b (k .writes)) ≡ no-holder → (wrote c b o v k) .entry t ≡ taking b (begun c k .entry t)
+  unfolding ruled
+  entry-free e = ruled-by no-holder e t ∙ change-at t (taking b) (begun c k .entry)
+
+  pub entry-own : meets k t (holderIn k b (k .writes)) ≡ own → (wrote c b o v k) .entry t ≡ begun c k .entry t
+  unfolding ruled
+  entry-own e = ruled-by own e t
+
+  module _ (n : Name) (other : n ≢ t) where
+    pub entry-running : meets k t (holderIn k b (k .writes)) ≡ running-holder n → (wrote c b o v k) .entry t ≡ naming n (begun c k .entry t)
+    unfolding ruled
+    entry-running e =
+        ruled-by (running-holder n) e t
+        ∙ change-other n (naming t) (change t (naming n) (begun c k .entry)) t (λ s. other (sym s))
+        ∙ change-at t (naming n) (begun c k .entry)
+
+    pub entry-closed : meets k t (holderIn k b (k .writes)) ≡ closed-holder n → (wrote c b o v k) .entry t ≡ taking b (naming n (begun c k .entry t))
+    unfolding ruled
+    entry-closed e = ruled-by (closed-holder n) e t ∙ change-at t (λ (e : Entry). taking b (naming n e)) (begun c k .entry)
+
+    -- the running holder's
+    pub entry-holder : meets k t (holderIn k b (k .writes)) ≡ running-holder n → (wrote c b o v k) .entry n ≡ naming t (k .entry n)
+    unfolding ruled begin
+    entry-holder e =
+        let kept : begun c k .entry n ≡ k .entry n =
+            cases (isRunning ((k .entry t) .stage)) (λ q. rw q refl) (λ q. rw q (change-other t (staged running) (k .entry) n other)) in
+        ruled-by (running-holder n) e n
+        ∙ change-at n (naming t) (change t (naming n) (begun c k .entry))
+        ∙ ap (naming t) (change-other t (naming n) (begun c k .entry) n other ∙ kept)
+
+-- a list that has grown by one at the most
+more-blocks : (b : ℕ) (e : Entry) → length ((taking b e) .blocks) ≤ 8 → length (e .blocks) < 8
+more-blocks b e h = omega (arith, length-append (e .blocks) (b ∷ []))
+
+more-names : (n : Name) (e : Entry) → length ((naming n e) .names) ≤ 12 → any (sameName n) (e .names) ≡ false → length (e .names) < 12
+more-names n e h q = let g : length (e .names ++ (n ∷ [])) ≤ 12 = rw q at h in omega (arith, length-append (e .names) (n ∷ []))
 
 -- ---- running ones
 -- only the current one runs
@@ -131,7 +181,7 @@ module _ {l : Ledger} {w : World} (u : Up l w) where
     writer-name = rw (u .cores c in-range .next)
 
     -- the writer, opened where none runs, and its entry
-    pub writer-matches : Matches (writer (w .card) c) ((cond (isRunning ((l .book .entry (newName c (l .book .next c))) .stage)) (l .book) (begin (newName c (l .book .next c)) (l .book))) .entry (newName c (l .book .next c)))
+    pub writer-matches : Matches (writer (w .card) c) (begun c (l .book) .entry (newName c (l .book .next c)))
     unfolding writer begin
     writer-matches =
         let t = newName c (l .book .next c) in
@@ -181,3 +231,40 @@ module _ {l : Ledger} {w : World} (u : Up l w) where
               let r = present-open ((l .book .entry n) .stage) (opens n e) k in
               let x : n .number ≡ l .book .next (n .core) = running-next (u .fine .ranks (n .core) core) (n .number) (ap isRunning r) in
               met-running n m r (ap (newName (n .core)) x) (λ y. ne (ap₂ newName y (x ∙ ap (l .book .next) y))) (rw (e, sameName-false n t ne, k) refl) (rw (q, writer-name, sameName-false n t ne, runs-in n core, r) refl)))
+
+      -- what the rules make of the writer's transaction, and of a running holder's
+      module _ (o : ℕ) (v : Bytes) where
+        abbrev t₂ : Name
+        t₂ = newName c (l .book .next c)
+
+        abbrev k₂ : Book
+        k₂ = wrote c b o v (l .book)
+
+        abbrev e₁ : Entry
+        e₁ = begun c (l .book) .entry t₂
+
+        pub writer-after : length ((k₂ .entry t₂) .blocks) ≤ 8 → length ((k₂ .entry t₂) .names) ≤ 12 → Matches (writerAfter (w .card) c b) (k₂ .entry t₂)
+        unfolding writerAfter
+        writer-after few short =
+            let current = u .fine .ranks c in-range .current in
+            elim rule-met [
+              | met-none _ e r ↦ (let q = entry-free (l .book) c current b o v e in
+                  rw (r, q) (matches-block writer-matches b (more-blocks b e₁ (rw q at few))))
+              | met-own _ _ e r ↦ (let q = entry-own (l .book) c current b o v e in rw (r, q) writer-matches)
+              | met-running n h _ _ _ e r ↦ (let q = entry-running (l .book) c current b o v n (h .other) e in
+                  rw (r, q, h .name) (matches-name writer-matches n (more-names n e₁ (rw q at short))))
+              | met-closed n h _ e r ↦ (let q = entry-closed (l .book) c current b o v n (h .other) e in
+                  rw (r, q, h .name) (matches-block (matches-name writer-matches n (more-names n e₁ (rw q at short))) b (more-blocks b (naming n e₁) (rw q at few))))
+            ]
+
+        module _ (n : Name) (h : MetHolder n) (runs : (l .book .entry n) .stage ≡ running) (is : n ≡ newName (n .core) (l .book .next (n .core))) where
+          pub holder-matches : Matches ((coreOf (w .card) (n .core)) .running) (l .book .entry n)
+          holder-matches =
+              let live : isRunning ((l .book .entry (newName (n .core) (l .book .next (n .core)))) .stage) ≡ true = rw (← is) (ap isRunning runs) in
+              rw (← is) at (u .cores (n .core) (h .core) .runs live)
+
+          pub holder-after : meeting ≡ running-holder n → length ((k₂ .entry n) .names) ≤ 12
+              → Matches (withName ((coreOf (w .card) (n .core)) .running) (writerName (w .card) c)) (k₂ .entry n)
+          holder-after e short =
+              let q = entry-holder (l .book) c (u .fine .ranks c in-range .current) b o v n (h .other) e in
+              rw (q, writer-name) (matches-name holder-matches t₂ (more-names t₂ (l .book .entry n) (rw q at short)))

@@ -33,7 +33,7 @@ use Rattle.crash.proofs.Relation.{Fine, Limits, JournalStands, DiskStan
 use Rattle.crash.proofs.Entries.{other-number, other-core, change-at, change-other, meets-met, meets-running}
 use Rattle.crash.proofs.FineWrite.{wrote-entry, wrote-writes, wrote-numbers, wrote-running, wrote-stage, wrote-blocks-other, wrote-other, wrote-holder, wrote-holder-other, wrote-image, wrote-image-other}
 use Rattle.crash.proofs.Frames.{SameClosed, core-set, core-other, bytes-replaced, bytes-store, bytes-blockAt, none-stored, journal-stays, core-stays}
-use Rattle.crash.proofs.Rules.{matches-block, matches-name, running-next, present-open, live-runs, writer-name, writer-matches, MetHolder, Met, met-none, met-own, met-running, met-closed, rule-met}
+use Rattle.crash.proofs.Rules.{running-next, present-open, writer-name, Met, met-none, met-own, met-running, met-closed, rule-met, writer-after, holder-after}
 
 -- ---- bytes replaced within a block
 replaced-inner : (p x q v : Bytes) (o n : ℕ) → o + n ≤ length x → replaced (length p + o) n (p ++ (x ++ q)) v ≡ p ++ (replaced o n x v ++ q)
@@ -178,9 +178,6 @@ module _ {l : Ledger} {w : World} (u : Up l w) (c : ℕ) (in-range : c < l .shap
   abbrev x : Card
   x = w .card
 
-  abbrev begun : Book
-  begun = cond (isRunning ((l .book .entry t) .stage)) (l .book) (begin t (l .book))
-
   abbrev current : ((l .book .entry t) .stage ≡ absent) ⊎ ((l .book .entry t) .stage ≡ running)
   current = u .fine .ranks c in-range .current
 
@@ -255,55 +252,6 @@ module _ {l : Ledger} {w : World} (u : Up l w) (c : ℕ) (in-range : c < l .shap
   other-stage : (a : ℕ) → a ≢ c → (k₂ .entry (newName a (l .book .next a))) .stage ≡ (l .book .entry (newName a (l .book .next a))) .stage
   other-stage a ne = wrote-stage (l .book) c current b o v (newName a (l .book .next a)) (other-core (l .book .next a) (l .book .next c) ne)
 
-  -- ---- transactions
-  -- a list that has grown by one at the most
-  more-blocks : (e : Entry) → length ((taking b e) .blocks) ≤ 8 → length (e .blocks) < 8
-  more-blocks e h = omega (arith, length-append (e .blocks) (b ∷ []))
-
-  more-names : (n : Name) (e : Entry) → length ((naming n e) .names) ≤ 12 → any (sameName n) (e .names) ≡ false → length (e .names) < 12
-  more-names n e h q = let g : length (e .names ++ (n ∷ [])) ≤ 12 = rw q at h in omega (arith, length-append (e .names) (n ∷ []))
-
-  writer-after : Matches (writerAfter x c b) (k₂ .entry t)
-  unfolding writerAfter ruled
-  writer-after =
-      let m = writer-matches u c in-range in
-      let entry : k₂ .entry ≡ ruled (meets (l .book) t (holderIn (l .book) b (l .book .writes))) t b (begun .entry) = wrote-entry (l .book) c current b o v in
-      elim met [
-        | met-none _ e r ↦ (let q : k₂ .entry t ≡ taking b (begun .entry t) = ap (λ (f : Name → Entry). f t) (entry ∙ ap (λ (m : Meeting). ruled m t b (begun .entry)) e) ∙ change-at t (taking b) (begun .entry) in
-            let z : length ((taking b (begun .entry t)) .blocks) ≤ 8 = rw q at (t-limits .few) in
-            rw (r, q) (matches-block m b (more-blocks (begun .entry t) z)))
-        | met-own _ _ e r ↦ (let q : k₂ .entry t ≡ begun .entry t = ap (λ (f : Name → Entry). f t) (entry ∙ ap (λ (m : Meeting). ruled m t b (begun .entry)) e) in rw (r, q) m)
-        | met-running n h _ _ _ e r ↦ (let q : k₂ .entry t ≡ naming n (begun .entry t) =
-              ap (λ (f : Name → Entry). f t) (entry ∙ ap (λ (m : Meeting). ruled m t b (begun .entry)) e)
-              ∙ change-other n (naming t) (change t (naming n) (begun .entry)) t (λ s. h .other (sym s)) ∙ change-at t (naming n) (begun .entry) in
-            let z : length ((naming n (begun .entry t)) .names) ≤ 12 = rw q at (t-limits .short) in
-            rw (r, q, h .name) (matches-name m n (more-names n (begun .entry t) z)))
-        | met-closed n h _ e r ↦ (let q : k₂ .entry t ≡ taking b (naming n (begun .entry t)) =
-              ap (λ (f : Name → Entry). f t) (entry ∙ ap (λ (m : Meeting). ruled m t b (begun .entry)) e)
-              ∙ change-at t (λ (e : Entry). taking b (naming n e)) (begun .entry) in
-            let z : length ((naming n (begun .entry t)) .names) ≤ 12 = rw q at (t-limits .short) in
-            let y : length ((taking b (naming n (begun .entry t))) .blocks) ≤ 8 = rw q at (t-limits .few) in
-            rw (r, q, h .name) (matches-block (matches-name m n (more-names n (begun .entry t) z)) b (more-blocks (naming n (begun .entry t)) y)))
-      ]
-
-  -- a running holder's list
-  holder-after : (n : Name) → MetHolder u c in-range b low opens n → (l .book .entry n) .stage ≡ running → n ≡ newName (n .core) (l .book .next (n .core))
-      → meets (l .book) t (holderIn (l .book) b (l .book .writes)) ≡ running-holder n
-      → Matches (withName ((coreOf x (n .core)) .running) (writerName x c)) (k₂ .entry n)
-  unfolding ruled begin
-  holder-after n h runs is e =
-      let entry : k₂ .entry ≡ ruled (meets (l .book) t (holderIn (l .book) b (l .book .writes))) t b (begun .entry) = wrote-entry (l .book) c current b o v in
-      let kept : begun .entry n ≡ l .book .entry n =
-          cases (isRunning ((l .book .entry t) .stage)) (λ q. rw q refl) (λ q. rw q (change-other t _ (l .book .entry) n (h .other))) in
-      let q : k₂ .entry n ≡ naming t (l .book .entry n) =
-          ap (λ (f : Name → Entry). f n) (entry ∙ ap (λ (m : Meeting). ruled m t b (begun .entry)) e)
-          ∙ change-at n (naming t) (change t (naming n) (begun .entry)) ∙ ap (naming t) (change-other t (naming n) (begun .entry) n (h .other) ∙ kept) in
-      let live : isRunning ((l .book .entry (newName (n .core) (l .book .next (n .core)))) .stage) ≡ true = rw (← is) (ap isRunning runs) in
-      let m : Matches ((coreOf x (n .core)) .running) (l .book .entry n) = rw (← is) at (u .cores (n .core) (h .core) .runs live) in
-      let stage : (k₂ .entry n) .stage ≡ running = wrote-stage (l .book) c current b o v n (h .other) ∙ runs in
-      let z : length ((naming t (l .book .entry n)) .names) ≤ 12 = rw q at (fine .limits n (λ s. let y : _≡_ {A = ℕ} 0 1 = cc (stage, s) in omega arith) .short) in
-      rw (q, writer-name u c in-range) (matches-name m t (more-names t (l .book .entry n) z))
-
   eight : c < length (x .cores)
   eight = omega (arith, u .eight-cores, u .fine .range .few-cores)
 
@@ -343,7 +291,7 @@ module _ {l : Ledger} {w : World} (u : Up l w) (c : ℕ) (in-range : c < l .shap
 
   writer-core : (isNamedBack (ruleFor x c b) ≡ true → ((holderOf x b) .name) .core ≢ c) → CoreUp l₂ m₂ c (coreOf (writtenCard x c b) c)
   writer-core apart =
-      stays c in-range (writerAfter x c b) (written-writer x c b eight apart) (λ _. writer-after) (λ q. absurd (let z : _≡_ {A = ℕ} 0 1 = cc (runs-now, q) in omega arith))
+      stays c in-range (writerAfter x c b) (written-writer x c b eight apart) (λ _. writer-after u c in-range b low opens o v (t-limits .few) (t-limits .short)) (λ q. absurd (let z : _≡_ {A = ℕ} 0 1 = cc (runs-now, q) in omega arith))
 
   -- a core that neither writes nor holds
   other-core-up : (a : ℕ) (h : a < l .shape .cores) → a ≢ c → (isNamedBack (ruleFor x c b) ≡ true → a ≢ ((holderOf x b) .name) .core)
@@ -372,11 +320,12 @@ module _ {l : Ledger} {w : World} (u : Up l w) (c : ℕ) (in-range : c < l .shap
           | met-running n g runs is apart m r ↦ elim (ℕ-discrete a (n .core)) [
             | yes e ↦ (let back : isNamedBack (ruleFor x c b) ≡ true = rw r refl in
                 let size : n .core < length (x .cores) = omega (arith, u .eight-cores, u .fine .range .few-cores, g .core) in
+                let n-limits : Limits (l .shape) n (k₂ .entry n) = fine .limits n (λ s. let y : _≡_ {A = ℕ} 0 1 = cc (wrote-stage (l .book) c current b o v n (g .other) ∙ runs, s) in omega arith) in
                 let run : isRunning ((k₂ .entry (newName (n .core) (l .book .next (n .core)))) .stage) ≡ true =
                     ap isRunning (other-stage (n .core) apart) ∙ (let z : isRunning ((l .book .entry (newName (n .core) (l .book .next (n .core)))) .stage) ≡ true = rw (← is) (ap isRunning runs) in z) in
                 subst (λ (i : ℕ). CoreUp l₂ m₂ i (coreOf (writtenCard x c b) i)) (sym e)
                 (stays (n .core) (g .core) (withName ((coreOf x (n .core)) .running) (writerName x c)) (written-holder x c b (n .core) (ap (λ (n : Name). n .core) (g .name)) size back apart)
-                (λ _. rw (← is) (holder-after n g runs is m)) (λ q. absurd (let y : _≡_ {A = ℕ} 0 1 = cc (run, q) in omega arith))))
+                (λ _. rw (← is) (holder-after u c in-range b low opens o v n g runs is m (n-limits .short))) (λ q. absurd (let y : _≡_ {A = ℕ} 0 1 = cc (run, q) in omega arith))))
             | no away ↦ other-core-up a h ne (λ _ q. away (q ∙ ap (λ (n : Name). n .core) (g .name)))
                 (λ q. away (let s : n ≡ newName a (l .book .next a) = cc in sym (ap (λ (n : Name). n .core) s)))
           ]
