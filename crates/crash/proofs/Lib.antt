@@ -11,3 +11,4 @@ pub mod Rules
 pub mod UpStore
 pub mod UpClose
 pub mod UpWrite
+pub mod Answers
