@@ -1,14 +1,13 @@
 -- The arrays of a card have the lengths that its type gives them; every command keeps them.
-use Prim.Native.Nat.{ℕ, zero, suc, _+_, _≤_, _<_}
-use native.Mathlib.Omega.{arith}
-use mathlib.Core.Path.{_≡_, refl, sym, ap, _∙_}
-use mathlib.Core.Bool.{Bool, true, false, cond}
+use Prim.Native.Nat.{ℕ, zero, suc}
+use mathlib.Core.Path.{_≡_, refl, _∙_}
+use mathlib.Core.Bool.{cond}
 use mathlib.Core.List.{List, [], _∷_, map}
 use lib.ListN.{length, getD, set, replicate, length-set, length-map, length-replicate}
-use lib.Dec.{ltb, leb, eqb}
+use lib.Dec.{ltb, leb}
 use Rattle.model.specs.Lists.{below}
 use Rattle.model.specs.Bytes.{Bytes, number, part}
-use Rattle.model.specs.Card.{newTail, noHolder, opened, noTransaction, lists, taken, withBlock, withName, stamped, freshCore, withRunning, freshCard, emptyCard, downCard, coreOf, holderOf, withCore, withHolder}
+use Rattle.model.specs.Card.{newTail, noHolder, noTransaction, lists, taken, withBlock, withName, freshCore, withRunning, freshCard, emptyCard, downCard, coreOf, holderOf, withCore}
 use Rattle.model.specs.Command.{World, Outcome}
 use Rattle.model.specs.Format.{formatted}
 use Rattle.model.specs.Write.{writer, writerName, ruleFor, takesBlock, namesHolder, isNamedBack, writerAfter, writtenCard, written}
@@ -22,11 +21,10 @@ use Rattle.model.specs.declared.Tail.{Tail}
 use Rattle.model.specs.declared.Name.{Name}
 use Rattle.model.specs.declared.Transaction.{Transaction}
 use Rattle.model.specs.declared.Core.{Core}
-use Rattle.model.specs.declared.Holder.{Holder}
 use Rattle.model.specs.declared.Card.{Card}
 use Rattle.model.specs.declared.Committed.{Committed}
-use Rattle.model.proofs.Lists.{cases, Each, length-below}
-use Rattle.model.proofs.Command.{Order, order, orderOf, of-cond, of-command}
+use Rattle.model.proofs.Lists.{Each, length-below}
+use Rattle.model.proofs.Command.{Row, rowOf, of-cond, of-command}
 
 pub record FitsTransaction (t : Transaction) : Type 0 where
   pub blocks : length (t .blocks) ≡ 8
@@ -108,13 +106,13 @@ written-arrays x a c b =
     let u = ((holderOf x b) .name) .core in
     let x₁ = cond (isNamedBack r) (withCore x u (withRunning (coreOf x u) (withName ((coreOf x u) .running) (writerName x c)))) x in
     let a₁ : Arrays x₁ =
-        of-cond Arrays (isNamedBack r)
-        (core-kept x a u (withRunning (coreOf x u) (withName ((coreOf x u) .running) (writerName x c)))
-          (record { running = name-fits ((coreOf x u) .running) (writerName x c) ((core-fits x a u) .running); closed = (core-fits x a u) .closed }))
-        a in
+    of-cond Arrays (isNamedBack r)
+    (core-kept x a u (withRunning (coreOf x u) (withName ((coreOf x u) .running) (writerName x c)))
+    (record { running = name-fits ((coreOf x u) .running) (writerName x c) ((core-fits x a u) .running); closed = (core-fits x a u) .closed }))
+    a in
     let x₂ = withCore x₁ c (withRunning (coreOf x₁ c) (writerAfter x c b)) in
     let a₂ : Arrays x₂ =
-        core-kept x₁ a₁ c (withRunning (coreOf x₁ c) (writerAfter x c b)) (record { running = writer-fits x a c b; closed = (core-fits x₁ a₁ c) .closed }) in
+    core-kept x₁ a₁ c (withRunning (coreOf x₁ c) (writerAfter x c b)) (record { running = writer-fits x a c b; closed = (core-fits x₁ a₁ c) .closed }) in
     of-cond Arrays (takesBlock r) (record { tails = a₂ .tails; cores = a₂ .cores; holders = length-set (x₂ .holders) b _ ∙ a₂ .holders; each = a₂ .each }) a₂
 
 -- ---- CLOSE, STORE
@@ -161,11 +159,11 @@ unfolding recoverStep broughtUp
 recoverStep-arrays [] w a = fresh-arrays Up (shapeOn (w .disk)) (map (emptiedTail (w .disk)) (below 8)) (length-map (below 8) (emptiedTail (w .disk)) ∙ length-below 8)
 recoverStep-arrays (b ∷ bs) w a = record { tails = a .tails; cores = a .cores; holders = a .holders; each = a .each }
 
-pub order-arrays : (k : ℕ) (a : Bytes) (w : World) → Arrays (w .card) → Arrays ((orderOf k a w) .done .world .card)
-unfolding orderOf formatted written closed stored recovered downCard
-order-arrays k a w f =
+pub row-arrays : (k : ℕ) (a : Bytes) (w : World) → Arrays (w .card) → Arrays ((rowOf k a w) .done .world .card)
+unfolding rowOf formatted written closed stored recovered downCard
+row-arrays k a w f =
     let c = getD a 0 0 in
-    of-command (λ (r : Order). Arrays (r .done .world .card)) k
+    of-command (λ (r : Row). Arrays (r .done .world .card)) k
     (fresh-arrays Up (record { cores = c; blocks = getD a 1 0; journal = getD a 2 0 }) (replicate 8 (newTail 1 0)) (length-replicate 8 (newTail 1 0)))
     (λ h. written-arrays (w .card) f c (number 0 (part 1 2 a)))
     (closed-arrays (w .card) f c)

@@ -18,7 +18,7 @@ use Rattle.model.specs.Commit.{closeConditions, closed, close, storeCond
 use Rattle.model.specs.Checkpoint.{committedOf, oldest, checkpointConditions, storedHome, storedMaster, checkpointed, checkpoint}
 use Rattle.model.specs.Recovery.{cutConditions, cut, recoverConditions, blocksLeft, recoverStep, recovered, recover}
 use Rattle.model.specs.Reading.{readConditions}
-use Rattle.model.specs.Tape.{Step, step, commandByte, operandsAt, isUnknown, endsEarly, commandAt}
+use Rattle.model.specs.Tape.{step, commandByte, operandsAt, isUnknown, endsEarly, commandAt}
 use Rattle.model.proofs.Lists.{cases, Each, all-mem, mem-each}
 
 -- ---- refusal
@@ -100,7 +100,7 @@ module _ (ts : List (Bool × ℕ)) (w : World) (done : Outcome) where
 
 -- what comes of a command: refused by the first condition that holds, with nothing changed and no store, or carried out
 pub data Decided (ts : List (Bool × ℕ)) (w : World) (done o : Outcome) : Type 0 where
-  turned-down : (n : ℕ) → 0 < n → First n ts → o ≡ refusedWith n w → Decided ts w done o
+  refused : (n : ℕ) → 0 < n → First n ts → o ≡ refusedWith n w → Decided ts w done o
   carried-out : Clear ts → o ≡ done → Decided ts w done o
 
 pub unless-decided : (ts : List (Bool × ℕ)) (w : World) (done : Outcome) → Numbered ts → Decided ts w done (unless ts w done)
@@ -108,16 +108,16 @@ unless-decided ts w done p = go (refusal ts) refl
   where
     go : (n : ℕ) → refusal ts ≡ n → Decided ts w done (unless ts w done)
     go zero e = carried-out (refusal-clear ts p e) (unless-done ts w done e)
-    go (suc n) e = turned-down (suc n) (omega arith) (refusal-first ts e (omega arith)) (unless-refused ts w done (suc n) e (omega arith))
+    go (suc n) e = refused (suc n) (omega arith) (refusal-first ts e (omega arith)) (unless-refused ts w done (suc n) e (omega arith))
 
 module _ {ts : List (Bool × ℕ)} {w : World} {done o : Outcome} where
   -- a refused one answers the first number whose condition holds, leaves the world as it was and stores nothing
   pub decided-refused : Decided ts w done o → done .answer ≡ 0 → 0 < o .answer → First (o .answer) ts × (o ≡ refusedWith (o .answer) w)
-  decided-refused (turned-down n p f e) z q = let h : o .answer ≡ n = ap (λ (o : Outcome). o .answer) e in (rw h f, e ∙ ap (λ (m : ℕ). refusedWith m w) (sym h))
+  decided-refused (refused n p f e) z q = let h : o .answer ≡ n = ap (λ (o : Outcome). o .answer) e in (rw h f, e ∙ ap (λ (m : ℕ). refusedWith m w) (sym h))
   decided-refused (carried-out c e) z q = absurd (let h : o .answer ≡ 0 = ap (λ (o : Outcome). o .answer) e ∙ z in omega arith)
 
   pub decided-done : Decided ts w done o → o .answer ≡ 0 → Clear ts × (o ≡ done)
-  decided-done (turned-down n p f e) z = absurd (let h : o .answer ≡ n = ap (λ (o : Outcome). o .answer) e in omega arith)
+  decided-done (refused n p f e) z = absurd (let h : o .answer ≡ n = ap (λ (o : Outcome). o .answer) e in omega arith)
   decided-done (carried-out c e) z = (c, e)
 
 unless-same : (xs ys : List (Bool × ℕ)) (w : World) (done : Outcome) → refusal xs ≡ refusal ys → unless xs w done ≡ unless ys w done
@@ -129,7 +129,7 @@ pub unless-joined : (xs ys : List (Bool × ℕ)) (w : World) (done : Outcome) �
 unless-joined xs ys w done p = go (unless-decided xs w (unless ys w done) p)
   where
     go : Decided xs w (unless ys w done) (unless xs w (unless ys w done)) → unless xs w (unless ys w done) ≡ unless (xs ++ ys) w done
-    go (turned-down n q f e) = e ∙ sym (unless-refused (xs ++ ys) w done n (first-refusal (first-joined ys f)) q)
+    go (refused n q f e) = e ∙ sym (unless-refused (xs ++ ys) w done n (first-refusal (first-joined ys f)) q)
     go (carried-out c e) = e ∙ sym (unless-same (xs ++ ys) ys w done (clear-joined xs ys c))
 
 -- ---- the seven commands
@@ -161,25 +161,25 @@ module _ {A : Type 0} (P : A → Type 0) where
   of-command k {x₁} {x₂} {x₃} {x₄} {x₅} {x₆} {x₇} p₁ =
       each-command (λ (x y : A). P x) k {y₁ = x₁} {y₂ = x₂} {y₃ = x₃} {y₄ = x₄} {y₅ = x₅} {y₆ = x₆} {y₇ = x₇} (λ h. p₁)
 
--- the conditions of a command, and what it does where none holds
-pub record Order : Type 0 where
+-- a row of the table: the conditions of a command, and what it does where none holds
+pub record Row : Type 0 where
   pub conditions : List (Bool × ℕ)
   pub done : Outcome
 
-abbrev pub order : List (Bool × ℕ) → Outcome → Order
-order ts o = record { conditions = ts; done = o }
+abbrev pub row : List (Bool × ℕ) → Outcome → Row
+row ts o = record { conditions = ts; done = o }
 
-unfoldable pub orderOf : ℕ → Bytes → World → Order
-orderOf k a w =
+unfoldable pub rowOf : ℕ → Bytes → World → Row
+rowOf k a w =
     let c = getD a 0 0 in
     byCommand k
-    (order (formatConditions c (getD a 1 0) (getD a 2 0) w) (formatted (record { cores = c; blocks = getD a 1 0; journal = getD a 2 0 })))
-    (order (writeConditions c (number 0 (part 1 2 a)) (getD a 3 0) w) (written c (number 0 (part 1 2 a)) (getD a 3 0) (part 4 4 a) w))
-    (order (closeConditions c w) (closed c w))
-    (order (storeConditions c w) (stored c w))
-    (order (checkpointConditions c w) (checkpointed c w))
-    (order (cutConditions w) (unstored w downCard zeroMemory))
-    (order (recoverConditions w) (recovered w))
+    (row (formatConditions c (getD a 1 0) (getD a 2 0) w) (formatted (record { cores = c; blocks = getD a 1 0; journal = getD a 2 0 })))
+    (row (writeConditions c (number 0 (part 1 2 a)) (getD a 3 0) w) (written c (number 0 (part 1 2 a)) (getD a 3 0) (part 4 4 a) w))
+    (row (closeConditions c w) (closed c w))
+    (row (storeConditions c w) (stored c w))
+    (row (checkpointConditions c w) (checkpointed c w))
+    (row (cutConditions w) (unstored w downCard zeroMemory))
+    (row (recoverConditions w) (recovered w))
 
 -- the paper's numbers, in the paper's order: 1, then 20 to 23, then 4 to 8, then 24 to 33
 unfoldable pub refusalNumbers : ℕ → List ℕ
@@ -205,42 +205,53 @@ recoverStep-answer [] w = refl
 recoverStep-answer (b ∷ bs) w = refl
 
 module _ (k : ℕ) (a : Bytes) (w : World) where
-  pub step-order : step k a w ≡ unless ((orderOf k a w) .conditions) w ((orderOf k a w) .done)
-  unfolding step format write close storeNext checkpoint cut recover orderOf
-  step-order = each-command (λ (o : Outcome) (r : Order). o ≡ unless (r .conditions) w (r .done)) k (λ h. refl) (λ h. refl) refl refl refl refl refl
+  pub step-row : step k a w ≡ unless ((rowOf k a w) .conditions) w ((rowOf k a w) .done)
+  unfolding step format write close storeNext checkpoint cut recover rowOf
+  step-row = each-command (λ (o : Outcome) (r : Row). o ≡ unless (r .conditions) w (r .done)) k (λ h. refl) (λ h. refl) refl refl refl refl refl
 
-  pub order-numbers : map (λ (t : Bool × ℕ). t .1) ((orderOf k a w) .conditions) ≡ refusalNumbers k
-  unfolding orderOf refusalNumbers formatConditions writeConditions closeConditions storeConditions checkpointConditions cutConditions recoverConditions
-  order-numbers =
-      each-command (λ (r : Order) (ns : List ℕ). map (λ (t : Bool × ℕ). t .1) (r .conditions) ≡ ns) k (λ h. refl) (λ h. refl) refl refl refl refl refl
+  pub row-numbers : map (λ (t : Bool × ℕ). t .1) ((rowOf k a w) .conditions) ≡ refusalNumbers k
+  unfolding rowOf refusalNumbers formatConditions writeConditions closeConditions storeConditions checkpointConditions cutConditions recoverConditions
+  row-numbers =
+      each-command (λ (r : Row) (ns : List ℕ). map (λ (t : Bool × ℕ). t .1) (r .conditions) ≡ ns) k (λ h. refl) (λ h. refl) refl refl refl refl refl
 
-  order-numbered : Numbered ((orderOf k a w) .conditions)
+  row-numbered : Numbered ((rowOf k a w) .conditions)
   unfolding refusalNumbers all
-  order-numbered =
-      rw order-numbers (positive (refusalNumbers k) (of-command (λ (ns : List ℕ). all (ltb 0) ns ≡ true) k refl (λ h. refl) refl refl refl refl refl))
+  row-numbered =
+      rw row-numbers (positive (refusalNumbers k) (of-command (λ (ns : List ℕ). all (ltb 0) ns ≡ true) k refl (λ h. refl) refl refl refl refl refl))
 
-  pub order-answer : (orderOf k a w) .done .answer ≡ 0
-  unfolding orderOf formatted written closed stored recovered
-  order-answer =
-      of-command (λ (r : Order). r .done .answer ≡ 0) k refl (λ h. refl) refl refl (checkpointed-answer (getD a 0 0) w) refl (recoverStep-answer (blocksLeft w) w)
+  pub row-answer : (rowOf k a w) .done .answer ≡ 0
+  unfolding rowOf formatted written closed stored recovered
+  row-answer =
+      of-command (λ (r : Row). r .done .answer ≡ 0) k refl (λ h. refl) refl refl (checkpointed-answer (getD a 0 0) w) refl (recoverStep-answer (blocksLeft w) w)
 
-  pub step-answer : (step k a w) .answer ≡ refusal ((orderOf k a w) .conditions)
-  step-answer = rw step-order (unless-answer ((orderOf k a w) .conditions) w ((orderOf k a w) .done) order-answer)
+  pub step-answer : (step k a w) .answer ≡ refusal ((rowOf k a w) .conditions)
+  step-answer = rw step-row (unless-answer ((rowOf k a w) .conditions) w ((rowOf k a w) .done) row-answer)
 
-  pub step-decided : Decided ((orderOf k a w) .conditions) w ((orderOf k a w) .done) (step k a w)
-  step-decided = rw step-order (unless-decided ((orderOf k a w) .conditions) w ((orderOf k a w) .done) order-numbered)
+  pub step-decided : Decided ((rowOf k a w) .conditions) w ((rowOf k a w) .done) (step k a w)
+  step-decided = rw step-row (unless-decided ((rowOf k a w) .conditions) w ((rowOf k a w) .done) row-numbered)
+
+  -- a refused one answers the first of the paper's numbers whose condition holds, leaves the world as it was and stores nothing
+  pub step-refused : 0 < (step k a w) .answer
+      → First ((step k a w) .answer) ((rowOf k a w) .conditions) × List·Memᴰ ((step k a w) .answer) (refusalNumbers k) × (step k a w ≡ refusedWith ((step k a w) .answer) w)
+  step-refused h =
+      let r = decided-refused step-decided row-answer h in
+      (r .0, rw row-numbers at (first-number (r .0)), r .1)
+
+  -- one that answers 0 meets no condition and is carried out
+  pub step-done : (step k a w) .answer ≡ 0 → Clear ((rowOf k a w) .conditions) × (step k a w ≡ (rowOf k a w) .done)
+  step-done = decided-done step-decided
 
 -- ---- a command of the tape: 1, 2 and 3 come before its own conditions
 abbrev pub tapeConditions : Bytes → ℕ → World → List (Bool × ℕ)
 tapeConditions t at w = (wrongLength w, 1) ∷ (isUnknown t at, 2) ∷ (endsEarly t at, 3) ∷ []
 
 pub command-decided : (t : Bytes) (at : ℕ) (w : World)
-    → Decided (tapeConditions t at w ++ (orderOf (commandByte t at) (operandsAt t at) w) .conditions) w ((orderOf (commandByte t at) (operandsAt t at) w) .done) (commandAt step t at w)
+    → Decided (tapeConditions t at w ++ (rowOf (commandByte t at) (operandsAt t at) w) .conditions) w ((rowOf (commandByte t at) (operandsAt t at) w) .done) (commandAt step t at w)
 unfolding commandAt all
 command-decided t at w =
-    let r = orderOf (commandByte t at) (operandsAt t at) w in
-    rw (step-order, unless-joined (tapeConditions t at w) (r .conditions) w (r .done) (positive (1 ∷ 2 ∷ 3 ∷ []) refl))
-    (unless-decided (tapeConditions t at w ++ r .conditions) w (r .done) (omega arith, (omega arith, (omega arith, order-numbered (commandByte t at) (operandsAt t at) w))))
+    let r = rowOf (commandByte t at) (operandsAt t at) w in
+    rw (step-row, unless-joined (tapeConditions t at w) (r .conditions) w (r .done) (positive (1 ∷ 2 ∷ 3 ∷ []) refl))
+    (unless-decided (tapeConditions t at w ++ r .conditions) w (r .done) (omega arith, (omega arith, (omega arith, row-numbered (commandByte t at) (operandsAt t at) w))))
 
 -- reading has 1, 20, 22, 6
 pub read-numbers : (b : ℕ) (w : World) → map (λ (t : Bool × ℕ). t .1) (readConditions b w) ≡ 1 ∷ 20 ∷ 22 ∷ 6 ∷ []

@@ -13,4 +13,6 @@ pub mod Valid
 pub mod Command
 pub mod Tape
 pub mod Arrays
+pub mod Records
 pub mod OneStore
+pub mod Sizes

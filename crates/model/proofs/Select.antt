@@ -1,8 +1,8 @@
 -- Those of a list that meet a test: which elements they are, and how many.
-use Prim.Native.Nat.{ℕ, zero, suc, _≤_}
+use Prim.Native.Nat.{suc, _≤_}
 use native.Mathlib.Omega.{arith}
 use mathlib.Core.Path.{_≡_, refl, sym, ap, _∙_}
-use mathlib.Core.Logic.{_⊎_, inl, inr}
+use mathlib.Core.Logic.{inl, inr}
 use mathlib.Core.Bool.{Bool, true, false}
 use mathlib.Core.List.{List, [], _∷_, List·Memᴰ, List·Memᴰ·head, List·Memᴰ·tail, List·Memᴰ·not-nil, List·Memᴰ·cases-cons}
 use lib.ListN.{length}
@@ -38,9 +38,10 @@ module _ {A : Type 0} (p : A → Bool) where
   select-mem [] x m = absurd (List·Memᴰ·not-nil m)
   select-mem (y ∷ ys) x m =
       cases (p y)
-      (λ k. elim (List·Memᴰ·cases-cons (rw (select-yes y ys k) at m))
-        [ inl e ↦ (List·Memᴰ·head e, ap p e ∙ k)
-        | inr n ↦ let r = select-mem ys x n in (List·Memᴰ·tail (r .0), r .1) ])
+      (λ k. elim (List·Memᴰ·cases-cons (rw (select-yes y ys k) at m)) [
+        | inl e ↦ (List·Memᴰ·head e, ap p e ∙ k)
+        | inr n ↦ let r = select-mem ys x n in (List·Memᴰ·tail (r .0), r .1)
+      ])
       (λ k. let r = select-mem ys x (rw (select-no y ys k) at m) in (List·Memᴰ·tail (r .0), r .1))
 
   -- where none goes, all meet the test; where all meet it, none goes
@@ -49,7 +50,7 @@ module _ {A : Type 0} (p : A → Bool) where
   select-all (y ∷ ys) h x m =
       cases (p y)
       (λ k. let l : suc (length (select p ys)) ≡ suc (length ys) = sym (ap length (select-yes y ys k)) ∙ h in
-        elim (List·Memᴰ·cases-cons m) [ inl e ↦ ap p e ∙ k | inr n ↦ select-all ys (omega arith) x n ])
+      elim (List·Memᴰ·cases-cons m) [ inl e ↦ ap p e ∙ k | inr n ↦ select-all ys (omega arith) x n ])
       (λ k. let l : length (select p ys) ≡ suc (length ys) = sym (ap length (select-no y ys k)) ∙ h in absurd (omega (arith, select-length ys)))
 
   pub select-same : (xs : List A) → ((x : A) → List·Memᴰ x xs → p x ≡ true) → select p xs ≡ xs

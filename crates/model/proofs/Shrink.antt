@@ -2,14 +2,14 @@
 -- largest in which each has all that it depends on, transitively. Of the test only that it is monotone is needed.
 use Prim.Native.Nat.{ℕ, zero, suc, _≤_}
 use native.Mathlib.Omega.{arith}
-use mathlib.Core.Path.{_≡_, refl, sym, ap, _∙_, subst}
+use mathlib.Core.Path.{_≡_, refl, sym, ap, _∙_}
 use mathlib.Core.Logic.{_⊎_, inl, inr}
 use mathlib.Core.Bool.{Bool, true, false, true≢false, _||_}
 use mathlib.Core.List.{List, [], _∷_, List·Memᴰ, Memᴰ·cast}
 use lib.ListN.{length}
 use lib.Dec.{eqb}
 use borrow.Author.Tests.{eqb-true, eqb-false, eq-eqb}
-use Rattle.model.specs.Lists.{all, any, select}
+use Rattle.model.specs.Lists.{all, any}
 use Rattle.model.specs.Shrink.{Closed, Within, strike, shrinkIn, shrink, DependsOn, lists-it, through}
 use Rattle.model.proofs.Lists.{cases, all-mem, mem-all, any-mem, mem-any, or-cases, or-left, or-right}
 use Rattle.model.proofs.Select.{select-length, mem-select, select-mem, select-all, select-same}
@@ -35,7 +35,7 @@ module _ {A : Type 0} (stays : List A → A → Bool) where
       cases (eqb (length (strike stays es)) (length es))
       (λ k. rw (settled n es k) (select-all (stays es) es (eqb-true _ _ k)))
       (λ k. rw (goes-on n es k)
-        (shrinkIn-closed n (strike stays es) (omega (arith, select-length (stays es) es, eqb-false (length (strike stays es)) (length es) k))))
+      (shrinkIn-closed n (strike stays es) (omega (arith, select-length (stays es) es, eqb-false (length (strike stays es)) (length es) k))))
 
   shrinkIn-within : (n : ℕ) (es : List A) → Within (shrinkIn n stays es) es
   unfolding shrinkIn strike
@@ -98,9 +98,9 @@ module _ {A N : Type 0} (nameOf : A → N) where
   Distinct es = (t u : A) → List·Memᴰ t es → List·Memᴰ u es → nameOf t ≡ nameOf u → t ≡ u
 
 module _ {A N : Type 0} (names : A → List N) (nameOf : A → N) where
-  -- t lists u, which stands in the given list and is not gone
-  abbrev pub ListsIn : (N → Bool) → List A → A → A → Type 0
-  ListsIn gone es t u = List·Memᴰ u es × List·Memᴰ (nameOf u) (names t) × (gone (nameOf u) ≡ false)
+  -- t lists u, which stands in the given list
+  abbrev pub ListsIn : List A → A → A → Type 0
+  ListsIn es t u = List·Memᴰ u es × List·Memᴰ (nameOf u) (names t)
 
   abbrev pub allNamed : (N → N → Bool) → (N → Bool) → List A → A → Bool
   allNamed same gone es e = all (λ (n : N). gone n || any (λ (u : A). same n (nameOf u)) es) (names e)
@@ -114,9 +114,10 @@ module _ {A N : Type 0} (names : A → List N) (nameOf : A → N) where
     each-named : (es : List A) (e : A) → ((n : N) → List·Memᴰ n (names e) → (gone n ≡ true) ⊎ Named nameOf es n) → allNamed same gone es e ≡ true
     each-named es e h =
         mem-all (λ (n : N). gone n || any (λ (u : A). same n (nameOf u)) es) (names e)
-        (λ n m. elim (h n m)
-          [ inl g ↦ or-left _ g
-          | inr k ↦ or-right (gone n) (mem-any (λ (u : A). same n (nameOf u)) (k .1) (rw (k .2) (same-refl (nameOf (k .0))))) ])
+        (λ n m. elim (h n m) [
+          | inl g ↦ or-left _ g
+          | inr k ↦ or-right (gone n) (mem-any (λ (u : A). same n (nameOf u)) (k .1) (rw (k .2) (same-refl (nameOf (k .0)))))
+        ])
 
     pub named-monotone : Monotone (allNamed same gone)
     named-monotone ss es s e h =
@@ -127,25 +128,27 @@ module _ {A N : Type 0} (names : A → List N) (nameOf : A → N) where
         → (gone n ≡ true) ⊎ Named nameOf (shrink (allNamed same gone) es) n
     shrunk-names es t m = named-each (shrink (allNamed same gone) es) t (shrink-closed (allNamed same gone) es t m)
 
-    -- and all that one of it depends on, transitively
-    pub shrunk-depends : (es : List A) → Distinct nameOf es → (t u : A) → List·Memᴰ t (shrink (allNamed same gone) es)
-        → DependsOn (ListsIn gone es) t u → List·Memᴰ u (shrink (allNamed same gone) es)
-    shrunk-depends es one = depends-closed (λ t. List·Memᴰ t (shrink (allNamed same gone) es)) lists
+    -- and all that one of it depends on, transitively, where none of those given is gone
+    pub shrunk-depends : (es : List A) → Distinct nameOf es → ((u : A) → List·Memᴰ u es → gone (nameOf u) ≡ false) → (t u : A) → List·Memᴰ t (shrink (allNamed same gone) es)
+        → DependsOn (ListsIn es) t u → List·Memᴰ u (shrink (allNamed same gone) es)
+    shrunk-depends es one here = depends-closed (λ t. List·Memᴰ t (shrink (allNamed same gone) es)) lists
       where
-        lists : (t u : A) → List·Memᴰ t (shrink (allNamed same gone) es) → ListsIn gone es t u → List·Memᴰ u (shrink (allNamed same gone) es)
+        lists : (t u : A) → List·Memᴰ t (shrink (allNamed same gone) es) → ListsIn es t u → List·Memᴰ u (shrink (allNamed same gone) es)
         lists t u m l =
-            elim (shrunk-names es t m (nameOf u) (l .1))
-            [ inl g ↦ absurd (true≢false (sym g ∙ l .2))
-            | inr k ↦ Memᴰ·cast (one u (k .0) (l .0) (shrink-within (allNamed same gone) es (k .0) (k .1)) (k .2)) (k .1) ]
+            elim (shrunk-names es t m (nameOf u) (l .1)) [
+              | inl g ↦ absurd (true≢false (sym g ∙ here u (l .0)))
+              | inr k ↦ Memᴰ·cast (one u (k .0) (l .0) (shrink-within (allNamed same gone) es (k .0) (k .1)) (k .2)) (k .1)
+            ]
 
     -- every set of the given ones that has all that each of it depends on, where no name is missing, lies in it
     pub depends-largest : (P : A → Type 0) (es : List A) → ((t : A) → P t → List·Memᴰ t es)
-        → ((t u : A) → P t → DependsOn (ListsIn gone es) t u → P u)
+        → ((t u : A) → P t → DependsOn (ListsIn es) t u → P u)
         → ((t : A) → P t → (n : N) → List·Memᴰ n (names t) → (gone n ≡ true) ⊎ Named nameOf es n)
         → (t : A) → P t → List·Memᴰ t (shrink (allNamed same gone) es)
     depends-largest P es s d c =
         shrink-has (allNamed same gone) P
-        (λ es′ s′ t p. each-named es′ t (λ n m. cases (gone n) inl (λ g. elim (c t p n m)
-          [ inl h ↦ inl h
-          | inr k ↦ inr (k .0, s′ (k .0) (lists-closed P d t (k .0) p (k .1, Memᴰ·cast (sym (k .2)) m, ap gone (sym (k .2)) ∙ g)), k .2) ])))
+        (λ es′ s′ t p. each-named es′ t (λ n m. elim (c t p n m) [
+          | inl h ↦ inl h
+          | inr k ↦ inr (k .0, s′ (k .0) (lists-closed P d t (k .0) p (k .1, Memᴰ·cast (sym (k .2)) m)), k .2)
+        ]))
         es s

@@ -1,21 +1,21 @@
 -- A run of the tape by any card, without its bound: each point starts where the last one ended, in the world that it
 -- left, and the stores add up. Offsets grow, so the tape's length bounds the points; after 2 or 3 the tape ends.
-use Prim.Native.Nat.{ℕ, zero, suc, _+_, max, _≤_, _<_}
+use Prim.Native.Nat.{ℕ, zero, suc, _+_, _≤_, _<_}
 use native.Mathlib.Omega.{arith}
-use native.Mathlib.Nat.{le-max-left, le-max-right}
+use native.Mathlib.Nat.{le-max-right, max-le}
 use mathlib.Core.Path.{_≡_, refl, sym, ap, _∙_, subst}
 use mathlib.Core.Logic.{_⊎_, inl, inr}
-use mathlib.Core.Bool.{Bool, true, false, not, _&&_, _||_}
+use mathlib.Core.Bool.{Bool, true, not, _&&_, _||_}
 use mathlib.Core.List.{List, [], _∷_, _++_, map, List·Memᴰ}
 use lib.ListN.{length}
 use lib.Dec.{ltb, eqb}
 use borrow.Author.Tests.{ltb-true, ltb-false, lt-ltb, le-ltb, eqb-false, not-true}
 use Rattle.model.specs.Lists.{all}
 use Rattle.model.specs.Bytes.{Bytes}
-use Rattle.model.specs.Command.{World, Outcome, refusal, unless, wrongLength}
-use Rattle.model.specs.Tape.{Step, step, operandLength, commandByte, operandsAt, isUnknown, endsEarly, commandAt, nextOffset, Point, runFrom, run}
+use Rattle.model.specs.Command.{World}
+use Rattle.model.specs.Tape.{Step, step, commandByte, operandsAt, isUnknown, endsEarly, commandAt, nextOffset, Point, runFrom, run}
 use Rattle.model.proofs.Lists.{cases, Each, all-mem, and-left, and-right, or-left, or-right}
-use Rattle.model.proofs.Command.{First, here, later, refusalNumbers, of-command, orderOf, tapeConditions, decided-refused, command-decided, order-answer, order-numbers, first-number}
+use Rattle.model.proofs.Command.{First, here, later, refusalNumbers, of-command, rowOf, tapeConditions, decided-refused, command-decided, row-answer, row-numbers, first-number}
 
 -- the point of the command at an offset
 abbrev pub pointAt : Step → Bytes → ℕ → ℕ → World → Point
@@ -44,6 +44,13 @@ module _ (t : Bytes) (at : ℕ) where
       (λ k. rw k (le-max-right at (length t)))
       (λ k. let e : endsEarly t at ≡ true = rw k at h in rw (k, e) (le-max-right at (length t)))
 
+  pub next-within : at ≤ length t → nextOffset t at ≤ length t
+  unfolding nextOffset endsEarly
+  next-within h =
+      cases (not (isUnknown t at) && not (endsEarly t at))
+      (λ k. rw k (ltb-false (length t) _ (not-true (endsEarly t at) (and-right (not (isUnknown t at)) (not (endsEarly t at)) k))))
+      (λ k. rw k (max-le h (omega arith)))
+
 -- ---- a run
 module _ (f : Step) (t : Bytes) where
   run-end : (most at n : ℕ) (w : World) → length t ≤ at → runFrom most f t at n w ≡ []
@@ -53,7 +60,7 @@ module _ (f : Step) (t : Bytes) where
 
   run-more : (most at n : ℕ) (w : World) → at < length t
       → runFrom (suc most) f t at n w
-        ≡ pointAt f t at n w ∷ runFrom most f t (nextOffset t at) ((pointAt f t at n w) .stores) ((pointAt f t at n w) .outcome .world)
+      ≡ pointAt f t at n w ∷ runFrom most f t (nextOffset t at) ((pointAt f t at n w) .stores) ((pointAt f t at n w) .outcome .world)
   unfolding runFrom
   run-more most at n w h = rw (lt-ltb at (length t) h, runFrom)
 
@@ -62,8 +69,8 @@ module _ (f : Step) (t : Bytes) where
   runs-from (suc most) at n w h =
       cases (ltb at (length t))
       (λ k. let l : at < length t = ltb-true _ _ k in
-        rw (run-more most at n w l)
-        (one-more l refl (runs-from most (nextOffset t at) _ _ (omega (arith, next-past t at l)))))
+      rw (run-more most at n w l)
+      (one-more l refl (runs-from most (nextOffset t at) _ _ (omega (arith, next-past t at l)))))
       (λ k. let l : length t ≤ at = ltb-false _ _ k in rw (run-end (suc most) at n w l) (at-end l))
 
   pub run-runs : (w : World) → Runs f t 0 0 w (run f t w)
@@ -84,7 +91,7 @@ module _ (f : Step) (t : Bytes) where
   run-bound most w h = runs-same (runs-from most 0 0 w (omega arith)) (run-runs w)
 
   -- past the end no point follows
-  pub runs-ended : {at n : ℕ} {w : World} {ps : List Point} → Runs f t at n w ps → length t ≤ at → ps ≡ []
+  runs-ended : {at n : ℕ} {w : World} {ps : List Point} → Runs f t at n w ps → length t ≤ at → ps ≡ []
   runs-ended (at-end h) k = refl
   runs-ended (one-more l e r) k = absurd (omega arith)
 
@@ -118,12 +125,17 @@ step-neither : (k : ℕ) → all (λ (n : ℕ). not (eqb n 2) && not (eqb n 3)) 
 unfolding refusalNumbers all
 step-neither k = of-command (λ (ns : List ℕ). all (λ (n : ℕ). not (eqb n 2) && not (eqb n 3)) ns ≡ true) k refl (λ h. refl) refl refl refl refl refl
 
-pub answer-ends : (t : Bytes) (at : ℕ) (w : World) (n : ℕ) → (commandAt step t at w) .answer ≡ n → (n ≡ 2) ⊎ (n ≡ 3) → length t ≤ nextOffset t at
+answer-ends : (t : Bytes) (at : ℕ) (w : World) (n : ℕ) → (commandAt step t at w) .answer ≡ n → (n ≡ 2) ⊎ (n ≡ 3) → length t ≤ nextOffset t at
 answer-ends t at w n h two =
     let k = commandByte t at in
     let a = operandsAt t at in
     let p : 0 < n = elim two [ inl e ↦ omega arith | inr e ↦ omega arith ] in
-    let q : First ((commandAt step t at w) .answer) (tapeConditions t at w ++ (orderOf k a w) .conditions) =
-        (decided-refused (command-decided t at w) (order-answer k a w) (rw h p)) .0 in
-    next-end t at (first-ends (orderOf k a w .conditions) (rw h at q) two
-      (λ m. neither n (all-mem _ (refusalNumbers k) (step-neither k) (rw (order-numbers k a w) at m)) two))
+    let q : First ((commandAt step t at w) .answer) (tapeConditions t at w ++ (rowOf k a w) .conditions) =
+    (decided-refused (command-decided t at w) (row-answer k a w) (rw h p)) .0 in
+    next-end t at (first-ends (rowOf k a w .conditions) (rw h at q) two
+    (λ m. neither n (all-mem _ (refusalNumbers k) (step-neither k) (rw (row-numbers k a w) at m)) two))
+
+pub tape-ends : (t : Bytes) {at n : ℕ} {w : World} {p : Point} {ps : List Point} → Runs step t at n w (p ∷ ps)
+    → (p .outcome .answer ≡ 2) ⊎ (p .outcome .answer ≡ 3) → ps ≡ []
+tape-ends t (one-more {at} {w = w} {p = p} h e r) two =
+    runs-ended step t r (answer-ends t at w (p .outcome .answer) (ap (λ (p : Point). p .outcome .answer) (sym e)) two)

@@ -2,14 +2,15 @@
 -- tail number, and so the largest in which each has all that it depends on. Both are the laws of shrinking.
 use mathlib.Core.Path.{_≡_, refl}
 use mathlib.Core.Logic.{_⊎_}
-use mathlib.Core.Bool.{Bool, true}
+use mathlib.Core.Bool.{Bool, true, false}
 use mathlib.Core.List.{List, List·Memᴰ}
 use Prim.Native.Nat.{ℕ}
+use native.Mathlib.Omega.{arith}
 use lib.Dec.{eqb, ltb}
-use borrow.Author.Tests.{eqb-true, eq-eqb}
+use borrow.Author.Tests.{eqb-true, eq-eqb, le-ltb}
 use Rattle.model.specs.Bytes.{Bytes}
 use Rattle.model.specs.Card.{newName, sameName}
-use Rattle.model.specs.Journal.{nameOf, namesOf}
+use Rattle.model.specs.Journal.{nameOf, namesOf, journals}
 use Rattle.model.specs.Shrink.{Closed, Within, DependsOn}
 use Rattle.model.specs.Valid.{isIn, isMet, namesMet, validSet}
 use Rattle.model.specs.declared.Shape.{Shape}
@@ -17,7 +18,8 @@ use Rattle.model.specs.declared.Tail.{Tail}
 use Rattle.model.specs.declared.Name.{Name}
 use Rattle.model.specs.declared.Committed.{Committed}
 use Rattle.model.proofs.Lists.{and-both, and-left, and-right}
-use Rattle.model.proofs.Shrink.{Monotone, Named, Distinct, ListsIn, shrink-closed, shrink-within, shrink-largest, named-monotone, shrunk-names, shrunk-depends}
+use Rattle.model.proofs.Records.{journals-known, journals-distinct}
+use Rattle.model.proofs.Shrink.{Monotone, Named, ListsIn, shrink-closed, shrink-within, shrink-largest, named-monotone, shrunk-names, shrunk-depends}
 
 pub sameName-true : (m n : Name) → sameName m n ≡ true → m ≡ n
 unfolding sameName
@@ -58,8 +60,16 @@ module _ (s : Shape) (d : Bytes) (tailAt : ℕ → Tail) where
   unfolding validSet namesMet isMet isIn
   valid-names = shrunk-names (namesOf s d) nameOf sameName sameName-true sameName-refl (belowTail tailAt)
 
-  -- each valid one has all that it depends on among the given ones that are not below a tail
-  pub valid-depends : (es : List Committed) → Distinct nameOf es → (t u : Committed) → List·Memᴰ t (validSet s d tailAt es)
-      → DependsOn (ListsIn (namesOf s d) nameOf (belowTail tailAt) es) t u → List·Memᴰ u (validSet s d tailAt es)
+  -- none of those read is below its core's tail number
+  pub journals-unretired : (most : ℕ → ℕ) (u : Committed) → List·Memᴰ u (journals s d tailAt most) → belowTail tailAt (nameOf u) ≡ false
+  journals-unretired most u m =
+      let r = journals-known s d tailAt most u m .1 in
+      le-ltb (u .number) ((tailAt (u .core)) .number) (omega (arith, r .1 .number))
+
+  -- each valid one has all that it depends on among those read
+  pub valid-depends : (most : ℕ → ℕ) (t u : Committed) → List·Memᴰ t (validSet s d tailAt (journals s d tailAt most))
+      → DependsOn (ListsIn (namesOf s d) nameOf (journals s d tailAt most)) t u → List·Memᴰ u (validSet s d tailAt (journals s d tailAt most))
   unfolding validSet namesMet isMet isIn
-  valid-depends = shrunk-depends (namesOf s d) nameOf sameName sameName-true sameName-refl (belowTail tailAt)
+  valid-depends most =
+      shrunk-depends (namesOf s d) nameOf sameName sameName-true sameName-refl (belowTail tailAt) (journals s d tailAt most) (journals-distinct s d tailAt most)
+      (journals-unretired most)
