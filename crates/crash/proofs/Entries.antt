@@ -3,7 +3,6 @@
 -- So a command that changes neither of an entry changes nothing of these.
 use Prim.Native.Nat.{ℕ, zero, suc, _+_, _≤_, _<_}
 use native.Mathlib.Omega.{arith}
-use native.Mathlib.Decide.{ℕ-discrete}
 use mathlib.Core.Path.{_≡_, refl, sym, ap, _∙_, subst}
 use mathlib.Core.Logic.{_⊎_, inl, inr, _≢_}
 use mathlib.Core.Bool.{Bool, true, false, cond, true≢false}
@@ -11,16 +10,26 @@ use mathlib.Core.List.{List, [], _∷_, _++_, List·Memᴰ, List·Memᴰ·append
 use mathlib.Core.Option.{Option, none, some}
 use lib.ListN.{length}
 use lib.Dec.{eqb}
-use borrow.Author.Tests.{eqb-true, eqb-false, eq-eqb, ne-eqb}
+use borrow.Author.Tests.{eq-eqb, ne-eqb}
 use Rattle.model.specs.Lists.{any}
 use Rattle.model.specs.Card.{newName, sameName}
 use Rattle.model.specs.declared.Name.{Name}
 use Rattle.model.proofs.Lists.{cases}
 use Rattle.model.proofs.Valid.{sameName-true, sameName-refl}
-use Rattle.crash.specs.Book.{Stage, absent, running, isRunning, isClosed, isRetired, Entry, Write, Book, change, raise, staged, taking, naming, holderIn, Meeting, no-holder, own, running-holder, closed-holder, meets, ruled, holderAfter}
+use Rattle.crash.specs.Book.{running, isClosed, isRetired, Entry, Write, Book, change, raise, taking, naming, holderIn, Meeting, no-holder, own, running-holder, closed-holder, meets, ruled}
 use Rattle.crash.specs.Ledger.{recordBlocks}
 
 -- ---- names
+-- core c's running transaction, or the next to open; its first uncommitted one; its oldest unretired one
+abbrev pub nextName : ℕ → Book → Name
+nextName c k = newName c (k .next c)
+
+abbrev pub uncommittedName : ℕ → Book → Name
+uncommittedName c k = newName c (k .uncommitted c)
+
+abbrev pub oldestName : ℕ → Book → Name
+oldestName c k = newName c (k .oldest c)
+
 pub same-or-not : {A : Type 0} (u t : Name) → (u ≡ t → A) → (u ≢ t → A) → A
 same-or-not u t f g =
     cases (sameName u t)
@@ -81,8 +90,8 @@ module _ (k : Book) (t : Name) where
       same-or-not x t
       (λ q. absurd (let p : met (meets k t (some x)) ≡ none = rw (q, sameName-refl t) in let z : _≡_ {A = ℕ} 0 1 = cc in omega arith))
       (λ ne. let p : met (meets k t (some x)) ≡ some x
-          = rw (sameName-false x t ne) (cases (isClosed ((k .entry x) .stage)) (λ c. rw c) (λ c. rw c)) in
-        let q : x ≡ u = cc in (ap some q, λ r. ne (q ∙ r)))
+      = rw (sameName-false x t ne) (cases (isClosed ((k .entry x) .stage)) (λ c. rw c) (λ c. rw c)) in
+      let q : x ≡ u = cc in (ap some q, λ r. ne (q ∙ r)))
 
   pub meets-running : (h : Option Name) (u : Name) → meets k t h ≡ running-holder u → isClosed ((k .entry u) .stage) ≡ false
   unfolding meets
@@ -91,8 +100,8 @@ module _ (k : Book) (t : Name) where
       cases (sameName x t)
       (λ s. absurd (let p : meets k t (some x) ≡ own = rw s in let z : _≡_ {A = ℕ} 0 1 = cc in omega arith))
       (λ s. cases (isClosed ((k .entry x) .stage))
-        (λ c. absurd (let p : meets k t (some x) ≡ closed-holder x = rw (s, c) in let z : _≡_ {A = ℕ} 0 1 = cc in omega arith))
-        (λ c. let p : meets k t (some x) ≡ running-holder x = rw (s, c) in let q : x ≡ u = cc in rw q at c))
+      (λ c. absurd (let p : meets k t (some x) ≡ closed-holder x = rw (s, c) in let z : _≡_ {A = ℕ} 0 1 = cc in omega arith))
+      (λ c. let p : meets k t (some x) ≡ running-holder x = rw (s, c) in let q : x ≡ u = cc in rw q at c))
 
   pub meets-own : meets k t (some t) ≡ own
   unfolding meets
@@ -159,6 +168,25 @@ changed-mem t n f entry same u x p =
     (λ e. naming-mem n x (entry u) (let q : List·Memᴰ x ((f (entry t)) .names) = rw (e, change-at t f entry) at p in rw (same (entry t), ← e) at q))
     (λ ne. inl (rw (change-other t f entry u ne) at p))
 
+-- a list with a name, which stands in it once
+abbrev pub listing : Option Name → List Name → List Name
+listing none ns = ns
+listing (some n) ns = cond (any (sameName n) ns) ns (ns ++ (n ∷ []))
+
+pub ruled-names-at : (m : Meeting) (t : Name) (b : ℕ) (entry : Name → Entry) → m ≢ running-holder t
+    → (ruled m t b entry t) .names ≡ listing (met m) ((entry t) .names)
+unfolding ruled
+ruled-names-at no-holder t b entry ne = ap (λ e. e .names) (change-at t (taking b) entry)
+ruled-names-at own t b entry ne = refl
+ruled-names-at (running-holder x) t b entry ne =
+    ap (λ e. e .names) (change-other x (naming t) (change t (naming x) entry) t (λ e. ne (ap running-holder (sym e))) ∙ change-at t (naming x) entry)
+ruled-names-at (closed-holder x) t b entry ne = ap (λ e. e .names) (change-at t (λ (e : Entry). taking b (naming x e)) entry)
+
+pub ruled-names-back : (u t : Name) (b : ℕ) (entry : Name → Entry) → u ≢ t → (ruled (running-holder u) t b entry u) .names ≡ listing (some t) ((entry u) .names)
+unfolding ruled
+ruled-names-back u t b entry ne =
+    ap (λ e. e .names) (change-at u (naming t) (change t (naming u) entry)) ∙ ap (λ e. listing (some t) (e .names)) (change-other t (naming u) entry u ne)
+
 -- whom a list names after the rules: those of before, the writer, the one met
 pub ruled-names : (m : Meeting) (t : Name) (b : ℕ) (entry : Name → Entry) (u x : Name) → List·Memᴰ x ((ruled m t b entry u) .names)
     → List·Memᴰ x ((entry u) .names) ⊎ ((x ≡ t) ⊎ (met m ≡ some x))
@@ -166,9 +194,10 @@ unfolding ruled
 ruled-names no-holder t b entry u x p = inl (subst (λ l. List·Memᴰ x l) (change-by t (taking b) entry (λ e. e .names) refl u) p)
 ruled-names own t b entry u x p = inl p
 ruled-names (running-holder y) t b entry u x p =
-    elim (changed-mem y t (naming t) (change t (naming y) entry) (λ e. refl) u x p)
-    [ inl q ↦ elim (changed-mem t y (naming y) entry (λ e. refl) u x q) [ inl r ↦ inl r | inr e ↦ inr (inr (ap some (sym e))) ]
-    | inr e ↦ inr (inl e) ]
+    elim (changed-mem y t (naming t) (change t (naming y) entry) (λ e. refl) u x p) [
+      | inl q ↦ elim (changed-mem t y (naming y) entry (λ e. refl) u x q) [ inl r ↦ inl r | inr e ↦ inr (inr (ap some (sym e))) ]
+      | inr e ↦ inr (inl e)
+    ]
 ruled-names (closed-holder y) t b entry u x p =
     elim (changed-mem t y (λ (e : Entry). taking b (naming y e)) entry (λ e. refl) u x p) [ inl r ↦ inl r | inr e ↦ inr (inr (ap some (sym e))) ]
 
@@ -185,8 +214,8 @@ holder-live k b [] u e = absurd (let z : _≡_ {A = ℕ} 0 1 = cc in omega arith
 holder-live k b (w ∷ ws) u e =
     cases (eqb b (w .block))
     (λ h. cases (isRetired ((k .entry (w .holder)) .stage))
-      (λ r. absurd (let p : holderIn k b (w ∷ ws) ≡ none = rw (h, r) in let z : _≡_ {A = ℕ} 0 1 = cc in omega arith))
-      (λ r. let p : holderIn k b (w ∷ ws) ≡ some (w .holder) = rw (h, r) in let q : w .holder ≡ u = cc in rw q at r))
+    (λ r. absurd (let p : holderIn k b (w ∷ ws) ≡ none = rw (h, r) in let z : _≡_ {A = ℕ} 0 1 = cc in omega arith))
+    (λ r. let p : holderIn k b (w ∷ ws) ≡ some (w .holder) = rw (h, r) in let q : w .holder ≡ u = cc in rw q at r))
     (λ h. holder-live k b ws u (rw h at e))
 
 -- ---- the blocks of the records

@@ -4,6 +4,7 @@ pub mod Stages
 pub mod Master
 pub mod Records
 pub mod Entries
+pub mod Books
 pub mod FineSteps
 pub mod FineWrite
 pub mod Frames
