@@ -3,6 +3,9 @@ pub mod Relation
 pub mod Stages
 pub mod Master
 pub mod Records
+pub mod Valid
+pub mod Newest
+pub mod CheckpointRead
 pub mod Entries
 pub mod Books
 pub mod FineSteps

@@ -1,17 +1,15 @@
 -- The stages of a core's transactions by their numbers: which are committed and unretired, and which is closed.
 -- Tests of stages become bounds of numbers and back; nothing but the ledger's order (`Ranks`) is used.
 -- So what the journals hold, and what the ledger's lists hold, can be compared by numbers alone.
-use Prim.Native.Nat.{ℕ, suc, _≤_, _<_}
+use Prim.Native.Nat.{ℕ, _≤_, _<_}
 use native.Mathlib.Omega.{arith}
 use native.Mathlib.Decide.{decLt, ℕ-discrete}
 use mathlib.Core.Path.{_≡_, refl, sym, ap, _∙_, subst}
 use mathlib.Core.Logic.{_⊎_, inl, inr, _≢_}
 use mathlib.Core.Bool.{Bool, true, false, true≢false}
 use Rattle.model.specs.Card.{newName}
-use Rattle.model.specs.declared.Name.{Name}
 use Rattle.crash.specs.Book.{Stage, absent, running, closed, committed, retired, isClosed, isCommitted, isRetired, Book}
-use Rattle.crash.specs.Ledger.{Ledger}
-use Rattle.crash.proofs.Relation.{Ranks, Fine}
+use Rattle.crash.proofs.Relation.{Ranks}
 
 -- a test that holds and does not
 pub clash : {A : Type 0} {b : Bool} → b ≡ true → b ≡ false → A
@@ -75,3 +73,8 @@ module _ {k : Book} {c : ℕ} (r : Ranks k c) (i : ℕ) where
         | inr b ↦ (let x = r .storing (omega arith) in
             clash h (ap (λ (j : ℕ). isCommitted ((k .entry (newName c j)) .stage)) (b .0) ∙ ap isCommitted (x .1)))
       ]
+
+-- the one that is being stored
+pub closing-stage : {k : Book} {c : ℕ} → Ranks k c → k .uncommitted c < k .next c
+    → (isClosed ((k .entry (newName c (k .uncommitted c))) .stage) ≡ true) × (isRetired ((k .entry (newName c (k .uncommitted c))) .stage) ≡ false)
+closing-stage r h = let x = r .storing h in (ap isClosed (x .1), ap isRetired (x .1))

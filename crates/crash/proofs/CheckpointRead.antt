@@ -1,0 +1,240 @@
+-- On a card that is up, what CHECKPOINT reads is what the ledger says, and each of its conditions is the ledger's.
+-- The card's count of committed ones is the ledger's, so the journals are read whole; the closed ones that still store
+-- stand in the card. Every closed unretired transaction is one of these two: so 33 looks at the same transactions.
+use Prim.Native.Nat.{ℕ, _-_, _≤_, _<_}
+use native.Mathlib.Omega.{arith}
+use native.Mathlib.Decide.{decLt, ℕ-discrete}
+use mathlib.Core.Path.{_≡_, refl, sym, ap, ap₂, _∙_, subst}
+use mathlib.Core.Logic.{inl, inr}
+use mathlib.Core.Bool.{Bool, true, false, not, _&&_}
+use mathlib.Core.List.{List·Memᴰ, List·Memᴰ·head}
+use lib.ListN.{length}
+use lib.Dec.{ltb, eqb}
+use borrow.Author.Tests.{ltb-true, lt-ltb, le-ltb, le-leb, lt-leb, eq-eqb, ne-eqb, not-true}
+use Rattle.model.specs.Lists.{below, any}
+use Rattle.model.specs.Shape.{clamped}
+use Rattle.model.specs.Card.{newName, sameName, taken, shapeOf, tailOf, coreOf, committedCount}
+use Rattle.model.specs.Journal.{journals, nameOf, blocksOf}
+use Rattle.model.specs.Valid.{isIn, validSet}
+use Rattle.model.specs.Command.{World, refusal, wrongLength, noCore}
+use Rattle.model.specs.Checkpoint.{committedNow, validNow, committedOf, oldest, share, sharesLower, checkpointConditions}
+use Rattle.model.specs.declared.Shape.{Shape}
+use Rattle.model.specs.declared.Name.{Name}
+use Rattle.model.specs.declared.Committed.{Committed}
+use Rattle.model.proofs.Limits.{clamped-same}
+use Rattle.model.proofs.Lists.{and-both, and-left, and-right, or-left, or-right, or-cases, any-mem, mem-any, mem-below, below-mem}
+use Rattle.crash.specs.Book.{isClosed, isRetired}
+use Rattle.crash.specs.Ledger.{Ledger, validIn, sharesLowerIn, checkpointRefusals}
+use Rattle.crash.proofs.Relation.{Fine, Up}
+use Rattle.crash.proofs.Stages.{clash, closed-present, unretired-rank, closing-stage}
+use Rattle.crash.proofs.Records.{readRecord, readList, IsRead, length-readList, readList-has, readList-first, readList-is, journal-read}
+use Rattle.crash.proofs.Valid.{same-test, journals-are, listed-journals, valid-same}
+
+-- ---- what is read
+module _ {l : Ledger} {w : World} (u : Up l w) where
+  pub shape-up : shapeOf (w .card) ≡ l .shape
+  unfolding shapeOf
+  shape-up = ap clamped (u .shape) ∙ clamped-same (l .shape) (u .fine .range)
+
+  pub count-up : (c : ℕ) → c < l .shape .cores → committedCount (w .card) c ≡ l .book .uncommitted c - l .book .oldest c
+  unfolding committedCount
+  count-up c h =
+      let r = u .fine .ranks c h in
+      let k = u .cores c h in
+      elim (ℕ-discrete (l .book .uncommitted c) (l .book .next c)) [
+        | yes e ↦ rw (k .none-closing e, k .next, u .disk .journals c h .number) (omega arith)
+        | no n ↦ rw (k .closing (omega (arith, r .mid)) .live, k .next, u .disk .journals c h .number) (omega (arith, r .mid, r .high))
+      ]
+
+  count-enough : (c : ℕ) → c < l .shape .cores → l .book .uncommitted c - l .book .oldest c ≤ committedCount (w .card) c
+  count-enough c h = omega (arith, count-up c h)
+
+  pub committed-now : committedNow w ≡ journals (l .shape) (w .disk) (tailOf (w .card)) (committedCount (w .card))
+  unfolding committedNow
+  committed-now = rw shape-up
+
+  pub valid-now : validNow w ≡ validSet (l .shape) (w .disk) (tailOf (w .card)) (journals (l .shape) (w .disk) (tailOf (w .card)) (committedCount (w .card)))
+  unfolding validNow
+  valid-now = rw (committed-now, shape-up)
+
+  pub committed-of : (c : ℕ) → c < l .shape .cores → committedOf w c ≡ readList l c (tailOf (w .card) c)
+  unfolding committedOf
+  committed-of c h = rw shape-up (journal-read (u .fine) (u .disk) c h (committedCount (w .card) c) (count-enough c h))
+
+  pub oldest-of : (c : ℕ) → c < l .shape .cores → l .book .oldest c < l .book .uncommitted c
+      → oldest (committedOf w c) ≡ readRecord l (newName c (l .book .oldest c)) ((tailOf (w .card) c) .position)
+  unfolding oldest
+  oldest-of c h g = ap oldest (committed-of c h ∙ readList-first l c (tailOf (w .card) c) g)
+
+  pub oldest-is : (c : ℕ) → c < l .shape .cores → l .book .oldest c < l .book .uncommitted c → IsRead l (w .disk) c (oldest (committedOf w c))
+  oldest-is c h g =
+      rw (oldest-of c h g)
+      (readList-is (u .fine) (u .disk) c h (readRecord l (newName c (l .book .oldest c)) ((tailOf (w .card) c) .position))
+      (rw (readList-first l c (tailOf (w .card) c) g) (List·Memᴰ·head refl)))
+
+-- ---- 33: a lower one that shares a block
+record Lower (l : Ledger) (t v : Name) : Type 0 where
+  is-closed : isClosed ((l .book .entry v) .stage) ≡ true
+  not-retired : isRetired ((l .book .entry v) .stage) ≡ false
+  lower : l .stamp v < l .stamp t
+  shares : share ((l .book .entry t) .blocks) ((l .book .entry v) .blocks) ≡ true
+
+abbrev lowerTest : Ledger → Name → Name → Bool
+lowerTest l t v =
+    isClosed ((l .book .entry v) .stage) && not (isRetired ((l .book .entry v) .stage)) && ltb (l .stamp v) (l .stamp t) && share ((l .book .entry t) .blocks) ((l .book .entry v) .blocks)
+
+lower-in : {l : Ledger} → Fine l → (t v : Name) → Lower l t v → sharesLowerIn l t ≡ true
+unfolding sharesLowerIn
+lower-in {l} f t v r =
+    mem-any (lowerTest l t) (f .known v (closed-present _ (r .is-closed)))
+    (and-both (and-both (and-both (r .is-closed) (ap not (r .not-retired))) (lt-ltb _ _ (r .lower))) (r .shares))
+
+in-lower : (l : Ledger) (t : Name) → sharesLowerIn l t ≡ true → (v : Name) × Lower l t v
+unfolding sharesLowerIn
+in-lower l t h =
+    let r = any-mem (lowerTest l t) (l .book .opened) h in
+    let v = r .0 in
+    let a = isClosed ((l .book .entry v) .stage) in
+    let b = not (isRetired ((l .book .entry v) .stage)) in
+    let m = ltb (l .stamp v) (l .stamp t) in
+    let s = share ((l .book .entry t) .blocks) ((l .book .entry v) .blocks) in
+    let q = and-left (a && b && m) s (r .2) in (
+      v,
+      record {
+        is-closed = and-left a b (and-left (a && b) m q);
+        not-retired = not-true _ (and-right a b (and-left (a && b) m q));
+        lower = ltb-true _ _ (and-right (a && b) m q);
+        shares = and-right (a && b && m) s (r .2);
+      },
+    )
+
+module _ {l : Ledger} {w : World} (u : Up l w) (c : ℕ) (e : Committed) (x : IsRead l (w .disk) c e) where
+  abbrev lowerRead : Committed → Bool
+  lowerRead g = ltb (g .stamp) (e .stamp) && share (blocksOf (shapeOf (w .card)) (w .disk) e) (blocksOf (shapeOf (w .card)) (w .disk) g)
+
+  abbrev lowerClosed : ℕ → Bool
+  lowerClosed i =
+      let t = (coreOf (w .card) i) .closed in
+      t .live && ltb (t .stamp) (e .stamp) && share (blocksOf (shapeOf (w .card)) (w .disk) e) (taken t)
+
+  blocks-up : (g : Committed) (i : ℕ) → IsRead l (w .disk) i g → blocksOf (shapeOf (w .card)) (w .disk) g ≡ (l .book .entry (nameOf g)) .blocks
+  blocks-up g i y = ap (λ (s : Shape). blocksOf s (w .disk) g) (shape-up u) ∙ y .blocks
+
+  read-lower : (g : Committed) → List·Memᴰ g (committedNow w) → lowerRead g ≡ true → Lower l (nameOf e) (nameOf g)
+  read-lower g m h =
+      let y = journals-are (u .fine) (u .disk) (committedCount (w .card)) (count-enough u) g (rw (committed-now u) at m) in
+      let p : g .stamp < e .stamp = ltb-true (g .stamp) (e .stamp) (and-left _ _ h) in
+      record {
+        is-closed = y .unretired .is-closed;
+        not-retired = y .unretired .not-retired;
+        lower = omega (arith, y .stamp, x .stamp);
+        shares = sym (ap₂ share (blocks-up e c x) (blocks-up g (g .core) y)) ∙ and-right (ltb (g .stamp) (e .stamp)) _ h;
+      }
+
+  closed-lower : (i : ℕ) → i < l .shape .cores → lowerClosed i ≡ true → Lower l (nameOf e) (newName i (l .book .uncommitted i))
+  closed-lower i h g =
+      let r = u .fine .ranks i h in
+      let k = u .cores i h in
+      let t = (coreOf (w .card) i) .closed in
+      let q = and-left (t .live && ltb (t .stamp) (e .stamp)) _ g in
+      elim (ℕ-discrete (l .book .uncommitted i) (l .book .next i)) [
+        | yes n ↦ clash (and-left (t .live) _ q) (k .none-closing n)
+        | no n ↦ (let s : l .book .uncommitted i < l .book .next i = omega (arith, r .mid) in
+            let y = closing-stage r s in
+            let p : t .stamp < e .stamp = ltb-true (t .stamp) (e .stamp) (and-right (t .live) _ q) in
+            record {
+              is-closed = y .0;
+              not-retired = y .1;
+              lower = omega (arith, k .stored s .1, x .stamp);
+              shares = sym (ap₂ share (blocks-up e c x) (k .closing s .blocks)) ∙ and-right (t .live && ltb (t .stamp) (e .stamp)) _ g;
+            })
+      ]
+
+  lower-read : (g : Committed) (i : ℕ) → IsRead l (w .disk) i g → Lower l (nameOf e) (nameOf g) → lowerRead g ≡ true
+  lower-read g i y r =
+      and-both (lt-ltb (g .stamp) (e .stamp) (omega (arith, y .stamp, x .stamp, r .lower))) (ap₂ share (blocks-up e c x) (blocks-up g i y) ∙ r .shares)
+
+  lower-closed : (i : ℕ) → i < l .shape .cores → l .book .uncommitted i < l .book .next i → Lower l (nameOf e) (newName i (l .book .uncommitted i)) → lowerClosed i ≡ true
+  lower-closed i h s r =
+      let k = u .cores i h in
+      and-both (and-both (k .closing s .live) (lt-ltb _ (e .stamp) (omega (arith, k .stored s .1, x .stamp, r .lower)))) (ap₂ share (blocks-up e c x) (k .closing s .blocks) ∙ r .shares)
+
+  lower-found : (v : Name) → Lower l (nameOf e) v → sharesLower w e ≡ true
+  unfolding sharesLower
+  lower-found v r =
+      elim (decLt (v .core) (l .shape .cores)) [
+        | no n ↦ clash (r .is-closed) (ap isClosed (u .fine .far v (omega arith)))
+        | yes h ↦ elim (unretired-rank (u .fine .ranks (v .core) h) (v .number) (r .is-closed) (r .not-retired)) [
+          | inl i ↦ (let g = readList-has l (v .core) (tailOf (w .card) (v .core)) (v .number) (i .0) (i .1) in
+              let y = readList-is (u .fine) (u .disk) (v .core) h (g .0) (g .1) in
+              let m = listed-journals (u .fine) (u .disk) (committedCount (w .card)) (count-enough u) (g .0) in
+              let p = subst (λ (j : ℕ). (j < l .shape .cores) × List·Memᴰ (g .0) (readList l j (tailOf (w .card) j))) (sym (y .core)) (h, g .1) in
+              or-left (any lowerClosed (below ((shapeOf (w .card)) .cores)))
+              (mem-any lowerRead (rw (committed-now u) (m (p .0) (p .1))) (lower-read (g .0) (v .core) y (subst (Lower l (nameOf e)) (sym (g .2)) r))))
+          | inr i ↦ or-right (any lowerRead (committedNow w))
+              (mem-any lowerClosed (rw (shape-up u) (below-mem (l .shape .cores) (v .core) h))
+              (lower-closed (v .core) h (omega arith) (subst (λ (j : ℕ). Lower l (nameOf e) (newName (v .core) j)) (i .0) r)))
+        ]
+      ]
+
+  found-lower : sharesLower w e ≡ true → (v : Name) × Lower l (nameOf e) v
+  unfolding sharesLower
+  found-lower h =
+      elim (or-cases (any lowerRead (committedNow w)) (any lowerClosed (below ((shapeOf (w .card)) .cores))) h) [
+        | inl a ↦ (let r = any-mem lowerRead (committedNow w) a in (nameOf (r .0), read-lower (r .0) (r .1) (r .2)))
+        | inr a ↦ (let r = any-mem lowerClosed (below ((shapeOf (w .card)) .cores)) a in
+            (newName (r .0) (l .book .uncommitted (r .0)), closed-lower (r .0) (subst (λ (s : Shape). r .0 < s .cores) (shape-up u) (mem-below ((shapeOf (w .card)) .cores) (r .1))) (r .2)))
+      ]
+
+  pub shares-same : sharesLower w e ≡ sharesLowerIn l (nameOf e)
+  shares-same =
+      same-test
+      (λ h. let r = found-lower h in lower-in (u .fine) (nameOf e) (r .0) (r .1))
+      (λ h. let r = in-lower l (nameOf e) h in lower-found (r .0) (r .1))
+
+-- ---- the conditions
+module _ {l : Ledger} {w : World} (u : Up l w) (c : ℕ) (in-range : c < l .shape .cores) where
+  -- '31'
+  pub none-committed : eqb (length (committedOf w c)) 0 ≡ not (ltb (l .book .oldest c) (l .book .uncommitted c))
+  none-committed =
+      let n : length (committedOf w c) ≡ l .book .uncommitted c - l .book .oldest c = ap length (committed-of u c in-range) ∙ length-readList l c (tailOf (w .card) c) in
+      elim (decLt (l .book .oldest c) (l .book .uncommitted c)) [
+        | yes h ↦ ne-eqb (length (committedOf w c)) 0 (λ e. omega arith) ∙ ap not (sym (lt-ltb _ _ h))
+        | no h ↦ eq-eqb (length (committedOf w c)) 0 (omega arith) ∙ ap not (sym (le-ltb (l .book .oldest c) (l .book .uncommitted c) (omega arith)))
+      ]
+
+  module _ (some : l .book .oldest c < l .book .uncommitted c) where
+    oldest-name : nameOf (oldest (committedOf w c)) ≡ newName c (l .book .oldest c)
+    oldest-name = ap nameOf (oldest-of u c in-range some)
+
+    -- '32'
+    pub oldest-valid : isIn (validNow w) (nameOf (oldest (committedOf w c))) ≡ any (sameName (newName c (l .book .oldest c))) (validIn (l .book))
+    oldest-valid =
+        ap₂ isIn (valid-now u) oldest-name
+        ∙ valid-same (u .fine) (u .disk) (committedCount (w .card)) (count-enough u) (newName c (l .book .oldest c))
+
+    -- '33'
+    pub oldest-shares : sharesLower w (oldest (committedOf w c)) ≡ sharesLowerIn l (newName c (l .book .oldest c))
+    oldest-shares = shares-same u c (oldest (committedOf w c)) (oldest-is u c in-range some) ∙ ap (sharesLowerIn l) oldest-name
+
+-- '24 to 33 is answered exactly when its condition holds of the ledger': of CHECKPOINT
+pub checkpoint-refusal : {l : Ledger} {w : World} → Up l w → (c : ℕ) → refusal (checkpointConditions c w) ≡ refusal (checkpointRefusals c l)
+unfolding refusal checkpointConditions checkpointRefusals wrongLength noCore
+checkpoint-refusal {l} {w} u c =
+    elim (decLt c (l .shape .cores)) [
+      | no n ↦ rw (shape-up u, le-leb (l .shape .cores) c (omega arith), u .disk .size, u .memory, u .phase, u .ledger)
+      | yes h ↦ elim (decLt (l .book .oldest c) (l .book .uncommitted c)) [
+        | no n ↦ rw (shape-up u, lt-leb (l .shape .cores) c h, none-committed u c h, le-ltb (l .book .oldest c) (l .book .uncommitted c) (omega arith), u .disk .size, u .memory, u .phase, u .ledger)
+        | yes g ↦ rw (
+          shape-up u,
+          lt-leb (l .shape .cores) c h,
+          none-committed u c h,
+          oldest-valid u c h g,
+          oldest-shares u c h g,
+          u .disk .size,
+          u .memory,
+          u .phase,
+          u .ledger,
+        )
+      ]
+    ]
