@@ -27,8 +27,9 @@ use Rattle.crash.specs.Book.{Stage, absent, running, isRunning, Entry, B
 use Rattle.crash.specs.Ledger.{Ledger, namesCount, holderNames, recordBlocks, notUpFor, writeRefusals, closeRefusals, storeRefusals}
 use Rattle.crash.proofs.Relation.{Fine, Matches, CoreUp, Up}
 use Rattle.crash.proofs.Entries.{change-at, records-snoc}
+use Rattle.crash.proofs.Books.{begun}
 use Rattle.crash.proofs.UpStore.{shape-up}
-use Rattle.crash.proofs.Rules.{begun, entry-free, entry-own, entry-running, entry-closed, entry-holder, live-runs, writer-name, writer-matches, MetHolder, met-none, met-own, met-running, met-closed, rule-met, writer-after, holder-matches}
+use Rattle.crash.proofs.Rules.{entry-free, entry-own, entry-running, entry-closed, entry-holder, live-runs, writer-name, writer-matches, MetHolder, met-none, met-own, met-running, met-closed, rule-met, writer-after, holder-matches}
 
 -- ---- conditions one by one
 -- the same conditions, each as far as none before it holds

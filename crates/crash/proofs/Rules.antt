@@ -30,7 +30,7 @@ use Rattle.crash.specs.Ledger.{Ledger}
 use Rattle.crash.proofs.Relation.{Ranks, Fine, Matches, CoreUp, holderAs, Up}
 use Rattle.crash.proofs.Stages.{committed-stage}
 use Rattle.crash.proofs.Entries.{same-or-not, sameName-false, change-at, change-other}
-use Rattle.crash.proofs.FineWrite.{wrote-entry}
+use Rattle.crash.proofs.Books.{begun, begun-other, wrote-entry}
 
 -- ---- a transaction of the card and its entry
 pub matches-block : {t : Transaction} {e : Entry} → Matches t e → (b : ℕ) → length (e .blocks) < 8 → Matches (withBlock t b) (taking b e)
@@ -72,10 +72,6 @@ unfolding taken listed
 matches-opened e b n = record { live = refl; blocks = rw b refl; count = rw b refl; names = rw n refl; named = rw n refl; block-room = refl; name-room = refl }
 
 -- ---- entries after a WRITE
--- before the rules: the writer's transaction is open
-abbrev pub begun : ℕ → Book → Book
-begun c k = cond (isRunning ((k .entry (newName c (k .next c))) .stage)) k (begin (newName c (k .next c)) k)
-
 module _ (k : Book) (c : ℕ) (current : ((k .entry (newName c (k .next c))) .stage ≡ absent) ⊎ ((k .entry (newName c (k .next c))) .stage ≡ running)) (b o : ℕ) (v : Bytes) where
   abbrev t : Name
   t = newName c (k .next c)
@@ -105,13 +101,11 @@ module _ (k : Book) (c : ℕ) (current : ((k .entry (newName c (k .next c))) .st
 
     -- the running holder's
     pub entry-holder : meets k t (holderIn k b (k .writes)) ≡ running-holder n → (wrote c b o v k) .entry n ≡ naming t (k .entry n)
-    unfolding ruled begin
+    unfolding ruled
     entry-holder e =
-        let kept : begun c k .entry n ≡ k .entry n =
-            cases (isRunning ((k .entry t) .stage)) (λ q. rw q refl) (λ q. rw q (change-other t (staged running) (k .entry) n other)) in
         ruled-by (running-holder n) e n
         ∙ change-at n (naming t) (change t (naming n) (begun c k .entry))
-        ∙ ap (naming t) (change-other t (naming n) (begun c k .entry) n other ∙ kept)
+        ∙ ap (naming t) (change-other t (naming n) (begun c k .entry) n other ∙ begun-other k c current n other)
 
 -- a list that has grown by one at the most
 more-blocks : (b : ℕ) (e : Entry) → length ((taking b e) .blocks) ≤ 8 → length (e .blocks) < 8

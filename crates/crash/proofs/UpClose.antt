@@ -28,7 +28,8 @@ use Rattle.crash.specs.Ledger.{Ledger, closeLedger, imageNow, recordBloc
 use Rattle.crash.specs.Claims.{IsBytes}
 use Rattle.crash.proofs.Relation.{sumNext, Fine, recordOf, contents, JournalStands, DiskStands, Matches, CoreUp, holderAs, Up}
 use Rattle.crash.proofs.Records.{sum-low}
-use Rattle.crash.proofs.Entries.{same-or-not, sameName-false, other-number, other-core, change-at, change-other, raise-at, raise-other, holder-same, records-same, records-snoc}
+use Rattle.crash.proofs.Entries.{other-number, other-core, change-at, raise-at, raise-other, records-snoc}
+use Rattle.crash.proofs.Books.{Restages, restages-records, close-restages, close-book, close-holder, close-stamp, close-images, close-stamp-other, close-images-other}
 use Rattle.crash.proofs.Frames.{SameClosed, bytes-store, bytes-blockAt, record-same, contents-same, none-stored, journal-stays, core-stays}
 
 -- ---- copies
@@ -117,21 +118,15 @@ module _ {l : Ledger} {w : World} (u : Up l w) (c : ℕ) (in-range : c < l .shap
   m₂ = copied c 0 (taken (x .running)) (w .memory)
 
   -- ---- the ledger afterwards
+  abbrev new : Restages (l .book) (close c (l .book)) t (closed 0)
+  new = close-restages c (l .book)
+
   new-entry : l₂ .book .entry t ≡ staged (closed 0) (l .book .entry t)
   unfolding closeLedger close
   new-entry = change-at t (staged (closed 0)) (l .book .entry)
 
   new-other : (v : Name) → v ≢ t → (l₂ .book .entry v ≡ l .book .entry v) × (l₂ .stamp v ≡ l .stamp v) × (l₂ .images v ≡ l .images v)
-  unfolding closeLedger close
-  new-other v ne = (change-other t (staged (closed 0)) (l .book .entry) v ne, rw (sameName-false v t ne), rw (sameName-false v t ne))
-
-  new-stamp : l₂ .stamp t ≡ suc (l .closes)
-  unfolding closeLedger
-  new-stamp = rw (sameName-refl t)
-
-  new-images : l₂ .images t ≡ map (imageNow l) ((l .book .entry t) .blocks)
-  unfolding closeLedger
-  new-images = rw (sameName-refl t)
+  new-other v ne = (rw (close-book l c) (new .other v ne), close-stamp-other l c v ne, close-images-other l c v ne)
 
   new-next : l₂ .book .next c ≡ suc (l .book .next c)
   unfolding closeLedger close
@@ -154,14 +149,8 @@ module _ {l : Ledger} {w : World} (u : Up l w) (c : ℕ) (in-range : c < l .shap
         images = λ i h. new-other (newName a i) (o i) .2;
       }
 
-  new-blocks : (v : Name) → (l₂ .book .entry v) .blocks ≡ (l .book .entry v) .blocks
-  new-blocks v = same-or-not v t (λ e. rw (e, new-entry) refl) (λ ne. ap (λ (e : Entry). e .blocks) (new-other v ne .0))
-
-  new-retired : (v : Name) → isRetired ((l₂ .book .entry v) .stage) ≡ isRetired ((l .book .entry v) .stage)
-  new-retired v = same-or-not v t (λ e. rw (e, new-entry, runs) refl) (λ ne. ap (λ (e : Entry). isRetired (e .stage)) (new-other v ne .0))
-
   new-total : (n : ℕ) → recordBlocks (l₂ .book) c (l .book .oldest c) n ≡ recordBlocks (l .book) c (l .book .oldest c) n
-  new-total n = records-same (l .book) (l₂ .book) c (l .book .oldest c) n (λ j a b. ap length (new-blocks (newName c j)))
+  new-total n = rw (close-book l c) (restages-records new c (l .book .oldest c) n)
 
   -- the next one to open
   unopened : (l₂ .book .entry (newName c (suc (l .book .next c)))) .stage ≡ absent
@@ -238,7 +227,7 @@ module _ {l : Ledger} {w : World} (u : Up l w) (c : ℕ) (in-range : c < l .shap
       let g : b < l .shape .blocks = u .fine .limits t (λ e. let z : _≡_ {A = ℕ} 0 1 = cc (runs, e) in omega arith) .blocks b m in
       let e : b % 64 ≡ b = omega (arith, u .fine .range .few-blocks) in
       let held : (holderOf (w .card) b) .held ≡ true = ap (λ (h : Holder). h .held) (u .holders b g ∙ ap holderAs (holds b m)) in
-      rw (new-images, matches .blocks)
+      rw (close-images l c, matches .blocks)
       ((rw zero-add at (copied-in c eight bs 0 (w .memory) (u .memory) (omega (arith, few, ap length (matches .blocks))) i h))
       ∙ rw e (u .images b g held)
       ∙ sym (getD-map-in (imageNow l) bs i 0 [] h))
@@ -278,7 +267,7 @@ module _ {l : Ledger} {w : World} (u : Up l w) (c : ℕ) (in-range : c < l .shap
         closing =
             rw (new-numbers .1 c, new-next, free, new-entry)
             (λ _. record { live = matches .live; blocks = matches .blocks; count = matches .count; names = matches .names; named = matches .named; block-room = matches .block-room; name-room = matches .name-room });
-        stored = rw (new-numbers .1 c, new-next, free, new-entry, new-stamp) (λ _. (refl, stamp));
+        stored = rw (new-numbers .1 c, new-next, free, new-entry, close-stamp l c) (λ _. (refl, stamp));
         copies = rw (new-numbers .1 c, new-next, free, new-entry) (λ _. copied-image);
         none-closing = rw (new-numbers .1 c, new-next) (λ h. absurd (omega arith));
         homed = rw (new-numbers .0 c, new-numbers .1 c) (λ h. rw (new-other (newName c (l .book .oldest c)) (other-number c (omega arith)) .0) (y .homed h));
@@ -313,7 +302,7 @@ module _ {l : Ledger} {w : World} (u : Up l w) (c : ℕ) (in-range : c < l .shap
         fine = fine;
         disk = disk-stands;
         cores = close-core;
-        holders = λ b h. u .holders b h ∙ ap holderAs (sym (holder-same (l .book) (l₂ .book) new-retired b (l .book .writes)));
+        holders = λ b h. u .holders b h ∙ ap holderAs (sym (close-holder c (l .book) runs b (l .book .writes)));
         images =
             λ b h g.
             copied-other c eight (taken (x .running)) 0 (w .memory) (u .memory) (omega (arith, few)) b (λ j p q. images-apart c eight b j (omega (arith, u .fine .range .few-blocks)))

@@ -31,14 +31,15 @@ use Rattle.model.proofs.Store.{length-store, block-stored, block-other}
 use Rattle.model.proofs.Words.{each-block}
 use Rattle.model.proofs.Encoding.{length-descriptor, length-commit, length-escaped, descriptor-head, commit-head, head-other, no-commit, escaped-head}
 use Rattle.model.proofs.Journal.{journal-low, home-apart, cores-apart, journal-apart}
-use Rattle.crash.specs.Book.{Stage, absent, closed, committed, isRunning, isClosed, isRetired, counted, Entry, Book, change, staged, store}
+use Rattle.crash.specs.Book.{Stage, absent, closed, committed, isRunning, isClosed, isRetired, counted, Entry, Book, raise, staged, store}
 use Rattle.crash.specs.Ledger.{Ledger, withBook, imageNow, recordBlocks}
 use Rattle.crash.specs.Claims.{IsBytes}
 use Rattle.crash.proofs.Relation.{IsBlock, Frozen, Fine, heldOf, recordOf, contents, JournalStands, DiskStands, Matches, CoreUp, holderAs, Up}
 use Rattle.crash.proofs.Stages.{stored-unretired, closed-present}
 use Rattle.crash.proofs.Master.{shape-limits}
 use Rattle.crash.proofs.Records.{record-sound, length-record}
-use Rattle.crash.proofs.Entries.{other-number, other-core, change-at, change-other, change-by, same-or-not, raise-at, raise-other, holder-same, records-same, records-snoc}
+use Rattle.crash.proofs.Entries.{other-number, other-core, change-at, raise-at, raise-other, records-snoc}
+use Rattle.crash.proofs.Books.{Restages, restaged, restages-records, storedStage, store-restages, store-more, store-last, store-holder}
 use Rattle.crash.proofs.Frames.{SameClosed, core-set, core-other, bytes-append, bytes-store, each-isBytes, escaped-bytes, map-below, record-same, contents-same, flatMap-below, none-stored, journal-stays, core-stays}
 
 -- ---- the blocks of a record, one by one
@@ -185,16 +186,11 @@ module _ {l : Ledger} {w : World} (u : Up l w) (c : ℕ) (in-range : c < l .shap
       omega (arith, u .cores c in-range .used)
 
   -- ---- the ledger afterwards
-  new-other : (v : Name) → v ≢ t → k₂ .entry v ≡ l .book .entry v
-  unfolding store
-  new-other v ne = change-other t _ (l .book .entry) v ne
-
-  new-by : {A : Type 0} (f : Entry → A) → ((g : Stage) → f (staged g (l .book .entry t)) ≡ f (l .book .entry t)) → (v : Name) → f (k₂ .entry v) ≡ f (l .book .entry v)
-  unfolding store
-  new-by f h v = change-by t _ (l .book .entry) f (h _) v
+  abbrev new : Restages (l .book) k₂ t (storedStage (l .book .entry t))
+  new = store-restages c (l .book)
 
   new-record : (v : Name) → recordOf l₂ v ≡ recordOf l v
-  new-record v = record-same l l₂ v (new-by (λ (e : Entry). e .blocks) (λ g. refl) v) (new-by (λ (e : Entry). e .names) (λ g. refl) v) refl refl
+  new-record v = record-same l l₂ v (new .blocks v) (new .names v) refl refl
 
   new-uncommitted : (a : ℕ) → a ≢ c → k₂ .uncommitted a ≡ l .book .uncommitted a
   unfolding store
@@ -212,23 +208,21 @@ module _ {l : Ledger} {w : World} (u : Up l w) (c : ℕ) (in-range : c < l .shap
         oldest = same-numbers .0 a;
         uncommitted = new-uncommitted a ne;
         next = same-numbers .1 a;
-        entry = λ i h. new-other (newName a i) (other-core i (l .book .uncommitted c) ne);
+        entry = λ i h. new .other (newName a i) (other-core i (l .book .uncommitted c) ne);
         stamp = λ i h. refl;
         images = λ i h. refl;
       }
 
   -- the block was not the last
   module _ (more : x .stored ≤ length ((l .book .entry t) .blocks)) where
-    not-last : leb (length ((l .book .entry t) .blocks) + 2) (suc (counted ((l .book .entry t) .stage))) ≡ false
-    not-last = rw stage-now (lt-leb (length ((l .book .entry t) .blocks) + 2) (suc (x .stored)) (omega arith))
+    more-store : k₂ ≡ restaged t (closed (suc (x .stored))) (l .book .oldest) (l .book .uncommitted) (l .book .next) (l .book)
+    more-store = store-more c (x .stored) (l .book) stage-now (omega arith)
 
     more-entry : k₂ .entry t ≡ staged (closed (suc (x .stored))) (l .book .entry t)
-    unfolding store
-    more-entry = change-at t _ (l .book .entry) ∙ rw (not-last, stage-now) refl
+    more-entry = ap (λ (k : Book). k .entry t) more-store ∙ change-at t (staged (closed (suc (x .stored)))) (l .book .entry)
 
     more-uncommitted : k₂ .uncommitted c ≡ l .book .uncommitted c
-    unfolding store
-    more-uncommitted = rw not-last
+    more-uncommitted = ap (λ (k : Book). k .uncommitted c) more-store
 
     more-contents : contents l₂ c ≡ contents l c ++ (getD (recordOf l t) (x .stored) [] ∷ [])
     unfolding contents
@@ -242,16 +236,14 @@ module _ {l : Ledger} {w : World} (u : Up l w) (c : ℕ) (in-range : c < l .shap
 
   -- the block was the last
   module _ (last : length ((l .book .entry t) .blocks) < x .stored) where
-    is-last : leb (length ((l .book .entry t) .blocks) + 2) (suc (counted ((l .book .entry t) .stage))) ≡ true
-    is-last = rw stage-now (le-leb (length ((l .book .entry t) .blocks) + 2) (suc (x .stored)) (omega arith))
+    last-store : k₂ ≡ restaged t (committed 0) (l .book .oldest) (raise c (l .book .uncommitted)) (l .book .next) (l .book)
+    last-store = store-last c (x .stored) (l .book) stage-now (omega (arith, within))
 
     last-entry : k₂ .entry t ≡ staged (committed 0) (l .book .entry t)
-    unfolding store
-    last-entry = change-at t _ (l .book .entry) ∙ rw is-last refl
+    last-entry = ap (λ (k : Book). k .entry t) last-store ∙ change-at t (staged (committed 0)) (l .book .entry)
 
     last-uncommitted : k₂ .uncommitted c ≡ suc (l .book .uncommitted c)
-    unfolding store
-    last-uncommitted = rw is-last (raise-at c (l .book .uncommitted))
+    last-uncommitted = ap (λ (k : Book). k .uncommitted c) last-store ∙ raise-at c (l .book .uncommitted)
 
     next-is : l .book .next c ≡ suc (l .book .uncommitted c)
     next-is = omega (arith, u .fine .ranks c in-range .high)
@@ -268,7 +260,7 @@ module _ {l : Ledger} {w : World} (u : Up l w) (c : ℕ) (in-range : c < l .shap
         let a : o + n ≡ l .book .uncommitted c = omega (arith, r .low) in
         let e : flatMap (λ (i : ℕ). recordOf l₂ (newName c (o + i))) (below (suc n)) ≡ flatMap f (below (suc n)) = flatMap-below _ _ (suc n) (λ i h. new-record (newName c (o + i))) in
         let z : counted ((k₂ .entry v) .stage) ≡ 0 =
-            ap (λ (e : Entry). counted (e .stage)) (new-other v (other-number c (omega arith))) ∙ (rw next-is at (none-stored l (u .fine) c in-range)) in
+            ap (λ (e : Entry). counted (e .stage)) (new .other v (other-number c (omega arith))) ∙ (rw next-is at (none-stored l (u .fine) c in-range)) in
         let whole : flatMap f (below (suc n)) ≡ flatMap f (below n) ++ recordOf l t =
             flatMap-append f (below n) (n ∷ []) ∙ ap (λ (b : List Bytes). flatMap f (below n) ++ b) (append-nil (f n) ∙ ap (λ (i : ℕ). recordOf l (newName c i)) a) in
         let all : take (x .stored) (recordOf l t) ++ (getD (recordOf l t) (x .stored) [] ∷ []) ≡ recordOf l t =
@@ -287,17 +279,8 @@ module _ {l : Ledger} {w : World} (u : Up l w) (c : ℕ) (in-range : c < l .shap
   new-low : l .book .uncommitted c ≤ k₂ .uncommitted c
   new-low = by-last (λ h. omega (arith, more-uncommitted h)) (λ h. omega (arith, last-uncommitted h))
 
-  new-retired : (v : Name) → isRetired ((k₂ .entry v) .stage) ≡ isRetired ((l .book .entry v) .stage)
-  new-retired v =
-      same-or-not v t
-      (λ e. rw e (by-last (λ h. rw (more-entry h, stage-now) refl) (λ h. rw (last-entry h, stage-now) refl)))
-      (λ ne. ap (λ (e : Entry). isRetired (e .stage)) (new-other v ne))
-
-  new-total : (n : ℕ) → recordBlocks k₂ c (l .book .oldest c) n ≡ recordBlocks (l .book) c (l .book .oldest c) n
-  new-total n = records-same (l .book) k₂ c (l .book .oldest c) n (λ j a b. new-by (λ (e : Entry). length (e .blocks)) (λ g. refl) (newName c j))
-
   running-stays : k₂ .entry (newName c (l .book .next c)) ≡ l .book .entry (newName c (l .book .next c))
-  running-stays = new-other (newName c (l .book .next c)) (other-number c (omega arith))
+  running-stays = new .other (newName c (l .book .next c)) (other-number c (omega arith))
 
   -- ---- the disk afterwards
   abbrev at : ℕ
@@ -349,8 +332,8 @@ module _ {l : Ledger} {w : World} (u : Up l w) (c : ℕ) (in-range : c < l .shap
                   rw z (record-clear (u .fine) t closed-now (x .stored) i (omega (arith, size, within)) (omega (arith, new-low)) (λ g. omega (arith, size, last-uncommitted (omega (arith, size))))))
               | no ne ↦ ap (isCommit (l .shape) i) (elsewhere (journalBlock (l .shape) c q) ne) ∙ j .clear i q (omega (arith, new-low))
             ];
-        room = rw (same-numbers .0 c, same-numbers .1 c, new-total (l .book .next c - l .book .oldest c)) (j .room);
-        reserved = rw (same-numbers .0 c, same-numbers .1 c, new-total (l .book .next c - l .book .oldest c), running-stays) (j .reserved);
+        room = rw (same-numbers .0 c, same-numbers .1 c, restages-records new c (l .book .oldest c) (l .book .next c - l .book .oldest c)) (j .room);
+        reserved = rw (same-numbers .0 c, same-numbers .1 c, restages-records new c (l .book .oldest c) (l .book .next c - l .book .oldest c), running-stays) (j .reserved);
       }
 
   disk-stands : DiskStands l₂ (storeBlock (w .disk) at b) (tailOf (w .card))
@@ -366,7 +349,7 @@ module _ {l : Ledger} {w : World} (u : Up l w) (c : ℕ) (in-range : c < l .shap
             λ a h.
             elim (ℕ-discrete a c) [
               | yes e ↦ subst (λ (i : ℕ). JournalStands l₂ d₂ i (tailOf (w .card) i)) (sym e) own-journal
-              | no ne ↦ (let v = new-other (newName a (l .book .next a)) (other-core (l .book .next a) (l .book .uncommitted c) ne) in
+              | no ne ↦ (let v = new .other (newName a (l .book .next a)) (other-core (l .book .next a) (l .book .uncommitted c) ne) in
                   journal-stays l (u .fine) a h l₂ (others a ne) (w .disk) d₂ (tailOf (w .card) a)
                   (rw v (none-stored l (u .fine) a h)) (rw v (u .disk .journals a h .reserved))
                   (λ q. elsewhere (journalBlock (l .shape) a q) (cores-apart (l .shape) a q c p (omega (arith, u .fine .range .long)) ne)) (u .disk .journals a h))
@@ -390,14 +373,14 @@ module _ {l : Ledger} {w : World} (u : Up l w) (c : ℕ) (in-range : c < l .shap
       rw (m .blocks, le-leb (x .stored) (length bs) h)
       (record {
         next = rw (same-numbers .1 c) (y .next);
-        used = rw (same-numbers .0 c, v, new-total (n - o)) (y .used);
+        used = rw (same-numbers .0 c, v, restages-records new c (l .book .oldest c) (n - o)) (y .used);
         runs = rw (same-numbers .1 c, running-stays) (y .runs);
         idle = rw (same-numbers .1 c, running-stays) (y .idle);
         closing = rw (same-numbers .1 c, v, e) (λ _. record { live = m .live; blocks = m .blocks; count = m .count; names = m .names; named = m .named; block-room = m .block-room; name-room = m .name-room });
         stored = rw (same-numbers .1 c, v, e) (λ _. (ap closed (omega arith), y .stored busy .1));
         copies = rw (same-numbers .1 c, v, e) (y .copies);
         none-closing = rw (same-numbers .1 c, v) (y .none-closing);
-        homed = rw (same-numbers .0 c, v) (λ g. rw (new-other (newName c o) (other-number c (omega arith))) (y .homed g));
+        homed = rw (same-numbers .0 c, v) (λ g. rw (new .other (newName c o) (other-number c (omega arith))) (y .homed g));
         none-homed = rw (same-numbers .0 c, v) (y .none-homed);
       }))
       (λ h.
@@ -409,7 +392,7 @@ module _ {l : Ledger} {w : World} (u : Up l w) (c : ℕ) (in-range : c < l .shap
       rw (m .blocks, lt-leb (x .stored) (length bs) h)
       (record {
         next = rw (same-numbers .1 c) (y .next);
-        used = rw (same-numbers .0 c, v, z, new-total (suc (n - o)), total) (omega (arith, y .used, room, u .fine .range .short));
+        used = rw (same-numbers .0 c, v, z, restages-records new c (l .book .oldest c) (suc (n - o)), total) (omega (arith, y .used, room, u .fine .range .short));
         runs = rw (same-numbers .1 c, running-stays) (y .runs);
         idle = rw (same-numbers .1 c, running-stays) (y .idle);
         closing = rw (same-numbers .1 c, v) (λ g. absurd (omega (arith, r .high)));
@@ -421,7 +404,7 @@ module _ {l : Ledger} {w : World} (u : Up l w) (c : ℕ) (in-range : c < l .shap
             (λ _.
             elim (ℕ-discrete o n) [
               | yes q ↦ rw (q, e, y .none-homed q) refl
-              | no ne ↦ rw (new-other (newName c o) (other-number c ne)) (y .homed (omega (arith, r .low)))
+              | no ne ↦ rw (new .other (newName c o) (other-number c ne)) (y .homed (omega (arith, r .low)))
             ]);
         none-homed = rw (same-numbers .0 c, v) (λ g. absurd (omega (arith, r .low)));
       }))
@@ -431,7 +414,7 @@ module _ {l : Ledger} {w : World} (u : Up l w) (c : ℕ) (in-range : c < l .shap
       elim (ℕ-discrete a c) [
         | yes e ↦ (let n : c < length (w .card .cores) = omega (arith, u .eight-cores, u .fine .range .few-cores) in
             rw (e, core-set (w .card) c (coreStored x) n) own-core)
-        | no ne ↦ (let v = new-other (newName a (l .book .next a)) (other-core (l .book .next a) (l .book .uncommitted c) ne) in
+        | no ne ↦ (let v = new .other (newName a (l .book .next a)) (other-core (l .book .next a) (l .book .uncommitted c) ne) in
             let y = u .cores a h in
             rw (core-other (w .card) c (coreStored x) a ne)
             (core-stays l (u .fine) a h l₂ (others a ne) (w .memory) (w .memory) (coreOf (w .card) a) ((coreOf (w .card) a) .running)
@@ -454,6 +437,6 @@ module _ {l : Ledger} {w : World} (u : Up l w) (c : ℕ) (in-range : c < l .shap
         fine = fine;
         disk = subst (λ (d : Bytes). DiskStands l₂ d (tailOf (w .card))) (sym stored-disk) disk-stands;
         cores = store-core;
-        holders = λ b h. u .holders b h ∙ ap holderAs (sym (holder-same (l .book) k₂ new-retired b (l .book .writes)));
+        holders = λ b h. u .holders b h ∙ ap holderAs (sym (store-holder c (x .stored) (l .book) stage-now b (l .book .writes)));
         images = u .images;
       }

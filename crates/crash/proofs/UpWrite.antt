@@ -31,7 +31,7 @@ use Rattle.crash.specs.Ledger.{Ledger, withBook, imageNow, recordBlocks}
 use Rattle.crash.specs.Claims.{IsBytes}
 use Rattle.crash.proofs.Relation.{Fine, Limits, JournalStands, DiskStands, Matches, CoreUp, holderAs, Up}
 use Rattle.crash.proofs.Entries.{other-number, other-core, change-at, change-other, meets-met, meets-running}
-use Rattle.crash.proofs.FineWrite.{wrote-entry, wrote-writes, wrote-numbers, wrote-running, wrote-stage, wrote-blocks-other, wrote-other, wrote-holder, wrote-holder-other, wrote-image, wrote-image-other}
+use Rattle.crash.proofs.Books.{wrote-numbers, wrote-running, wrote-stage, wrote-blocks-other, wrote-other, wrote-holder, wrote-holder-other, wrote-image, wrote-image-other}
 use Rattle.crash.proofs.Frames.{SameClosed, core-set, core-other, bytes-replaced, bytes-store, bytes-blockAt, none-stored, journal-stays, core-stays}
 use Rattle.crash.proofs.Rules.{running-next, present-open, writer-name, Met, met-none, met-own, met-running, met-closed, rule-met, writer-after, holder-after}
 
