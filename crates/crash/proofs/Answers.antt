@@ -6,30 +6,30 @@ use native.Mathlib.Omega.{arith}
 use native.Mathlib.Decide.{decLt}
 use mathlib.Core.Path.{_≡_, refl, ap, ap₂, _∙_, sym}
 use mathlib.Core.Logic.{_⊎_, inl, inr, _≢_}
-use mathlib.Core.Bool.{Bool, true, false, cond, not, _&&_, _||_, or-false}
-use mathlib.Core.List.{List, [], _∷_, _++_}
-use mathlib.Core.Option.{Option, none, some}
+use mathlib.Core.Bool.{Bool, true, false, cond, not, _&&_, _||_}
+use mathlib.Core.List.{List, [], _∷_}
+use mathlib.Core.Option.{some}
 use lib.ListN.{length, length-append}
-use lib.Dec.{ltb, leb, eqb}
+use lib.Dec.{ltb, leb}
 use borrow.Author.Tests.{lt-ltb, le-ltb, le-leb, lt-leb, leb-false, ltb-false}
 use Rattle.model.specs.Lists.{any}
 use Rattle.model.specs.Bytes.{Bytes}
-use Rattle.model.specs.Card.{newName, sameName, isBlank, isDown, taken, lists, listed, recordSize, shapeOf, coreOf, holderOf}
+use Rattle.model.specs.Card.{newName, sameName, lists, recordSize, coreOf}
 use Rattle.model.specs.Layout.{maxNumber}
 use Rattle.model.specs.Command.{World, refusal, wrongLength, notUp, noCore, noBlock}
-use Rattle.model.specs.Write.{writer, writerName, ruleFor, takesBlock, passesTwelve, listsFull, closedBlocks, journalFull, writerAfter, writeConditions}
+use Rattle.model.specs.Write.{writer, ruleFor, takesBlock, passesTwelve, listsFull, closedBlocks, journalFull, writeConditions}
 use Rattle.model.specs.Commit.{closeConditions, storeConditions}
 use Rattle.model.specs.declared.Shape.{Shape}
 use Rattle.model.specs.declared.Name.{Name}
 use Rattle.model.specs.declared.Transaction.{Transaction}
 use Rattle.model.proofs.Lists.{cases}
-use Rattle.crash.specs.Book.{Stage, absent, running, isRunning, Entry, Book, begin, change, staged, taking, naming, holderIn, meets, wrote}
+use Rattle.crash.specs.Book.{absent, running, isRunning, Entry, Book, begin, staged, taking, naming, holderIn, meets, wrote}
 use Rattle.crash.specs.Ledger.{Ledger, namesCount, holderNames, recordBlocks, notUpFor, writeRefusals, closeRefusals, storeRefusals}
-use Rattle.crash.proofs.Relation.{Fine, Matches, CoreUp, Up}
+use Rattle.crash.proofs.Relation.{Matches, Up}
 use Rattle.crash.proofs.Entries.{change-at, records-snoc}
 use Rattle.crash.proofs.Books.{begun}
 use Rattle.crash.proofs.UpStore.{shape-up}
-use Rattle.crash.proofs.Rules.{entry-free, entry-own, entry-running, entry-closed, entry-holder, live-runs, writer-name, writer-matches, MetHolder, met-none, met-own, met-running, met-closed, rule-met, writer-after, holder-matches}
+use Rattle.crash.proofs.Rules.{entry-free, entry-own, entry-running, entry-closed, entry-holder, live-runs, writer-name, writer-matches, met-none, met-own, met-running, met-closed, rule-met, writer-after, holder-matches}
 
 -- ---- conditions one by one
 -- the same conditions, each as far as none before it holds
@@ -55,7 +55,7 @@ module _ {l : Ledger} {w : World} (u : Up l w) where
       rw (right-length, shape-up u, u .phase, u .ledger) (same-refusal same)
 
   module _ (c : ℕ) (in-range : c < l .shape .cores) where
-    pub closing-live : (coreOf (w .card) c) .closed .live ≡ ltb (l .book .uncommitted c) (l .book .next c)
+    closing-live : (coreOf (w .card) c) .closed .live ≡ ltb (l .book .uncommitted c) (l .book .next c)
     closing-live =
         let y = u .cores c in-range in
         elim (decLt (l .book .uncommitted c) (l .book .next c)) [
@@ -64,7 +64,7 @@ module _ {l : Ledger} {w : World} (u : Up l w) where
         ]
 
     -- the blocks of the closed unretired records
-    pub closed-total : closedBlocks (coreOf (w .card) c) ≡ recordBlocks (l .book) c (l .book .oldest c) (l .book .next c - l .book .oldest c)
+    closed-total : closedBlocks (coreOf (w .card) c) ≡ recordBlocks (l .book) c (l .book .oldest c) (l .book .next c - l .book .oldest c)
     unfolding closedBlocks recordSize
     closed-total =
         let y = u .cores c in-range in

@@ -8,7 +8,7 @@ use mathlib.Core.Path.{_≡_, refl, ap, ap₂, _∙_, sym, subst}
 use mathlib.Core.Logic.{_⊎_, inl, inr, _≢_}
 use mathlib.Core.Bool.{Bool, true, false}
 use mathlib.Core.List.{List, [], _∷_, _++_, map, flatMap, map-append}
-use lib.ListN.{length, take, drop, getD, take-append-drop}
+use lib.ListN.{length, take, drop, take-append-drop}
 use lib.Seq.{getD-set-same, getD-set-other}
 use lib.Dec.{ltb, eqb}
 use borrow.Author.Tests.{lt-ltb}
@@ -132,7 +132,7 @@ module _ (l : Ledger) (fine : Fine l) (c : ℕ) (in-range : c < l .shape .cores)
     same-record : (i : ℕ) → i < l .book .next c → recordOf l₂ (newName c i) ≡ recordOf l (newName c i)
     same-record i h = record-same l l₂ (newName c i) (ap (λ (e : Entry). e .blocks) (same .entry i h)) (ap (λ (e : Entry). e .names) (same .entry i h)) (same .images i h) (same .stamp i h)
 
-    pub contents-stay : counted ((l₂ .book .entry (newName c (l .book .next c))) .stage) ≡ 0 → contents l₂ c ≡ contents l c
+    contents-stay : counted ((l₂ .book .entry (newName c (l .book .next c))) .stage) ≡ 0 → contents l₂ c ≡ contents l c
     contents-stay z =
         let r = fine .ranks c in-range in
         contents-same l l₂ c (same .oldest) (same .uncommitted) (λ i h. same-record i (omega (arith, r .mid)))
@@ -141,7 +141,7 @@ module _ (l : Ledger) (fine : Fine l) (c : ℕ) (in-range : c < l .shape .cores)
           | no ne ↦ (let h : l .book .uncommitted c < l .book .next c = omega (arith, r .mid) in rw (same .entry (l .book .uncommitted c) h, same-record (l .book .uncommitted c) h) refl)
         ])
 
-    pub total-stays : (n : ℕ) → n ≤ l .book .next c → recordBlocks (l₂ .book) c (l .book .oldest c) (n - l .book .oldest c) ≡ recordBlocks (l .book) c (l .book .oldest c) (n - l .book .oldest c)
+    total-stays : (n : ℕ) → n ≤ l .book .next c → recordBlocks (l₂ .book) c (l .book .oldest c) (n - l .book .oldest c) ≡ recordBlocks (l .book) c (l .book .oldest c) (n - l .book .oldest c)
     total-stays n h =
         records-same (l .book) (l₂ .book) c (l .book .oldest c) (n - l .book .oldest c) (λ j p q. ap (λ (e : Entry). length (e .blocks)) (same .entry j (omega arith)))
 

@@ -1,39 +1,37 @@
 -- The rule that the card finds for a WRITE is what the ledger's writer meets: no holder, itself, a running one, a closed one.
 -- Running ones are the cores' current ones, in the card and in the ledger, and holders agree.
 -- What the rules do to a transaction of the card they do to its entry in the ledger.
-use Prim.Native.Nat.{ℕ, suc, _+_, _≤_, _<_}
+use Prim.Native.Nat.{ℕ, _≤_, _<_}
 use native.Mathlib.Omega.{arith}
 use native.Mathlib.Numerals.{add-one}
 use native.Mathlib.Decide.{decLt, ℕ-discrete}
 use mathlib.Core.Path.{_≡_, refl, ap, ap₂, _∙_, sym, subst}
 use mathlib.Core.Logic.{_⊎_, inl, inr, _≢_}
-use mathlib.Core.Bool.{Bool, true, false, cond, not, _&&_, and-false, and-true}
+use mathlib.Core.Bool.{true, false, and-false, and-true}
 use mathlib.Core.List.{List, [], _∷_, _++_}
 use mathlib.Core.Option.{Option, none, some}
-use lib.ListN.{length, take, set, length-append, length-set}
+use lib.ListN.{length, length-append, length-set}
 use lib.Seq.{take-suc-set}
-use lib.Dec.{eqb}
 use borrow.Author.Tests.{eq-eqb, ne-eqb}
 use Rattle.model.specs.Lists.{any}
 use Rattle.model.specs.Bytes.{Bytes}
-use Rattle.model.specs.Card.{newName, sameName, noHolder, opened, taken, listed, lists, withBlock, withName, coreOf, holderOf}
+use Rattle.model.specs.Card.{newName, sameName, opened, taken, listed, lists, withBlock, withName, coreOf, holderOf}
 use Rattle.model.specs.Command.{World}
 use Rattle.model.specs.Write.{writer, writerName, isRunning as isRunningIn, ruleFor, writerAfter}
 use Rattle.model.specs.declared.Name.{Name}
 use Rattle.model.specs.declared.Transaction.{Transaction}
-use Rattle.model.specs.declared.Holder.{Holder}
 use Rattle.model.specs.declared.Rule.the-variants.{Free, Own, Running, Closed}
 use Rattle.model.proofs.Lists.{cases}
 use Rattle.model.proofs.Valid.{sameName-refl}
 use Rattle.crash.specs.Book.{Stage, absent, running, closed, committed, retired, isRunning, isClosed, Entry, Book, staged, taking, naming, begin, holderIn, Meeting, no-holder, own, running-holder, closed-holder, meets, ruled, change, wrote}
 use Rattle.crash.specs.Ledger.{Ledger}
-use Rattle.crash.proofs.Relation.{Ranks, Fine, Matches, CoreUp, holderAs, Up}
+use Rattle.crash.proofs.Relation.{Ranks, Matches, holderAs, Up}
 use Rattle.crash.proofs.Stages.{committed-stage}
 use Rattle.crash.proofs.Entries.{same-or-not, sameName-false, change-at, change-other}
 use Rattle.crash.proofs.Books.{begun, begun-other, wrote-entry}
 
 -- ---- a transaction of the card and its entry
-pub matches-block : {t : Transaction} {e : Entry} → Matches t e → (b : ℕ) → length (e .blocks) < 8 → Matches (withBlock t b) (taking b e)
+matches-block : {t : Transaction} {e : Entry} → Matches t e → (b : ℕ) → length (e .blocks) < 8 → Matches (withBlock t b) (taking b e)
 unfolding taken listed
 matches-block {t} {e} m b h =
     let n : t .count < length (t .blocks) = omega (arith, m .count, m .block-room) in
@@ -47,7 +45,7 @@ matches-block {t} {e} m b h =
       name-room = m .name-room;
     }
 
-pub matches-name : {t : Transaction} {e : Entry} → Matches t e → (n : Name) → (any (sameName n) (e .names) ≡ false → length (e .names) < 12) → Matches (withName t n) (naming n e)
+matches-name : {t : Transaction} {e : Entry} → Matches t e → (n : Name) → (any (sameName n) (e .names) ≡ false → length (e .names) < 12) → Matches (withName t n) (naming n e)
 unfolding taken listed withName lists
 matches-name {t} {e} m n h =
     cases (any (sameName n) (e .names))
@@ -67,7 +65,7 @@ matches-name {t} {e} m n h =
     }))
 
 -- one just opened
-pub matches-opened : (e : Entry) → e .blocks ≡ [] → e .names ≡ [] → Matches opened e
+matches-opened : (e : Entry) → e .blocks ≡ [] → e .names ≡ [] → Matches opened e
 unfolding taken listed
 matches-opened e b n = record { live = refl; blocks = rw b refl; count = rw b refl; names = rw n refl; named = rw n refl; block-room = refl; name-room = refl }
 
@@ -160,7 +158,7 @@ module _ {l : Ledger} {w : World} (u : Up l w) where
       (λ e. u .cores a h .runs e .live ∙ sym e)
       (λ e. u .cores a h .idle e ∙ sym e)
 
-  pub runs-in : (n : Name) → n .core < l .shape .cores → isRunningIn (w .card) n ≡ isRunning ((l .book .entry n) .stage)
+  runs-in : (n : Name) → n .core < l .shape .cores → isRunningIn (w .card) n ≡ isRunning ((l .book .entry n) .stage)
   unfolding isRunningIn
   runs-in n h =
       elim (ℕ-discrete (l .book .next (n .core)) (n .number)) [

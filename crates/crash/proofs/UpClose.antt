@@ -10,11 +10,10 @@ use mathlib.Core.Logic.{_≢_}
 use mathlib.Core.Bool.{true, false}
 use mathlib.Core.List.{List, [], _∷_, map, List·Memᴰ}
 use mathlib.Core.Option.{some}
-use lib.ListN.{length, take, getD, length-set}
+use lib.ListN.{length, getD, length-set}
 use lib.Seq.{getD-set-same, getD-set-other}
 use Rattle.model.specs.Bytes.{Bytes, blockAt, store}
-use Rattle.model.specs.Card.{newName, freshCore, noTransaction, taken, listed, stamped, tailOf, coreOf, holderOf, withCore}
-use Rattle.model.specs.Journal.{journalAt}
+use Rattle.model.specs.Card.{newName, freshCore, noTransaction, taken, listed, stamped, tailOf, coreOf, holderOf}
 use Rattle.model.specs.Command.{World}
 use Rattle.model.specs.Commit.{copyBlock, copied, closed as closedOutcome, closedCard}
 use Rattle.model.specs.declared.Name.{Name}
@@ -22,11 +21,10 @@ use Rattle.model.specs.declared.Core.{Core}
 use Rattle.model.specs.declared.Holder.{Holder}
 use Rattle.model.proofs.Lists.{getD-mem}
 use Rattle.model.proofs.Store.{length-store, length-blockAt, block-stored, block-other}
-use Rattle.model.proofs.Valid.{sameName-refl}
-use Rattle.crash.specs.Book.{Stage, absent, running, closed, isRunning, isRetired, counted, Entry, Book, staged, close, holderIn}
+use Rattle.crash.specs.Book.{absent, running, closed, isRunning, Entry, staged, close, holderIn}
 use Rattle.crash.specs.Ledger.{Ledger, closeLedger, imageNow, recordBlocks}
 use Rattle.crash.specs.Claims.{IsBytes}
-use Rattle.crash.proofs.Relation.{sumNext, Fine, recordOf, contents, JournalStands, DiskStands, Matches, CoreUp, holderAs, Up}
+use Rattle.crash.proofs.Relation.{sumNext, Fine, contents, JournalStands, DiskStands, Matches, CoreUp, holderAs, Up}
 use Rattle.crash.proofs.Records.{sum-low}
 use Rattle.crash.proofs.Entries.{other-number, other-core, change-at, raise-at, raise-other, records-snoc}
 use Rattle.crash.proofs.Books.{Restages, restages-records, close-restages, close-book, close-holder, close-stamp, close-images, close-stamp-other, close-images-other}
@@ -41,19 +39,19 @@ module _ (c : ℕ) (eight : c < 8) where
   length-image : (m : Bytes) (b : ℕ) → length m ≡ 16384 → length (blockAt m (b % 64)) ≡ 128
   length-image m b n = length-blockAt 128 m n (b % 64) (omega arith)
 
-  pub length-copied : (bs : List ℕ) (i : ℕ) (m : Bytes) → length m ≡ 16384 → i + length bs ≤ 8 → length (copied c i bs m) ≡ 16384
+  length-copied : (bs : List ℕ) (i : ℕ) (m : Bytes) → length m ≡ 16384 → i + length bs ≤ 8 → length (copied c i bs m) ≡ 16384
   unfolding copied
   length-copied [] i m n h = n
   length-copied (b ∷ bs) i m n h =
       length-copied bs (suc i) (store m (copyBlock c i) (blockAt m (b % 64))) (length-store m (copyBlock c i) (blockAt m (b % 64)) (fits m i n (omega arith)) (length-image m b n) ∙ n) (omega arith)
 
-  pub bytes-copied : (bs : List ℕ) (i : ℕ) (m : Bytes) → IsBytes m → IsBytes (copied c i bs m)
+  bytes-copied : (bs : List ℕ) (i : ℕ) (m : Bytes) → IsBytes m → IsBytes (copied c i bs m)
   unfolding copied
   bytes-copied [] i m h = h
   bytes-copied (b ∷ bs) i m h = bytes-copied bs (suc i) (store m (copyBlock c i) (blockAt m (b % 64))) (bytes-store m (copyBlock c i) (blockAt m (b % 64)) h (bytes-blockAt m (b % 64) h))
 
   -- other blocks stay
-  pub copied-other : (bs : List ℕ) (i : ℕ) (m : Bytes) → length m ≡ 16384 → i + length bs ≤ 8 → (k : ℕ)
+  copied-other : (bs : List ℕ) (i : ℕ) (m : Bytes) → length m ≡ 16384 → i + length bs ≤ 8 → (k : ℕ)
       → ((j : ℕ) → i ≤ j → j < i + length bs → k ≢ copyBlock c j) → blockAt (copied c i bs m) k ≡ blockAt m k
   unfolding copied
   copied-other [] i m n h k ne = refl
@@ -67,12 +65,12 @@ module _ (c : ℕ) (eight : c < 8) where
   unfolding copyBlock
   copies-apart i j ne e = ne (omega arith)
 
-  pub images-apart : (k j : ℕ) → k < 64 → k ≢ copyBlock c j
+  images-apart : (k j : ℕ) → k < 64 → k ≢ copyBlock c j
   unfolding copyBlock
   images-apart k j h e = omega arith
 
   -- the copies are the images
-  pub copied-in : (bs : List ℕ) (i : ℕ) (m : Bytes) → length m ≡ 16384 → i + length bs ≤ 8 → (j : ℕ) → j < length bs
+  copied-in : (bs : List ℕ) (i : ℕ) (m : Bytes) → length m ≡ 16384 → i + length bs ≤ 8 → (j : ℕ) → j < length bs
       → blockAt (copied c i bs m) (copyBlock c (i + j)) ≡ blockAt m (getD bs j 0 % 64)
   unfolding copied
   copied-in [] i m n h j g = absurd (omega arith)
@@ -91,11 +89,11 @@ module _ (c : ℕ) (eight : c < 8) where
       ∙ block-other m (copyBlock c i) (blockAt m (b % 64)) f z (getD bs j 0 % 64) (images-apart (getD bs j 0 % 64) i (omega arith)))
 
 -- copies of different cores
-pub cores-copies : (a c i j : ℕ) → i < 8 → j < 8 → a ≢ c → copyBlock a i ≢ copyBlock c j
+cores-copies : (a c i j : ℕ) → i < 8 → j < 8 → a ≢ c → copyBlock a i ≢ copyBlock c j
 unfolding copyBlock
 cores-copies a c i j h g ne e = ne (omega arith)
 
-pub getD-map-in : {A B : Type 0} (f : A → B) (xs : List A) (i : ℕ) (d : A) (e : B) → i < length xs → getD (map f xs) i e ≡ f (getD xs i d)
+getD-map-in : {A B : Type 0} (f : A → B) (xs : List A) (i : ℕ) (d : A) (e : B) → i < length xs → getD (map f xs) i e ≡ f (getD xs i d)
 getD-map-in f [] i d e h = absurd (omega arith)
 getD-map-in f (x ∷ xs) zero d e h = refl
 getD-map-in f (x ∷ xs) (suc i) d e h = getD-map-in f xs i d e (omega arith)

@@ -1,50 +1,46 @@
 -- STORE keeps card and ledger in agreement: what it stores is the next block of the closed transaction's record, and it
 -- stands right after what its journal holds. The journal has room for the record, so nothing live is overwritten; the
 -- block is no commit of a number that is still uncommitted afterwards.
-use Prim.Native.Nat.{ℕ, zero, suc, _+_, _-_, _*_, _%_, _≤_, _<_}
+use Prim.Native.Nat.{ℕ, zero, suc, _+_, _-_, _*_, _≤_, _<_}
 use native.Mathlib.Omega.{arith}
 use native.Mathlib.Decide.{decLt, ℕ-discrete}
 use mathlib.Core.Path.{_≡_, refl, ap, ap₂, _∙_, sym, subst}
-use mathlib.Core.Logic.{_⊎_, inl, inr, _≢_}
-use mathlib.Core.Bool.{Bool, true, false, cond}
-use mathlib.Core.List.{List, [], _∷_, _++_, map, flatMap, append-assoc, append-nil, map-append}
-use lib.ListN.{length, take, getD, set, length-append, length-map, length-set, List·getD-append, List·getD-map}
-use lib.Seq.{getD-at, take-suc, take-all, length-take-le, getD-set-same, getD-set-other}
-use lib.Dec.{leb, eqb}
-use borrow.Author.Tests.{le-leb, lt-leb, leb-true, leb-false, eq-eqb, ne-eqb}
+use mathlib.Core.Logic.{_≢_}
+use mathlib.Core.Bool.{true, false}
+use mathlib.Core.List.{List, [], _∷_, _++_, map, flatMap, append-assoc, append-nil}
+use lib.ListN.{length, take, getD, length-append, length-map, length-set, List·getD-append, List·getD-map}
+use lib.Seq.{getD-at, take-suc, take-all, length-take-le}
+use lib.Dec.{leb}
+use borrow.Author.Tests.{le-leb, lt-leb, eq-eqb, ne-eqb}
 use Rattle.model.specs.Lists.{below}
-use Rattle.model.specs.Bytes.{Bytes, blockAt, be4, part, number, block, store as storeBlock}
+use Rattle.model.specs.Bytes.{Bytes, blockAt, be4, part, number, store as storeBlock}
 use Rattle.model.specs.Shape.{journalBlock}
-use Rattle.model.specs.Card.{newName, noTransaction, taken, listed, recordSize, shapeOf, tailOf, coreOf, holderOf, withCore}
-use Rattle.model.specs.Layout.{Held, newHeld, hasHead, flagOf, escaped, descriptorBlock, commitBlock, isCommit}
+use Rattle.model.specs.Card.{newName, recordSize, shapeOf, tailOf, coreOf, holderOf, withCore}
+use Rattle.model.specs.Layout.{newHeld, hasHead, flagOf, escaped, descriptorBlock, commitBlock, isCommit}
 use Rattle.model.specs.Journal.{journalAt}
 use Rattle.model.specs.Command.{World}
 use Rattle.model.specs.Commit.{copyBlock, heldCopies, nextStored, nextPosition, coreStored, stored}
-use Rattle.model.specs.declared.Shape.{Shape}
 use Rattle.model.specs.declared.Name.{Name}
-use Rattle.model.specs.declared.Tail.{Tail}
 use Rattle.model.specs.declared.Core.{Core}
-use Rattle.model.specs.declared.Card.{Card}
 use Rattle.model.proofs.Limits.{clamped-same}
-use Rattle.model.proofs.Lists.{cases, flatMap-append, length-below}
+use Rattle.model.proofs.Lists.{cases, flatMap-append}
 use Rattle.model.proofs.Store.{length-store, block-stored, block-other}
 use Rattle.model.proofs.Words.{each-block}
 use Rattle.model.proofs.Encoding.{length-descriptor, length-commit, length-escaped, descriptor-head, commit-head, head-other, no-commit, escaped-head}
 use Rattle.model.proofs.Journal.{journal-low, home-apart, cores-apart, journal-apart}
-use Rattle.crash.specs.Book.{Stage, absent, closed, committed, isRunning, isClosed, isRetired, counted, Entry, Book, raise, staged, store}
+use Rattle.crash.specs.Book.{closed, committed, isClosed, counted, Entry, Book, raise, staged, store}
 use Rattle.crash.specs.Ledger.{Ledger, withBook, imageNow, recordBlocks}
-use Rattle.crash.specs.Claims.{IsBytes}
-use Rattle.crash.proofs.Relation.{IsBlock, Frozen, Fine, heldOf, recordOf, contents, JournalStands, DiskStands, Matches, CoreUp, holderAs, Up}
-use Rattle.crash.proofs.Stages.{stored-unretired, closed-present}
+use Rattle.crash.proofs.Relation.{IsBlock, Fine, heldOf, recordOf, contents, JournalStands, DiskStands, CoreUp, holderAs, Up}
+use Rattle.crash.proofs.Stages.{stored-unretired}
 use Rattle.crash.proofs.Master.{shape-limits}
 use Rattle.crash.proofs.Records.{record-sound, length-record}
 use Rattle.crash.proofs.Entries.{other-number, other-core, change-at, raise-at, raise-other, records-snoc}
 use Rattle.crash.proofs.Books.{Restages, restaged, restages-records, storedStage, store-restages, store-more, store-last, store-holder}
-use Rattle.crash.proofs.Frames.{SameClosed, core-set, core-other, bytes-append, bytes-store, each-isBytes, escaped-bytes, map-below, record-same, contents-same, flatMap-below, none-stored, journal-stays, core-stays}
+use Rattle.crash.proofs.Frames.{SameClosed, core-set, core-other, bytes-store, each-isBytes, escaped-bytes, map-below, record-same, flatMap-below, none-stored, journal-stays, core-stays}
 
 -- ---- the blocks of a record, one by one
 module _ {l : Ledger} (f : Fine l) (t : Name) (h : isClosed ((l .book .entry t) .stage) ≡ true) where
-  pub record-each : (P : ℕ → Bytes → Type 0) → P 0 (descriptorBlock (t .number) (heldOf l t))
+  record-each : (P : ℕ → Bytes → Type 0) → P 0 (descriptorBlock (t .number) (heldOf l t))
       → ((i : ℕ) → i < length (l .images t) → P (suc i) (escaped (getD (l .images t) i [])))
       → P (suc (length (l .images t))) (commitBlock (t .number) (l .stamp t) ((l .book .entry t) .names))
       → (i : ℕ) → i < length (recordOf l t) → P i (getD (recordOf l t) i [])
@@ -60,7 +56,7 @@ module _ {l : Ledger} (f : Fine l) (t : Name) (h : isClosed ((l .book .entry t) 
             subst (λ (j : ℕ). P (suc j) (getD (map escaped (l .images t) ++ (last ∷ [])) j [])) e (subst (P (suc (length (l .images t)))) (sym (getD-at (map escaped (l .images t)) last [] [] (length (l .images t)) n)) c))
       ]
 
-  pub record-blocks : (i : ℕ) → i < length (recordOf l t) → IsBlock (getD (recordOf l t) i [])
+  record-blocks : (i : ℕ) → i < length (recordOf l t) → IsBlock (getD (recordOf l t) i [])
   unfolding descriptorBlock commitBlock
   record-blocks =
       let s = record-sound f t h in
@@ -72,7 +68,7 @@ module _ {l : Ledger} (f : Fine l) (t : Name) (h : isClosed ((l .book .entry t) 
       (record { size = length-commit (t .number) (l .stamp t) ((l .book .entry t) .names) (s .short); bytes = each-isBytes _ (each-block _) })
 
   -- none is a commit of a higher number; only the last is a commit
-  pub record-clear : (i n : ℕ) → i < length (recordOf l t) → t .number ≤ n → (suc i ≡ length (recordOf l t) → t .number < n)
+  record-clear : (i n : ℕ) → i < length (recordOf l t) → t .number ≤ n → (suc i ≡ length (recordOf l t) → t .number < n)
       → isCommit (l .shape) n (getD (recordOf l t) i []) ≡ false
   record-clear i n g low last =
       let s = record-sound f t h in
@@ -105,7 +101,7 @@ pub shape-up : {l : Ledger} {w : World} → Up l w → shapeOf (w .card) ≡ l .
 unfolding shapeOf
 shape-up {l} {w} u = rw (u .shape) (clamped-same (l .shape) (u .fine .range))
 
-pub held-copies : (l : Ledger) (t : Name) (c : ℕ) (m : Bytes)
+held-copies : (l : Ledger) (t : Name) (c : ℕ) (m : Bytes)
     → ((i : ℕ) → i < length ((l .book .entry t) .blocks) → blockAt m (copyBlock c i) ≡ getD (l .images t) i [])
     → heldCopies c ((l .book .entry t) .blocks) m ≡ heldOf l t
 unfolding heldCopies heldOf

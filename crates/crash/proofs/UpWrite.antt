@@ -1,36 +1,34 @@
 -- WRITE keeps card and ledger in agreement: by the rule met, the writer's transaction and a running holder's change as
 -- their entries do, and so does the block's holder. The image written is the current one: a held block has it in memory,
 -- a free one is loaded from home. Closed transactions and the disk stay.
-use Prim.Native.Nat.{ℕ, zero, suc, _+_, _-_, _*_, _≤_, _<_}
+use Prim.Native.Nat.{ℕ, _+_, _-_, _*_, _≤_, _<_}
 use native.Mathlib.Omega.{arith}
 use native.Mathlib.Decide.{decLt, ℕ-discrete}
 use mathlib.Core.Path.{_≡_, refl, ap, ap₂, _∙_, sym, subst}
-use mathlib.Core.Logic.{_⊎_, inl, inr, _≢_}
+use mathlib.Core.Logic.{_⊎_, _≢_}
 use mathlib.Core.Bool.{Bool, true, false, cond}
-use mathlib.Core.List.{List, [], _∷_, _++_, append-assoc}
-use mathlib.Core.Option.{Option, none, some}
-use lib.ListN.{length, take, drop, getD, set, length-append, length-take, length-drop, length-set, take-append-drop}
+use mathlib.Core.List.{_++_, append-assoc}
+use mathlib.Core.Option.{none, some}
+use lib.ListN.{length, take, drop, length-take, length-drop, length-set, take-append-drop}
 use lib.Seq.{length-take-le, take-at, drop-at, take-append-le, drop-append-le, take-append-add, drop-append-add, getD-set-same, getD-set-other}
-use Rattle.model.specs.Lists.{any}
 use Rattle.model.specs.Bytes.{Bytes, part, replaced, blockAt, store}
 use Rattle.model.specs.Shape.{homeBlock}
-use Rattle.model.specs.Card.{newName, sameName, noHolder, withBlock, withName, withRunning, tailOf, coreOf, holderOf, withCore, withHolder}
+use Rattle.model.specs.Card.{newName, noHolder, withName, withRunning, tailOf, coreOf, holderOf, withCore, withHolder}
 use Rattle.model.specs.Command.{World}
 use Rattle.model.specs.Commit.{copyBlock}
-use Rattle.model.specs.Write.{writer, writerName, ruleFor, takesBlock, namesHolder, isNamedBack, loadsImage, writerAfter, writtenCard, writtenMemory, written}
+use Rattle.model.specs.Write.{writerName, ruleFor, takesBlock, isNamedBack, loadsImage, writerAfter, writtenCard, writtenMemory, written}
 use Rattle.model.specs.declared.Name.{Name}
 use Rattle.model.specs.declared.Transaction.{Transaction}
 use Rattle.model.specs.declared.Core.{Core}
 use Rattle.model.specs.declared.Holder.{Holder}
 use Rattle.model.specs.declared.Card.{Card}
-use Rattle.model.specs.declared.Rule.the-variants.{Free, Own, Running, Closed}
 use Rattle.model.proofs.Lists.{cases}
 use Rattle.model.proofs.Store.{length-replaced, part-before, part-after, length-store, length-blockAt, block-stored, block-other}
-use Rattle.crash.specs.Book.{Stage, absent, running, isRunning, isClosed, counted, Entry, Book, begin, change, taking, naming, holderIn, Meeting, no-holder, own, running-holder, closed-holder, meets, ruled, holderAfter, wrote}
+use Rattle.crash.specs.Book.{absent, running, isRunning, counted, Book, holderIn, running-holder, meets, holderAfter, wrote}
 use Rattle.crash.specs.Ledger.{Ledger, withBook, imageNow, recordBlocks}
 use Rattle.crash.specs.Claims.{IsBytes}
-use Rattle.crash.proofs.Relation.{Fine, Limits, JournalStands, DiskStands, Matches, CoreUp, holderAs, Up}
-use Rattle.crash.proofs.Entries.{other-number, other-core, change-at, change-other, meets-met, meets-running}
+use Rattle.crash.proofs.Relation.{Fine, Limits, JournalStands, Matches, CoreUp, holderAs, Up}
+use Rattle.crash.proofs.Entries.{other-core, meets-met, meets-running}
 use Rattle.crash.proofs.Books.{wrote-numbers, wrote-running, wrote-stage, wrote-blocks-other, wrote-other, wrote-holder, wrote-holder-other, wrote-image, wrote-image-other}
 use Rattle.crash.proofs.Frames.{SameClosed, core-set, core-other, bytes-replaced, bytes-store, bytes-blockAt, none-stored, journal-stays, core-stays}
 use Rattle.crash.proofs.Rules.{running-next, present-open, writer-name, Met, met-none, met-own, met-running, met-closed, rule-met, writer-after, holder-after}
@@ -45,7 +43,7 @@ replaced-inner p x q v o n h =
     (simp append-assoc)
 
 module _ (n : ℕ) (d : Bytes) (len : length d ≡ 128 * n) (k o : ℕ) (v : Bytes) (in-range : k < n) (inside : o ≤ 124) (four : length v ≡ 4) where
-  pub block-written : blockAt (replaced (128 * k + o) 4 d v) k ≡ replaced o 4 (blockAt d k) v
+  block-written : blockAt (replaced (128 * k + o) 4 d v) k ≡ replaced o 4 (blockAt d k) v
   unfolding blockAt part
   block-written =
       let p = take (128 * k) d in
@@ -63,7 +61,7 @@ module _ (n : ℕ) (d : Bytes) (len : length d ≡ 128 * n) (k o : ℕ) (v : Byt
       length-blockAt′ : length (take 128 (drop (128 * k) d)) ≡ 128
       length-blockAt′ = simp (length-take, length-drop) (omega arith)
 
-  pub block-unwritten : (j : ℕ) → j ≢ k → blockAt (replaced (128 * k + o) 4 d v) j ≡ blockAt d j
+  block-unwritten : (j : ℕ) → j ≢ k → blockAt (replaced (128 * k + o) 4 d v) j ≡ blockAt d j
   unfolding blockAt
   block-unwritten j ne =
       elim (decLt j k) [
