@@ -10,6 +10,7 @@ pub mod Entries
 pub mod Books
 pub mod FineSteps
 pub mod FineWrite
+pub mod Blocks
 pub mod Frames
 pub mod Rules
 pub mod UpStore

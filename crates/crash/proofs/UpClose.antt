@@ -28,7 +28,8 @@ use Rattle.crash.proofs.Relation.{sumNext, Fine, contents, JournalStand
 use Rattle.crash.proofs.Records.{sum-low}
 use Rattle.crash.proofs.Entries.{other-number, other-core, change-at, raise-at, raise-other, records-snoc}
 use Rattle.crash.proofs.Books.{Restages, restages-records, close-restages, close-book, close-holder, close-stamp, close-images, close-stamp-other, close-images-other}
-use Rattle.crash.proofs.Frames.{SameClosed, bytes-store, bytes-blockAt, record-same, contents-same, none-stored, journal-stays, core-stays}
+use Rattle.crash.proofs.Blocks.{bytes-store, bytes-blockAt}
+use Rattle.crash.proofs.Frames.{SameClosed, record-same, contents-same, none-stored, journal-stays, core-stays}
 
 -- ---- copies
 module _ (c : ℕ) (eight : c < 8) where

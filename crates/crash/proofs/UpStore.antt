@@ -36,7 +36,8 @@ use Rattle.crash.proofs.Master.{shape-limits}
 use Rattle.crash.proofs.Records.{record-sound, length-record}
 use Rattle.crash.proofs.Entries.{other-number, other-core, change-at, raise-at, raise-other, records-snoc}
 use Rattle.crash.proofs.Books.{Restages, restaged, restages-records, storedStage, store-restages, store-more, store-last, store-holder}
-use Rattle.crash.proofs.Frames.{SameClosed, core-set, core-other, bytes-store, each-isBytes, escaped-bytes, map-below, record-same, flatMap-below, none-stored, journal-stays, core-stays}
+use Rattle.crash.proofs.Blocks.{bytes-store, each-isBytes, escaped-bytes}
+use Rattle.crash.proofs.Frames.{SameClosed, core-set, core-other, map-below, record-same, flatMap-below, none-stored, journal-stays, core-stays}
 
 -- ---- the blocks of a record, one by one
 module _ {l : Ledger} (f : Fine l) (t : Name) (h : isClosed ((l .book .entry t) .stage) ≡ true) where

@@ -3,15 +3,14 @@
 -- a free one is loaded from home. Closed transactions and the disk stay.
 use Prim.Native.Nat.{ℕ, _+_, _-_, _*_, _≤_, _<_}
 use native.Mathlib.Omega.{arith}
-use native.Mathlib.Decide.{decLt, ℕ-discrete}
-use mathlib.Core.Path.{_≡_, refl, ap, ap₂, _∙_, sym, subst}
+use native.Mathlib.Decide.{ℕ-discrete}
+use mathlib.Core.Path.{_≡_, refl, ap, _∙_, sym, subst}
 use mathlib.Core.Logic.{_⊎_, _≢_}
 use mathlib.Core.Bool.{Bool, true, false, cond}
-use mathlib.Core.List.{_++_, append-assoc}
 use mathlib.Core.Option.{none, some}
-use lib.ListN.{length, take, drop, length-take, length-drop, length-set, take-append-drop}
-use lib.Seq.{length-take-le, take-at, drop-at, take-append-le, drop-append-le, take-append-add, drop-append-add, getD-set-same, getD-set-other}
-use Rattle.model.specs.Bytes.{Bytes, part, replaced, blockAt, store}
+use lib.ListN.{length, length-set}
+use lib.Seq.{getD-set-same, getD-set-other}
+use Rattle.model.specs.Bytes.{Bytes, replaced, blockAt, store}
 use Rattle.model.specs.Shape.{homeBlock}
 use Rattle.model.specs.Card.{newName, noHolder, withName, withRunning, tailOf, coreOf, holderOf, withCore, withHolder}
 use Rattle.model.specs.Command.{World}
@@ -23,51 +22,17 @@ use Rattle.model.specs.declared.Core.{Core}
 use Rattle.model.specs.declared.Holder.{Holder}
 use Rattle.model.specs.declared.Card.{Card}
 use Rattle.model.proofs.Lists.{cases}
-use Rattle.model.proofs.Store.{length-replaced, part-before, part-after, length-store, length-blockAt, block-stored, block-other}
+use Rattle.model.proofs.Store.{length-replaced, length-store, length-blockAt, block-stored, block-other}
 use Rattle.crash.specs.Book.{absent, running, isRunning, counted, Book, holderIn, running-holder, meets, holderAfter, wrote}
 use Rattle.crash.specs.Ledger.{Ledger, withBook, imageNow, recordBlocks}
 use Rattle.crash.specs.Claims.{IsBytes}
 use Rattle.crash.proofs.Relation.{Fine, Limits, JournalStands, Matches, CoreUp, holderAs, Up}
+use Rattle.crash.proofs.Stages.{clash}
+use Rattle.crash.proofs.Blocks.{block-written, block-unwritten, bytes-replaced, bytes-store, bytes-blockAt}
 use Rattle.crash.proofs.Entries.{other-core, meets-met, meets-running}
 use Rattle.crash.proofs.Books.{wrote-numbers, wrote-running, wrote-stage, wrote-blocks-other, wrote-other, wrote-holder, wrote-holder-other, wrote-image, wrote-image-other}
-use Rattle.crash.proofs.Frames.{SameClosed, core-set, core-other, bytes-replaced, bytes-store, bytes-blockAt, none-stored, journal-stays, core-stays}
+use Rattle.crash.proofs.Frames.{SameClosed, core-set, core-other, none-stored, journal-stays, core-stays}
 use Rattle.crash.proofs.Rules.{running-next, present-open, writer-name, Met, met-none, met-own, met-running, met-closed, rule-met, writer-after, holder-after}
-
--- ---- bytes replaced within a block
-replaced-inner : (p x q v : Bytes) (o n : ℕ) → o + n ≤ length x → replaced (length p + o) n (p ++ (x ++ q)) v ≡ p ++ (replaced o n x v ++ q)
-unfolding replaced
-replaced-inner p x q v o n h =
-    let low : o ≤ length x = omega arith in
-    let rest : n ≤ length (drop o x) = simp length-drop (omega arith) in
-    rw (take-append-add p (x ++ q) o, drop-append-add p (x ++ q) o, take-append-le o x q low, drop-append-le o x q low, drop-append-le n (drop o x) q rest)
-    (simp append-assoc)
-
-module _ (n : ℕ) (d : Bytes) (len : length d ≡ 128 * n) (k o : ℕ) (v : Bytes) (in-range : k < n) (inside : o ≤ 124) (four : length v ≡ 4) where
-  block-written : blockAt (replaced (128 * k + o) 4 d v) k ≡ replaced o 4 (blockAt d k) v
-  unfolding blockAt part
-  block-written =
-      let p = take (128 * k) d in
-      let x = take 128 (drop (128 * k) d) in
-      let q = drop 128 (drop (128 * k) d) in
-      let lp : length p ≡ 128 * k = length-take-le (128 * k) d (omega arith) in
-      let lx : length x ≡ 128 = length-blockAt′ in
-      let whole : p ++ (x ++ q) ≡ d = ap (λ (z : Bytes). p ++ z) (take-append-drop 128 (drop (128 * k) d)) ∙ take-append-drop (128 * k) d in
-      let e : replaced (128 * k + o) 4 d v ≡ p ++ (replaced o 4 x v ++ q) =
-          ap₂ (λ (i : ℕ) (z : Bytes). replaced (i + o) 4 z v) (sym lp) (sym whole) ∙ replaced-inner p x q v o 4 (omega arith) in
-      ap (λ (z : Bytes). take 128 (drop (128 * k) z)) e
-      ∙ ap (take 128) (drop-at p (replaced o 4 x v ++ q) (128 * k) lp)
-      ∙ take-at (replaced o 4 x v) q 128 (length-replaced o 4 x v (omega arith) four ∙ lx)
-    where
-      length-blockAt′ : length (take 128 (drop (128 * k) d)) ≡ 128
-      length-blockAt′ = simp (length-take, length-drop) (omega arith)
-
-  block-unwritten : (j : ℕ) → j ≢ k → blockAt (replaced (128 * k + o) 4 d v) j ≡ blockAt d j
-  unfolding blockAt
-  block-unwritten j ne =
-      elim (decLt j k) [
-        | yes lt ↦ part-before (128 * k + o) 4 d v (omega arith) (128 * j) 128 (omega arith)
-        | no ge ↦ part-after (128 * k + o) 4 d v (omega arith) four (128 * j) 128 (omega arith)
-      ]
 
 -- ---- the card afterwards
 -- what WRITE leaves of a card
@@ -289,7 +254,7 @@ module _ {l : Ledger} {w : World} (u : Up l w) (c : ℕ) (in-range : c < l .shap
 
   writer-core : (isNamedBack (ruleFor x c b) ≡ true → ((holderOf x b) .name) .core ≢ c) → CoreUp l₂ m₂ c (coreOf (writtenCard x c b) c)
   writer-core apart =
-      stays c in-range (writerAfter x c b) (written-writer x c b eight apart) (λ _. writer-after u c in-range b low opens o v (t-limits .few) (t-limits .short)) (λ q. absurd (let z : _≡_ {A = ℕ} 0 1 = cc (runs-now, q) in omega arith))
+      stays c in-range (writerAfter x c b) (written-writer x c b eight apart) (λ _. writer-after u c in-range b low opens o v (t-limits .few) (t-limits .short)) (clash runs-now)
 
   -- a core that neither writes nor holds
   other-core-up : (a : ℕ) (h : a < l .shape .cores) → a ≢ c → (isNamedBack (ruleFor x c b) ≡ true → a ≢ ((holderOf x b) .name) .core)
@@ -303,17 +268,17 @@ module _ {l : Ledger} {w : World} (u : Up l w) (c : ℕ) (in-range : c < l .shap
       elim (ℕ-discrete a c) [
         | yes e ↦ subst (λ (i : ℕ). CoreUp l₂ m₂ i (coreOf (writtenCard x c b) i)) (sym e)
             (elim met [
-              | met-none _ _ r ↦ writer-core (λ q. absurd (let z : isNamedBack (ruleFor x c b) ≡ false = rw r refl in let y : _≡_ {A = ℕ} 0 1 = cc in omega arith))
-              | met-own _ _ _ r ↦ writer-core (λ q. absurd (let z : isNamedBack (ruleFor x c b) ≡ false = rw r refl in let y : _≡_ {A = ℕ} 0 1 = cc in omega arith))
+              | met-none _ _ r ↦ writer-core (λ q. clash q (rw r refl))
+              | met-own _ _ _ r ↦ writer-core (λ q. clash q (rw r refl))
               | met-running n g _ _ apart _ r ↦ writer-core (λ q. rw (g .name) apart)
-              | met-closed n g _ _ r ↦ writer-core (λ q. absurd (let z : isNamedBack (ruleFor x c b) ≡ false = rw r refl in let y : _≡_ {A = ℕ} 0 1 = cc in omega arith))
+              | met-closed n g _ _ r ↦ writer-core (λ q. clash q (rw r refl))
             ])
         | no ne ↦ elim met [
-          | met-none _ m r ↦ other-core-up a h ne (λ q. absurd (let z : isNamedBack (ruleFor x c b) ≡ false = rw r refl in let y : _≡_ {A = ℕ} 0 1 = cc in omega arith))
+          | met-none _ m r ↦ other-core-up a h ne (λ q. clash q (rw r refl))
               (λ q. let y : _≡_ {A = ℕ} 0 1 = cc in omega arith)
-          | met-own _ _ m r ↦ other-core-up a h ne (λ q. absurd (let z : isNamedBack (ruleFor x c b) ≡ false = rw r refl in let y : _≡_ {A = ℕ} 0 1 = cc in omega arith))
+          | met-own _ _ m r ↦ other-core-up a h ne (λ q. clash q (rw r refl))
               (λ q. let y : _≡_ {A = ℕ} 0 1 = cc in omega arith)
-          | met-closed n g _ m r ↦ other-core-up a h ne (λ q. absurd (let z : isNamedBack (ruleFor x c b) ≡ false = rw r refl in let y : _≡_ {A = ℕ} 0 1 = cc in omega arith))
+          | met-closed n g _ m r ↦ other-core-up a h ne (λ q. clash q (rw r refl))
               (λ q. let y : _≡_ {A = ℕ} 0 1 = cc in omega arith)
           | met-running n g runs is apart m r ↦ elim (ℕ-discrete a (n .core)) [
             | yes e ↦ (let back : isNamedBack (ruleFor x c b) ≡ true = rw r refl in
@@ -323,7 +288,7 @@ module _ {l : Ledger} {w : World} (u : Up l w) (c : ℕ) (in-range : c < l .shap
                     ap isRunning (other-stage (n .core) apart) ∙ (let z : isRunning ((l .book .entry (newName (n .core) (l .book .next (n .core)))) .stage) ≡ true = rw (← is) (ap isRunning runs) in z) in
                 subst (λ (i : ℕ). CoreUp l₂ m₂ i (coreOf (writtenCard x c b) i)) (sym e)
                 (stays (n .core) (g .core) (withName ((coreOf x (n .core)) .running) (writerName x c)) (written-holder x c b (n .core) (ap (λ (n : Name). n .core) (g .name)) size back apart)
-                (λ _. rw (← is) (holder-after u c in-range b low opens o v n g runs is m (n-limits .short))) (λ q. absurd (let y : _≡_ {A = ℕ} 0 1 = cc (run, q) in omega arith))))
+                (λ _. rw (← is) (holder-after u c in-range b low opens o v n g runs is m (n-limits .short))) (clash run)))
             | no away ↦ other-core-up a h ne (λ _ q. away (q ∙ ap (λ (n : Name). n .core) (g .name)))
                 (λ q. away (let s : n ≡ newName a (l .book .next a) = cc in sym (ap (λ (n : Name). n .core) s)))
           ]
