@@ -23,13 +23,13 @@ use Rattle.model.specs.declared.Shape.{Shape}
 use Rattle.model.specs.declared.Name.{Name}
 use Rattle.model.specs.declared.Transaction.{Transaction}
 use Rattle.model.proofs.Lists.{cases}
-use Rattle.crash.specs.Book.{absent, running, isRunning, Entry, Book, begin, staged, taking, naming, holderIn, meets, wrote}
+use Rattle.crash.specs.Book.{absent, running, isRunning, Entry, Book, begin, staged, taking, naming, holderIn, wrote}
 use Rattle.crash.specs.Ledger.{Ledger, namesCount, holderNames, recordBlocks, notUpFor, writeRefusals, closeRefusals, storeRefusals}
 use Rattle.crash.proofs.Relation.{Matches, Up}
 use Rattle.crash.proofs.Entries.{change-at, records-snoc}
-use Rattle.crash.proofs.Books.{begun}
+use Rattle.crash.proofs.Books.{begun, meeting}
 use Rattle.crash.proofs.UpStore.{shape-up}
-use Rattle.crash.proofs.Rules.{entry-free, entry-own, entry-running, entry-closed, entry-holder, live-runs, writer-name, writer-matches, met-none, met-own, met-running, met-closed, rule-met, writer-after, holder-matches}
+use Rattle.crash.proofs.Rules.{running-present, entry-free, entry-own, entry-running, entry-closed, entry-holder, live-runs, writer-name, writer-matches, met-none, met-own, met-running, met-closed, rule-met, writer-after, holder-matches}
 
 -- ---- conditions one by one
 -- the same conditions, each as far as none before it holds
@@ -126,14 +126,14 @@ module _ {l : Ledger} {w : World} (u : Up l w) (c : ℕ) (in-range : c < l .shap
       elim current [
         | inl e ↦ (let z = u .fine .unopened t e in
             let q : e₁ ≡ staged running (l .book .entry t) =
-                ap (λ (p : Bool). (cond p (l .book) (begin t (l .book))) .entry t) (ap isRunning e) ∙ change-at t (staged running) (l .book .entry) in
+            ap (λ (p : Bool). (cond p (l .book) (begin t (l .book))) .entry t) (ap isRunning e) ∙ change-at t (staged running) (l .book .entry) in
             rw (q, z .0, z .1) (omega arith, omega arith))
-        | inr e ↦ (let z = u .fine .limits t (λ s. let y : _≡_ {A = ℕ} 0 1 = cc (e, s) in omega arith) in
+        | inr e ↦ (let z = u .fine .limits t (running-present _ e) in
             let q : e₁ ≡ l .book .entry t = ap (λ (p : Bool). (cond p (l .book) (begin t (l .book))) .entry t) (ap isRunning e) in
             rw q (z .few, z .short))
       ]
 
-  lists-answer : listsFull (w .card) c b ≡ (ltb 12 (namesCount k₂ t) || ltb 12 (holderNames k₂ (meets (l .book) t (holderIn (l .book) b (l .book .writes)))))
+  lists-answer : listsFull (w .card) c b ≡ (ltb 12 (namesCount k₂ t) || ltb 12 (holderNames k₂ (meeting c b (l .book))))
   unfolding listsFull namesCount holderNames
   lists-answer =
       let m = writer-matches u c in-range in
@@ -142,7 +142,7 @@ module _ {l : Ledger} {w : World} (u : Up l w) (c : ℕ) (in-range : c < l .shap
         | met-none _ e r ↦ rw (r, e, entry-free (l .book) c current b o v e, short) refl
         | met-own _ _ e r ↦ rw (r, e, entry-own (l .book) c current b o v e, short) refl
         | met-running n h runs is _ e r ↦ (let y = holder-matches u c in-range b low opens o v n h runs is in
-            let z = u .fine .limits n (λ s. let y : _≡_ {A = ℕ} 0 1 = cc (runs, s) in omega arith) in
+            let z = u .fine .limits n (running-present _ runs) in
             rw (r, e, h .name, writer-name u c in-range, entry-running (l .book) c current b o v n (h .other) e, entry-holder (l .book) c current b o v n (h .other) e, names-pass m n (few-before .1), names-pass y t (z .short)) refl)
         | met-closed n h _ e r ↦ rw (r, e, h .name, entry-closed (l .book) c current b o v n (h .other) e, names-pass m n (few-before .1)) refl
       ]
@@ -160,7 +160,7 @@ module _ {l : Ledger} {w : World} (u : Up l w) (c : ℕ) (in-range : c < l .shap
 
   journal-answer : length ((k₂ .entry t) .blocks) ≤ 8 → length ((k₂ .entry t) .names) ≤ 12
       → journalFull (w .card) c b
-        ≡ ltb (l .shape .journal) (recordBlocks (l .book) c (l .book .oldest c) (l .book .next c - l .book .oldest c) + 2 + length ((k₂ .entry t) .blocks))
+      ≡ ltb (l .shape .journal) (recordBlocks (l .book) c (l .book .oldest c) (l .book .next c - l .book .oldest c) + 2 + length ((k₂ .entry t) .blocks))
   unfolding journalFull recordSize
   journal-answer few short =
       let m = writer-after u c in-range b low opens o v few short in

@@ -74,7 +74,7 @@ module _ (n : ℕ) (d : Bytes) (len : length d ≡ 128 * n) (k o : ℕ) (v : Byt
       let lx : length x ≡ 128 = length-blockAt′ in
       let whole : p ++ (x ++ q) ≡ d = ap (λ (z : Bytes). p ++ z) (take-append-drop 128 (drop (128 * k) d)) ∙ take-append-drop (128 * k) d in
       let e : replaced (128 * k + o) 4 d v ≡ p ++ (replaced o 4 x v ++ q) =
-          ap₂ (λ (i : ℕ) (z : Bytes). replaced (i + o) 4 z v) (sym lp) (sym whole) ∙ replaced-inner p x q v o 4 (omega arith) in
+      ap₂ (λ (i : ℕ) (z : Bytes). replaced (i + o) 4 z v) (sym lp) (sym whole) ∙ replaced-inner p x q v o 4 (omega arith) in
       ap (λ (z : Bytes). take 128 (drop (128 * k) z)) e
       ∙ ap (take 128) (drop-at p (replaced o 4 x v ++ q) (128 * k) lp)
       ∙ take-at (replaced o 4 x v) q 128 (length-replaced o 4 x v (omega arith) four ∙ lx)

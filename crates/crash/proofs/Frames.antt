@@ -21,8 +21,9 @@ use Rattle.model.specs.declared.Transaction.{Transaction}
 use Rattle.model.specs.declared.Core.{Core}
 use Rattle.model.specs.declared.Card.{Card}
 use Rattle.model.proofs.Lists.{flatMap-append}
-use Rattle.crash.specs.Book.{Stage, absent, running, isRunning, counted, Entry}
+use Rattle.crash.specs.Book.{Stage, absent, running, isRunning, isClosed, counted, Entry}
 use Rattle.crash.specs.Ledger.{Ledger, recordBlocks}
+use Rattle.crash.proofs.Stages.{closed-present}
 use Rattle.crash.proofs.Entries.{records-same}
 use Rattle.crash.proofs.Relation.{Fine, heldOf, recordOf, contents, JournalStands, CoreUp, Matches}
 
@@ -62,7 +63,7 @@ record-same l l₂ t bs ns im st = simp (bs, ns, im, st)
 pub contents-same : (l l₂ : Ledger) (c : ℕ) → l₂ .book .oldest c ≡ l .book .oldest c → l₂ .book .uncommitted c ≡ l .book .uncommitted c
     → ((i : ℕ) → i < l .book .uncommitted c → recordOf l₂ (newName c i) ≡ recordOf l (newName c i))
     → take (counted ((l₂ .book .entry (newName c (l .book .uncommitted c))) .stage)) (recordOf l₂ (newName c (l .book .uncommitted c)))
-      ≡ take (counted ((l .book .entry (newName c (l .book .uncommitted c))) .stage)) (recordOf l (newName c (l .book .uncommitted c)))
+    ≡ take (counted ((l .book .entry (newName c (l .book .uncommitted c))) .stage)) (recordOf l (newName c (l .book .uncommitted c)))
     → contents l₂ c ≡ contents l c
 unfolding contents
 contents-same l l₂ c o u f g =
@@ -109,7 +110,7 @@ module _ (l : Ledger) (fine : Fine l) (c : ℕ) (in-range : c < l .shape .cores)
     -- its journal, with the running one's reserve
     pub journal-stays : (d d₂ : Bytes) (t : Tail) → counted ((l₂ .book .entry (newName c (l .book .next c))) .stage) ≡ 0
         → (isRunning ((l₂ .book .entry (newName c (l .book .next c))) .stage) ≡ true
-          → recordBlocks (l .book) c (l .book .oldest c) (l .book .next c - l .book .oldest c) + (length ((l₂ .book .entry (newName c (l .book .next c))) .blocks) + 2) ≤ l .shape .journal)
+        → recordBlocks (l .book) c (l .book .oldest c) (l .book .next c - l .book .oldest c) + (length ((l₂ .book .entry (newName c (l .book .next c))) .blocks) + 2) ≤ l .shape .journal)
         → ((q : ℕ) → journalAt (l .shape) d₂ c q ≡ journalAt (l .shape) d c q) → JournalStands l d c t → JournalStands l₂ d₂ c t
     journal-stays d d₂ t z reserve at j =
         let r = fine .ranks c in-range in
@@ -150,4 +151,4 @@ module _ (l : Ledger) (fine : Fine l) (c : ℕ) (in-range : c < l .shape .cores)
         few : l .book .uncommitted c < l .book .next c → length ((l .book .entry (newName c (l .book .uncommitted c))) .blocks) ≤ 8
         few h =
             let s = fine .ranks c in-range .storing h in
-            fine .limits (newName c (l .book .uncommitted c)) (λ a. let z : _≡_ {A = ℕ} 0 1 = cc (s .1, a) in omega arith) .few
+            fine .limits (newName c (l .book .uncommitted c)) (closed-present _ (ap isClosed (s .1))) .few

@@ -26,9 +26,9 @@ use Rattle.model.proofs.Valid.{sameName-refl}
 use Rattle.crash.specs.Book.{Stage, absent, running, closed, committed, retired, isRunning, isClosed, Entry, Book, staged, taking, naming, begin, holderIn, Meeting, no-holder, own, running-holder, closed-holder, meets, ruled, change, wrote}
 use Rattle.crash.specs.Ledger.{Ledger}
 use Rattle.crash.proofs.Relation.{Ranks, Matches, holderAs, Up}
-use Rattle.crash.proofs.Stages.{committed-stage}
+use Rattle.crash.proofs.Stages.{clash, committed-stage}
 use Rattle.crash.proofs.Entries.{same-or-not, sameName-false, change-at, change-other}
-use Rattle.crash.proofs.Books.{begun, begun-other, wrote-entry}
+use Rattle.crash.proofs.Books.{begun, meeting, begun-other, wrote-entry}
 
 -- ---- a transaction of the card and its entry
 matches-block : {t : Transaction} {e : Entry} → Matches t e → (b : ℕ) → length (e .blocks) < 8 → Matches (withBlock t b) (taking b e)
@@ -74,31 +74,31 @@ module _ (k : Book) (c : ℕ) (current : ((k .entry (newName c (k .next c))) .st
   abbrev t : Name
   t = newName c (k .next c)
 
-  ruled-by : (m : Meeting) → meets k t (holderIn k b (k .writes)) ≡ m → (n : Name) → (wrote c b o v k) .entry n ≡ ruled m t b (begun c k .entry) n
+  ruled-by : (m : Meeting) → meeting c b k ≡ m → (n : Name) → (wrote c b o v k) .entry n ≡ ruled m t b (begun c k .entry) n
   ruled-by m e n = ap (λ (f : Name → Entry). f n) (wrote-entry k c current b o v ∙ ap (λ (m : Meeting). ruled m t b (begun c k .entry)) e)
 
-  pub entry-free : meets k t (holderIn k b (k .writes)) ≡ no-holder → (wrote c b o v k) .entry t ≡ taking b (begun c k .entry t)
+  pub entry-free : meeting c b k ≡ no-holder → (wrote c b o v k) .entry t ≡ taking b (begun c k .entry t)
   unfolding ruled
   entry-free e = ruled-by no-holder e t ∙ change-at t (taking b) (begun c k .entry)
 
-  pub entry-own : meets k t (holderIn k b (k .writes)) ≡ own → (wrote c b o v k) .entry t ≡ begun c k .entry t
+  pub entry-own : meeting c b k ≡ own → (wrote c b o v k) .entry t ≡ begun c k .entry t
   unfolding ruled
   entry-own e = ruled-by own e t
 
   module _ (n : Name) (other : n ≢ t) where
-    pub entry-running : meets k t (holderIn k b (k .writes)) ≡ running-holder n → (wrote c b o v k) .entry t ≡ naming n (begun c k .entry t)
+    pub entry-running : meeting c b k ≡ running-holder n → (wrote c b o v k) .entry t ≡ naming n (begun c k .entry t)
     unfolding ruled
     entry-running e =
         ruled-by (running-holder n) e t
         ∙ change-other n (naming t) (change t (naming n) (begun c k .entry)) t (λ s. other (sym s))
         ∙ change-at t (naming n) (begun c k .entry)
 
-    pub entry-closed : meets k t (holderIn k b (k .writes)) ≡ closed-holder n → (wrote c b o v k) .entry t ≡ taking b (naming n (begun c k .entry t))
+    pub entry-closed : meeting c b k ≡ closed-holder n → (wrote c b o v k) .entry t ≡ taking b (naming n (begun c k .entry t))
     unfolding ruled
     entry-closed e = ruled-by (closed-holder n) e t ∙ change-at t (λ (e : Entry). taking b (naming n e)) (begun c k .entry)
 
     -- the running holder's
-    pub entry-holder : meets k t (holderIn k b (k .writes)) ≡ running-holder n → (wrote c b o v k) .entry n ≡ naming t (k .entry n)
+    pub entry-holder : meeting c b k ≡ running-holder n → (wrote c b o v k) .entry n ≡ naming t (k .entry n)
     unfolding ruled
     entry-holder e =
         ruled-by (running-holder n) e n
@@ -117,10 +117,10 @@ more-names n e h q = let g : length (e .names ++ (n ∷ [])) ≤ 12 = rw q at h 
 pub running-next : {k : Book} {a : ℕ} → Ranks k a → (i : ℕ) → isRunning ((k .entry (newName a i)) .stage) ≡ true → i ≡ k .next a
 running-next {k} {a} r i h =
     elim (decLt i (k .next a)) [
-      | yes lt ↦ absurd (let g : isRunning ((k .entry (newName a i)) .stage) ≡ false = past lt in let z : _≡_ {A = ℕ} 0 1 = cc in omega arith)
+      | yes lt ↦ clash h (past lt)
       | no ge ↦ elim (ℕ-discrete i (k .next a)) [
         | yes e ↦ e
-        | no ne ↦ absurd (let g : isRunning ((k .entry (newName a i)) .stage) ≡ false = ap isRunning (r .rest i (omega arith)) in let z : _≡_ {A = ℕ} 0 1 = cc in omega arith)
+        | no ne ↦ clash h (ap isRunning (r .rest i (omega arith)))
       ]
     ]
   where
@@ -136,16 +136,19 @@ running-next {k} {a} r i h =
           ]
         ]
 
+pub running-present : (g : Stage) → g ≡ running → g ≢ absent
+running-present g p q = clash (ap isRunning p) (ap isRunning q)
+
 pub present-open : (g : Stage) → g ≢ absent → isClosed g ≡ false → g ≡ running
 present-open absent ne h = absurd (ne refl)
 present-open running ne h = refl
-present-open (closed n) ne h = absurd (let z : _≡_ {A = ℕ} 0 1 = cc in omega arith)
-present-open (committed n) ne h = absurd (let z : _≡_ {A = ℕ} 0 1 = cc in omega arith)
-present-open retired ne h = absurd (let z : _≡_ {A = ℕ} 0 1 = cc in omega arith)
+present-open (closed n) ne h = clash refl h
+present-open (committed n) ne h = clash refl h
+present-open retired ne h = clash refl h
 
 closed-idle : (g : Stage) → isClosed g ≡ true → isRunning g ≡ false
 closed-idle absent h = refl
-closed-idle running h = absurd (let z : _≡_ {A = ℕ} 0 1 = cc in omega arith)
+closed-idle running h = clash h refl
 closed-idle (closed n) h = refl
 closed-idle (committed n) h = refl
 closed-idle retired h = refl
@@ -193,15 +196,12 @@ module _ {l : Ledger} {w : World} (u : Up l w) where
         pub other : n ≢ newName c (l .book .next c)
         pub core : n .core < l .shape .cores
 
-      abbrev pub meeting : Meeting
-      meeting = meets (l .book) (newName c (l .book .next c)) (holderIn (l .book) b (l .book .writes))
-
       pub data Met : Type 0 where
-        met-none : holderIn (l .book) b (l .book .writes) ≡ none → meeting ≡ no-holder → ruleFor (w .card) c b ≡ Free → Met
-        met-own : holderIn (l .book) b (l .book .writes) ≡ some (newName c (l .book .next c)) → (holderOf (w .card) b) .held ≡ true → meeting ≡ own → ruleFor (w .card) c b ≡ Own → Met
+        met-none : holderIn (l .book) b (l .book .writes) ≡ none → meeting c b (l .book) ≡ no-holder → ruleFor (w .card) c b ≡ Free → Met
+        met-own : holderIn (l .book) b (l .book .writes) ≡ some (newName c (l .book .next c)) → (holderOf (w .card) b) .held ≡ true → meeting c b (l .book) ≡ own → ruleFor (w .card) c b ≡ Own → Met
         met-running : (n : Name) → MetHolder n → (l .book .entry n) .stage ≡ running → n ≡ newName (n .core) (l .book .next (n .core)) → n .core ≢ c
-            → meeting ≡ running-holder n → ruleFor (w .card) c b ≡ Running → Met
-        met-closed : (n : Name) → MetHolder n → isClosed ((l .book .entry n) .stage) ≡ true → meeting ≡ closed-holder n → ruleFor (w .card) c b ≡ Closed → Met
+            → meeting c b (l .book) ≡ running-holder n → ruleFor (w .card) c b ≡ Running → Met
+        met-closed : (n : Name) → MetHolder n → isClosed ((l .book .entry n) .stage) ≡ true → meeting c b (l .book) ≡ closed-holder n → ruleFor (w .card) c b ≡ Closed → Met
 
       pub rule-met : Met
       unfolding ruleFor meets
@@ -255,7 +255,7 @@ module _ {l : Ledger} {w : World} (u : Up l w) where
               let live : isRunning ((l .book .entry (newName (n .core) (l .book .next (n .core)))) .stage) ≡ true = rw (← is) (ap isRunning runs) in
               rw (← is) at (u .cores (n .core) (h .core) .runs live)
 
-          pub holder-after : meeting ≡ running-holder n → length ((k₂ .entry n) .names) ≤ 12
+          pub holder-after : meeting c b (l .book) ≡ running-holder n → length ((k₂ .entry n) .names) ≤ 12
               → Matches (withName ((coreOf (w .card) (n .core)) .running) (writerName (w .card) c)) (k₂ .entry n)
           holder-after e short =
               let q = entry-holder (l .book) c (u .fine .ranks c in-range .current) b o v n (h .other) e in

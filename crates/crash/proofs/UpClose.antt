@@ -7,7 +7,7 @@ use native.Mathlib.Nat.{add-zero, zero-add}
 use native.Mathlib.Decide.{ℕ-discrete}
 use mathlib.Core.Path.{_≡_, refl, ap, _∙_, sym, subst}
 use mathlib.Core.Logic.{_≢_}
-use mathlib.Core.Bool.{true, false}
+use mathlib.Core.Bool.{true}
 use mathlib.Core.List.{List, [], _∷_, map, List·Memᴰ}
 use mathlib.Core.Option.{some}
 use lib.ListN.{length, getD, length-set}
@@ -25,7 +25,9 @@ use Rattle.crash.specs.Book.{absent, running, closed, isRunning, Entry, 
 use Rattle.crash.specs.Ledger.{Ledger, closeLedger, imageNow, recordBlocks}
 use Rattle.crash.specs.Claims.{IsBytes}
 use Rattle.crash.proofs.Relation.{sumNext, Fine, contents, JournalStands, DiskStands, Matches, CoreUp, holderAs, Up}
+use Rattle.crash.proofs.Stages.{clash}
 use Rattle.crash.proofs.Records.{sum-low}
+use Rattle.crash.proofs.Rules.{running-present}
 use Rattle.crash.proofs.Entries.{other-number, other-core, change-at, raise-at, raise-other, records-snoc}
 use Rattle.crash.proofs.Books.{Restages, restages-records, close-restages, close-book, close-holder, close-stamp, close-images, close-stamp-other, close-images-other}
 use Rattle.crash.proofs.Blocks.{bytes-store, bytes-blockAt}
@@ -180,7 +182,7 @@ module _ {l : Ledger} {w : World} (u : Up l w) (c : ℕ) (in-range : c < l .shap
         stands = rw same-contents (j .stands);
         clear = rw (new-numbers .1 c) (j .clear);
         room = rw (new-numbers .0 c, new-next, z, new-total (suc (n - o)), total) (j .reserved (ap isRunning runs));
-        reserved = rw new-next (λ h. absurd (let y : isRunning ((l₂ .book .entry (newName c (suc n))) .stage) ≡ false = ap isRunning unopened in let q : _≡_ {A = ℕ} 0 1 = cc in omega arith));
+        reserved = rw new-next (λ h. clash h (ap isRunning unopened));
       }
 
   disk-stands : DiskStands l₂ (w .disk) (tailOf (w .card))
@@ -205,13 +207,13 @@ module _ {l : Ledger} {w : World} (u : Up l w) (c : ℕ) (in-range : c < l .shap
   matches = u .cores c in-range .runs (ap isRunning runs)
 
   few : length (taken (x .running)) ≤ 8
-  few = rw (matches .blocks) (u .fine .limits t (λ e. let z : _≡_ {A = ℕ} 0 1 = cc (runs, e) in omega arith) .few)
+  few = rw (matches .blocks) (u .fine .limits t (running-present _ runs) .few)
 
   eight : c < 8
   eight = omega (arith, u .fine .range .few-cores)
 
   low-next : l .book .next c ≤ 4000000000
-  low-next = u .fine .limits t (λ e. let z : _≡_ {A = ℕ} 0 1 = cc (runs, e) in omega arith) .high
+  low-next = u .fine .limits t (running-present _ runs) .high
 
   low-closes : suc (l .closes) ≤ 32000000008
   low-closes =
@@ -223,7 +225,7 @@ module _ {l : Ledger} {w : World} (u : Up l w) (c : ℕ) (in-range : c < l .shap
       let bs = (l .book .entry t) .blocks in
       let b = getD bs i 0 in
       let m : List·Memᴰ b bs = getD-mem bs i 0 h in
-      let g : b < l .shape .blocks = u .fine .limits t (λ e. let z : _≡_ {A = ℕ} 0 1 = cc (runs, e) in omega arith) .blocks b m in
+      let g : b < l .shape .blocks = u .fine .limits t (running-present _ runs) .blocks b m in
       let e : b % 64 ≡ b = omega (arith, u .fine .range .few-blocks) in
       let held : (holderOf (w .card) b) .held ≡ true = ap (λ (h : Holder). h .held) (u .holders b g ∙ ap holderAs (holds b m)) in
       rw (close-images l c, matches .blocks)
@@ -261,7 +263,7 @@ module _ {l : Ledger} {w : World} (u : Up l w) (c : ℕ) (in-range : c < l .shap
       record {
         next = rw (new-next, number) refl;
         used = rw (new-numbers .0 c, new-numbers .1 c, new-total (l .book .uncommitted c - l .book .oldest c)) (y .used);
-        runs = rw new-next (λ h. absurd (let z : isRunning ((l₂ .book .entry (newName c (suc n))) .stage) ≡ false = ap isRunning unopened in let q : _≡_ {A = ℕ} 0 1 = cc in omega arith));
+        runs = rw new-next (λ h. clash h (ap isRunning unopened));
         idle = λ _. refl;
         closing =
             rw (new-numbers .1 c, new-next, free, new-entry)

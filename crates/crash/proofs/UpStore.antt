@@ -65,7 +65,7 @@ module _ {l : Ledger} (f : Fine l) (t : Name) (h : isClosed ((l .book .entry t) 
       record-each (λ (i : ℕ) (b : Bytes). IsBlock b)
       (record { size = length-descriptor (t .number) (heldOf l t) (s .few); bytes = each-isBytes _ (each-block _) })
       (λ i g. let x = z .images i g in
-        record { size = length-escaped (getD (l .images t) i []) (omega (arith, x .size)) ∙ x .size; bytes = escaped-bytes (getD (l .images t) i []) (x .bytes) })
+      record { size = length-escaped (getD (l .images t) i []) (omega (arith, x .size)) ∙ x .size; bytes = escaped-bytes (getD (l .images t) i []) (x .bytes) })
       (record { size = length-commit (t .number) (l .stamp t) ((l .book .entry t) .names) (s .short); bytes = each-isBytes _ (each-block _) })
 
   -- none is a commit of a higher number; only the last is a commit
@@ -168,7 +168,7 @@ module _ {l : Ledger} {w : World} (u : Up l w) (c : ℕ) (in-range : c < l .shap
       let g = flatMap (λ (i : ℕ). recordOf l (newName c (o + i))) (below n) in
       let whole : length g ≡ x .used = length-whole (u .fine) c in-range n (omega (arith, r .low)) ∙ sym (u .cores c in-range .used) in
       let part : length (take (counted ((l .book .entry t) .stage)) (recordOf l t)) ≡ x .stored =
-          ap (λ (i : ℕ). length (take i (recordOf l t))) (ap counted stage-now) ∙ length-take-le (x .stored) (recordOf l t) (omega (arith, within, size)) in
+      ap (λ (i : ℕ). length (take i (recordOf l t))) (ap counted stage-now) ∙ length-take-le (x .stored) (recordOf l t) (omega (arith, within, size)) in
       length-append g (take (counted ((l .book .entry t) .stage)) (recordOf l t)) ∙ ap₂ _+_ whole part
 
   room : x .used + (length ((l .book .entry t) .blocks) + 2) ≤ l .shape .journal
@@ -257,11 +257,11 @@ module _ {l : Ledger} {w : World} (u : Up l w) (c : ℕ) (in-range : c < l .shap
         let a : o + n ≡ l .book .uncommitted c = omega (arith, r .low) in
         let e : flatMap (λ (i : ℕ). recordOf l₂ (newName c (o + i))) (below (suc n)) ≡ flatMap f (below (suc n)) = flatMap-below _ _ (suc n) (λ i h. new-record (newName c (o + i))) in
         let z : counted ((k₂ .entry v) .stage) ≡ 0 =
-            ap (λ (e : Entry). counted (e .stage)) (new .other v (other-number c (omega arith))) ∙ (rw next-is at (none-stored l (u .fine) c in-range)) in
+        ap (λ (e : Entry). counted (e .stage)) (new .other v (other-number c (omega arith))) ∙ (rw next-is at (none-stored l (u .fine) c in-range)) in
         let whole : flatMap f (below (suc n)) ≡ flatMap f (below n) ++ recordOf l t =
-            flatMap-append f (below n) (n ∷ []) ∙ ap (λ (b : List Bytes). flatMap f (below n) ++ b) (append-nil (f n) ∙ ap (λ (i : ℕ). recordOf l (newName c i)) a) in
+        flatMap-append f (below n) (n ∷ []) ∙ ap (λ (b : List Bytes). flatMap f (below n) ++ b) (append-nil (f n) ∙ ap (λ (i : ℕ). recordOf l (newName c i)) a) in
         let all : take (x .stored) (recordOf l t) ++ (getD (recordOf l t) (x .stored) [] ∷ []) ≡ recordOf l t =
-            sym (take-suc (recordOf l t) (x .stored) [] (omega (arith, size, within))) ∙ take-all (suc (x .stored)) (recordOf l t) (omega (arith, size)) in
+        sym (take-suc (recordOf l t) (x .stored) [] (omega (arith, size, within))) ∙ take-all (suc (x .stored)) (recordOf l t) (omega (arith, size)) in
         rw (same-numbers .0 c, last-uncommitted, m, z, e, whole, stage-now)
         (append-nil (flatMap f (below n) ++ recordOf l t)
         ∙ ap (λ (b : List Bytes). flatMap f (below n) ++ b) (sym all)

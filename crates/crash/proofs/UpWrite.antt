@@ -23,16 +23,16 @@ use Rattle.model.specs.declared.Holder.{Holder}
 use Rattle.model.specs.declared.Card.{Card}
 use Rattle.model.proofs.Lists.{cases}
 use Rattle.model.proofs.Store.{length-replaced, length-store, length-blockAt, block-stored, block-other}
-use Rattle.crash.specs.Book.{absent, running, isRunning, counted, Book, holderIn, running-holder, meets, holderAfter, wrote}
+use Rattle.crash.specs.Book.{absent, running, isRunning, counted, Book, holderIn, running-holder, holderAfter, wrote}
 use Rattle.crash.specs.Ledger.{Ledger, withBook, imageNow, recordBlocks}
 use Rattle.crash.specs.Claims.{IsBytes}
 use Rattle.crash.proofs.Relation.{Fine, Limits, JournalStands, Matches, CoreUp, holderAs, Up}
 use Rattle.crash.proofs.Stages.{clash}
 use Rattle.crash.proofs.Blocks.{block-written, block-unwritten, bytes-replaced, bytes-store, bytes-blockAt}
 use Rattle.crash.proofs.Entries.{other-core, meets-met, meets-running}
-use Rattle.crash.proofs.Books.{wrote-numbers, wrote-running, wrote-stage, wrote-blocks-other, wrote-other, wrote-holder, wrote-holder-other, wrote-image, wrote-image-other}
+use Rattle.crash.proofs.Books.{meeting, wrote-numbers, wrote-running, wrote-stage, wrote-blocks-other, wrote-other, wrote-holder, wrote-holder-other, wrote-image, wrote-image-other}
 use Rattle.crash.proofs.Frames.{SameClosed, core-set, core-other, none-stored, journal-stays, core-stays}
-use Rattle.crash.proofs.Rules.{running-next, present-open, writer-name, Met, met-none, met-own, met-running, met-closed, rule-met, writer-after, holder-after}
+use Rattle.crash.proofs.Rules.{running-present, running-next, present-open, writer-name, Met, met-none, met-own, met-running, met-closed, rule-met, writer-after, holder-after}
 
 -- ---- the card afterwards
 -- what WRITE leaves of a card
@@ -95,8 +95,8 @@ module _ (x : Card) where
         let a = ((holderOf x b) .name) .core in
         let y = withCore x a (withRunning (coreOf x a) (withName ((coreOf x a) .running) (writerName x c))) in
         let named : isNamedBack (ruleFor x c b) ≡ true → coreOf (withCore y c (withRunning (coreOf y c) (writerAfter x c b))) c ≡ withRunning (coreOf x c) (writerAfter x c b) =
-            λ e. core-set y c (withRunning (coreOf y c) (writerAfter x c b)) (omega (arith, length-set (x .cores) a (withRunning (coreOf x a) (withName ((coreOf x a) .running) (writerName x c)))))
-              ∙ ap (λ (k : Core). withRunning k (writerAfter x c b)) (core-other x a (withRunning (coreOf x a) (withName ((coreOf x a) .running) (writerName x c))) c (λ q. apart e (sym q))) in
+        λ e. core-set y c (withRunning (coreOf y c) (writerAfter x c b)) (omega (arith, length-set (x .cores) a (withRunning (coreOf x a) (withName ((coreOf x a) .running) (writerName x c)))))
+        ∙ ap (λ (k : Core). withRunning k (writerAfter x c b)) (core-other x a (withRunning (coreOf x a) (withName ((coreOf x a) .running) (writerName x c))) c (λ q. apart e (sym q))) in
         cases (takesBlock (ruleFor x c b))
         (λ h. cases (isNamedBack (ruleFor x c b)) (λ e. rw (h, e) (named e)) (λ e. rw (h, e) (core-set x c (withRunning (coreOf x c) (writerAfter x c b)) n)))
         (λ h. cases (isNamedBack (ruleFor x c b)) (λ e. rw (h, e) (named e)) (λ e. rw (h, e) (core-set x c (withRunning (coreOf x c) (writerAfter x c b)) n)))
@@ -187,7 +187,7 @@ module _ {l : Ledger} {w : World} (u : Up l w) (c : ℕ) (in-range : c < l .shap
 
   -- ---- the ledger's entries
   t-limits : Limits (l .shape) t (k₂ .entry t)
-  t-limits = fine .limits t (λ e. let z : _≡_ {A = ℕ} 0 1 = cc (wrote-running (l .book) c current b o v, e) in omega arith)
+  t-limits = fine .limits t (running-present _ (wrote-running (l .book) c current b o v))
 
   entry-stays : (a : ℕ) → a < l .shape .cores → (i : ℕ) → i < l .book .next a → k₂ .entry (newName a i) ≡ l .book .entry (newName a i)
   entry-stays a h i g =
@@ -258,7 +258,7 @@ module _ {l : Ledger} {w : World} (u : Up l w) (c : ℕ) (in-range : c < l .shap
 
   -- a core that neither writes nor holds
   other-core-up : (a : ℕ) (h : a < l .shape .cores) → a ≢ c → (isNamedBack (ruleFor x c b) ≡ true → a ≢ ((holderOf x b) .name) .core)
-      → meets (l .book) t (holderIn (l .book) b (l .book .writes)) ≢ running-holder (newName a (l .book .next a)) → CoreUp l₂ m₂ a (coreOf (writtenCard x c b) a)
+      → meeting c b (l .book) ≢ running-holder (newName a (l .book .next a)) → CoreUp l₂ m₂ a (coreOf (writtenCard x c b) a)
   other-core-up a h ne apart nr =
       let e = wrote-other (l .book) c current b o v (newName a (l .book .next a)) (other-core (l .book .next a) (l .book .next c) ne) nr in
       stays a h ((coreOf x a) .running) (written-core x c b a ne apart) (rw e (u .cores a h .runs)) (rw e (u .cores a h .idle))
@@ -283,9 +283,9 @@ module _ {l : Ledger} {w : World} (u : Up l w) (c : ℕ) (in-range : c < l .shap
           | met-running n g runs is apart m r ↦ elim (ℕ-discrete a (n .core)) [
             | yes e ↦ (let back : isNamedBack (ruleFor x c b) ≡ true = rw r refl in
                 let size : n .core < length (x .cores) = omega (arith, u .eight-cores, u .fine .range .few-cores, g .core) in
-                let n-limits : Limits (l .shape) n (k₂ .entry n) = fine .limits n (λ s. let y : _≡_ {A = ℕ} 0 1 = cc (wrote-stage (l .book) c current b o v n (g .other) ∙ runs, s) in omega arith) in
+                let n-limits : Limits (l .shape) n (k₂ .entry n) = fine .limits n (running-present _ (wrote-stage (l .book) c current b o v n (g .other) ∙ runs)) in
                 let run : isRunning ((k₂ .entry (newName (n .core) (l .book .next (n .core)))) .stage) ≡ true =
-                    ap isRunning (other-stage (n .core) apart) ∙ (let z : isRunning ((l .book .entry (newName (n .core) (l .book .next (n .core)))) .stage) ≡ true = rw (← is) (ap isRunning runs) in z) in
+                ap isRunning (other-stage (n .core) apart) ∙ (let z : isRunning ((l .book .entry (newName (n .core) (l .book .next (n .core)))) .stage) ≡ true = rw (← is) (ap isRunning runs) in z) in
                 subst (λ (i : ℕ). CoreUp l₂ m₂ i (coreOf (writtenCard x c b) i)) (sym e)
                 (stays (n .core) (g .core) (withName ((coreOf x (n .core)) .running) (writerName x c)) (written-holder x c b (n .core) (ap (λ (n : Name). n .core) (g .name)) size back apart)
                 (λ _. rw (← is) (holder-after u c in-range b low opens o v n g runs is m (n-limits .short))) (clash run)))
