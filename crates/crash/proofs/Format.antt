@@ -29,7 +29,7 @@ use Rattle.crash.specs.Ledger.{freshLedger, unretired, validIn, blocksIn
 use Rattle.crash.specs.Claims.{IsBytes, downStart, downLedger}
 use Rattle.crash.proofs.Relation.{Up, target, DownBy}
 use Rattle.crash.proofs.Tests.{clash}
-use Rattle.crash.proofs.Frames.{bytes-store}
+use Rattle.crash.proofs.Blocks.{bytes-store}
 use Rattle.crash.proofs.Down.{zero-bytes, Gives, down-over}
 use Rattle.crash.proofs.Fresh.{master-bytes, ComeUp, fresh-up}
 

@@ -1,21 +1,18 @@
 -- What a command leaves alone: the journal of a core and the core itself, where its closed transactions stay.
 -- Both are read through the core's own entries, numbers, stamps and images alone, and nothing of the running one is
 -- stored; so they stay in agreement with the ledger.
-use Prim.Native.Nat.{ℕ, zero, suc, _+_, _-_, _*_, _≤_, _<_}
+use Prim.Native.Nat.{ℕ, zero, suc, _+_, _-_, _≤_, _<_}
 use native.Mathlib.Omega.{arith}
 use native.Mathlib.Decide.{ℕ-discrete}
-use mathlib.Core.Path.{_≡_, refl, ap, ap₂, _∙_, sym, subst}
+use mathlib.Core.Path.{_≡_, refl, ap, ap₂, _∙_, sym}
 use mathlib.Core.Logic.{_⊎_, inl, inr, _≢_}
-use mathlib.Core.Bool.{Bool, true, false}
+use mathlib.Core.Bool.{true, false}
 use mathlib.Core.List.{List, [], _∷_, _++_, map, flatMap, map-append}
-use lib.ListN.{length, take, drop, getD, take-append-drop}
+use lib.ListN.{length, take}
 use lib.Seq.{getD-set-same, getD-set-other}
-use lib.Dec.{ltb, eqb}
-use borrow.Author.Tests.{lt-ltb}
-use Rattle.model.specs.Lists.{below, all}
-use Rattle.model.specs.Bytes.{Bytes, part, be4, blockAt, replaced, store}
+use Rattle.model.specs.Lists.{below}
+use Rattle.model.specs.Bytes.{Bytes, blockAt}
 use Rattle.model.specs.Card.{newName, freshCore, coreOf, withCore, withRunning}
-use Rattle.model.specs.Layout.{mark, escaped}
 use Rattle.model.specs.Journal.{journalAt}
 use Rattle.model.specs.Commit.{copyBlock}
 use Rattle.model.specs.declared.Name.{Name}
@@ -23,47 +20,12 @@ use Rattle.model.specs.declared.Tail.{Tail}
 use Rattle.model.specs.declared.Transaction.{Transaction}
 use Rattle.model.specs.declared.Core.{Core}
 use Rattle.model.specs.declared.Card.{Card}
-use Rattle.model.proofs.Lists.{cases, and-left, and-right, and-both, all-append, mem-all, mem-getD, flatMap-append, Each, each-getD}
-use Rattle.model.proofs.Words.{IsByte}
-use Rattle.crash.specs.Book.{Stage, absent, running, isRunning, counted, Entry}
+use Rattle.model.proofs.Lists.{flatMap-append}
+use Rattle.crash.specs.Book.{Stage, absent, running, isRunning, isClosed, counted, Entry}
 use Rattle.crash.specs.Ledger.{Ledger, recordBlocks}
-use Rattle.crash.specs.Claims.{IsBytes}
+use Rattle.crash.proofs.Stages.{closed-present}
 use Rattle.crash.proofs.Entries.{records-same}
 use Rattle.crash.proofs.Relation.{Fine, heldOf, recordOf, contents, JournalStands, CoreUp, Matches}
-
--- ---- bytes of a part replaced
-bytes-take : (n : ℕ) (s : Bytes) → IsBytes s → IsBytes (take n s)
-bytes-take n s h =
-    let p : ℕ → Bool = λ x. ltb x 256 in
-    and-left _ _ (sym (all-append p (take n s) (drop n s)) ∙ ap (all p) (take-append-drop n s) ∙ h)
-
-bytes-drop : (n : ℕ) (s : Bytes) → IsBytes s → IsBytes (drop n s)
-bytes-drop n s h =
-    let p : ℕ → Bool = λ x. ltb x 256 in
-    and-right (all p (take n s)) _ (sym (all-append p (take n s) (drop n s)) ∙ ap (all p) (take-append-drop n s) ∙ h)
-
-pub bytes-append : (s t : Bytes) → IsBytes s → IsBytes t → IsBytes (s ++ t)
-bytes-append s t p q = all-append (λ (x : ℕ). ltb x 256) s t ∙ and-both p q
-
-pub bytes-replaced : (at n : ℕ) (s b : Bytes) → IsBytes s → IsBytes b → IsBytes (replaced at n s b)
-unfolding replaced
-bytes-replaced at n s b p q =
-    bytes-append (take at s) (b ++ drop n (drop at s)) (bytes-take at s p) (bytes-append b (drop n (drop at s)) q (bytes-drop n (drop at s) (bytes-drop at s p)))
-
-pub bytes-store : (d : Bytes) (k : ℕ) (b : Bytes) → IsBytes d → IsBytes b → IsBytes (store d k b)
-unfolding store
-bytes-store d k b = bytes-replaced (128 * k) 128 d b
-
-pub bytes-blockAt : (d : Bytes) (k : ℕ) → IsBytes d → IsBytes (blockAt d k)
-unfolding blockAt part
-bytes-blockAt d k h = bytes-take 128 (drop (128 * k) d) (bytes-drop (128 * k) d h)
-
-pub each-isBytes : (s : Bytes) → Each IsByte s → IsBytes s
-each-isBytes s h = mem-all (λ (x : ℕ). ltb x 256) s (λ x m. let r = mem-getD m 0 in lt-ltb x 256 (subst IsByte (r .2) (each-getD IsByte s h (r .0) 0 (r .1))))
-
-pub escaped-bytes : (b : Bytes) → IsBytes b → IsBytes (escaped b)
-unfolding escaped
-escaped-bytes b h = cases (eqb (be4 b 0) mark) (λ e. rw e (bytes-append (0 ∷ 0 ∷ 0 ∷ 0 ∷ []) (drop 4 b) (unfold all in refl) (bytes-drop 4 b h))) (λ e. rw e h)
 
 -- ---- one core of the card replaced
 pub core-set : (x : Card) (c : ℕ) (k : Core) → c < length (x .cores) → coreOf (withCore x c k) c ≡ k
@@ -132,7 +94,7 @@ module _ (l : Ledger) (fine : Fine l) (c : ℕ) (in-range : c < l .shape .cores)
     same-record : (i : ℕ) → i < l .book .next c → recordOf l₂ (newName c i) ≡ recordOf l (newName c i)
     same-record i h = record-same l l₂ (newName c i) (ap (λ (e : Entry). e .blocks) (same .entry i h)) (ap (λ (e : Entry). e .names) (same .entry i h)) (same .images i h) (same .stamp i h)
 
-    pub contents-stay : counted ((l₂ .book .entry (newName c (l .book .next c))) .stage) ≡ 0 → contents l₂ c ≡ contents l c
+    contents-stay : counted ((l₂ .book .entry (newName c (l .book .next c))) .stage) ≡ 0 → contents l₂ c ≡ contents l c
     contents-stay z =
         let r = fine .ranks c in-range in
         contents-same l l₂ c (same .oldest) (same .uncommitted) (λ i h. same-record i (omega (arith, r .mid)))
@@ -141,7 +103,7 @@ module _ (l : Ledger) (fine : Fine l) (c : ℕ) (in-range : c < l .shape .cores)
           | no ne ↦ (let h : l .book .uncommitted c < l .book .next c = omega (arith, r .mid) in rw (same .entry (l .book .uncommitted c) h, same-record (l .book .uncommitted c) h) refl)
         ])
 
-    pub total-stays : (n : ℕ) → n ≤ l .book .next c → recordBlocks (l₂ .book) c (l .book .oldest c) (n - l .book .oldest c) ≡ recordBlocks (l .book) c (l .book .oldest c) (n - l .book .oldest c)
+    total-stays : (n : ℕ) → n ≤ l .book .next c → recordBlocks (l₂ .book) c (l .book .oldest c) (n - l .book .oldest c) ≡ recordBlocks (l .book) c (l .book .oldest c) (n - l .book .oldest c)
     total-stays n h =
         records-same (l .book) (l₂ .book) c (l .book .oldest c) (n - l .book .oldest c) (λ j p q. ap (λ (e : Entry). length (e .blocks)) (same .entry j (omega arith)))
 
@@ -189,4 +151,4 @@ module _ (l : Ledger) (fine : Fine l) (c : ℕ) (in-range : c < l .shape .cores)
         few : l .book .uncommitted c < l .book .next c → length ((l .book .entry (newName c (l .book .uncommitted c))) .blocks) ≤ 8
         few h =
             let s = fine .ranks c in-range .storing h in
-            fine .limits (newName c (l .book .uncommitted c)) (λ a. let z : _≡_ {A = ℕ} 0 1 = cc (s .1, a) in omega arith) .few
+            fine .limits (newName c (l .book .uncommitted c)) (closed-present _ (ap isClosed (s .1))) .few

@@ -25,7 +25,8 @@ use Rattle.crash.specs.Ledger.{freshLedger, recordBlocks}
 use Rattle.crash.specs.Claims.{IsBytes}
 use Rattle.crash.proofs.Relation.{WriteFits, contents, JournalStands, DiskStands, CoreUp, Up}
 use Rattle.crash.proofs.FineSteps.{fine-fresh}
-use Rattle.crash.proofs.Frames.{map-below, each-isBytes}
+use Rattle.crash.proofs.Blocks.{each-isBytes}
+use Rattle.crash.proofs.Frames.{map-below}
 
 -- a master block has the tails of its cores alone, and is bytes
 pub master-same : (s : Shape) (f g : ℕ → Tail) → ((c : ℕ) → c < s .cores → f c ≡ g c) → masterBlock s f ≡ masterBlock s g

@@ -37,7 +37,7 @@ use Rattle.crash.proofs.Records.{length-readList, few-records, journal-
 use Rattle.crash.proofs.Valid.{own-tails, blocks-on}
 use Rattle.crash.proofs.Newest.{newest-image}
 use Rattle.crash.proofs.FineSteps.{image-block, blank-block, fine-home, fine-recovered}
-use Rattle.crash.proofs.Frames.{bytes-store}
+use Rattle.crash.proofs.Blocks.{bytes-store}
 use Rattle.crash.proofs.Down.{phased, stands-phased, target-phased, newest-phased, held-low, right-length}
 use Rattle.crash.proofs.Fresh.{master-same, master-bytes, ComeUp, fresh-up}
 

@@ -1,38 +1,37 @@
 -- The rule that the card finds for a WRITE is what the ledger's writer meets: no holder, itself, a running one, a closed one.
 -- Running ones are the cores' current ones, in the card and in the ledger, and holders agree.
 -- What the rules do to a transaction of the card they do to its entry in the ledger.
-use Prim.Native.Nat.{ℕ, suc, _+_, _≤_, _<_}
+use Prim.Native.Nat.{ℕ, _≤_, _<_}
 use native.Mathlib.Omega.{arith}
 use native.Mathlib.Numerals.{add-one}
 use native.Mathlib.Decide.{decLt, ℕ-discrete}
 use mathlib.Core.Path.{_≡_, refl, ap, ap₂, _∙_, sym, subst}
 use mathlib.Core.Logic.{_⊎_, inl, inr, _≢_}
-use mathlib.Core.Bool.{Bool, true, false, cond, not, _&&_, and-false, and-true}
+use mathlib.Core.Bool.{true, false, and-false, and-true}
 use mathlib.Core.List.{List, [], _∷_, _++_}
 use mathlib.Core.Option.{Option, none, some}
-use lib.ListN.{length, take, set, length-append, length-set}
+use lib.ListN.{length, length-append, length-set}
 use lib.Seq.{take-suc-set}
-use lib.Dec.{eqb}
 use borrow.Author.Tests.{eq-eqb, ne-eqb}
 use Rattle.model.specs.Lists.{any}
 use Rattle.model.specs.Bytes.{Bytes}
-use Rattle.model.specs.Card.{newName, sameName, noHolder, opened, taken, listed, lists, withBlock, withName, coreOf, holderOf}
+use Rattle.model.specs.Card.{newName, sameName, opened, taken, listed, lists, withBlock, withName, coreOf, holderOf}
 use Rattle.model.specs.Command.{World}
-use Rattle.model.specs.Write.{writer, writerName, isRunning as isRunningIn, ruleFor}
+use Rattle.model.specs.Write.{writer, writerName, isRunning as isRunningIn, ruleFor, writerAfter}
 use Rattle.model.specs.declared.Name.{Name}
 use Rattle.model.specs.declared.Transaction.{Transaction}
-use Rattle.model.specs.declared.Holder.{Holder}
 use Rattle.model.specs.declared.Rule.the-variants.{Free, Own, Running, Closed}
 use Rattle.model.proofs.Lists.{cases}
 use Rattle.model.proofs.Valid.{sameName-refl}
-use Rattle.crash.specs.Book.{Stage, absent, running, closed, committed, retired, isRunning, isClosed, Entry, Book, staged, taking, naming, begin, holderIn, Meeting, no-holder, own, running-holder, closed-holder, meets}
+use Rattle.crash.specs.Book.{Stage, absent, running, closed, committed, retired, isRunning, isClosed, Entry, Book, staged, taking, naming, begin, holderIn, Meeting, no-holder, own, running-holder, closed-holder, meets, ruled, change, wrote}
 use Rattle.crash.specs.Ledger.{Ledger}
-use Rattle.crash.proofs.Relation.{Ranks, Fine, Matches, CoreUp, holderAs, Up}
-use Rattle.crash.proofs.Stages.{committed-stage}
-use Rattle.crash.proofs.Entries.{same-or-not, sameName-false, change-at}
+use Rattle.crash.proofs.Relation.{Ranks, Matches, holderAs, Up}
+use Rattle.crash.proofs.Stages.{clash, committed-stage}
+use Rattle.crash.proofs.Entries.{same-or-not, sameName-false, change-at, change-other}
+use Rattle.crash.proofs.Books.{begun, meeting, begun-other, wrote-entry}
 
 -- ---- a transaction of the card and its entry
-pub matches-block : {t : Transaction} {e : Entry} → Matches t e → (b : ℕ) → length (e .blocks) < 8 → Matches (withBlock t b) (taking b e)
+matches-block : {t : Transaction} {e : Entry} → Matches t e → (b : ℕ) → length (e .blocks) < 8 → Matches (withBlock t b) (taking b e)
 unfolding taken listed
 matches-block {t} {e} m b h =
     let n : t .count < length (t .blocks) = omega (arith, m .count, m .block-room) in
@@ -46,7 +45,7 @@ matches-block {t} {e} m b h =
       name-room = m .name-room;
     }
 
-pub matches-name : {t : Transaction} {e : Entry} → Matches t e → (n : Name) → (any (sameName n) (e .names) ≡ false → length (e .names) < 12) → Matches (withName t n) (naming n e)
+matches-name : {t : Transaction} {e : Entry} → Matches t e → (n : Name) → (any (sameName n) (e .names) ≡ false → length (e .names) < 12) → Matches (withName t n) (naming n e)
 unfolding taken listed withName lists
 matches-name {t} {e} m n h =
     cases (any (sameName n) (e .names))
@@ -66,19 +65,62 @@ matches-name {t} {e} m n h =
     }))
 
 -- one just opened
-pub matches-opened : (e : Entry) → e .blocks ≡ [] → e .names ≡ [] → Matches opened e
+matches-opened : (e : Entry) → e .blocks ≡ [] → e .names ≡ [] → Matches opened e
 unfolding taken listed
 matches-opened e b n = record { live = refl; blocks = rw b refl; count = rw b refl; names = rw n refl; named = rw n refl; block-room = refl; name-room = refl }
+
+-- ---- entries after a WRITE
+module _ (k : Book) (c : ℕ) (current : ((k .entry (newName c (k .next c))) .stage ≡ absent) ⊎ ((k .entry (newName c (k .next c))) .stage ≡ running)) (b o : ℕ) (v : Bytes) where
+  abbrev t : Name
+  t = newName c (k .next c)
+
+  ruled-by : (m : Meeting) → meeting c b k ≡ m → (n : Name) → (wrote c b o v k) .entry n ≡ ruled m t b (begun c k .entry) n
+  ruled-by m e n = ap (λ (f : Name → Entry). f n) (wrote-entry k c current b o v ∙ ap (λ (m : Meeting). ruled m t b (begun c k .entry)) e)
+
+  pub entry-free : meeting c b k ≡ no-holder → (wrote c b o v k) .entry t ≡ taking b (begun c k .entry t)
+  unfolding ruled
+  entry-free e = ruled-by no-holder e t ∙ change-at t (taking b) (begun c k .entry)
+
+  pub entry-own : meeting c b k ≡ own → (wrote c b o v k) .entry t ≡ begun c k .entry t
+  unfolding ruled
+  entry-own e = ruled-by own e t
+
+  module _ (n : Name) (other : n ≢ t) where
+    pub entry-running : meeting c b k ≡ running-holder n → (wrote c b o v k) .entry t ≡ naming n (begun c k .entry t)
+    unfolding ruled
+    entry-running e =
+        ruled-by (running-holder n) e t
+        ∙ change-other n (naming t) (change t (naming n) (begun c k .entry)) t (λ s. other (sym s))
+        ∙ change-at t (naming n) (begun c k .entry)
+
+    pub entry-closed : meeting c b k ≡ closed-holder n → (wrote c b o v k) .entry t ≡ taking b (naming n (begun c k .entry t))
+    unfolding ruled
+    entry-closed e = ruled-by (closed-holder n) e t ∙ change-at t (λ (e : Entry). taking b (naming n e)) (begun c k .entry)
+
+    -- the running holder's
+    pub entry-holder : meeting c b k ≡ running-holder n → (wrote c b o v k) .entry n ≡ naming t (k .entry n)
+    unfolding ruled
+    entry-holder e =
+        ruled-by (running-holder n) e n
+        ∙ change-at n (naming t) (change t (naming n) (begun c k .entry))
+        ∙ ap (naming t) (change-other t (naming n) (begun c k .entry) n other ∙ begun-other k c current n other)
+
+-- a list that has grown by one at the most
+more-blocks : (b : ℕ) (e : Entry) → length ((taking b e) .blocks) ≤ 8 → length (e .blocks) < 8
+more-blocks b e h = omega (arith, length-append (e .blocks) (b ∷ []))
+
+more-names : (n : Name) (e : Entry) → length ((naming n e) .names) ≤ 12 → any (sameName n) (e .names) ≡ false → length (e .names) < 12
+more-names n e h q = let g : length (e .names ++ (n ∷ [])) ≤ 12 = rw q at h in omega (arith, length-append (e .names) (n ∷ []))
 
 -- ---- running ones
 -- only the current one runs
 pub running-next : {k : Book} {a : ℕ} → Ranks k a → (i : ℕ) → isRunning ((k .entry (newName a i)) .stage) ≡ true → i ≡ k .next a
 running-next {k} {a} r i h =
     elim (decLt i (k .next a)) [
-      | yes lt ↦ absurd (let g : isRunning ((k .entry (newName a i)) .stage) ≡ false = past lt in let z : _≡_ {A = ℕ} 0 1 = cc in omega arith)
+      | yes lt ↦ clash h (past lt)
       | no ge ↦ elim (ℕ-discrete i (k .next a)) [
         | yes e ↦ e
-        | no ne ↦ absurd (let g : isRunning ((k .entry (newName a i)) .stage) ≡ false = ap isRunning (r .rest i (omega arith)) in let z : _≡_ {A = ℕ} 0 1 = cc in omega arith)
+        | no ne ↦ clash h (ap isRunning (r .rest i (omega arith)))
       ]
     ]
   where
@@ -94,16 +136,19 @@ running-next {k} {a} r i h =
           ]
         ]
 
+pub running-present : (g : Stage) → g ≡ running → g ≢ absent
+running-present g p q = clash (ap isRunning p) (ap isRunning q)
+
 pub present-open : (g : Stage) → g ≢ absent → isClosed g ≡ false → g ≡ running
 present-open absent ne h = absurd (ne refl)
 present-open running ne h = refl
-present-open (closed n) ne h = absurd (let z : _≡_ {A = ℕ} 0 1 = cc in omega arith)
-present-open (committed n) ne h = absurd (let z : _≡_ {A = ℕ} 0 1 = cc in omega arith)
-present-open retired ne h = absurd (let z : _≡_ {A = ℕ} 0 1 = cc in omega arith)
+present-open (closed n) ne h = clash refl h
+present-open (committed n) ne h = clash refl h
+present-open retired ne h = clash refl h
 
 closed-idle : (g : Stage) → isClosed g ≡ true → isRunning g ≡ false
 closed-idle absent h = refl
-closed-idle running h = absurd (let z : _≡_ {A = ℕ} 0 1 = cc in omega arith)
+closed-idle running h = clash h refl
 closed-idle (closed n) h = refl
 closed-idle (committed n) h = refl
 closed-idle retired h = refl
@@ -116,7 +161,7 @@ module _ {l : Ledger} {w : World} (u : Up l w) where
       (λ e. u .cores a h .runs e .live ∙ sym e)
       (λ e. u .cores a h .idle e ∙ sym e)
 
-  pub runs-in : (n : Name) → n .core < l .shape .cores → isRunningIn (w .card) n ≡ isRunning ((l .book .entry n) .stage)
+  runs-in : (n : Name) → n .core < l .shape .cores → isRunningIn (w .card) n ≡ isRunning ((l .book .entry n) .stage)
   unfolding isRunningIn
   runs-in n h =
       elim (ℕ-discrete (l .book .next (n .core)) (n .number)) [
@@ -131,7 +176,7 @@ module _ {l : Ledger} {w : World} (u : Up l w) where
     writer-name = rw (u .cores c in-range .next)
 
     -- the writer, opened where none runs, and its entry
-    pub writer-matches : Matches (writer (w .card) c) ((cond (isRunning ((l .book .entry (newName c (l .book .next c))) .stage)) (l .book) (begin (newName c (l .book .next c)) (l .book))) .entry (newName c (l .book .next c)))
+    pub writer-matches : Matches (writer (w .card) c) (begun c (l .book) .entry (newName c (l .book .next c)))
     unfolding writer begin
     writer-matches =
         let t = newName c (l .book .next c) in
@@ -151,15 +196,12 @@ module _ {l : Ledger} {w : World} (u : Up l w) where
         pub other : n ≢ newName c (l .book .next c)
         pub core : n .core < l .shape .cores
 
-      abbrev pub meeting : Meeting
-      meeting = meets (l .book) (newName c (l .book .next c)) (holderIn (l .book) b (l .book .writes))
-
       pub data Met : Type 0 where
-        met-none : holderIn (l .book) b (l .book .writes) ≡ none → meeting ≡ no-holder → ruleFor (w .card) c b ≡ Free → Met
-        met-own : holderIn (l .book) b (l .book .writes) ≡ some (newName c (l .book .next c)) → (holderOf (w .card) b) .held ≡ true → meeting ≡ own → ruleFor (w .card) c b ≡ Own → Met
+        met-none : holderIn (l .book) b (l .book .writes) ≡ none → meeting c b (l .book) ≡ no-holder → ruleFor (w .card) c b ≡ Free → Met
+        met-own : holderIn (l .book) b (l .book .writes) ≡ some (newName c (l .book .next c)) → (holderOf (w .card) b) .held ≡ true → meeting c b (l .book) ≡ own → ruleFor (w .card) c b ≡ Own → Met
         met-running : (n : Name) → MetHolder n → (l .book .entry n) .stage ≡ running → n ≡ newName (n .core) (l .book .next (n .core)) → n .core ≢ c
-            → meeting ≡ running-holder n → ruleFor (w .card) c b ≡ Running → Met
-        met-closed : (n : Name) → MetHolder n → isClosed ((l .book .entry n) .stage) ≡ true → meeting ≡ closed-holder n → ruleFor (w .card) c b ≡ Closed → Met
+            → meeting c b (l .book) ≡ running-holder n → ruleFor (w .card) c b ≡ Running → Met
+        met-closed : (n : Name) → MetHolder n → isClosed ((l .book .entry n) .stage) ≡ true → meeting c b (l .book) ≡ closed-holder n → ruleFor (w .card) c b ≡ Closed → Met
 
       pub rule-met : Met
       unfolding ruleFor meets
@@ -181,3 +223,40 @@ module _ {l : Ledger} {w : World} (u : Up l w) where
               let r = present-open ((l .book .entry n) .stage) (opens n e) k in
               let x : n .number ≡ l .book .next (n .core) = running-next (u .fine .ranks (n .core) core) (n .number) (ap isRunning r) in
               met-running n m r (ap (newName (n .core)) x) (λ y. ne (ap₂ newName y (x ∙ ap (l .book .next) y))) (rw (e, sameName-false n t ne, k) refl) (rw (q, writer-name, sameName-false n t ne, runs-in n core, r) refl)))
+
+      -- what the rules make of the writer's transaction, and of a running holder's
+      module _ (o : ℕ) (v : Bytes) where
+        abbrev t₂ : Name
+        t₂ = newName c (l .book .next c)
+
+        abbrev k₂ : Book
+        k₂ = wrote c b o v (l .book)
+
+        abbrev e₁ : Entry
+        e₁ = begun c (l .book) .entry t₂
+
+        pub writer-after : length ((k₂ .entry t₂) .blocks) ≤ 8 → length ((k₂ .entry t₂) .names) ≤ 12 → Matches (writerAfter (w .card) c b) (k₂ .entry t₂)
+        unfolding writerAfter
+        writer-after few short =
+            let current = u .fine .ranks c in-range .current in
+            elim rule-met [
+              | met-none _ e r ↦ (let q = entry-free (l .book) c current b o v e in
+                  rw (r, q) (matches-block writer-matches b (more-blocks b e₁ (rw q at few))))
+              | met-own _ _ e r ↦ (let q = entry-own (l .book) c current b o v e in rw (r, q) writer-matches)
+              | met-running n h _ _ _ e r ↦ (let q = entry-running (l .book) c current b o v n (h .other) e in
+                  rw (r, q, h .name) (matches-name writer-matches n (more-names n e₁ (rw q at short))))
+              | met-closed n h _ e r ↦ (let q = entry-closed (l .book) c current b o v n (h .other) e in
+                  rw (r, q, h .name) (matches-block (matches-name writer-matches n (more-names n e₁ (rw q at short))) b (more-blocks b (naming n e₁) (rw q at few))))
+            ]
+
+        module _ (n : Name) (h : MetHolder n) (runs : (l .book .entry n) .stage ≡ running) (is : n ≡ newName (n .core) (l .book .next (n .core))) where
+          pub holder-matches : Matches ((coreOf (w .card) (n .core)) .running) (l .book .entry n)
+          holder-matches =
+              let live : isRunning ((l .book .entry (newName (n .core) (l .book .next (n .core)))) .stage) ≡ true = rw (← is) (ap isRunning runs) in
+              rw (← is) at (u .cores (n .core) (h .core) .runs live)
+
+          pub holder-after : meeting c b (l .book) ≡ running-holder n → length ((k₂ .entry n) .names) ≤ 12
+              → Matches (withName ((coreOf (w .card) (n .core)) .running) (writerName (w .card) c)) (k₂ .entry n)
+          holder-after e short =
+              let q = entry-holder (l .book) c (u .fine .ranks c in-range .current) b o v n (h .other) e in
+              rw (q, writer-name) (matches-name holder-matches t₂ (more-names t₂ (l .book .entry n) (rw q at short)))

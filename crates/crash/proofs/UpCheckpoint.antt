@@ -41,7 +41,8 @@ use Rattle.crash.proofs.Stages.{clash, closed-present}
 use Rattle.crash.proofs.Records.{readRecord, IsRead, length-record}
 use Rattle.crash.proofs.Entries.{same-or-not, sameName-false, other-number, other-core, raise-at, raise-other, records-cons}
 use Rattle.crash.proofs.Books.{Restages, restaged, restages, restages-records, restages-holder, retired-none, retired-other, checkpoint-home, checkpoint-retires}
-use Rattle.crash.proofs.Frames.{core-set, core-other, bytes-store, each-isBytes, flatMap-below, record-same, contents-same}
+use Rattle.crash.proofs.Blocks.{bytes-store, each-isBytes}
+use Rattle.crash.proofs.Frames.{core-set, core-other, flatMap-below, record-same, contents-same}
 use Rattle.crash.proofs.CheckpointRead.{shape-up, oldest-of, oldest-is}
 
 -- ---- the ledger with one stage and the oldest numbers changed

@@ -7,14 +7,13 @@ use native.Mathlib.Nat.{add-zero, zero-add}
 use native.Mathlib.Decide.{ℕ-discrete}
 use mathlib.Core.Path.{_≡_, refl, ap, _∙_, sym, subst}
 use mathlib.Core.Logic.{_≢_}
-use mathlib.Core.Bool.{true, false}
+use mathlib.Core.Bool.{true}
 use mathlib.Core.List.{List, [], _∷_, map, List·Memᴰ}
 use mathlib.Core.Option.{some}
-use lib.ListN.{length, take, getD, length-set}
+use lib.ListN.{length, getD, length-set}
 use lib.Seq.{getD-set-same, getD-set-other}
 use Rattle.model.specs.Bytes.{Bytes, blockAt, store}
-use Rattle.model.specs.Card.{newName, freshCore, noTransaction, taken, listed, stamped, tailOf, coreOf, holderOf, withCore}
-use Rattle.model.specs.Journal.{journalAt}
+use Rattle.model.specs.Card.{newName, freshCore, noTransaction, taken, listed, stamped, tailOf, coreOf, holderOf}
 use Rattle.model.specs.Command.{World}
 use Rattle.model.specs.Commit.{copyBlock, copied, closed as closedOutcome, closedCard}
 use Rattle.model.specs.declared.Name.{Name}
@@ -22,14 +21,17 @@ use Rattle.model.specs.declared.Core.{Core}
 use Rattle.model.specs.declared.Holder.{Holder}
 use Rattle.model.proofs.Lists.{getD-mem}
 use Rattle.model.proofs.Store.{length-store, length-blockAt, block-stored, block-other}
-use Rattle.model.proofs.Valid.{sameName-refl}
-use Rattle.crash.specs.Book.{Stage, absent, running, closed, isRunning, isRetired, counted, Entry, Book, staged, close, holderIn}
+use Rattle.crash.specs.Book.{absent, running, closed, isRunning, Entry, staged, close, holderIn}
 use Rattle.crash.specs.Ledger.{Ledger, closeLedger, imageNow, recordBlocks}
 use Rattle.crash.specs.Claims.{IsBytes}
-use Rattle.crash.proofs.Relation.{sumNext, Fine, recordOf, contents, JournalStands, DiskStands, Matches, CoreUp, holderAs, Up}
+use Rattle.crash.proofs.Relation.{sumNext, Fine, contents, JournalStands, DiskStands, Matches, CoreUp, holderAs, Up}
+use Rattle.crash.proofs.Stages.{clash}
 use Rattle.crash.proofs.Records.{sum-low}
-use Rattle.crash.proofs.Entries.{same-or-not, sameName-false, other-number, other-core, change-at, change-other, raise-at, raise-other, holder-same, records-same, records-snoc}
-use Rattle.crash.proofs.Frames.{SameClosed, bytes-store, bytes-blockAt, record-same, contents-same, none-stored, journal-stays, core-stays}
+use Rattle.crash.proofs.Rules.{running-present}
+use Rattle.crash.proofs.Entries.{other-number, other-core, change-at, raise-at, raise-other, records-snoc}
+use Rattle.crash.proofs.Books.{Restages, restages-records, close-restages, close-book, close-holder, close-stamp, close-images, close-stamp-other, close-images-other}
+use Rattle.crash.proofs.Blocks.{bytes-store, bytes-blockAt}
+use Rattle.crash.proofs.Frames.{SameClosed, record-same, contents-same, none-stored, journal-stays, core-stays}
 
 -- ---- copies
 module _ (c : ℕ) (eight : c < 8) where
@@ -40,19 +42,19 @@ module _ (c : ℕ) (eight : c < 8) where
   length-image : (m : Bytes) (b : ℕ) → length m ≡ 16384 → length (blockAt m (b % 64)) ≡ 128
   length-image m b n = length-blockAt 128 m n (b % 64) (omega arith)
 
-  pub length-copied : (bs : List ℕ) (i : ℕ) (m : Bytes) → length m ≡ 16384 → i + length bs ≤ 8 → length (copied c i bs m) ≡ 16384
+  length-copied : (bs : List ℕ) (i : ℕ) (m : Bytes) → length m ≡ 16384 → i + length bs ≤ 8 → length (copied c i bs m) ≡ 16384
   unfolding copied
   length-copied [] i m n h = n
   length-copied (b ∷ bs) i m n h =
       length-copied bs (suc i) (store m (copyBlock c i) (blockAt m (b % 64))) (length-store m (copyBlock c i) (blockAt m (b % 64)) (fits m i n (omega arith)) (length-image m b n) ∙ n) (omega arith)
 
-  pub bytes-copied : (bs : List ℕ) (i : ℕ) (m : Bytes) → IsBytes m → IsBytes (copied c i bs m)
+  bytes-copied : (bs : List ℕ) (i : ℕ) (m : Bytes) → IsBytes m → IsBytes (copied c i bs m)
   unfolding copied
   bytes-copied [] i m h = h
   bytes-copied (b ∷ bs) i m h = bytes-copied bs (suc i) (store m (copyBlock c i) (blockAt m (b % 64))) (bytes-store m (copyBlock c i) (blockAt m (b % 64)) h (bytes-blockAt m (b % 64) h))
 
   -- other blocks stay
-  pub copied-other : (bs : List ℕ) (i : ℕ) (m : Bytes) → length m ≡ 16384 → i + length bs ≤ 8 → (k : ℕ)
+  copied-other : (bs : List ℕ) (i : ℕ) (m : Bytes) → length m ≡ 16384 → i + length bs ≤ 8 → (k : ℕ)
       → ((j : ℕ) → i ≤ j → j < i + length bs → k ≢ copyBlock c j) → blockAt (copied c i bs m) k ≡ blockAt m k
   unfolding copied
   copied-other [] i m n h k ne = refl
@@ -66,12 +68,12 @@ module _ (c : ℕ) (eight : c < 8) where
   unfolding copyBlock
   copies-apart i j ne e = ne (omega arith)
 
-  pub images-apart : (k j : ℕ) → k < 64 → k ≢ copyBlock c j
+  images-apart : (k j : ℕ) → k < 64 → k ≢ copyBlock c j
   unfolding copyBlock
   images-apart k j h e = omega arith
 
   -- the copies are the images
-  pub copied-in : (bs : List ℕ) (i : ℕ) (m : Bytes) → length m ≡ 16384 → i + length bs ≤ 8 → (j : ℕ) → j < length bs
+  copied-in : (bs : List ℕ) (i : ℕ) (m : Bytes) → length m ≡ 16384 → i + length bs ≤ 8 → (j : ℕ) → j < length bs
       → blockAt (copied c i bs m) (copyBlock c (i + j)) ≡ blockAt m (getD bs j 0 % 64)
   unfolding copied
   copied-in [] i m n h j g = absurd (omega arith)
@@ -90,11 +92,11 @@ module _ (c : ℕ) (eight : c < 8) where
       ∙ block-other m (copyBlock c i) (blockAt m (b % 64)) f z (getD bs j 0 % 64) (images-apart (getD bs j 0 % 64) i (omega arith)))
 
 -- copies of different cores
-pub cores-copies : (a c i j : ℕ) → i < 8 → j < 8 → a ≢ c → copyBlock a i ≢ copyBlock c j
+cores-copies : (a c i j : ℕ) → i < 8 → j < 8 → a ≢ c → copyBlock a i ≢ copyBlock c j
 unfolding copyBlock
 cores-copies a c i j h g ne e = ne (omega arith)
 
-pub getD-map-in : {A B : Type 0} (f : A → B) (xs : List A) (i : ℕ) (d : A) (e : B) → i < length xs → getD (map f xs) i e ≡ f (getD xs i d)
+getD-map-in : {A B : Type 0} (f : A → B) (xs : List A) (i : ℕ) (d : A) (e : B) → i < length xs → getD (map f xs) i e ≡ f (getD xs i d)
 getD-map-in f [] i d e h = absurd (omega arith)
 getD-map-in f (x ∷ xs) zero d e h = refl
 getD-map-in f (x ∷ xs) (suc i) d e h = getD-map-in f xs i d e (omega arith)
@@ -117,21 +119,15 @@ module _ {l : Ledger} {w : World} (u : Up l w) (c : ℕ) (in-range : c < l .shap
   m₂ = copied c 0 (taken (x .running)) (w .memory)
 
   -- ---- the ledger afterwards
+  abbrev new : Restages (l .book) (close c (l .book)) t (closed 0)
+  new = close-restages c (l .book)
+
   new-entry : l₂ .book .entry t ≡ staged (closed 0) (l .book .entry t)
   unfolding closeLedger close
   new-entry = change-at t (staged (closed 0)) (l .book .entry)
 
   new-other : (v : Name) → v ≢ t → (l₂ .book .entry v ≡ l .book .entry v) × (l₂ .stamp v ≡ l .stamp v) × (l₂ .images v ≡ l .images v)
-  unfolding closeLedger close
-  new-other v ne = (change-other t (staged (closed 0)) (l .book .entry) v ne, rw (sameName-false v t ne), rw (sameName-false v t ne))
-
-  new-stamp : l₂ .stamp t ≡ suc (l .closes)
-  unfolding closeLedger
-  new-stamp = rw (sameName-refl t)
-
-  new-images : l₂ .images t ≡ map (imageNow l) ((l .book .entry t) .blocks)
-  unfolding closeLedger
-  new-images = rw (sameName-refl t)
+  new-other v ne = (rw (close-book l c) (new .other v ne), close-stamp-other l c v ne, close-images-other l c v ne)
 
   new-next : l₂ .book .next c ≡ suc (l .book .next c)
   unfolding closeLedger close
@@ -154,14 +150,8 @@ module _ {l : Ledger} {w : World} (u : Up l w) (c : ℕ) (in-range : c < l .shap
         images = λ i h. new-other (newName a i) (o i) .2;
       }
 
-  new-blocks : (v : Name) → (l₂ .book .entry v) .blocks ≡ (l .book .entry v) .blocks
-  new-blocks v = same-or-not v t (λ e. rw (e, new-entry) refl) (λ ne. ap (λ (e : Entry). e .blocks) (new-other v ne .0))
-
-  new-retired : (v : Name) → isRetired ((l₂ .book .entry v) .stage) ≡ isRetired ((l .book .entry v) .stage)
-  new-retired v = same-or-not v t (λ e. rw (e, new-entry, runs) refl) (λ ne. ap (λ (e : Entry). isRetired (e .stage)) (new-other v ne .0))
-
   new-total : (n : ℕ) → recordBlocks (l₂ .book) c (l .book .oldest c) n ≡ recordBlocks (l .book) c (l .book .oldest c) n
-  new-total n = records-same (l .book) (l₂ .book) c (l .book .oldest c) n (λ j a b. ap length (new-blocks (newName c j)))
+  new-total n = rw (close-book l c) (restages-records new c (l .book .oldest c) n)
 
   -- the next one to open
   unopened : (l₂ .book .entry (newName c (suc (l .book .next c)))) .stage ≡ absent
@@ -192,7 +182,7 @@ module _ {l : Ledger} {w : World} (u : Up l w) (c : ℕ) (in-range : c < l .shap
         stands = rw same-contents (j .stands);
         clear = rw (new-numbers .1 c) (j .clear);
         room = rw (new-numbers .0 c, new-next, z, new-total (suc (n - o)), total) (j .reserved (ap isRunning runs));
-        reserved = rw new-next (λ h. absurd (let y : isRunning ((l₂ .book .entry (newName c (suc n))) .stage) ≡ false = ap isRunning unopened in let q : _≡_ {A = ℕ} 0 1 = cc in omega arith));
+        reserved = rw new-next (λ h. clash h (ap isRunning unopened));
       }
 
   disk-stands : DiskStands l₂ (w .disk) (tailOf (w .card))
@@ -217,13 +207,13 @@ module _ {l : Ledger} {w : World} (u : Up l w) (c : ℕ) (in-range : c < l .shap
   matches = u .cores c in-range .runs (ap isRunning runs)
 
   few : length (taken (x .running)) ≤ 8
-  few = rw (matches .blocks) (u .fine .limits t (λ e. let z : _≡_ {A = ℕ} 0 1 = cc (runs, e) in omega arith) .few)
+  few = rw (matches .blocks) (u .fine .limits t (running-present _ runs) .few)
 
   eight : c < 8
   eight = omega (arith, u .fine .range .few-cores)
 
   low-next : l .book .next c ≤ 4000000000
-  low-next = u .fine .limits t (λ e. let z : _≡_ {A = ℕ} 0 1 = cc (runs, e) in omega arith) .high
+  low-next = u .fine .limits t (running-present _ runs) .high
 
   low-closes : suc (l .closes) ≤ 32000000008
   low-closes =
@@ -235,10 +225,10 @@ module _ {l : Ledger} {w : World} (u : Up l w) (c : ℕ) (in-range : c < l .shap
       let bs = (l .book .entry t) .blocks in
       let b = getD bs i 0 in
       let m : List·Memᴰ b bs = getD-mem bs i 0 h in
-      let g : b < l .shape .blocks = u .fine .limits t (λ e. let z : _≡_ {A = ℕ} 0 1 = cc (runs, e) in omega arith) .blocks b m in
+      let g : b < l .shape .blocks = u .fine .limits t (running-present _ runs) .blocks b m in
       let e : b % 64 ≡ b = omega (arith, u .fine .range .few-blocks) in
       let held : (holderOf (w .card) b) .held ≡ true = ap (λ (h : Holder). h .held) (u .holders b g ∙ ap holderAs (holds b m)) in
-      rw (new-images, matches .blocks)
+      rw (close-images l c, matches .blocks)
       ((rw zero-add at (copied-in c eight bs 0 (w .memory) (u .memory) (omega (arith, few, ap length (matches .blocks))) i h))
       ∙ rw e (u .images b g held)
       ∙ sym (getD-map-in (imageNow l) bs i 0 [] h))
@@ -273,12 +263,12 @@ module _ {l : Ledger} {w : World} (u : Up l w) (c : ℕ) (in-range : c < l .shap
       record {
         next = rw (new-next, number) refl;
         used = rw (new-numbers .0 c, new-numbers .1 c, new-total (l .book .uncommitted c - l .book .oldest c)) (y .used);
-        runs = rw new-next (λ h. absurd (let z : isRunning ((l₂ .book .entry (newName c (suc n))) .stage) ≡ false = ap isRunning unopened in let q : _≡_ {A = ℕ} 0 1 = cc in omega arith));
+        runs = rw new-next (λ h. clash h (ap isRunning unopened));
         idle = λ _. refl;
         closing =
             rw (new-numbers .1 c, new-next, free, new-entry)
             (λ _. record { live = matches .live; blocks = matches .blocks; count = matches .count; names = matches .names; named = matches .named; block-room = matches .block-room; name-room = matches .name-room });
-        stored = rw (new-numbers .1 c, new-next, free, new-entry, new-stamp) (λ _. (refl, stamp));
+        stored = rw (new-numbers .1 c, new-next, free, new-entry, close-stamp l c) (λ _. (refl, stamp));
         copies = rw (new-numbers .1 c, new-next, free, new-entry) (λ _. copied-image);
         none-closing = rw (new-numbers .1 c, new-next) (λ h. absurd (omega arith));
         homed = rw (new-numbers .0 c, new-numbers .1 c) (λ h. rw (new-other (newName c (l .book .oldest c)) (other-number c (omega arith)) .0) (y .homed h));
@@ -313,7 +303,7 @@ module _ {l : Ledger} {w : World} (u : Up l w) (c : ℕ) (in-range : c < l .shap
         fine = fine;
         disk = disk-stands;
         cores = close-core;
-        holders = λ b h. u .holders b h ∙ ap holderAs (sym (holder-same (l .book) (l₂ .book) new-retired b (l .book .writes)));
+        holders = λ b h. u .holders b h ∙ ap holderAs (sym (close-holder c (l .book) runs b (l .book .writes)));
         images =
             λ b h g.
             copied-other c eight (taken (x .running)) 0 (w .memory) (u .memory) (omega (arith, few)) b (λ j p q. images-apart c eight b j (omega (arith, u .fine .range .few-blocks)))

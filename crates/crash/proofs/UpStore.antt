@@ -1,48 +1,47 @@
 -- STORE keeps card and ledger in agreement: what it stores is the next block of the closed transaction's record, and it
 -- stands right after what its journal holds. The journal has room for the record, so nothing live is overwritten; the
 -- block is no commit of a number that is still uncommitted afterwards.
-use Prim.Native.Nat.{ℕ, zero, suc, _+_, _-_, _*_, _%_, _≤_, _<_}
+use Prim.Native.Nat.{ℕ, zero, suc, _+_, _-_, _*_, _≤_, _<_}
 use native.Mathlib.Omega.{arith}
 use native.Mathlib.Decide.{decLt, ℕ-discrete}
 use mathlib.Core.Path.{_≡_, refl, ap, ap₂, _∙_, sym, subst}
-use mathlib.Core.Logic.{_⊎_, inl, inr, _≢_}
-use mathlib.Core.Bool.{Bool, true, false, cond}
-use mathlib.Core.List.{List, [], _∷_, _++_, map, flatMap, append-assoc, append-nil, map-append}
-use lib.ListN.{length, take, getD, set, length-append, length-map, length-set, List·getD-append, List·getD-map}
-use lib.Seq.{getD-at, take-suc, take-all, length-take-le, getD-set-same, getD-set-other}
-use lib.Dec.{leb, eqb}
-use borrow.Author.Tests.{le-leb, lt-leb, leb-true, leb-false, eq-eqb, ne-eqb}
+use mathlib.Core.Logic.{_≢_}
+use mathlib.Core.Bool.{true, false}
+use mathlib.Core.List.{List, [], _∷_, _++_, map, flatMap, append-assoc, append-nil}
+use lib.ListN.{length, take, getD, length-append, length-map, length-set, List·getD-append, List·getD-map}
+use lib.Seq.{getD-at, take-suc, take-all, length-take-le}
+use lib.Dec.{leb}
+use borrow.Author.Tests.{le-leb, lt-leb, eq-eqb, ne-eqb}
 use Rattle.model.specs.Lists.{below}
-use Rattle.model.specs.Bytes.{Bytes, blockAt, be4, part, number, block, store as storeBlock}
+use Rattle.model.specs.Bytes.{Bytes, blockAt, be4, part, number, store as storeBlock}
 use Rattle.model.specs.Shape.{homeBlock, journalBlock}
-use Rattle.model.specs.Card.{newName, noTransaction, taken, listed, recordSize, shapeOf, tailOf, coreOf, holderOf, withCore}
-use Rattle.model.specs.Layout.{Held, newHeld, hasHead, flagOf, escaped, descriptorBlock, commitBlock, isCommit}
+use Rattle.model.specs.Card.{newName, recordSize, shapeOf, tailOf, coreOf, holderOf, withCore}
+use Rattle.model.specs.Layout.{newHeld, hasHead, flagOf, escaped, descriptorBlock, commitBlock, isCommit}
 use Rattle.model.specs.Journal.{journalAt}
 use Rattle.model.specs.Command.{World}
 use Rattle.model.specs.Commit.{copyBlock, heldCopies, nextStored, nextPosition, coreStored, stored}
-use Rattle.model.specs.declared.Shape.{Shape}
 use Rattle.model.specs.declared.Name.{Name}
-use Rattle.model.specs.declared.Tail.{Tail}
 use Rattle.model.specs.declared.Core.{Core}
-use Rattle.model.specs.declared.Card.{Card}
 use Rattle.model.proofs.Limits.{clamped-same}
-use Rattle.model.proofs.Lists.{cases, flatMap-append, length-below}
+use Rattle.model.proofs.Lists.{cases, flatMap-append}
 use Rattle.model.proofs.Store.{length-store, block-stored, block-other}
 use Rattle.model.proofs.Words.{each-block}
 use Rattle.model.proofs.Encoding.{length-descriptor, length-commit, length-escaped, descriptor-head, commit-head, head-other, no-commit, escaped-head}
 use Rattle.model.proofs.Journal.{journal-low, home-apart, cores-apart, journal-apart}
-use Rattle.crash.specs.Book.{Stage, absent, closed, committed, isRunning, isClosed, isRetired, counted, Entry, Book, change, staged, store}
+use Rattle.crash.specs.Book.{closed, committed, isClosed, counted, Entry, Book, raise, staged, store}
 use Rattle.crash.specs.Ledger.{Ledger, withBook, imageNow, recordBlocks}
-use Rattle.crash.specs.Claims.{IsBytes}
-use Rattle.crash.proofs.Relation.{IsBlock, Frozen, Fine, heldOf, recordOf, contents, JournalStands, DiskStands, Matches, CoreUp, holderAs, Up}
-use Rattle.crash.proofs.Stages.{stored-unretired, closed-present}
+use Rattle.crash.proofs.Relation.{IsBlock, Fine, heldOf, recordOf, contents, JournalStands, DiskStands, CoreUp, holderAs, Up}
+use Rattle.crash.proofs.Stages.{stored-unretired}
+
 use Rattle.crash.proofs.Records.{record-sound, length-record}
-use Rattle.crash.proofs.Entries.{other-number, other-core, change-at, change-other, change-by, same-or-not, raise-at, raise-other, holder-same, records-same, records-snoc}
-use Rattle.crash.proofs.Frames.{SameClosed, core-set, core-other, bytes-append, bytes-store, each-isBytes, escaped-bytes, map-below, record-same, contents-same, flatMap-below, none-stored, journal-stays, core-stays}
+use Rattle.crash.proofs.Entries.{other-number, other-core, change-at, raise-at, raise-other, records-snoc}
+use Rattle.crash.proofs.Books.{Restages, restaged, restages-records, storedStage, store-restages, store-more, store-last, store-holder}
+use Rattle.crash.proofs.Blocks.{bytes-store, each-isBytes, escaped-bytes}
+use Rattle.crash.proofs.Frames.{SameClosed, core-set, core-other, map-below, record-same, flatMap-below, none-stored, journal-stays, core-stays}
 
 -- ---- the blocks of a record, one by one
 module _ {l : Ledger} (f : Fine l) (t : Name) (h : isClosed ((l .book .entry t) .stage) ≡ true) where
-  pub record-each : (P : ℕ → Bytes → Type 0) → P 0 (descriptorBlock (t .number) (heldOf l t))
+  record-each : (P : ℕ → Bytes → Type 0) → P 0 (descriptorBlock (t .number) (heldOf l t))
       → ((i : ℕ) → i < length (l .images t) → P (suc i) (escaped (getD (l .images t) i [])))
       → P (suc (length (l .images t))) (commitBlock (t .number) (l .stamp t) ((l .book .entry t) .names))
       → (i : ℕ) → i < length (recordOf l t) → P i (getD (recordOf l t) i [])
@@ -58,7 +57,7 @@ module _ {l : Ledger} (f : Fine l) (t : Name) (h : isClosed ((l .book .entry t) 
             subst (λ (j : ℕ). P (suc j) (getD (map escaped (l .images t) ++ (last ∷ [])) j [])) e (subst (P (suc (length (l .images t)))) (sym (getD-at (map escaped (l .images t)) last [] [] (length (l .images t)) n)) c))
       ]
 
-  pub record-blocks : (i : ℕ) → i < length (recordOf l t) → IsBlock (getD (recordOf l t) i [])
+  record-blocks : (i : ℕ) → i < length (recordOf l t) → IsBlock (getD (recordOf l t) i [])
   unfolding descriptorBlock commitBlock
   record-blocks =
       let s = record-sound f t h in
@@ -70,7 +69,7 @@ module _ {l : Ledger} (f : Fine l) (t : Name) (h : isClosed ((l .book .entry t) 
       (record { size = length-commit (t .number) (l .stamp t) ((l .book .entry t) .names) (s .short); bytes = each-isBytes _ (each-block _) })
 
   -- none is a commit of a higher number; only the last is a commit
-  pub record-clear : (i n : ℕ) → i < length (recordOf l t) → t .number ≤ n → (suc i ≡ length (recordOf l t) → t .number < n)
+  record-clear : (i n : ℕ) → i < length (recordOf l t) → t .number ≤ n → (suc i ≡ length (recordOf l t) → t .number < n)
       → isCommit (l .shape) n (getD (recordOf l t) i []) ≡ false
   record-clear i n g low last =
       let s = record-sound f t h in
@@ -103,7 +102,7 @@ pub shape-up : {l : Ledger} {w : World} → Up l w → shapeOf (w .card) ≡ l .
 unfolding shapeOf
 shape-up {l} {w} u = rw (u .shape) (clamped-same (l .shape) (u .fine .range))
 
-pub held-copies : (l : Ledger) (t : Name) (c : ℕ) (m : Bytes)
+held-copies : (l : Ledger) (t : Name) (c : ℕ) (m : Bytes)
     → ((i : ℕ) → i < length ((l .book .entry t) .blocks) → blockAt m (copyBlock c i) ≡ getD (l .images t) i [])
     → heldCopies c ((l .book .entry t) .blocks) m ≡ heldOf l t
 unfolding heldCopies heldOf
@@ -184,16 +183,11 @@ module _ {l : Ledger} {w : World} (u : Up l w) (c : ℕ) (in-range : c < l .shap
       omega (arith, u .cores c in-range .used)
 
   -- ---- the ledger afterwards
-  new-other : (v : Name) → v ≢ t → k₂ .entry v ≡ l .book .entry v
-  unfolding store
-  new-other v ne = change-other t _ (l .book .entry) v ne
-
-  new-by : {A : Type 0} (f : Entry → A) → ((g : Stage) → f (staged g (l .book .entry t)) ≡ f (l .book .entry t)) → (v : Name) → f (k₂ .entry v) ≡ f (l .book .entry v)
-  unfolding store
-  new-by f h v = change-by t _ (l .book .entry) f (h _) v
+  abbrev new : Restages (l .book) k₂ t (storedStage (l .book .entry t))
+  new = store-restages c (l .book)
 
   new-record : (v : Name) → recordOf l₂ v ≡ recordOf l v
-  new-record v = record-same l l₂ v (new-by (λ (e : Entry). e .blocks) (λ g. refl) v) (new-by (λ (e : Entry). e .names) (λ g. refl) v) refl refl
+  new-record v = record-same l l₂ v (new .blocks v) (new .names v) refl refl
 
   new-uncommitted : (a : ℕ) → a ≢ c → k₂ .uncommitted a ≡ l .book .uncommitted a
   unfolding store
@@ -211,23 +205,21 @@ module _ {l : Ledger} {w : World} (u : Up l w) (c : ℕ) (in-range : c < l .shap
         oldest = same-numbers .0 a;
         uncommitted = new-uncommitted a ne;
         next = same-numbers .1 a;
-        entry = λ i h. new-other (newName a i) (other-core i (l .book .uncommitted c) ne);
+        entry = λ i h. new .other (newName a i) (other-core i (l .book .uncommitted c) ne);
         stamp = λ i h. refl;
         images = λ i h. refl;
       }
 
   -- the block was not the last
   module _ (more : x .stored ≤ length ((l .book .entry t) .blocks)) where
-    not-last : leb (length ((l .book .entry t) .blocks) + 2) (suc (counted ((l .book .entry t) .stage))) ≡ false
-    not-last = rw stage-now (lt-leb (length ((l .book .entry t) .blocks) + 2) (suc (x .stored)) (omega arith))
+    more-store : k₂ ≡ restaged t (closed (suc (x .stored))) (l .book .oldest) (l .book .uncommitted) (l .book .next) (l .book)
+    more-store = store-more c (x .stored) (l .book) stage-now (omega arith)
 
     more-entry : k₂ .entry t ≡ staged (closed (suc (x .stored))) (l .book .entry t)
-    unfolding store
-    more-entry = change-at t _ (l .book .entry) ∙ rw (not-last, stage-now) refl
+    more-entry = ap (λ (k : Book). k .entry t) more-store ∙ change-at t (staged (closed (suc (x .stored)))) (l .book .entry)
 
     more-uncommitted : k₂ .uncommitted c ≡ l .book .uncommitted c
-    unfolding store
-    more-uncommitted = rw not-last
+    more-uncommitted = ap (λ (k : Book). k .uncommitted c) more-store
 
     more-contents : contents l₂ c ≡ contents l c ++ (getD (recordOf l t) (x .stored) [] ∷ [])
     unfolding contents
@@ -241,16 +233,14 @@ module _ {l : Ledger} {w : World} (u : Up l w) (c : ℕ) (in-range : c < l .shap
 
   -- the block was the last
   module _ (last : length ((l .book .entry t) .blocks) < x .stored) where
-    is-last : leb (length ((l .book .entry t) .blocks) + 2) (suc (counted ((l .book .entry t) .stage))) ≡ true
-    is-last = rw stage-now (le-leb (length ((l .book .entry t) .blocks) + 2) (suc (x .stored)) (omega arith))
+    last-store : k₂ ≡ restaged t (committed 0) (l .book .oldest) (raise c (l .book .uncommitted)) (l .book .next) (l .book)
+    last-store = store-last c (x .stored) (l .book) stage-now (omega (arith, within))
 
     last-entry : k₂ .entry t ≡ staged (committed 0) (l .book .entry t)
-    unfolding store
-    last-entry = change-at t _ (l .book .entry) ∙ rw is-last refl
+    last-entry = ap (λ (k : Book). k .entry t) last-store ∙ change-at t (staged (committed 0)) (l .book .entry)
 
     last-uncommitted : k₂ .uncommitted c ≡ suc (l .book .uncommitted c)
-    unfolding store
-    last-uncommitted = rw is-last (raise-at c (l .book .uncommitted))
+    last-uncommitted = ap (λ (k : Book). k .uncommitted c) last-store ∙ raise-at c (l .book .uncommitted)
 
     next-is : l .book .next c ≡ suc (l .book .uncommitted c)
     next-is = omega (arith, u .fine .ranks c in-range .high)
@@ -267,7 +257,7 @@ module _ {l : Ledger} {w : World} (u : Up l w) (c : ℕ) (in-range : c < l .shap
         let a : o + n ≡ l .book .uncommitted c = omega (arith, r .low) in
         let e : flatMap (λ (i : ℕ). recordOf l₂ (newName c (o + i))) (below (suc n)) ≡ flatMap f (below (suc n)) = flatMap-below _ _ (suc n) (λ i h. new-record (newName c (o + i))) in
         let z : counted ((k₂ .entry v) .stage) ≡ 0 =
-        ap (λ (e : Entry). counted (e .stage)) (new-other v (other-number c (omega arith))) ∙ (rw next-is at (none-stored l (u .fine) c in-range)) in
+        ap (λ (e : Entry). counted (e .stage)) (new .other v (other-number c (omega arith))) ∙ (rw next-is at (none-stored l (u .fine) c in-range)) in
         let whole : flatMap f (below (suc n)) ≡ flatMap f (below n) ++ recordOf l t =
         flatMap-append f (below n) (n ∷ []) ∙ ap (λ (b : List Bytes). flatMap f (below n) ++ b) (append-nil (f n) ∙ ap (λ (i : ℕ). recordOf l (newName c i)) a) in
         let all : take (x .stored) (recordOf l t) ++ (getD (recordOf l t) (x .stored) [] ∷ []) ≡ recordOf l t =
@@ -286,17 +276,8 @@ module _ {l : Ledger} {w : World} (u : Up l w) (c : ℕ) (in-range : c < l .shap
   new-low : l .book .uncommitted c ≤ k₂ .uncommitted c
   new-low = by-last (λ h. omega (arith, more-uncommitted h)) (λ h. omega (arith, last-uncommitted h))
 
-  new-retired : (v : Name) → isRetired ((k₂ .entry v) .stage) ≡ isRetired ((l .book .entry v) .stage)
-  new-retired v =
-      same-or-not v t
-      (λ e. rw e (by-last (λ h. rw (more-entry h, stage-now) refl) (λ h. rw (last-entry h, stage-now) refl)))
-      (λ ne. ap (λ (e : Entry). isRetired (e .stage)) (new-other v ne))
-
-  new-total : (n : ℕ) → recordBlocks k₂ c (l .book .oldest c) n ≡ recordBlocks (l .book) c (l .book .oldest c) n
-  new-total n = records-same (l .book) k₂ c (l .book .oldest c) n (λ j a b. new-by (λ (e : Entry). length (e .blocks)) (λ g. refl) (newName c j))
-
   running-stays : k₂ .entry (newName c (l .book .next c)) ≡ l .book .entry (newName c (l .book .next c))
-  running-stays = new-other (newName c (l .book .next c)) (other-number c (omega arith))
+  running-stays = new .other (newName c (l .book .next c)) (other-number c (omega arith))
 
   -- ---- the disk afterwards
   abbrev at : ℕ
@@ -348,8 +329,8 @@ module _ {l : Ledger} {w : World} (u : Up l w) (c : ℕ) (in-range : c < l .shap
                   rw z (record-clear (u .fine) t closed-now (x .stored) i (omega (arith, size, within)) (omega (arith, new-low)) (λ g. omega (arith, size, last-uncommitted (omega (arith, size))))))
               | no ne ↦ ap (isCommit (l .shape) i) (elsewhere (journalBlock (l .shape) c q) ne) ∙ j .clear i q (omega (arith, new-low))
             ];
-        room = rw (same-numbers .0 c, same-numbers .1 c, new-total (l .book .next c - l .book .oldest c)) (j .room);
-        reserved = rw (same-numbers .0 c, same-numbers .1 c, new-total (l .book .next c - l .book .oldest c), running-stays) (j .reserved);
+        room = rw (same-numbers .0 c, same-numbers .1 c, restages-records new c (l .book .oldest c) (l .book .next c - l .book .oldest c)) (j .room);
+        reserved = rw (same-numbers .0 c, same-numbers .1 c, restages-records new c (l .book .oldest c) (l .book .next c - l .book .oldest c), running-stays) (j .reserved);
       }
 
   disk-stands : DiskStands l₂ (storeBlock (w .disk) at b) (tailOf (w .card))
@@ -365,7 +346,7 @@ module _ {l : Ledger} {w : World} (u : Up l w) (c : ℕ) (in-range : c < l .shap
             λ a h.
             elim (ℕ-discrete a c) [
               | yes e ↦ subst (λ (i : ℕ). JournalStands l₂ d₂ i (tailOf (w .card) i)) (sym e) own-journal
-              | no ne ↦ (let v = new-other (newName a (l .book .next a)) (other-core (l .book .next a) (l .book .uncommitted c) ne) in
+              | no ne ↦ (let v = new .other (newName a (l .book .next a)) (other-core (l .book .next a) (l .book .uncommitted c) ne) in
                   journal-stays l (u .fine) a h l₂ (others a ne) (w .disk) d₂ (tailOf (w .card) a)
                   (rw v (none-stored l (u .fine) a h)) (rw v (u .disk .journals a h .reserved))
                   (λ q. elsewhere (journalBlock (l .shape) a q) (cores-apart (l .shape) a q c p (omega (arith, u .fine .range .long)) ne)) (u .disk .journals a h))
@@ -389,14 +370,14 @@ module _ {l : Ledger} {w : World} (u : Up l w) (c : ℕ) (in-range : c < l .shap
       rw (m .blocks, le-leb (x .stored) (length bs) h)
       (record {
         next = rw (same-numbers .1 c) (y .next);
-        used = rw (same-numbers .0 c, v, new-total (n - o)) (y .used);
+        used = rw (same-numbers .0 c, v, restages-records new c (l .book .oldest c) (n - o)) (y .used);
         runs = rw (same-numbers .1 c, running-stays) (y .runs);
         idle = rw (same-numbers .1 c, running-stays) (y .idle);
         closing = rw (same-numbers .1 c, v, e) (λ _. record { live = m .live; blocks = m .blocks; count = m .count; names = m .names; named = m .named; block-room = m .block-room; name-room = m .name-room });
         stored = rw (same-numbers .1 c, v, e) (λ _. (ap closed (omega arith), y .stored busy .1));
         copies = rw (same-numbers .1 c, v, e) (y .copies);
         none-closing = rw (same-numbers .1 c, v) (y .none-closing);
-        homed = rw (same-numbers .0 c, v) (λ g. rw (new-other (newName c o) (other-number c (omega arith))) (y .homed g));
+        homed = rw (same-numbers .0 c, v) (λ g. rw (new .other (newName c o) (other-number c (omega arith))) (y .homed g));
         none-homed = rw (same-numbers .0 c, v) (y .none-homed);
       }))
       (λ h.
@@ -408,7 +389,7 @@ module _ {l : Ledger} {w : World} (u : Up l w) (c : ℕ) (in-range : c < l .shap
       rw (m .blocks, lt-leb (x .stored) (length bs) h)
       (record {
         next = rw (same-numbers .1 c) (y .next);
-        used = rw (same-numbers .0 c, v, z, new-total (suc (n - o)), total) (omega (arith, y .used, room, u .fine .range .short));
+        used = rw (same-numbers .0 c, v, z, restages-records new c (l .book .oldest c) (suc (n - o)), total) (omega (arith, y .used, room, u .fine .range .short));
         runs = rw (same-numbers .1 c, running-stays) (y .runs);
         idle = rw (same-numbers .1 c, running-stays) (y .idle);
         closing = rw (same-numbers .1 c, v) (λ g. absurd (omega (arith, r .high)));
@@ -420,7 +401,7 @@ module _ {l : Ledger} {w : World} (u : Up l w) (c : ℕ) (in-range : c < l .shap
             (λ _.
             elim (ℕ-discrete o n) [
               | yes q ↦ rw (q, e, y .none-homed q) refl
-              | no ne ↦ rw (new-other (newName c o) (other-number c ne)) (y .homed (omega (arith, r .low)))
+              | no ne ↦ rw (new .other (newName c o) (other-number c ne)) (y .homed (omega (arith, r .low)))
             ]);
         none-homed = rw (same-numbers .0 c, v) (λ g. absurd (omega (arith, r .low)));
       }))
@@ -430,7 +411,7 @@ module _ {l : Ledger} {w : World} (u : Up l w) (c : ℕ) (in-range : c < l .shap
       elim (ℕ-discrete a c) [
         | yes e ↦ (let n : c < length (w .card .cores) = omega (arith, u .eight-cores, u .fine .range .few-cores) in
             rw (e, core-set (w .card) c (coreStored x) n) own-core)
-        | no ne ↦ (let v = new-other (newName a (l .book .next a)) (other-core (l .book .next a) (l .book .uncommitted c) ne) in
+        | no ne ↦ (let v = new .other (newName a (l .book .next a)) (other-core (l .book .next a) (l .book .uncommitted c) ne) in
             let y = u .cores a h in
             rw (core-other (w .card) c (coreStored x) a ne)
             (core-stays l (u .fine) a h l₂ (others a ne) (w .memory) (w .memory) (coreOf (w .card) a) ((coreOf (w .card) a) .running)
@@ -453,7 +434,7 @@ module _ {l : Ledger} {w : World} (u : Up l w) (c : ℕ) (in-range : c < l .shap
         fine = fine;
         disk = subst (λ (d : Bytes). DiskStands l₂ d (tailOf (w .card))) (sym stored-disk) disk-stands;
         cores = store-core;
-        holders = λ b h. u .holders b h ∙ ap holderAs (sym (holder-same (l .book) k₂ new-retired b (l .book .writes)));
+        holders = λ b h. u .holders b h ∙ ap holderAs (sym (store-holder c (x .stored) (l .book) stage-now b (l .book .writes)));
         images = u .images;
       }
 
