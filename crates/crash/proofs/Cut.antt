@@ -18,7 +18,7 @@ use Rattle.crash.specs.Book.{Write, isRetired, kept, keptWrites, image, 
 use Rattle.crash.specs.Ledger.{Ledger, validIn}
 use Rattle.crash.proofs.Tests.{clash, any-in, in-any, nameEquality}
 use Rattle.crash.proofs.History.{value, keep, Pick, recovered, recovers}
-use Rattle.crash.proofs.Largest.{memberOf, stageOf, Numbered, valid-is-kept}
+use Rattle.crash.proofs.Largest.{memberOf, stageOf, RetiredBelow, valid-is-kept}
 use Rattle.crash.proofs.Invariant.{history, image-history, areaBefore, historyOf, tookIn, homed, status, Inv, opened-of, sound-of}
 
 -- ---- the kept writes
@@ -90,7 +90,7 @@ newest-holder l b = as-tests (highest (tookIn (l .book) b) (l .stamp) (validIn (
 abbrev pub blockAfter : (ℕ → Bytes) → Ledger → ℕ → Option Name → Bytes
 blockAfter home l b = recovered nameEquality (areaBefore l b) (home b) (historyOf l b)
 
-module _ {home : ℕ → Bytes} {l : Ledger} (v : Inv home l) (numbered : Numbered (l .book)) (b : ℕ) where
+module _ {home : ℕ → Bytes} {l : Ledger} (v : Inv home l) (numbered : RetiredBelow (l .book)) (b : ℕ) where
   valid-is : (t : Name) → memberOf (validIn (l .book)) t ≡ (memberOf (kept (l .book)) t && not (isRetired (stageOf (l .book) t)))
   valid-is = valid-is-kept (l .book) (opened-of (l .book) (v .known)) numbered (v .retired-kept)
 

@@ -16,7 +16,7 @@ use Rattle.model.specs.Card.{newName, sameName}
 use Rattle.model.specs.declared.Name.{Name}
 use Rattle.model.proofs.Lists.{cases}
 use Rattle.model.proofs.Valid.{sameName-true, sameName-refl}
-use Rattle.crash.specs.Book.{running, isClosed, isRetired, Entry, Write, Book, change, raise, taking, naming, holderIn, Meeting, no-holder, own, running-holder, closed-holder, meets, ruled}
+use Rattle.crash.specs.Book.{isClosed, isRetired, Entry, Write, Book, change, raise, taking, naming, holderIn, Meeting, no-holder, own, running-holder, closed-holder, meets, ruled}
 use Rattle.crash.specs.Ledger.{recordBlocks}
 
 -- ---- names

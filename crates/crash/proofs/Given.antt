@@ -15,13 +15,13 @@ use Rattle.model.proofs.Shrink.{shrink-within}
 use Rattle.crash.specs.Book.{isClosed}
 use Rattle.crash.specs.Ledger.{Ledger, unretired, metIn, validIn, blocksIn}
 use Rattle.crash.proofs.Tests.{clash, any-in, in-any, nameEquality, blockEquality}
-use Rattle.crash.proofs.Largest.{stageOf, Numbered}
+use Rattle.crash.proofs.Largest.{stageOf, RetiredBelow}
 use Rattle.crash.proofs.Invariant.{Inv, committed-closed, tookIn, imageAt}
 use Rattle.crash.proofs.Images.{Imaged, image-of-closed}
 use Rattle.crash.proofs.Cut.{NewestHolder, newest-holder, gives}
 use Rattle.crash.proofs.Relation.{Newest, target}
 
-module _ {home : ℕ → Bytes} {l : Ledger} (v : Inv home l) (imaged : Imaged l) (numbered : Numbered (l .book)) where
+module _ {home : ℕ → Bytes} {l : Ledger} (v : Inv home l) (imaged : Imaged l) (numbered : RetiredBelow (l .book)) where
   held-by : (b : ℕ) → List·Memᴰ b (blocksIn (l .shape .blocks) (l .book)) → (t : Name) × List·Memᴰ t (validIn (l .book)) × So (tookIn (l .book) b t)
   unfolding blocksIn
   held-by b m = any-mem (tookIn (l .book) b) (validIn (l .book)) (select-mem _ (below (l .shape .blocks)) b m .1)

@@ -134,8 +134,8 @@ largest-kept k =
     }
 
 -- of the names that committed ones list, those below their core's oldest number are those of the retired
-abbrev pub Numbered : Book → Type 0
-Numbered k = (t u : Name) → So (isCommitted (stageOf k t)) → So (listsName k t u) → ltb (u .number) (k .oldest (u .core)) ≡ isRetired (stageOf k u)
+abbrev pub RetiredBelow : Book → Type 0
+RetiredBelow k = (t u : Name) → So (isCommitted (stageOf k t)) → So (listsName k t u) → ltb (u .number) (k .oldest (u .core)) ≡ isRetired (stageOf k u)
 
 module _ (k : Book) (opened : (t : Name) → So (isCommitted (stageOf k t)) → List·Memᴰ t (k .opened)) where
   pub kept-largest : Largest (λ t. isCommitted (stageOf k t)) (listsName k) (λ t. false) (memberOf (kept k))
@@ -147,7 +147,7 @@ module _ (k : Book) (opened : (t : Name) → So (isCommitted (stageOf k t)) → 
   unfolding unretired
   unretired-is = member-select (λ t. isCommitted (stageOf k t) && not (isRetired (stageOf k t))) (k .opened) (λ t h. opened t (and-left _ _ h))
 
-  module _ (numbered : Numbered k) where
+  module _ (numbered : RetiredBelow k) where
     pub valid-largest : Largest (λ t. isCommitted (stageOf k t) && not (isRetired (stageOf k t))) (listsName k) (λ t. isRetired (stageOf k t)) (memberOf (validIn k))
     unfolding validIn metIn
     valid-largest =

@@ -46,13 +46,13 @@ module _ (t : Bytes) (at : ℕ) (on-tape : at < length t) where
       (λ h. rw h (sym (le-ltb _ n (omega (arith, l, ltb-false (length t) (at + 1 + n) h)))))
 
 -- bytes of a part of bytes
-take-bytes : (n : ℕ) (s : Bytes) → IsBytes s → IsBytes (take n s)
+pub take-bytes : (n : ℕ) (s : Bytes) → IsBytes s → IsBytes (take n s)
 unfolding all
 take-bytes zero s h = refl
 take-bytes (suc n) [] h = refl
 take-bytes (suc n) (x ∷ s) h = and-both (and-left (ltb x 256) _ h) (take-bytes n s (and-right (ltb x 256) _ h))
 
-drop-bytes : (n : ℕ) (s : Bytes) → IsBytes s → IsBytes (drop n s)
+pub drop-bytes : (n : ℕ) (s : Bytes) → IsBytes s → IsBytes (drop n s)
 unfolding all
 drop-bytes zero s h = h
 drop-bytes (suc n) [] h = refl

@@ -1,41 +1,51 @@
 -- The theorem: blank, up or down, card and ledger agree, and every command keeps it so. From one coming up to the next
 -- cut layer A and the bytes go together (`UpAt`); from a cut on what recovery gives is fixed (`DownBy`). The claims follow.
-use Prim.Native.Nat.{ℕ, zero, suc, _+_, _<_}
+use Prim.Native.Nat.{ℕ, zero, suc, _+_, _<_, _-_, _≤_}
 use native.Mathlib.Omega.{arith}
 use native.Mathlib.Decide.{decLt}
 use mathlib.Core.Path.{_≡_, refl, sym, ap, _∙_, subst}
 use mathlib.Core.Logic.{_⊎_, inl, inr, _≢_}
-use mathlib.Core.Option.{none, some}
-use mathlib.Core.Bool.{Bool, true, false, So, cond, not}
-use mathlib.Core.List.{List, [], _∷_, List·Memᴰ, _++_}
-use lib.ListN.{length, getD}
+use mathlib.Core.Option.{some}
+use mathlib.Core.Bool.{true≢false, Bool, true, false, So, cond, not, _&&_, _||_}
+use mathlib.Core.List.{List, [], _∷_, List·Memᴰ, _++_, List·Memᴰ·not-nil}
+use lib.ListN.{length, getD, drop, length-take, length-drop}
 use lib.Dec.{eqb, ltb}
-use borrow.Author.Tests.{eqb-true, eqb-false, eq-eqb, ltb-true, ltb-false}
+use borrow.Author.Tests.{eqb-true, eqb-false, ltb-true, ltb-false, leb-false, not-false}
 use Rattle.model.specs.Lists.{any}
-use Rattle.model.specs.Bytes.{Bytes, blockAt, zeroMemory}
+use Rattle.model.specs.Bytes.{Bytes, blockAt, zeroMemory, number, part}
 use Rattle.model.specs.Shape.{between, homeBlock, inRange}
-use Rattle.model.specs.Card.{newName, sameName, blankCard, isBlank, isUp, isDown, shapeOf, downCard}
-use Rattle.model.specs.Command.{World, Outcome, refusal, unstored}
+use Rattle.model.specs.Card.{newName, sameName, blankCard, isBlank, isUp, isDown, shapeOf, downCard, emptyCard, freshCard}
+use Rattle.model.specs.Command.{World, Outcome, refusal, unstored, wrongLength}
 use Rattle.model.specs.Commit.{closed, stored}
 use Rattle.model.specs.Checkpoint.{checkpointed}
 use Rattle.model.specs.Recovery.{cut, recovered}
-use Rattle.model.specs.Tape.{step}
+use Rattle.model.specs.Tape.{step, operandLength, operandLengths}
 use Rattle.model.proofs.Limits.{between-known, range-test}
-use Rattle.model.proofs.Command.{rowOf, refusedWith, step-refused, step-done}
+use Rattle.model.proofs.Command.{Numbered, rowOf, refusedWith, step-refused, step-done, Clear, refusal-clear, step-answer}
 use Rattle.model.specs.declared.Name.{Name}
 use Rattle.model.specs.declared.Shape.{Shape}
+use Rattle.model.specs.declared.Card.{Card}
+use Rattle.model.specs.declared.Phase.the-variants.{Blank}
 use Rattle.model.proofs.Lists.{cases, and-left, getD-mem}
 use Rattle.model.specs.Format.{formatted}
-use Rattle.crash.proofs.Format.{format-home, format-up}
+use Rattle.crash.proofs.Format.{format-home, format-up, down-start}
 use Rattle.crash.proofs.Recovery.{recover-home, recovered-home, recover-master, recover-stores, recover-up}
 use Rattle.crash.proofs.PhaseAnswers.{down-answers, blank-answers, up-answers}
-use Rattle.crash.specs.Book.{Book, Write, absent, running, committed, kept, image, blank, isCommitted, isRetired, isClosed, holderIn, store, checkpoint, keptWrites}
-use Rattle.crash.specs.Ledger.{Ledger, freshLedger, blankLedger, cutLedger, entered, refusalsOf, withBook, closeLedger, validIn, sharesLowerIn, recoverLedger, formatRefusals, writeRefusals, closeRefusals, storeRefusals, checkpointRefusals}
-use Rattle.crash.specs.Claims.{recoverStore}
-use Rattle.crash.proofs.Points.{Kept, Relates}
+use Rattle.crash.specs.Service.{noted}
+use Rattle.model.specs.Layout.{maxNumber}
+use Rattle.model.specs.Write.{written}
+use Rattle.crash.proofs.UpWrite.{write-up}
+use Rattle.crash.proofs.FineWrite.{fine-wrote}
+use Rattle.crash.proofs.Answers.{write-answers, close-answers, store-answers}
+use Rattle.crash.proofs.CheckpointRead.{checkpoint-refusal}
+use Rattle.crash.proofs.Records.{journals-read}
+use Rattle.crash.specs.Book.{Book, Write, absent, running, closed as closed-stage, committed, retired, kept, image, blank, isClosed, holderIn, store, checkpoint, keptWrites, Stage, isRunning, wrote, meets}
+use Rattle.crash.specs.Ledger.{Ledger, freshLedger, blankLedger, cutLedger, entered, refusalsOf, withBook, closeLedger, validIn, sharesLowerIn, recoverLedger, formatRefusals, writeRefusals, closeRefusals, storeRefusals, checkpointRefusals, notUpFor, namesCount, holderNames, recordBlocks}
+use Rattle.crash.specs.Claims.{recoverStore, IsBytes, JournalsRead, Claim, Demands}
+use Rattle.crash.proofs.Points.{Kept, Relates, take-bytes, drop-bytes, claimed, demanded}
 use Rattle.crash.proofs.Tests.{clash, any-in, in-any, nameEquality, blockEquality}
-use Rattle.crash.proofs.Largest.{stageOf, memberOf, listsName, Numbered, valid-is-kept}
-use Rattle.crash.proofs.Invariant.{Inv, tookIn, imageAt, opened-of}
+use Rattle.crash.proofs.Largest.{memberOf, RetiredBelow, valid-is-kept}
+use Rattle.crash.proofs.Invariant.{Inv, imageAt, opened-of}
 use Rattle.crash.proofs.Commands.{inv-fresh, inv-close, inv-store, inv-retire, inv-home-store, lower-retired}
 use Rattle.crash.proofs.Write.{home-current, open-holds, holder-took, inv-wrote}
 use Rattle.crash.proofs.Images.{Imaged, image-of-closed, imaged-fresh, imaged-close, imaged-store, imaged-retire, imaged-home-store, imaged-wrote}
@@ -43,7 +53,7 @@ use Rattle.crash.proofs.Relation.{Fine, Up, DownBy, target}
 use Rattle.crash.proofs.FineSteps.{fine-close, fine-store, fine-checkpoint, below-oldest}
 use Rattle.crash.proofs.Down.{cut-up, cut-down, cut-done, right-length}
 use Rattle.crash.proofs.Given.{held-newest, home-target}
-use Rattle.crash.proofs.UpStore.{store-up, store-homes}
+use Rattle.crash.proofs.UpStore.{store-up, store-homes, shape-up}
 use Rattle.crash.proofs.UpClose.{close-up}
 use Rattle.crash.proofs.UpCheckpoint.{checkpoint-up, home-stored, home-others, homes-stay}
 
@@ -56,7 +66,7 @@ pub record UpAt (l : Ledger) (w : World) : Type 0 where
   pub imaged : Imaged l
 
 -- names below a core's oldest number are those of retired transactions
-numbered : (l : Ledger) → Fine l → Numbered (l .book)
+numbered : (l : Ledger) → Fine l → RetiredBelow (l .book)
 numbered l f t u h n = below-oldest l f u (f .named t u (any-in nameEquality u _ n))
 
 module _ {l : Ledger} {w : World} (u : UpAt l w) where
@@ -300,3 +310,186 @@ module _ {l : Ledger} {w : World} (d : DownBy l w) (a : Bytes) where
       (by-command (λ (k : ℕ). refusal (refusalsOf k a l) ≡ 0 → Done l w k a) (λ h. absurd (refused-21 _ h))
       (λ h. absurd (refused-22 _ h)) (λ h. absurd (refused-22 _ h)) (λ h. absurd (refused-22 _ h)) (λ h. absurd (refused-22 _ h)) (λ _. cut-again) (λ _. recover-again)
       k known)
+
+-- ---- up
+running-is : (g : Stage) → isRunning g ≡ true → g ≡ running
+running-is absent h = absurd (true≢false (sym h))
+running-is running h = refl
+running-is (closed-stage n) h = absurd (true≢false (sym h))
+running-is (committed n) h = absurd (true≢false (sym h))
+running-is retired h = absurd (true≢false (sym h))
+
+module _ {l : Ledger} {w : World} (u : UpAt l w) (a : Bytes) where
+  abbrev core : ℕ
+  core = getD a 0 0
+
+  -- a holder is open: it took the block
+  holder-open : (b : ℕ) (n : Name) → holderIn (l .book) b (l .book .writes) ≡ some n → (l .book .entry n) .stage ≢ absent
+  holder-open b n h e =
+      List·Memᴰ·not-nil (subst (List·Memᴰ b) (u .up .fine .unopened n e .0) (any-in blockEquality b _ (holder-took (u .inv) b n h)))
+
+  -- what is known where no condition up to 5 holds
+  in-range-of : (ts : List (Bool × ℕ)) → Numbered ts → refusal (notUpFor core l ts) ≡ 0 → (core < l .shape .cores) × Clear ts
+  in-range-of ts n h =
+      let z = refusal-clear (notUpFor core l ts) (omega arith, (omega arith, (omega arith, n))) h in
+      (leb-false (l .shape .cores) core (z .1 .1 .0), z .1 .1 .1)
+
+  close-done : refusal (refusalsOf 3 a l) ≡ 0 → Done l w 3 a
+  unfolding refusalsOf closeRefusals rowOf entered
+  close-done h =
+      let z = in-range-of _ (omega arith, (omega arith, tt)) h in
+      let runs : (l .book .entry (newName core (l .book .next core))) .stage ≡ running = running-is _ (not-false _ (z .1 .0)) in
+      plain (omega arith) (at-up (close-at u core (z .0) runs (omega (arith, ltb-false (l .book .uncommitted core) (l .book .next core) (z .1 .1 .0), u .up .fine .ranks core (z .0) .mid))))
+
+  store-done : refusal (refusalsOf 4 a l) ≡ 0 → Done l w 4 a
+  unfolding refusalsOf storeRefusals rowOf entered noted
+  store-done h =
+      let z = in-range-of _ (omega arith, tt) h in
+      plain (omega arith) (at-up (store-at u core (z .0) (ltb-true _ _ (not-false _ (z .1 .0)))))
+
+  checkpoint-done : refusal (refusalsOf 5 a l) ≡ 0 → Done l w 5 a
+  unfolding refusalsOf checkpointRefusals rowOf entered noted
+  checkpoint-done h =
+      let z = in-range-of _ (omega arith, (omega arith, (omega arith, tt))) h in
+      plain (omega arith) (at-up (checkpoint-at u core (z .0) (ltb-true _ _ (not-false _ (z .1 .0))) (not-false _ (z .1 .1 .0)) (z .1 .1 .1 .0)))
+
+  cut-up-done : Done l w 6 a
+  unfolding rowOf entered
+  cut-up-done =
+      let e : (cut w) .world ≡ (unstored w downCard zeroMemory) .world =
+      ap (λ (o : Outcome). o .world) (cut-done w (right-length w (u .up .disk .size) (u .up .memory)) (ap isBlank (u .up .phase))) in
+      plain (omega arith) (at-down (subst (DownBy (cutLedger l)) e (cut-at u)))
+
+  -- WRITE, with operands of eight bytes
+  module _ (size : length a ≡ 8) (bytes : IsBytes a) where
+    abbrev b : ℕ
+    b = number 0 (part 1 2 a)
+
+    abbrev o : ℕ
+    o = getD a 3 0
+
+    abbrev v : Bytes
+    v = part 4 4 a
+
+    four : length v ≡ 4
+    unfolding part
+    four = simp (length-take, length-drop) (omega arith)
+
+    are-bytes : IsBytes v
+    unfolding part
+    are-bytes = take-bytes 4 (drop 4 a) (drop-bytes 4 a bytes)
+
+    write-at : (in-range : core < l .shape .cores) (low : b < l .shape .blocks) (inside : o ≤ 124)
+        → (ltb 12 (namesCount (wrote core b o v (l .book)) (newName core (l .book .next core)))
+        || ltb 12 (holderNames (wrote core b o v (l .book)) (meets (l .book) (newName core (l .book .next core)) (holderIn (l .book) b (l .book .writes))))) ≡ false
+        → ltb 8 (length (((wrote core b o v (l .book)) .entry (newName core (l .book .next core))) .blocks)) ≡ false
+        → ltb (l .shape .journal) (recordBlocks (l .book) core (l .book .oldest core) (l .book .next core - l .book .oldest core) + 2
+        + length (((wrote core b o v (l .book)) .entry (newName core (l .book .next core))) .blocks)) ≡ false
+        → (not (isRunning ((l .book .entry (newName core (l .book .next core))) .stage)) && ltb maxNumber (l .book .next core)) ≡ false
+        → UpAt (withBook l (wrote core b o v (l .book))) ((written core b o v w) .world)
+    unfolding written
+    write-at in-range low inside no-24 no-25 no-26 no-27 =
+        let f = u .up .fine in
+        let current = swap (f .ranks core in-range .current) in
+        record {
+          up =
+              write-up (u .up) core in-range b low o inside v four are-bytes (holder-open b)
+              (λ h. u .homes b low ∙ home-current (u .inv) b h) (ltb-false _ _ no-26)
+              (fine-wrote l f core in-range b o v low inside four are-bytes (running-holds u) (λ n x h. holder-open x n h) no-24 no-25 no-27);
+          home = u .home;
+          homes = u .homes;
+          inv = inv-wrote (u .inv) core b o v current;
+          imaged = imaged-wrote l (u .imaged) core b o v current;
+        }
+      where
+        swap : {A B : Type 0} → A ⊎ B → B ⊎ A
+        swap (inl x) = inr x
+        swap (inr x) = inl x
+
+    write-done : refusal (refusalsOf 2 a l) ≡ 0 → Done l w 2 a
+    unfolding refusalsOf writeRefusals rowOf entered noted
+    write-done h =
+        let z = in-range-of _ (omega arith, (omega arith, (omega arith, (omega arith, (omega arith, (omega arith, tt)))))) h in
+        let y = z .1 in
+        plain (omega arith)
+        (at-up (write-at (z .0) (leb-false (l .shape .blocks) b (y .0)) (ltb-false 124 o (y .1 .0)) (y .1 .1 .0) (y .1 .1 .1 .0) (y .1 .1 .1 .1 .0) (y .1 .1 .1 .1 .1 .0)))
+
+  up-answer : (k : ℕ) → between 1 k 7 ≡ true → (step k a w) .answer ≡ refusal (refusalsOf k a l)
+  unfolding refusalsOf rowOf
+  up-answer =
+      by-command (λ (k : ℕ). (step k a w) .answer ≡ refusal (refusalsOf k a l))
+      (up-answers (u .up) 1 a (inl refl))
+      (step-answer 2 a w ∙ write-answers (u .up) core (number 0 (part 1 2 a)) (getD a 3 0) (part 4 4 a) (λ _. holder-open (number 0 (part 1 2 a))))
+      (step-answer 3 a w ∙ close-answers (u .up) core)
+      (step-answer 4 a w ∙ store-answers (u .up) core)
+      (step-answer 5 a w ∙ checkpoint-refusal (u .up) core)
+      (up-answers (u .up) 6 a (inr (omega arith)))
+      (up-answers (u .up) 7 a (inr (omega arith)))
+
+  -- FORMAT is refused with 21, RECOVER with 23
+  up-21 : (ts : List (Bool × ℕ)) → refusal ((not (isBlank (l .phase)), 21) ∷ ts) ≡ 0 → ⊥
+  unfolding refusal
+  up-21 ts h = let e : isBlank (l .phase) ≡ false = ap isBlank (u .up .ledger) in omega (arith, (rw e at h))
+
+  up-23 : refusal ((isBlank (l .phase), 20) ∷ (isUp (l .phase), 23) ∷ []) ≡ 0 → ⊥
+  unfolding refusal
+  up-23 h =
+      let e : isBlank (l .phase) ≡ false = ap isBlank (u .up .ledger) in
+      let f : isUp (l .phase) ≡ true = ap isUp (u .up .ledger) in
+      omega (arith, (rw (e, f) at h))
+
+  up-keeps : (k : ℕ) → between 1 k 7 ≡ true → length a ≡ operandLength k → IsBytes a → Kept At l w k a
+  unfolding refusalsOf formatRefusals operandLength operandLengths
+  up-keeps k known size bytes =
+      kept-by (at-up u) k a (up-answer k known)
+      (by-command (λ (k : ℕ). length a ≡ operandLength k → refusal (refusalsOf k a l) ≡ 0 → Done l w k a)
+      (λ _ h. absurd (up-21 _ h)) (λ n. write-done n bytes) (λ _. close-done) (λ _. store-done) (λ _. checkpoint-done) (λ _ _. cut-up-done) (λ _ h. absurd (up-23 h))
+      k known size)
+
+-- ---- every command keeps the relation, and the claims follow
+blank-phase : {l : Ledger} {w : World} → BlankAt l w → w .card .phase ≡ Blank
+unfolding blankCard emptyCard freshCard
+blank-phase b = ap (λ (x : Card). x .phase) (b .card)
+
+relates : Relates At
+relates =
+    record {
+      sizes = sizes;
+      phase = phase;
+      journals = journals;
+      keeps = keeps;
+      shape = shape;
+    }
+  where
+    sizes : (l : Ledger) (w : World) → At l w → wrongLength w ≡ false
+    sizes l w (at-blank b) = right-length w (b .disk) (b .memory)
+    sizes l w (at-up u) = right-length w (u .up .disk .size) (u .up .memory)
+    sizes l w (at-down d) = right-length w (d .disk .size) (d .memory)
+
+    phase : (l : Ledger) (w : World) → At l w → w .card .phase ≡ l .phase
+    phase l w (at-blank b) = blank-phase b ∙ sym (unfold blankLedger in ap (λ (l : Ledger). l .phase) (b .ledger))
+    phase l w (at-up u) = u .up .phase ∙ sym (u .up .ledger)
+    phase l w (at-down d) = d .phase ∙ sym (d .ledger)
+
+    journals : (l : Ledger) (w : World) → At l w → isBlank (w .card .phase) ≡ false → JournalsRead l (w .disk)
+    journals l w (at-blank b) h = clash (ap isBlank (blank-phase b)) h
+    journals l w (at-up u) h = journals-read (u .up .fine) (u .up .disk)
+    journals l w (at-down d) h = journals-read (d .fine) (d .disk)
+
+    keeps : (l : Ledger) (w : World) → At l w → (k : ℕ) (a : Bytes) → between 1 k 7 ≡ true → length a ≡ operandLength k → IsBytes a → Kept At l w k a
+    keeps l w (at-blank b) k a known size bytes = blank-keeps b a k known
+    keeps l w (at-up u) k a known size bytes = up-keeps u a k known size bytes
+    keeps l w (at-down d) k a known size bytes = down-keeps d a k known
+
+    shape : (l : Ledger) (w : World) → At l w → isUp (w .card .phase) ≡ true → shapeOf (w .card) ≡ l .shape
+    shape l w (at-blank b) h = clash h (ap isUp (blank-phase b))
+    shape l w (at-up u) h = shape-up (u .up)
+    shape l w (at-down d) h = clash h (ap isUp (d .phase))
+
+-- Demand 3: whenever recovery brings the card up, the home area is the blank one with the kept writes, in issue order.
+pub claim : Claim step
+claim = claimed At relates (λ d m bd bm ld lm. at-blank (record { card = refl; ledger = refl; disk = ld; memory = lm })) (λ s m h bm lm. at-down (down-start s m h bm lm))
+
+-- Demands 1 and 2 of the ledger, and the course of recovery.
+pub demands : Demands step
+demands = demanded At relates (λ d m bd bm ld lm. at-blank (record { card = refl; ledger = refl; disk = ld; memory = lm })) (λ s m h bm lm. at-down (down-start s m h bm lm))

@@ -32,7 +32,6 @@ use Rattle.crash.specs.Book.{closed, committed, isClosed, counted, Entry
 use Rattle.crash.specs.Ledger.{Ledger, withBook, imageNow, recordBlocks}
 use Rattle.crash.proofs.Relation.{IsBlock, Fine, heldOf, recordOf, contents, JournalStands, DiskStands, CoreUp, holderAs, Up}
 use Rattle.crash.proofs.Stages.{stored-unretired}
-
 use Rattle.crash.proofs.Records.{record-sound, length-record}
 use Rattle.crash.proofs.Entries.{other-number, other-core, change-at, raise-at, raise-other, records-snoc}
 use Rattle.crash.proofs.Books.{Restages, restaged, restages-records, storedStage, store-restages, store-more, store-last, store-holder}
