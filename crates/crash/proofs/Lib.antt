@@ -1,4 +1,5 @@
 -- Why the claims are true. Layer A: one block's history. Layer B: the bytes. Layer C: from one coming up to the next.
+pub mod BookExamples
 pub mod Tests
 pub mod History
 pub mod Steps
