@@ -1,51 +1,44 @@
 -- What the books say of short histories, by computing: of each rule of the service book a history on which it matters.
 -- The first two are the paper's own warnings: a name for a holder already committed, and names on both sides.
 -- They stand first, so that a wrong rule is refused here, by a fact about it.
-use Prim.Native.Nat.{ℕ, zero, suc}
+use Prim.Native.Nat.{ℕ}
 use mathlib.Core.Path.{_≡_, refl}
-use mathlib.Core.List.{List, [], _∷_, _++_, map, flatMap}
-use lib.ListN.{length, take}
-use Rattle.model.specs.Lists.{below}
+use mathlib.Core.List.{List, [], _∷_, _++_, map}
 use Rattle.model.specs.Bytes.{Bytes}
 use Rattle.model.specs.Card.{newName}
 use Rattle.model.specs.declared.Name.{Name}
 use Rattle.model.proofs.Computes.{computes}
 use Rattle.crash.specs.Book.{Write, emptyBook, change, raise, begin, holderIn, meets, ruled, holderAfter, note, wrote, close, store, checkpoint, committedIn, namesIn, kept, keptWrites, image, blank}
 use Rattle.crash.specs.Service.{Service, emptyService, noted, cutService, fed}
-use Rattle.crash.specs.Ledger.{Ledger, blankLedger, freshLedger, imageNow, closeLedger, unretired, metIn, validIn, blocksIn, cutLedger, recoverLedger, entered}
 
 -- ---- commands that were carried out: byte and operands
 pub record Command : Type 0 where
   pub byte : ℕ
   pub operands : Bytes
 
-abbrev write : ℕ → ℕ → ℕ → Command
+abbrev pub write : ℕ → ℕ → ℕ → Command
 write c o x = record { byte = 2; operands = c ∷ 0 ∷ 0 ∷ o ∷ x ∷ x ∷ x ∷ x ∷ [] }
 
-abbrev of-core : ℕ → ℕ → Command
+abbrev pub of-core : ℕ → ℕ → Command
 of-core k c = record { byte = k; operands = c ∷ [] }
 
-abbrev alone : ℕ → Command
+abbrev pub alone : ℕ → Command
 alone k = record { byte = k; operands = [] }
 
 -- CLOSE and the three STOREs that commit a transaction of one block
-abbrev commits : ℕ → List Command
+abbrev pub commits : ℕ → List Command
 commits c = of-core 3 c ∷ of-core 4 c ∷ of-core 4 c ∷ of-core 4 c ∷ []
 
 abbrev served : Service → List Command → Service
 served v [] = v
 served v (k ∷ ks) = served (fed (k .byte) (k .operands) 0 v) ks
 
-abbrev ledgered : Ledger → List Command → Ledger
-ledgered l [] = l
-ledgered l (k ∷ ks) = ledgered (entered (k .byte) (k .operands) 0 l) ks
-
 -- who wrote what the book has kept
 abbrev keptBy : List Command → List Name
 keptBy ks = map (λ (w : Write). w .writer) ((served emptyService ks) .saved)
 
 unfoldable pub books : Unit {0}
-unfolding computes emptyBook change raise begin holderIn meets ruled holderAfter note wrote close store checkpoint committedIn namesIn kept keptWrites image blank emptyService noted cutService fed blankLedger freshLedger imageNow closeLedger unretired metIn validIn blocksIn cutLedger recoverLedger entered
+unfolding computes emptyBook change raise begin holderIn meets ruled holderAfter note wrote close store checkpoint committedIn namesIn kept keptWrites image blank emptyService noted cutService fed
 books = tt
 
 -- Core 1 writes into core 0's block, core 0 commits, core 2 takes the block and commits: core 1 is lost, and so all are.
@@ -71,12 +64,3 @@ home-store-retires-none = refl
 pub master-store-retires : ((served emptyService (write 0 0 1 ∷ commits 0 ++ of-core 5 0 ∷ of-core 5 0 ∷ write 1 4 2 ∷ [])) .book .entry (newName 1 1)) .names ≡ []
 unfolding books
 master-store-retires = refl
-
--- An image closed after a recovery has the bytes from before it, under the new write; numbers go on two above.
-pub image-has-its-base :
-    map (take 8)
-    ((ledgered blankLedger
-    (record { byte = 1; operands = 1 ∷ 1 ∷ 8 ∷ [] } ∷ write 0 0 1 ∷ commits 0 ++ alone 6 ∷ alone 7 ∷ alone 7 ∷ write 0 4 2 ∷ of-core 3 0 ∷ [])) .images (newName 0 3))
-    ≡ (1 ∷ 1 ∷ 1 ∷ 1 ∷ 2 ∷ 2 ∷ 2 ∷ 2 ∷ []) ∷ []
-unfolding books
-image-has-its-base = refl

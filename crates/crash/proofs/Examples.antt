@@ -4,15 +4,18 @@ use Prim.Native.Nat.{ℕ}
 use mathlib.Core.Path.{_≡_, refl}
 use mathlib.Core.Bool.{Bool, not, _&&_}
 use mathlib.Core.List.{List, [], _∷_, _++_, map}
-use lib.ListN.{length}
+use lib.ListN.{length, take}
 use lib.Dec.{eqb}
 use Rattle.model.specs.Lists.{select}
 use Rattle.model.specs.Bytes.{Bytes, part}
 use Rattle.model.specs.Reading.{readNumber}
 use Rattle.model.specs.Tape.{Point, step, run, blankWorld}
 use Rattle.model.proofs.Computes.{computes}
-use Rattle.crash.specs.Book.{emptyBook, change, raise, begin, holderIn, meets, ruled, holderAfter, note, wrote, close, store, checkpoint, committedIn, namesIn, kept, keptWrites}
-use Rattle.crash.specs.Service.{Service, emptyService, noted, cutService, fed}
+use Rattle.crash.specs.Book.{committedIn, kept}
+use Rattle.crash.specs.Service.{Service, emptyService}
+use Rattle.crash.specs.Ledger.{Ledger, blankLedger, freshLedger, imageNow, closeLedger, unretired, metIn, validIn, blocksIn, cutLedger, recoverLedger, entered}
+use Rattle.crash.proofs.BookExamples.{Command, write, of-core, alone, commits, books}
+use Rattle.model.specs.Card.{newName}
 use Rattle.crash.specs.Claims.{homeArea, fedPoint}
 
 -- a RECOVER that leaves the card up
@@ -54,5 +57,18 @@ abbrev counts : Service → List ℕ
 counts v = length (committedIn (v .book)) ∷ length (kept (v .book)) ∷ []
 
 pub committed-not-kept : counts (fedAll emptyService (run step before blankWorld)) ≡ 1 ∷ 0 ∷ []
-unfolding computes emptyBook change raise begin holderIn meets ruled holderAfter note wrote close store checkpoint committedIn namesIn kept keptWrites emptyService noted cutService fed fedPoint
+unfolding books fedPoint
 committed-not-kept = refl
+
+-- ---- the ledger: an image closed after a recovery has the bytes from before it, under the new write; numbers go on two above
+abbrev ledgered : Ledger → List Command → Ledger
+ledgered l [] = l
+ledgered l (k ∷ ks) = ledgered (entered (k .byte) (k .operands) 0 l) ks
+
+pub image-has-its-base :
+    map (take 8)
+    ((ledgered blankLedger
+    (record { byte = 1; operands = 1 ∷ 1 ∷ 8 ∷ [] } ∷ write 0 0 1 ∷ commits 0 ++ alone 6 ∷ alone 7 ∷ alone 7 ∷ write 0 4 2 ∷ of-core 3 0 ∷ [])) .images (newName 0 3))
+    ≡ (1 ∷ 1 ∷ 1 ∷ 1 ∷ 2 ∷ 2 ∷ 2 ∷ 2 ∷ []) ∷ []
+unfolding books blankLedger freshLedger imageNow closeLedger unretired metIn validIn blocksIn cutLedger recoverLedger entered
+image-has-its-base = refl
