@@ -41,12 +41,30 @@ same [] (y ∷ ys) = false
 same (x ∷ xs) [] = false
 same (x ∷ xs) (y ∷ ys) = elim (eqb x y) [ true ↦ same xs ys | false ↦ false ]
 
+-- the same in the first n bytes
+unfoldable pub sameFor : ℕ → Bytes → Bytes → Bool
+sameFor zero a b = true
+sameFor (suc n) [] [] = true
+sameFor (suc n) [] (y ∷ ys) = false
+sameFor (suc n) (x ∷ xs) [] = false
+sameFor (suc n) (x ∷ xs) (y ∷ ys) = elim (eqb x y) [ true ↦ sameFor n xs ys | false ↦ false ]
+
 -- the blocks of b that differ from those of a, n of them from block k on
 unfoldable pub changedFrom : ℕ → ℕ → Bytes → Bytes → List (ℕ × Bytes)
 changedFrom zero k a b = []
 changedFrom (suc n) k a b =
-    elim (same (take 128 a) (take 128 b))
-    [ true ↦ changedFrom n (k + 1) (drop 128 a) (drop 128 b) | false ↦ (k, take 128 b) ∷ changedFrom n (k + 1) (drop 128 a) (drop 128 b) ]
+    let rest = changedFrom n (k + 1) (drop 128 a) (drop 128 b) in
+    elim (sameFor 128 a b) [ true ↦ rest | false ↦ (k, take 128 b) ∷ rest ]
+
+-- How b differs from a in every byte: the first n blocks are told one by one, and whether all bytes after them are the
+-- same. (Telling all blocks one by one would take several times as long.)
+pub record Change : Type 0 where
+  pub blocks : List (ℕ × Bytes)
+  pub same-after : Bool
+  pub size : ℕ
+
+unfoldable pub change : ℕ → Bytes → Bytes → Change
+change n a b = record { blocks = changedFrom n 0 a b; same-after = same (drop (128 * n) a) (drop (128 * n) b); size = length b }
 
 -- ---- the card's state as numbers
 unfoldable pub nameWords : List Name → List ℕ
@@ -85,24 +103,27 @@ readOf w b = record { block = b; number = readNumber b w; bytes = readBlock b w 
 pub record Seen : Type 0 where
   pub lines : List Line
   pub homes : List (ℕ × Bytes)
-  pub sizes : List ℕ
-  pub disk : List (ℕ × Bytes)
-  pub memory : List (ℕ × Bytes)
+  pub disk : Change
+  pub memory : Change
   pub state : List ℕ
   pub reads : List Read
 
+-- What to compare a slice with, and how many of its blocks to tell one by one.
+pub record Against : Type 0 where
+  pub zeros : Bool
+  pub told : ℕ
+
 -- A tape by a card over d and m. What changed is told against d and m as they were, or against zero bytes.
-unfoldable pub seen : Bytes → Card → Bytes → Bytes → Bool → Bool → List ℕ → Seen
-seen t x d m diskFromZero memoryFromZero bs =
+unfoldable pub seen : Bytes → Card → Bytes → Bytes → Against → Against → List ℕ → Seen
+seen t x d m a b bs =
     let w : World = record { card = x; disk = d; memory = m } in
     let ps = run step t w in
     let v = worldAfter w ps in
     record {
       lines = map lineOf ps;
       homes = homeLines v;
-      sizes = length (v .disk) ∷ length (v .memory) ∷ [];
-      disk = changedFrom 257 0 (cond diskFromZero zeroDisk d) (v .disk);
-      memory = changedFrom 128 0 (cond memoryFromZero zeroMemory m) (v .memory);
+      disk = change (a .told) (cond (a .zeros) zeroDisk d) (v .disk);
+      memory = change (b .told) (cond (b .zeros) zeroMemory m) (v .memory);
       state = stateWords (v .card);
       reads = map (readOf v) bs;
     }
@@ -112,9 +133,8 @@ pub record Met : Type 0 where
   pub answer : ℕ
   pub stores : ℕ
   pub next : ℕ
-  pub disk : List (ℕ × Bytes)
-  pub memory : List (ℕ × Bytes)
-  pub sizes : List ℕ
+  pub disk : Change
+  pub memory : Change
   pub reading : ℕ
 
 unfoldable pub met : Bytes → ℕ → World → Met
@@ -124,9 +144,8 @@ met t at w =
       answer = o .answer;
       stores = o .stores;
       next = nextOffset t at;
-      disk = changedFrom 258 0 (w .disk) (o .world .disk);
-      memory = changedFrom 129 0 (w .memory) (o .world .memory);
-      sizes = length (o .world .disk) ∷ length (o .world .memory) ∷ [];
+      disk = change 0 (w .disk) (o .world .disk);
+      memory = change 0 (w .memory) (o .world .memory);
       reading = readNumber 0 w;
     }
 
@@ -137,6 +156,12 @@ line offset byte answer stores = record { offset = offset; byte = byte; answer =
 abbrev pub read : ℕ → ℕ → Bytes → Read
 read block number bytes = record { block = block; number = number; bytes = bytes }
 
+abbrev pub against : Bool → ℕ → Against
+against zeros told = record { zeros = zeros; told = told }
+
+abbrev pub changed : List (ℕ × Bytes) → Bool → ℕ → Change
+changed blocks same-after size = record { blocks = blocks; same-after = same-after; size = size }
+
 unfoldable pub sees : Unit {0}
-unfolding noise laid resized endOf same changedFrom nameWords transactionWords coreWords holderWords stateWords seen met
+unfolding noise laid resized endOf same sameFor changedFrom change nameWords transactionWords coreWords holderWords stateWords seen met
 sees = tt

@@ -9,7 +9,6 @@ use card_tests::layout::{
     MEMORY,
 };
 use card_tests::random::Random;
-use std::fmt::Write;
 use std::fs;
 use std::path::PathBuf;
 
@@ -25,7 +24,7 @@ use Rattle.model.specs.Bytes.{Bytes, padded, zeroDisk, zeroMemory}
 use Rattle.model.specs.Card.{blankCard, downCard}
 use Rattle.model.specs.Tape.{Line, blankWorld}
 use Rattle.model.proofs.Computes.{computes}
-use Rattle.seen.specs.Seen.{Seen, Read, Met, noise, laid, resized, endOf, seen, met, line, read, sees}
+use Rattle.seen.specs.Seen.{Seen, Read, Met, noise, laid, resized, endOf, seen, met, line, read, against, changed, sees}
 ";
 
 /// A card with its slices, and the words that give the slices in a fact.
@@ -66,6 +65,7 @@ fn main() -> std::io::Result<()> {
         }
     }
     facts.end_file()?;
+    facts.wrong(&Start::blank(), &from_hex(SHORT), WRONG)?;
     facts.report();
     fs::write(facts.folder.join("crates.txt"), facts.crates())
 }
@@ -207,7 +207,8 @@ fn differing(from: &[u8], to: &[u8]) -> Vec<(usize, Vec<u8>)> {
 
 fn directed(facts: &mut Facts) {
     let mut random = Random::new(0);
-    for tape in [crowded_list(), nine_blocks(), passed_on(), from_hex(ENDS_EARLY), from_hex("0101040408")] {
+    let written = [SHORT, LIMITS, "0101010402000000004142", "0101040408"].map(from_hex);
+    for tape in written.into_iter().chain([crowded_list(), nine_blocks(), passed_on()]) {
         facts.tape(&Start::blank(), &tape, &mut random);
     }
     for (at, word) in MASTERS {
@@ -218,7 +219,22 @@ fn directed(facts: &mut Facts) {
     wrong_lengths(facts);
 }
 
-const ENDS_EARLY: &str = "0101010402000000004142";
+/// One block written, stored and taken home.
+const SHORT: &str = "01010208 0200000105C9CACBCC 0300 0400 0400 0400 0500 0200000000D1D2D3D4";
+
+/// What is changed in the fact about that tape, to see that it is then refused.
+const WRONG: &[(&str, &str, &str)] = &[
+    ("lines =", "line 4 2 0 0", "line 4 2 5 0"),
+    ("lines =", "line 21 5 0 4", "line 21 5 0 3"),
+    ("disk =", "203", "202"),
+    ("memory =", "209", "208"),
+    ("reads =", "211", "210"),
+];
+
+/// FORMAT beside its limits, then at them; WRITE, CLOSE, STORE and CHECKPOINT beside theirs.
+const LIMITS: &str = "01000104 01090104 01010004 01014104 01010103 01010119 01084018 01000000 \
+    020800000001020304 02FF00000001020304 020700400001020304 0207FFFF0001020304 0207003F7D01020304 \
+    0207003F7C01020304 0308 0408 0508 0307 0407 0407 0407 0507 0507 0507 07 06 01084018 0200";
 
 /// Fields of the master at and beside their limits, and one that is not looked at.
 const MASTERS: &[(usize, u32)] = &[
@@ -297,7 +313,12 @@ fn write(core: u8, block: u16) -> Command {
 fn crowded_list() -> Vec<u8> {
     let mut commands = vec![Command::Format { cores: 3, blocks: 2, journal: 24 }, write(0, 0)];
     for _ in 0..12 {
-        commands.extend([write(1, 0), Command::Close { core: 1 }, Command::Store { core: 1 }, Command::Store { core: 1 }]);
+        commands.extend([
+            write(1, 0),
+            Command::Close { core: 1 },
+            Command::Store { core: 1 },
+            Command::Store { core: 1 },
+        ]);
     }
     commands.extend([write(1, 0), write(2, 0), write(2, 1), write(0, 1), Command::Close { core: 0 }]);
     commands.extend([Command::Store { core: 0 }; 3]);
@@ -332,14 +353,15 @@ fn passed_on() -> Vec<u8> {
 
 /// Refusal 1 in every phase, and commands at and past the end of the tape.
 fn wrong_lengths(facts: &mut Facts) {
-    let sizes = [(DISK - 1, MEMORY), (DISK + 1, MEMORY), (DISK, MEMORY - 1), (DISK, MEMORY + 1), (0, 0), (DISK, MEMORY)];
+    let sizes =
+        [(DISK - 1, MEMORY), (DISK + 1, MEMORY), (DISK, MEMORY - 1), (DISK, MEMORY + 1), (0, 0), (DISK, MEMORY)];
     let up = from_hex("01010204020000000001020304");
     let down = [&up[..], &[6]].concat();
     for before in [vec![], up, down] {
         for (disk, memory) in sizes {
-            facts.at(&before, &from_hex("0700"), 0, disk, memory);
+            facts.at(&before, &from_hex("0400"), 0, disk, memory);
         }
-        for (tape, at) in [("0700", 1), ("0700", 2), ("0700", 5), ("0201", 0), ("", 0), ("0603", 1)] {
+        for (tape, at) in [("0400", 1), ("0400", 2), ("0400", 5), ("0201", 0), ("", 0), ("0603", 1)] {
             facts.at(&before, &from_hex(tape), at, DISK - 1, MEMORY);
             facts.at(&before, &from_hex(tape), at, DISK, MEMORY);
         }
@@ -354,39 +376,16 @@ impl Facts {
         Facts { folder, text: HEAD.into(), commands_here: 0, files: 0, facts: 0, tapes, commands, answers }
     }
 
-    /// One tape: its lines, home blocks, changed blocks, state and readings at its end. Says the disk at the end.
+    /// A fact about a tape from a start on. Says the disk at the end.
     fn tape(&mut self, start: &Start, tape: &[u8], random: &mut Random) -> Vec<u8> {
-        let (mut card, mut disk, mut memory) = (start.card, start.disk.clone(), start.memory.clone());
         let is_down = start.card.phase == Phase::Down;
-        let (mut offset, mut stores, mut lines) = (0, 0, Vec::new());
-        while offset < tape.len() {
-            let outcome = card.command(&mut disk, &mut memory, tape, offset);
-            stores += outcome.stores as usize;
-            lines.push(format!("line {offset} {} {} {stores}", tape[offset], outcome.answer));
-            self.count(outcome.answer, is_down);
-            offset = if matches!(outcome.answer, 2 | 3) { tape.len() } else { outcome.next };
-        }
+        let ran = Ran::new(start, tape);
+        let blocks = [0, random.below(64), random.pick(&[1, 2, 3, 63, 64, 65_535])];
+        let (left, right) = ran.fact(start, tape, &blocks);
         self.tapes[is_down as usize] += 1;
-        let from = if is_down { "downCard" } else { "blankCard" };
-        let (from_zero_disk, disk_changes) = changes(&start.disk, &disk);
-        let (from_zero_memory, memory_changes) = changes(&start.memory, &memory);
-        let blocks: Vec<usize> = vec![0, random.below(64), random.pick(&[1, 2, 3, 63, 64, 65_535])];
-        let reads = blocks.iter().map(|block| read_text(&card, &disk, &memory, *block)).collect();
-        let (given, memory_given) = (&start.disk_text, &start.memory_text);
-        let tape_text = byte_list(tape);
-        let asked = number_list(blocks.iter().map(|block| *block as u64));
-        let left = format!(
-            "seen {tape_text} {from} ({given}) ({memory_given}) {from_zero_disk} {from_zero_memory} {asked}"
-        );
-        let right = format!(
-            "record {{ lines = {}; homes = {}; sizes = {DISK} ∷ {MEMORY} ∷ []; disk = {disk_changes}; memory = {memory_changes}; state = {}; reads = {} }}",
-            list(lines),
-            homes(&card, &disk),
-            number_list(state(&card)),
-            list(reads)
-        );
+        self.count(&ran.answers, is_down);
         self.put(&hex(tape), &left, &right);
-        disk
+        ran.disk
     }
 
     /// One command at an offset over slices of these lengths, by the card that another tape left.
@@ -401,60 +400,71 @@ impl Facts {
         let reading = card.read_number(&disk, &memory, 0);
         let (old_disk, old_memory) = (disk.clone(), memory.clone());
         let outcome = card.command(&mut disk, &mut memory, tape, at);
-        self.count(outcome.answer, card.phase == Phase::Down);
+        self.count(&[outcome.answer], false);
         let left = format!(
             "met {} {at} (resized {disk_size} {memory_size} (endOf {} blankWorld))",
             byte_list(tape),
             byte_list(before)
         );
-        let right = format!(
-            "record {{ answer = {}; stores = {}; next = {}; disk = {}; memory = {}; sizes = {} ∷ {} ∷ []; reading = {reading} }}",
-            outcome.answer,
-            outcome.stores,
-            outcome.next,
-            block_list(&differing(&old_disk, &disk)),
-            block_list(&differing(&old_memory, &memory)),
-            disk.len(),
-            memory.len()
-        );
+        let same = old_disk == disk && old_memory == memory;
+        assert!(same, "one command that would change a byte is told by a tape");
+        let bytes = format!("disk = changed [] true {disk_size}; memory = changed [] true {memory_size}");
+        let (answer, stores, next) = (outcome.answer, outcome.stores, outcome.next);
+        let met = format!("answer = {answer}; stores = {stores}; next = {next}");
+        let right = format!("record {{ {met}; {bytes}; reading = {reading} }}");
         self.put(&format!("{} at {at} after {}", hex(tape), hex(before)), &left, &right);
     }
 
-    fn count(&mut self, answer: u8, is_down: bool) {
-        self.commands[is_down as usize] += 1;
-        self.commands_here += 1;
-        self.answers[answer as usize] += 1;
+    fn count(&mut self, answers: &[u8], is_down: bool) {
+        self.commands[is_down as usize] += answers.len();
+        self.commands_here += answers.len();
+        answers.iter().for_each(|answer| self.answers[*answer as usize] += 1);
     }
 
     fn put(&mut self, title: &str, left: &str, right: &str) {
         self.facts += 1;
-        let name = format!("fact-{}", self.facts);
-        let _ = write!(self.text, "\n-- {title}\npub {name} :\n    {left}\n    ≡ {right}\n");
-        let _ = write!(self.text, "unfolding computes sees\n{name} = refl\n");
+        self.text.push_str(&fact_text(self.facts, title, left, right));
         if self.commands_here >= COMMANDS_PER_FILE {
             self.end_file().expect("a folder that can be written");
         }
     }
 
+    /// Facts that do not hold, a crate for each: one number is changed after the name of a field.
+    fn wrong(&self, start: &Start, tape: &[u8], changes: &[(&str, &str, &str)]) -> std::io::Result<()> {
+        let (left, right) = Ran::new(start, tape).fact(start, tape, &[0]);
+        for (i, (field, from, to)) in changes.iter().enumerate() {
+            let (before, after) = right.split_at(right.find(field).expect("a field"));
+            assert!(after.contains(from), "{from} after {field}");
+            let text = fact_text(1, field, &left, &format!("{before}{}", after.replacen(from, to, 1)));
+            self.write_crate(&format!("wrong{}", i + 1), &format!("{HEAD}{text}"))?;
+        }
+        Ok(())
+    }
+
     /// A crate for each file, so that each is computed in a process of its own.
     fn end_file(&mut self) -> std::io::Result<()> {
         self.files += 1;
-        let crate_folder = self.folder.join(format!("crates/facts{}", self.files));
-        for part in ["src", "specs", "proofs"] {
-            fs::create_dir_all(crate_folder.join(part))?;
-        }
-        fs::write(crate_folder.join("src/lib.rt"), "// Computed facts. There is no code here.\n")?;
-        fs::write(crate_folder.join("specs/Lib.antt"), "-- No definition stands here.\n")?;
-        fs::write(crate_folder.join("proofs/Lib.antt"), "-- Computed facts.\npub mod Facts\n")?;
-        fs::write(crate_folder.join("proofs/Facts.antt"), &self.text)?;
+        self.write_crate(&format!("facts{}", self.files), &self.text)?;
         self.text = HEAD.into();
         self.commands_here = 0;
         Ok(())
     }
 
+    fn write_crate(&self, name: &str, text: &str) -> std::io::Result<()> {
+        let folder = self.folder.join("crates").join(name);
+        for part in ["src", "specs", "proofs"] {
+            fs::create_dir_all(folder.join(part))?;
+        }
+        fs::write(folder.join("src/lib.rt"), "// Computed facts. There is no code here.\n")?;
+        fs::write(folder.join("specs/Lib.antt"), "-- No definition stands here.\n")?;
+        fs::write(folder.join("proofs/Lib.antt"), "-- Computed facts.\npub mod Facts\n")?;
+        fs::write(folder.join("proofs/Facts.antt"), text)
+    }
+
     fn crates(&self) -> String {
         let facts: String = (1..=self.files).map(|i| format!("facts{i}: model seen\n")).collect();
-        format!("model:\nseen: model\n{facts}")
+        let wrong: String = (1..=WRONG.len()).map(|i| format!("wrong{i}: model seen\n")).collect();
+        format!("model:\nseen: model\n{facts}{wrong}")
     }
 
     fn report(&self) {
@@ -470,11 +480,65 @@ impl Facts {
     }
 }
 
-/// The blocks changed, told against the start or against zero bytes, whichever is shorter; true for zero bytes.
-fn changes(start: &[u8], end: &[u8]) -> (bool, String) {
+/// What a tape answered, and the card and slices at its end.
+struct Ran {
+    lines: Vec<String>,
+    answers: Vec<u8>,
+    card: Card,
+    disk: Vec<u8>,
+    memory: Vec<u8>,
+}
+
+impl Ran {
+    fn new(start: &Start, tape: &[u8]) -> Ran {
+        let (card, disk, memory) = (start.card, start.disk.clone(), start.memory.clone());
+        let mut ran = Ran { lines: Vec::new(), answers: Vec::new(), card, disk, memory };
+        let (mut offset, mut stores) = (0, 0);
+        while offset < tape.len() {
+            let outcome = ran.card.command(&mut ran.disk, &mut ran.memory, tape, offset);
+            stores += outcome.stores as usize;
+            ran.lines.push(format!("line {offset} {} {} {stores}", tape[offset], outcome.answer));
+            ran.answers.push(outcome.answer);
+            offset = if matches!(outcome.answer, 2 | 3) { tape.len() } else { outcome.next };
+        }
+        ran
+    }
+
+    /// Both sides of the equation: lines, home blocks, every byte, state and readings of some blocks at the end.
+    fn fact(&self, start: &Start, tape: &[u8], blocks: &[usize]) -> (String, String) {
+        let card = if start.card.phase == Phase::Down { "downCard" } else { "blankCard" };
+        let (disk_against, disk) = changes(&start.disk, &self.disk);
+        let (memory_against, memory) = changes(&start.memory, &self.memory);
+        let slices = format!("({}) ({}) {disk_against} {memory_against}", start.disk_text, start.memory_text);
+        let asked = number_list(blocks.iter().map(|block| *block as u64));
+        let left = format!("seen {} {card} {slices} {asked}", byte_list(tape));
+        let lines = list(self.lines.clone());
+        let homes = homes(&self.card, &self.disk);
+        let state = number_list(state(&self.card));
+        let reads = list(blocks.iter().map(|block| self.read_text(*block)).collect());
+        let bytes = format!("disk = {disk}; memory = {memory}");
+        (left, format!("record {{ lines = {lines}; homes = {homes}; {bytes}; state = {state}; reads = {reads} }}"))
+    }
+
+    fn read_text(&self, block: usize) -> String {
+        let number = self.card.read_number(&self.disk, &self.memory, block);
+        let bytes = self.card.read_block(&self.disk, &self.memory, block);
+        format!("read {block} {number} {}", byte_list(bytes))
+    }
+}
+
+fn fact_text(number: usize, title: &str, left: &str, right: &str) -> String {
+    let claim = format!("-- {title}\npub fact-{number} :\n    {left}\n    ≡ {right}");
+    format!("\n{claim}\nunfolding computes sees\nfact-{number} = refl\n")
+}
+
+/// What to compare a slice with, its start or zero bytes, whichever leaves less to tell; and the blocks changed.
+fn changes(start: &[u8], end: &[u8]) -> (String, String) {
     let (old, new) = (differing(start, end), differing(&vec![0; end.len()], end));
-    let from_zero = new.len() < old.len();
-    (from_zero, block_list(if from_zero { &new } else { &old }))
+    let from_zeros = new.len() < old.len();
+    let blocks = if from_zeros { new } else { old };
+    let told = blocks.last().map_or(0, |(k, _)| k + 1);
+    (format!("(against {from_zeros} {told})"), format!("changed {} true {}", block_list(&blocks), end.len()))
 }
 
 /// The home blocks that the tape program prints.
@@ -484,11 +548,6 @@ fn homes(card: &Card, disk: &[u8]) -> String {
     let bytes = |b: usize| block_at(disk, 1 + b);
     let shown = blocks.filter(|b| bytes(*b).iter().any(|byte| *byte != 0));
     list(shown.map(|b| format!("({b}, {})", byte_list(&bytes(b)[..8]))).collect())
-}
-
-fn read_text(card: &Card, disk: &[u8], memory: &[u8], block: usize) -> String {
-    let number = card.read_number(disk, memory, block);
-    format!("read {block} {number} {}", byte_list(card.read_block(disk, memory, block)))
 }
 
 /// The card's state as numbers, in the order of the definition `stateWords`.
