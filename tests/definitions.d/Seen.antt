@@ -85,10 +85,10 @@ holderWords x b = let h = holderOf x b in cond (h .held) (b ∷ h .name .core �
 
 unfoldable pub stateWords : Card → List ℕ
 stateWords x =
-    elim (x .phase)
-    [ Blank ↦ 0 ∷ []
-    | Up ↦ 1 ∷ x .closes ∷ flatMap (coreWords x) (below ((shapeOf x) .cores)) ++ flatMap (holderWords x) (below 64)
-    | Down ↦ 2 ∷ x .recovered ∷ []
+    elim (x .phase) [
+      | Blank ↦ 0 ∷ []
+      | Up ↦ 1 ∷ x .closes ∷ flatMap (coreWords x) (below ((shapeOf x) .cores)) ++ flatMap (holderWords x) (below 64)
+      | Down ↦ 2 ∷ x .recovered ∷ []
     ]
 
 -- ---- a whole tape

@@ -207,7 +207,7 @@ fn differing(from: &[u8], to: &[u8]) -> Vec<(usize, Vec<u8>)> {
 
 fn directed(facts: &mut Facts) {
     let mut random = Random::new(0);
-    let written = [SHORT, LIMITS, "0101010402000000004142", "0101040408"].map(from_hex);
+    let written = [SHORT, LIMITS, FULL, "0101010402000000004142", "0101040408"].map(from_hex);
     for tape in written.into_iter().chain([crowded_list(), nine_blocks(), passed_on()]) {
         facts.tape(&Start::blank(), &tape, &mut random);
     }
@@ -222,7 +222,11 @@ fn directed(facts: &mut Facts) {
 /// One block written, stored and taken home.
 const SHORT: &str = "01010208 0200000105C9CACBCC 0300 0400 0400 0400 0500 0200000000D1D2D3D4";
 
-/// What is changed in the fact about that tape, to see that it is then refused.
+/// 28; 26 at the third block in the shortest journal, and while a record fills it; once that is retired all is free.
+const FULL: &str = "01010404 0300 020000000041424344 020000010041424344 020000020041424344 0300 0200000000C03B3998 \
+    0400 0400 0400 0400 020000000051525354 0500 0500 0500 0300 0200000000C03B3998 0200000004AABBCCDD 0300 0400 0400 0400";
+
+/// What is changed in the fact about SHORT, to see that it is then refused.
 const WRONG: &[(&str, &str, &str)] = &[
     ("lines =", "line 4 2 0 0", "line 4 2 5 0"),
     ("lines =", "line 21 5 0 4", "line 21 5 0 3"),
