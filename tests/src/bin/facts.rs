@@ -172,7 +172,7 @@ fn noisy_start(random: &mut Random) -> Start {
 /// A disk of the foreign generator. Blocks of random bytes are given to a base, so that the fact stays short.
 fn foreign_start(random: &mut Random, run: &[u8]) -> Start {
     let mut disk = foreign::disk(random, run);
-    while !is_affordable(&disk) && !random.chance(40) {
+    while !random.chance(share_kept(&disk)) {
         disk = foreign::disk(random, run);
     }
     let is_full = (1..DISK / BLOCK).filter(|k| looks_random(block_at(&disk, *k))).count() > 100;
@@ -187,9 +187,13 @@ fn foreign_start(random: &mut Random, run: &[u8]) -> Start {
     Start::down(disk, seed, memory_seed)
 }
 
-fn is_affordable(disk: &[u8]) -> bool {
-    let fits = |shape: Shape| shape.cores as usize * shape.journal as usize <= 60 && shape.blocks <= 8;
-    read_master(disk).is_none_or(|(shape, _)| fits(shape))
+/// How many of a thousand such disks are tried: without a good master little happens, and big shapes take long.
+fn share_kept(disk: &[u8]) -> usize {
+    match read_master(disk) {
+        None => 100,
+        Some((shape, _)) if shape.cores as usize * shape.journal as usize > 60 || shape.blocks > 8 => 40,
+        Some(_) => 1000,
+    }
 }
 
 /// Records have many zero bytes, random blocks have hardly any.
