@@ -1,0 +1,612 @@
+// facts: runs tapes on the model card and writes a scratch repository of facts that the definitions must compute alike.
+
+use card_tests::card::{Card, Phase, Transaction};
+use card_tests::command::{from_hex, hex, Command};
+use card_tests::foreign;
+use card_tests::generator::Generator;
+use card_tests::layout::{
+    block_at, commit, descriptor, master, put_word, read_master, Name, Shape, Tail, Tails, BLOCK, DISK, LAST_TAIL,
+    MEMORY,
+};
+use card_tests::random::Random;
+use std::fs;
+use std::path::PathBuf;
+
+/// Facts of one file are computed in one process; this many commands keep its memory small.
+const COMMANDS_PER_FILE: usize = 150;
+
+const HEAD: &str = "-- Computed facts: the definitions' runs of tapes end as those of the model card.
+use Prim.Native.Nat.{ℕ}
+use mathlib.Core.Path.{_≡_, refl}
+use mathlib.Core.List.{List, [], _∷_}
+use mathlib.Core.Bool.{Bool, true, false}
+use Rattle.model.specs.Bytes.{Bytes, padded, zeroDisk, zeroMemory}
+use Rattle.model.specs.Card.{blankCard, downCard}
+use Rattle.model.specs.Tape.{Line, blankWorld}
+use Rattle.model.proofs.Computes.{computes}
+use Rattle.seen.specs.Seen.{Seen, Read, Met, noise, laid, resized, endOf, seen, met, line, read, against, changed, sees}
+";
+
+/// A card with its slices, and the words that give the slices in a fact.
+struct Start {
+    card: Card,
+    disk: Vec<u8>,
+    memory: Vec<u8>,
+    disk_text: String,
+    memory_text: String,
+}
+
+/// The files written so far, and what the summary tells.
+struct Facts {
+    folder: PathBuf,
+    text: String,
+    commands_here: usize,
+    files: usize,
+    facts: usize,
+    tapes: [usize; 2],
+    commands: [usize; 2],
+    answers: [usize; 34],
+}
+
+fn main() -> std::io::Result<()> {
+    let arguments: Vec<String> = std::env::args().skip(1).collect();
+    let [folder, seed, count] = &arguments[..] else { panic!("facts FOLDER SEED COUNT") };
+    let seed: u64 = seed.parse().expect("a seed");
+    let count: usize = count.parse().expect("a number of random tapes");
+    let mut facts = Facts::new(PathBuf::from(folder));
+    directed(&mut facts);
+    let mut random = Random::new(seed);
+    let mut run = vec![0; DISK];
+    for i in 0..count {
+        if i % 4 == 3 {
+            foreign_tape(&mut facts, &mut random, &run);
+        } else {
+            run = blank_tape(&mut facts, &mut random);
+        }
+    }
+    facts.end_file()?;
+    facts.wrong(&Start::blank(), &from_hex(SHORT), WRONG)?;
+    facts.report();
+    fs::write(facts.folder.join("crates.txt"), facts.crates())
+}
+
+// ---- random tapes
+
+/// Small shapes mostly, since the definitions compute slowly.
+fn any_shape(random: &mut Random) -> Shape {
+    let (cores, blocks, journal) = match random.below(12) {
+        0..=4 => (random.between(1, 3), random.between(1, 3), random.between(4, 8)),
+        5..=8 => (random.between(2, 4), random.between(1, 6), random.between(4, 14)),
+        9 => (random.between(2, 3), random.between(8, 12), 24),
+        10 => (8, random.between(1, 8), random.between(4, 6)),
+        _ => (random.between(1, 8), random.between(1, 64), random.between(4, 24)),
+    };
+    Shape { cores: cores as u8, blocks: blocks as u8, journal: journal as u8 }
+}
+
+/// Makes a tape and says the disk that it leaves.
+fn blank_tape(facts: &mut Facts, random: &mut Random) -> Vec<u8> {
+    let start = if random.chance(120) { noisy_start(random) } else { Start::blank() };
+    let shape = any_shape(random);
+    let tape = make_tape(random, &start, shape, 50);
+    facts.tape(&start, &tape, random)
+}
+
+fn foreign_tape(facts: &mut Facts, random: &mut Random, run: &[u8]) {
+    let start = foreign_start(random, run);
+    let shape = read_master(&start.disk).map_or(Shape::default(), |(shape, _)| shape).or_smallest();
+    let tape = make_tape(random, &start, shape, 30);
+    facts.tape(&start, &tape, random);
+}
+
+fn make_tape(random: &mut Random, start: &Start, shape: Shape, most: usize) -> Vec<u8> {
+    let mut generator = Generator::new(random.draw());
+    generator.begin_with(shape);
+    let (mut card, mut disk, mut memory) = (start.card, start.disk.clone(), start.memory.clone());
+    let mut tape = Vec::new();
+    for _ in 0..random.between(5, most) {
+        let offset = tape.len();
+        generator.command(&card).write_to(&mut tape);
+        card.command(&mut disk, &mut memory, &tape, offset);
+    }
+    match random.below(10) {
+        0 => tape.extend(generator.garbage().iter().take(12)),
+        1 => {
+            tape.pop();
+        }
+        _ => {}
+    }
+    tape
+}
+
+// ---- starts
+
+impl Start {
+    fn blank() -> Start {
+        Start::new(Card::blank(), vec![0; DISK], "zeroDisk".into(), 0)
+    }
+
+    /// Memory is zero for seed 0 and noise for others.
+    fn new(card: Card, disk: Vec<u8>, disk_text: String, memory_seed: u64) -> Start {
+        let (memory, memory_text) = base(MEMORY, memory_seed);
+        Start { card, disk, memory, disk_text, memory_text }
+    }
+
+    /// A card that is down over a disk, told as blocks over a base.
+    fn down(disk: Vec<u8>, disk_seed: u64, memory_seed: u64) -> Start {
+        let (under, name) = base(DISK, disk_seed);
+        let text = format!("laid 0 {} ({name})", block_list(&differing(&under, &disk)));
+        Start::new(Card::down(), disk, text, memory_seed)
+    }
+}
+
+/// The bytes that the definition `noise` gives.
+fn noise(count: usize, seed: u64) -> Vec<u8> {
+    let mut x = seed;
+    let mut next = || {
+        x = (x * 1103515245 + 12345) % 2147483648;
+        (x / 65536 % 256) as u8
+    };
+    (0..count).map(|_| next()).collect()
+}
+
+fn base(count: usize, seed: u64) -> (Vec<u8>, String) {
+    match seed {
+        0 if count == DISK => (vec![0; count], "zeroDisk".into()),
+        0 => (vec![0; count], "zeroMemory".into()),
+        _ => (noise(count, seed), format!("noise {count} {seed}")),
+    }
+}
+
+fn any_seed(random: &mut Random) -> u64 {
+    random.between(1, 1_000_000) as u64
+}
+
+/// A blank card over slices of any content.
+fn noisy_start(random: &mut Random) -> Start {
+    let seed = any_seed(random);
+    let (disk, text) = base(DISK, seed);
+    Start::new(Card::blank(), disk, text, any_seed(random))
+}
+
+/// A disk of the foreign generator. Blocks of random bytes are given to a base, so that the fact stays short.
+fn foreign_start(random: &mut Random, run: &[u8]) -> Start {
+    let mut disk = foreign::disk(random, run);
+    while !random.chance(share_kept(&disk)) {
+        disk = foreign::disk(random, run);
+    }
+    let is_full = (1..DISK / BLOCK).filter(|k| looks_random(block_at(&disk, *k))).count() > 100;
+    let seed = if is_full && random.chance(700) { any_seed(random) } else { 0 };
+    let (under, _) = base(DISK, seed);
+    for k in 0..DISK / BLOCK {
+        if looks_random(block_at(&disk, k)) {
+            disk[k * BLOCK..(k + 1) * BLOCK].copy_from_slice(block_at(&under, k));
+        }
+    }
+    let memory_seed = if random.chance(300) { any_seed(random) } else { 0 };
+    Start::down(disk, seed, memory_seed)
+}
+
+/// How many of a thousand such disks are tried: without a good master little happens, and big shapes take long.
+fn share_kept(disk: &[u8]) -> usize {
+    match read_master(disk) {
+        None => 100,
+        Some((shape, _)) if shape.cores as usize * shape.journal as usize > 60 || shape.blocks > 8 => 40,
+        Some(_) => 1000,
+    }
+}
+
+/// Records have many zero bytes, random blocks have hardly any.
+fn looks_random(block: &[u8]) -> bool {
+    block.iter().filter(|byte| **byte == 0).count() < 8
+}
+
+fn differing(from: &[u8], to: &[u8]) -> Vec<(usize, Vec<u8>)> {
+    let blocks = 0..to.len() / BLOCK;
+    let differs = |k: &usize| block_at(from, *k) != block_at(to, *k);
+    blocks.filter(differs).map(|k| (k, block_at(to, k).to_vec())).collect()
+}
+
+// ---- directed tapes: what random ones seldom meet
+
+fn directed(facts: &mut Facts) {
+    let mut random = Random::new(0);
+    let written = [SHORT, LIMITS, FULL, "0101010402000000004142", "0101040408"].map(from_hex);
+    for tape in written.into_iter().chain([crowded_list(), nine_blocks(), passed_on()]) {
+        facts.tape(&Start::blank(), &tape, &mut random);
+    }
+    for (at, word) in MASTERS {
+        let start = spoiled(*at, *word);
+        facts.tape(&start, &from_hex("07060707070500020000000041424344"), &mut random);
+    }
+    facts.tape(&last_numbers(), &from_hex(OPENS_LAST), &mut random);
+    wrong_lengths(facts);
+}
+
+/// One block written, stored and taken home.
+const SHORT: &str = "01010208 0200000105C9CACBCC 0300 0400 0400 0400 0500 0200000000D1D2D3D4";
+
+/// 28; 26 at the third block in the shortest journal, and while a record fills it; once that is retired all is free.
+const FULL: &str = "01010404 0300 020000000041424344 020000010041424344 020000020041424344 0300 0200000000C03B3998 \
+    0400 0400 0400 0400 020000000051525354 0500 0500 0500 0300 0200000000C03B3998 0200000004AABBCCDD 0300 0400 0400 0400";
+
+/// What is changed in the fact about SHORT, to see that it is then refused.
+const WRONG: &[(&str, &str, &str)] = &[
+    ("lines =", "line 4 2 0 0", "line 4 2 5 0"),
+    ("lines =", "line 21 5 0 4", "line 21 5 0 3"),
+    ("disk =", "203", "202"),
+    ("memory =", "209", "208"),
+    ("reads =", "211", "210"),
+];
+
+/// FORMAT beside its limits, then at them; WRITE, CLOSE, STORE and CHECKPOINT beside theirs.
+const LIMITS: &str = "01000104 01090104 01010004 01014104 01010103 01010119 01084018 01000000 \
+    020800000001020304 02FF00000001020304 020700400001020304 0207FFFF0001020304 0207003F7D01020304 \
+    0207003F7C01020304 0308 0408 0508 0307 0407 0407 0407 0507 0507 0507 07 06 01084018 0200";
+
+/// Fields of the master at and beside their limits, and one that is not looked at.
+const MASTERS: &[(usize, u32)] = &[
+    (0, 0xC03B3999),
+    (4, 1),
+    (8, 7),
+    (12, 0),
+    (12, 9),
+    (16, 0),
+    (16, 65),
+    (16, 64),
+    (20, 3),
+    (20, 25),
+    (24, 0),
+    (24, LAST_TAIL),
+    (24, LAST_TAIL + 1),
+    (36, 5),
+    (36, 6),
+    (40, 0),
+    (124, 9),
+];
+
+/// A small disk with one committed record, and one word of its master replaced.
+fn spoiled(at: usize, word: u32) -> Start {
+    let shape = Shape { cores: 2, blocks: 3, journal: 6 };
+    let mut disk = disk_with(shape, &[Tail { number: 4, position: 5 }, Tail { number: 1, position: 0 }]);
+    put_record(&mut disk, shape, 5, 4, &[2], &[Name { core: 1, number: 0xFFFF }, Name { core: 0, number: 4 }]);
+    put_word(&mut disk, at, word);
+    Start::down(disk, 0, 0)
+}
+
+/// Core 0's tail is the last number: a record of it stands there, and none can be opened after it.
+fn last_numbers() -> Start {
+    let shape = Shape { cores: 2, blocks: 3, journal: 6 };
+    let last = Tail { number: LAST_TAIL - 1, position: 2 };
+    let mut disk = disk_with(shape, &[last, Tail { number: LAST_TAIL - 3, position: 0 }]);
+    put_record(&mut disk, shape, 2, last.number, &[1, 0], &[]);
+    Start::down(disk, 0, 77)
+}
+
+/// Recovery, 27 on core 0, then the last two numbers on core 1 and 27 there too.
+const OPENS_LAST: &str = "070707 020000000001020304 020100010005060708 0301 0401 0401 0401 0501 0501 \
+    020100020009090909 0301 020100020001010101 0401 0401 0401 06 07 07 07 020100000001020304";
+
+fn disk_with(shape: Shape, tails: &[Tail]) -> Vec<u8> {
+    let mut all = Tails::default();
+    all[..tails.len()].copy_from_slice(tails);
+    let mut disk = vec![0; DISK];
+    disk[..BLOCK].copy_from_slice(&master(shape, &all));
+    disk
+}
+
+fn put_record(disk: &mut [u8], shape: Shape, at: usize, number: u32, blocks: &[u8], names: &[Name]) {
+    let mut put = |position: usize, block: &[u8]| {
+        let start = shape.place(0, position) * BLOCK;
+        disk[start..start + block.len()].copy_from_slice(block);
+    };
+    put(at, &descriptor(number, blocks, &vec![true; blocks.len()]));
+    for i in 0..blocks.len() {
+        put(at + 1 + i, &[0, 0, 0, 0, 7, 8, 9, 10 + i as u8]);
+    }
+    put(at + 1 + blocks.len(), &commit(number, 3, names));
+}
+
+fn tape_of(commands: &[Command]) -> Vec<u8> {
+    let mut tape = Vec::new();
+    commands.iter().for_each(|command| command.write_to(&mut tape));
+    tape
+}
+
+fn write(core: u8, block: u16) -> Command {
+    Command::Write { core, block, offset: core, data: [65 + core, block as u8, 0xC0, 0x3B] }
+}
+
+/// Core 0 runs on while core 1 is named twelve times: 24 for the holder's list, then for the writer's; then it commits.
+fn crowded_list() -> Vec<u8> {
+    let mut commands = vec![Command::Format { cores: 3, blocks: 2, journal: 24 }, write(0, 0)];
+    for _ in 0..12 {
+        commands.extend([
+            write(1, 0),
+            Command::Close { core: 1 },
+            Command::Store { core: 1 },
+            Command::Store { core: 1 },
+        ]);
+    }
+    commands.extend([write(1, 0), write(2, 0), write(2, 1), write(0, 1), Command::Close { core: 0 }]);
+    commands.extend([Command::Store { core: 0 }; 3]);
+    commands.extend([Command::Checkpoint { core: 1 }, Command::Checkpoint { core: 0 }, Command::Cut]);
+    commands.extend([Command::Recover; 2]);
+    tape_of(&commands)
+}
+
+/// 25 at the ninth block, the eight stored and taken home.
+fn nine_blocks() -> Vec<u8> {
+    let mut commands = vec![Command::Format { cores: 1, blocks: 9, journal: 24 }];
+    commands.extend((0..9).rev().map(|block| write(0, block)));
+    commands.extend([Command::Close { core: 0 }, write(0, 3), Command::Close { core: 0 }]);
+    commands.extend([Command::Store { core: 0 }; 11]);
+    commands.extend([Command::Checkpoint { core: 0 }; 10]);
+    tape_of(&commands)
+}
+
+/// A block handed on from core to core: 29, 32 and 33, then all retired.
+fn passed_on() -> Vec<u8> {
+    let mut commands = vec![Command::Format { cores: 3, blocks: 2, journal: 5 }];
+    for core in 0..3 {
+        commands.extend([write(core, 0), Command::Close { core }, Command::Store { core }, Command::Store { core }]);
+    }
+    commands.extend([Command::Store { core: 2 }, Command::Checkpoint { core: 2 }, Command::Store { core: 1 }]);
+    commands.extend([Command::Store { core: 0 }, Command::Checkpoint { core: 2 }, Command::Store { core: 0 }]);
+    for core in 0..3 {
+        commands.extend([Command::Checkpoint { core }; 3]);
+    }
+    tape_of(&commands)
+}
+
+/// Refusal 1 in every phase, and commands at and past the end of the tape.
+fn wrong_lengths(facts: &mut Facts) {
+    let sizes =
+        [(DISK - 1, MEMORY), (DISK + 1, MEMORY), (DISK, MEMORY - 1), (DISK, MEMORY + 1), (0, 0), (DISK, MEMORY)];
+    let up = from_hex("01010204020000000001020304");
+    let down = [&up[..], &[6]].concat();
+    for before in [vec![], up, down] {
+        for (disk, memory) in sizes {
+            facts.at(&before, &from_hex("0400"), 0, disk, memory);
+        }
+        for (tape, at) in [("0400", 1), ("0400", 2), ("0400", 5), ("0201", 0), ("", 0), ("0603", 1)] {
+            facts.at(&before, &from_hex(tape), at, DISK - 1, MEMORY);
+            facts.at(&before, &from_hex(tape), at, DISK, MEMORY);
+        }
+    }
+}
+
+// ---- what is written
+
+impl Facts {
+    fn new(folder: PathBuf) -> Facts {
+        let (tapes, commands, answers) = ([0; 2], [0; 2], [0; 34]);
+        Facts { folder, text: HEAD.into(), commands_here: 0, files: 0, facts: 0, tapes, commands, answers }
+    }
+
+    /// A fact about a tape from a start on. Says the disk at the end.
+    fn tape(&mut self, start: &Start, tape: &[u8], random: &mut Random) -> Vec<u8> {
+        let is_down = start.card.phase == Phase::Down;
+        let ran = Ran::new(start, tape);
+        let blocks = [0, random.below(64), random.pick(&[1, 2, 3, 63, 64, 65_535])];
+        let (left, right) = ran.fact(start, tape, &blocks);
+        self.tapes[is_down as usize] += 1;
+        self.count(&ran.answers, is_down);
+        self.put(&hex(tape), &left, &right);
+        ran.disk
+    }
+
+    /// One command at an offset over slices of these lengths, by the card that another tape left.
+    fn at(&mut self, before: &[u8], tape: &[u8], at: usize, disk_size: usize, memory_size: usize) {
+        let (mut card, mut disk, mut memory) = (Card::blank(), vec![0; DISK], vec![0; MEMORY]);
+        let mut offset = 0;
+        while offset < before.len() {
+            offset = card.command(&mut disk, &mut memory, before, offset).next;
+        }
+        disk.resize(disk_size, 0);
+        memory.resize(memory_size, 0);
+        let reading = card.read_number(&disk, &memory, 0);
+        let (old_disk, old_memory) = (disk.clone(), memory.clone());
+        let outcome = card.command(&mut disk, &mut memory, tape, at);
+        self.count(&[outcome.answer], false);
+        let left = format!(
+            "met {} {at} (resized {disk_size} {memory_size} (endOf {} blankWorld))",
+            byte_list(tape),
+            byte_list(before)
+        );
+        let same = old_disk == disk && old_memory == memory;
+        assert!(same, "one command that would change a byte is told by a tape");
+        let bytes = format!("disk = changed [] true {disk_size}; memory = changed [] true {memory_size}");
+        let (answer, stores, next) = (outcome.answer, outcome.stores, outcome.next);
+        let met = format!("answer = {answer}; stores = {stores}; next = {next}");
+        let right = format!("record {{ {met}; {bytes}; reading = {reading} }}");
+        self.put(&format!("{} at {at} after {}", hex(tape), hex(before)), &left, &right);
+    }
+
+    fn count(&mut self, answers: &[u8], is_down: bool) {
+        self.commands[is_down as usize] += answers.len();
+        self.commands_here += answers.len();
+        answers.iter().for_each(|answer| self.answers[*answer as usize] += 1);
+    }
+
+    fn put(&mut self, title: &str, left: &str, right: &str) {
+        self.facts += 1;
+        self.text.push_str(&fact_text(self.facts, title, left, right));
+        if self.commands_here >= COMMANDS_PER_FILE {
+            self.end_file().expect("a folder that can be written");
+        }
+    }
+
+    /// Facts that do not hold, a crate for each: one number is changed after the name of a field.
+    fn wrong(&self, start: &Start, tape: &[u8], changes: &[(&str, &str, &str)]) -> std::io::Result<()> {
+        let (left, right) = Ran::new(start, tape).fact(start, tape, &[0]);
+        for (i, (field, from, to)) in changes.iter().enumerate() {
+            let (before, after) = right.split_at(right.find(field).expect("a field"));
+            assert!(after.contains(from), "{from} after {field}");
+            let text = fact_text(1, field, &left, &format!("{before}{}", after.replacen(from, to, 1)));
+            self.write_crate(&format!("wrong{}", i + 1), &format!("{HEAD}{text}"))?;
+        }
+        Ok(())
+    }
+
+    /// A crate for each file, so that each is computed in a process of its own.
+    fn end_file(&mut self) -> std::io::Result<()> {
+        self.files += 1;
+        self.write_crate(&format!("facts{}", self.files), &self.text)?;
+        self.text = HEAD.into();
+        self.commands_here = 0;
+        Ok(())
+    }
+
+    fn write_crate(&self, name: &str, text: &str) -> std::io::Result<()> {
+        let folder = self.folder.join("crates").join(name);
+        for part in ["src", "specs", "proofs"] {
+            fs::create_dir_all(folder.join(part))?;
+        }
+        fs::write(folder.join("src/lib.rt"), "// Computed facts. There is no code here.\n")?;
+        fs::write(folder.join("specs/Lib.antt"), "-- No definition stands here.\n")?;
+        fs::write(folder.join("proofs/Lib.antt"), "-- Computed facts.\npub mod Facts\n")?;
+        fs::write(folder.join("proofs/Facts.antt"), text)
+    }
+
+    fn crates(&self) -> String {
+        let facts: String = (1..=self.files).map(|i| format!("facts{i}: model seen\n")).collect();
+        let wrong: String = (1..=WRONG.len()).map(|i| format!("wrong{i}: model seen\n")).collect();
+        format!("model:\nseen: model\n{facts}{wrong}")
+    }
+
+    fn report(&self) {
+        println!("{} facts in {} files", self.facts, self.files);
+        println!("blank starts: {} tapes, {} commands", self.tapes[0], self.commands[0]);
+        println!("foreign disks: {} tapes, {} commands", self.tapes[1], self.commands[1]);
+        let met = self.answers.iter().enumerate().filter(|(_, count)| **count > 0);
+        let met: Vec<String> = met.map(|(answer, count)| format!("{answer}: {count}")).collect();
+        println!("answers met: {}", met.join(", "));
+        let listed = (1..=8).chain(20..=33);
+        let unmet: Vec<String> = listed.filter(|i| self.answers[*i] == 0).map(|i| i.to_string()).collect();
+        println!("answers not met: {}", if unmet.is_empty() { "none".into() } else { unmet.join(", ") });
+    }
+}
+
+/// What a tape answered, and the card and slices at its end.
+struct Ran {
+    lines: Vec<String>,
+    answers: Vec<u8>,
+    card: Card,
+    disk: Vec<u8>,
+    memory: Vec<u8>,
+}
+
+impl Ran {
+    fn new(start: &Start, tape: &[u8]) -> Ran {
+        let (card, disk, memory) = (start.card, start.disk.clone(), start.memory.clone());
+        let mut ran = Ran { lines: Vec::new(), answers: Vec::new(), card, disk, memory };
+        let (mut offset, mut stores) = (0, 0);
+        while offset < tape.len() {
+            let outcome = ran.card.command(&mut ran.disk, &mut ran.memory, tape, offset);
+            stores += outcome.stores as usize;
+            ran.lines.push(format!("line {offset} {} {} {stores}", tape[offset], outcome.answer));
+            ran.answers.push(outcome.answer);
+            offset = if matches!(outcome.answer, 2 | 3) { tape.len() } else { outcome.next };
+        }
+        ran
+    }
+
+    /// Both sides of the equation: lines, home blocks, every byte, state and readings of some blocks at the end.
+    fn fact(&self, start: &Start, tape: &[u8], blocks: &[usize]) -> (String, String) {
+        let card = if start.card.phase == Phase::Down { "downCard" } else { "blankCard" };
+        let (disk_against, disk) = changes(&start.disk, &self.disk);
+        let (memory_against, memory) = changes(&start.memory, &self.memory);
+        let slices = format!("({}) ({}) {disk_against} {memory_against}", start.disk_text, start.memory_text);
+        let asked = number_list(blocks.iter().map(|block| *block as u64));
+        let left = format!("seen {} {card} {slices} {asked}", byte_list(tape));
+        let lines = list(self.lines.clone());
+        let homes = homes(&self.card, &self.disk);
+        let state = number_list(state(&self.card));
+        let reads = list(blocks.iter().map(|block| self.read_text(*block)).collect());
+        let bytes = format!("disk = {disk}; memory = {memory}");
+        (left, format!("record {{ lines = {lines}; homes = {homes}; {bytes}; state = {state}; reads = {reads} }}"))
+    }
+
+    fn read_text(&self, block: usize) -> String {
+        let number = self.card.read_number(&self.disk, &self.memory, block);
+        let bytes = self.card.read_block(&self.disk, &self.memory, block);
+        format!("read {block} {number} {}", byte_list(bytes))
+    }
+}
+
+fn fact_text(number: usize, title: &str, left: &str, right: &str) -> String {
+    let claim = format!("-- {title}\npub fact-{number} :\n    {left}\n    ≡ {right}");
+    format!("\n{claim}\nunfolding computes sees\nfact-{number} = refl\n")
+}
+
+/// What to compare a slice with, its start or zero bytes, whichever leaves less to tell; and the blocks changed.
+fn changes(start: &[u8], end: &[u8]) -> (String, String) {
+    let (old, new) = (differing(start, end), differing(&vec![0; end.len()], end));
+    let from_zeros = new.len() < old.len();
+    let blocks = if from_zeros { new } else { old };
+    let told = blocks.last().map_or(0, |(k, _)| k + 1);
+    (format!("(against {from_zeros} {told})"), format!("changed {} true {}", block_list(&blocks), end.len()))
+}
+
+/// The home blocks that the tape program prints.
+fn homes(card: &Card, disk: &[u8]) -> String {
+    let shape = read_master(disk).filter(|_| card.phase != Phase::Blank).map(|(shape, _)| shape);
+    let blocks = 0..shape.map_or(0, |shape| shape.blocks as usize);
+    let bytes = |b: usize| block_at(disk, 1 + b);
+    let shown = blocks.filter(|b| bytes(*b).iter().any(|byte| *byte != 0));
+    list(shown.map(|b| format!("({b}, {})", byte_list(&bytes(b)[..8]))).collect())
+}
+
+/// The card's state as numbers, in the order of the definition `stateWords`.
+fn state(card: &Card) -> Vec<u64> {
+    match card.phase {
+        Phase::Blank => return vec![0],
+        Phase::Down => return vec![2, card.place as u64],
+        Phase::Up => {}
+    }
+    let mut words = vec![1, card.closes];
+    for core in &card.cores[..card.shape.cores as usize] {
+        // The definitions count the number on at CLOSE, the model when it opens.
+        let next = core.running.map_or(core.next, |running| running.number);
+        words.extend([next as u64, core.tail.number as u64]);
+        words.extend([core.tail.position, core.length, core.committed, core.stored, core.home].map(u64::from));
+        words.extend(transaction_words(core.running));
+        words.extend(transaction_words(core.closed));
+    }
+    for (block, name) in card.holders.iter().enumerate() {
+        words.extend(name.iter().flat_map(|name| [block as u64, name.core as u64, name.number as u64]));
+    }
+    words
+}
+
+fn transaction_words(transaction: Option<Transaction>) -> Vec<u64> {
+    let Some(transaction) = transaction else { return vec![0] };
+    let mut words = vec![1, transaction.stamp, transaction.blocks.len() as u64];
+    words.extend(transaction.blocks.iter().map(|block| *block as u64));
+    words.push(transaction.names.len() as u64);
+    words.extend(transaction.names.iter().flat_map(|name| [name.core as u64, name.number as u64]));
+    words
+}
+
+// ---- lists in the definitions' language
+
+fn list(items: Vec<String>) -> String {
+    let joined: String = items.iter().map(|item| format!("{item} ∷ ")).collect();
+    format!("({joined}[])")
+}
+
+fn number_list(numbers: impl IntoIterator<Item = u64>) -> String {
+    list(numbers.into_iter().map(|number| number.to_string()).collect())
+}
+
+fn byte_list(bytes: &[u8]) -> String {
+    number_list(bytes.iter().map(|byte| *byte as u64))
+}
+
+/// Blocks with their numbers; the zeros at a block's end are left to `padded`.
+fn block_list(blocks: &[(usize, Vec<u8>)]) -> String {
+    let used = |bytes: &[u8]| bytes.iter().rposition(|byte| *byte != 0).map_or(0, |last| last + 1);
+    let text = |(k, bytes): &(usize, Vec<u8>)| format!("({k}, padded {})", byte_list(&bytes[..used(bytes)]));
+    list(blocks.iter().map(text).collect())
+}
