@@ -23,7 +23,7 @@ pub enum Checked {
     OutOfRange,
 }
 
-// Where a core's journal begins: the number of its oldest unretired transaction, and the position of its record.
+// Where a core's journal begins: the number and the position of its oldest unretired record, or of the next one.
 pub struct Tail {
     pub number: u32,
     pub position: u8,
@@ -147,9 +147,13 @@ impl Shape {
         ensures { λ r. ⌜ r ≡ clamped self ⌝ }
     {
         Shape {
-            cores: within(1, self.cores, 8),
-            blocks: within(1, self.blocks, 64),
-            journal: within(4, self.journal, 24),
+            cores: within(Self::MIN_CORES as u8, self.cores, Self::MAX_CORES as u8),
+            blocks: within(Self::MIN_BLOCKS as u8, self.blocks, Self::MAX_BLOCKS as u8),
+            journal: within(
+                Self::MIN_JOURNAL as u8,
+                self.journal,
+                Self::MAX_JOURNAL as u8,
+            ),
         }
     }
 

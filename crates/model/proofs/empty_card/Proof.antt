@@ -1,3 +1,4 @@
+-- `model::empty_card` meets its contract: eight fresh cores, no tail, no holder.
 use borrow.Author.Needs.{needs}
 use Rattle.model.specs.Card.{freshCard, emptyCard}
 use Rattle.model.proofs.empty_card.Statement.{statement}

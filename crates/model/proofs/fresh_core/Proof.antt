@@ -1,3 +1,4 @@
+-- `model::fresh_core` meets its contract: both transactions are the empty one.
 use borrow.Author.Needs.{needs}
 use Rattle.model.proofs.fresh_core.Statement.{statement}
 use Rattle.model.proofs.fresh_core.Tie as tie

@@ -1,3 +1,4 @@
+-- `model::Card::blank` meets its contract: the empty card, blank.
 use borrow.Author.Needs.{needs}
 use Rattle.model.specs.Card.{blankCard}
 use Rattle.model.proofs.Card.blank.Statement.{statement}

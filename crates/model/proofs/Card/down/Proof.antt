@@ -1,3 +1,4 @@
+-- `model::Card::down` meets its contract: the empty card, down.
 use borrow.Author.Needs.{needs}
 use Rattle.model.specs.Card.{downCard}
 use Rattle.model.proofs.Card.down.Statement.{statement}
