@@ -4,7 +4,7 @@ use mathlib.Core.List.{List, [], _∷_, _++_}
 use mathlib.Core.Option.{Option, none, some}
 use mathlib.Core.Bool.{Bool, true, false, cond}
 use lib.ListN.{length, replicate}
-use lib.Dec.{eqb, leb}
+use lib.Dec.{eqb, leb, ltb}
 use Rattle.model.specs.Lists.{all, any, select}
 use Rattle.model.specs.Bytes.{Bytes, replaced}
 use Rattle.model.specs.Card.{newName, sameName}
@@ -70,7 +70,8 @@ pub record Write : Type 0 where
   pub bytes : Bytes
 
 -- the transactions opened and what is known of each; the writes, the newest first; for each core the numbers of its
--- oldest unretired transaction, of its first uncommitted one, and of its running one or the next to open
+-- oldest unretired transaction, of its first uncommitted one, and of its running one, or of the next to open where there
+-- is none: a core's transactions close, commit and retire in the order of their numbers
 pub record Book : Type 0 where
   pub opened : List Name
   pub entry : Name → Entry
@@ -108,9 +109,15 @@ taking b e = record { blocks = e .blocks ++ (b ∷ []); names = e .names; stage 
 abbrev pub naming : Name → Entry → Entry
 naming n e = record { blocks = e .blocks; names = cond (any (sameName n) (e .names)) (e .names) (e .names ++ (n ∷ [])); stage = e .stage }
 
-abbrev pub withEntries : Book → (Name → Entry) → Book
-withEntries k entry =
-    record { opened = k .opened; entry = entry; writes = k .writes; oldest = k .oldest; uncommitted = k .uncommitted; next = k .next }
+-- ---- which transactions a core has: one running; one closed and still uncommitted; a committed unretired one
+abbrev pub hasRunning : Book → ℕ → Bool
+hasRunning k c = isRunning ((k .entry (newName c (k .next c))) .stage)
+
+abbrev pub hasClosed : Book → ℕ → Bool
+hasClosed k c = ltb (k .uncommitted c) (k .next c)
+
+abbrev pub hasCommitted : Book → ℕ → Bool
+hasCommitted k c = ltb (k .oldest c) (k .uncommitted c)
 
 -- ---- WRITE: 'opens a transaction if its core has none running'
 unfoldable pub begin : Name → Book → Book
@@ -169,7 +176,7 @@ note t b o v k =
 unfoldable pub wrote : ℕ → ℕ → ℕ → Bytes → Book → Book
 wrote c b o v k =
     let t = newName c (k .next c) in
-    note t b o v (cond (isRunning ((k .entry t) .stage)) k (begin t k))
+    note t b o v (cond (hasRunning k c) k (begin t k))
 
 -- ---- CLOSE: 'makes the core's running one closed'
 unfoldable pub close : ℕ → Book → Book

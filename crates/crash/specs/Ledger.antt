@@ -1,23 +1,25 @@
 -- The ledger: the history of transactions with the card's own numbers, kept from commands and answers alone. It is no
 -- part of paper 01; in its words the conditions 24 to 33, the content of the journals and the course of recovery are
 -- stated without the card's state.
-use Prim.Native.Nat.{ℕ, zero, suc, _+_, _-_, min}
+use Prim.Native.Nat.{ℕ, zero, suc, _+_, _-_, _%_, min}
 use mathlib.Core.List.{List, [], _∷_, _++_, map}
 use mathlib.Core.Bool.{Bool, cond, not, _&&_, _||_}
 use lib.ListN.{length, getD}
 use lib.Dec.{ltb, leb, eqb}
 use Rattle.model.specs.Lists.{below, all, any, select}
-use Rattle.model.specs.Bytes.{Bytes, number, part}
-use Rattle.model.specs.Card.{newName, sameName, isBlank, isUp, isDown}
-use Rattle.model.specs.Shape.{inRange}
+use Rattle.model.specs.Bytes.{Bytes, number, part, store, zeroDisk}
+use Rattle.model.specs.Card.{newTail, newName, sameName, isBlank, isUp, isDown}
+use Rattle.model.specs.Shape.{inRange, homeBlock, journalBlock}
 use Rattle.model.specs.Checkpoint.{share}
-use Rattle.model.specs.Layout.{maxNumber}
+use Rattle.model.specs.Layout.{maxNumber, masterBlock, Held, newHeld, descriptorBlock, commitBlock, flagOf, escaped}
+use Rattle.model.specs.Recovery.{tailOn}
+use Rattle.model.specs.declared.Tail.{Tail}
 use Rattle.model.specs.Shrink.{shrink}
 use Rattle.model.specs.declared.Name.{Name}
 use Rattle.model.specs.declared.Phase.{Phase}
 use Rattle.model.specs.declared.Phase.the-variants.{Blank, Up, Down}
 use Rattle.model.specs.declared.Shape.{Shape}
-use Rattle.crash.specs.Book.{Book, Write, isRunning, isClosed, isCommitted, isRetired, emptyBook, holderIn, Meeting, no-holder, own, running-holder, closed-holder, meets, wrote, close, keptWrites, image, blank}
+use Rattle.crash.specs.Book.{Book, Write, isClosed, isCommitted, isRetired, counted, emptyBook, hasRunning, hasClosed, hasCommitted, holderIn, Meeting, no-holder, own, running-holder, closed-holder, meets, wrote, close, keptWrites, image, blank}
 use Rattle.crash.specs.Service.{noted}
 
 pub record Ledger : Type 0 where
@@ -143,7 +145,7 @@ recoverLedger (b ∷ bs) l =
 unfoldable pub entered : ℕ → Bytes → ℕ → Ledger → Ledger
 entered k a zero l =
     cond (eqb k 1) (freshLedger (record { cores = getD a 0 0; blocks = getD a 1 0; journal = getD a 2 0 }) [] (λ (c : ℕ). 1))
-    (cond (eqb k 3) (closeLedger (getD a 0 0) l)
+    (cond (eqb k 3) (cond (hasRunning (l .book) (getD a 0 0)) (closeLedger (getD a 0 0) l) l)
     (cond (eqb k 6) (cutLedger l)
     (cond (eqb k 7) (recoverLedger (l .left) l) (withBook l (noted k a (l .book))))))
 entered k a (suc n) l = l
@@ -166,6 +168,64 @@ storedOf l t =
 unfoldable pub storedSince : Ledger → ℕ → List Stored
 storedSince l c = map (λ (i : ℕ). storedOf l (newName c (l .book .oldest c + i))) (below (l .book .uncommitted c - l .book .oldest c))
 
+-- ---- 'Every store has the stated bytes': what a command carried out stores
+-- a transaction's blocks with their flags, and the blocks of its record in the order stored: 'descriptor, data in the
+-- order taken, commit'
+unfoldable pub heldOf : Ledger → Name → List Held
+heldOf l t =
+    let bs = (l .book .entry t) .blocks in
+    map (λ (i : ℕ). newHeld (getD bs i 0) (flagOf (getD (l .images t) i []))) (below (length bs))
+
+unfoldable pub recordOf : Ledger → Name → List Bytes
+recordOf l t =
+    descriptorBlock (t .number) (heldOf l t)
+    ∷ (map escaped (l .images t) ++ (commitBlock (t .number) (l .stamp t) ((l .book .entry t) .names) ∷ []))
+
+-- 'blocks of the records of .. transactions': of n of core c, from number i on
+unfoldable pub recordBlocks : Book → ℕ → ℕ → ℕ → ℕ
+recordBlocks k c i zero = 0
+recordBlocks k c i (suc n) = length ((k .entry (newName c i)) .blocks) + 2 + recordBlocks k c (suc i) n
+
+-- STORE: the next block of the closed one's record, after those that stand from the tail
+unfoldable pub recordStored : ℕ → Ledger → Bytes → Bytes
+recordStored c l d =
+    let k = l .book in
+    let t = newName c (k .uncommitted c) in
+    let n = counted ((k .entry t) .stage) in
+    store d (journalBlock (l .shape) c ((tailOn d c) .position + recordBlocks k c (k .oldest c) (k .uncommitted c - k .oldest c) + n)) (getD (recordOf l t) n [])
+
+-- CHECKPOINT: the next image of the oldest one home, or the master with the tail moved past it
+unfoldable pub tailsPast : ℕ → Ledger → Bytes → ℕ → Tail
+tailsPast c l d i =
+    let n = length ((l .book .entry (newName c (l .book .oldest c))) .blocks) + 2 in
+    cond (eqb i c) (newTail (l .book .oldest c + 1) (((tailOn d c) .position + n) % l .shape .journal)) (tailOn d i)
+
+unfoldable pub checkpointStored : ℕ → Ledger → Bytes → Bytes
+checkpointStored c l d =
+    let t = newName c (l .book .oldest c) in
+    let e = l .book .entry t in
+    let m = counted (e .stage) in
+    cond (ltb m (length (e .blocks))) (store d (homeBlock (getD (e .blocks) m 0)) (getD (l .images t) m [])) (store d 0 (masterBlock (l .shape) (tailsPast c l d)))
+
+-- RECOVER: the lowest block left gets the bytes that the kept writes give it; where none is left, 'one master store
+-- empties all journals'
+unfoldable pub recoverStored : List ℕ → Ledger → Bytes → Bytes
+recoverStored [] l d = store d 0 (masterBlock (l .shape) (λ (c : ℕ). newTail (min (l .book .uncommitted c + 1) (suc maxNumber)) 0))
+recoverStored (b ∷ bs) l d = store d (homeBlock b) (image blank (keptWrites (l .book) ++ l .saved) b)
+
+-- the disk after a command carried out, by command byte and operands
+unfoldable pub diskAfter : ℕ → Bytes → Ledger → Bytes → Bytes
+diskAfter k a l d =
+    let c = getD a 0 0 in
+    cond (eqb k 1) (store zeroDisk 0 (masterBlock (record { cores = c; blocks = getD a 1 0; journal = getD a 2 0 }) (λ (i : ℕ). newTail 1 0)))
+    (cond (eqb k 4) (recordStored c l d)
+    (cond (eqb k 5) (checkpointStored c l d)
+    (cond (eqb k 7) (recoverStored (l .left) l d) d)))
+
+-- 'Each does at most one store, save FORMAT': STORE, CHECKPOINT and RECOVER do one
+unfoldable pub storeCount : ℕ → ℕ
+storeCount k = cond (eqb k 4 || eqb k 5 || eqb k 7) 1 0
+
 -- ---- the conditions of the refusals, in the order of section 'Refusals'
 -- '24 a list, the writer's or the holder's, would pass 12 names'
 unfoldable pub namesCount : Book → Name → ℕ
@@ -176,11 +236,6 @@ holderNames k no-holder = 0
 holderNames k own = 0
 holderNames k (running-holder u) = namesCount k u
 holderNames k (closed-holder u) = 0
-
--- 'blocks of the records of closed unretired transactions, stored yet or not': of n of core c, from number i on
-unfoldable pub recordBlocks : Book → ℕ → ℕ → ℕ → ℕ
-recordBlocks k c i zero = 0
-recordBlocks k c i (suc n) = length ((k .entry (newName c i)) .blocks) + 2 + recordBlocks k c (suc i) n
 
 -- '20 blank', '22 down', '5 core not below C'
 abbrev pub notUpFor : ℕ → Ledger → List (Bool × ℕ) → List (Bool × ℕ)
@@ -201,16 +256,14 @@ writeRefusals c b o v l =
     ∷ (ltb 12 (namesCount after t) || ltb 12 (holderNames after (meets k t (holderIn k b (k .writes)))), 24)
     ∷ (ltb 8 n, 25)
     ∷ (ltb (l .shape .journal) (recordBlocks k c (k .oldest c) (k .next c - k .oldest c) + 2 + n), 26)
-    ∷ (not (isRunning ((k .entry t) .stage)) && ltb maxNumber (k .next c), 27)
+    ∷ (not (hasRunning k c) && ltb maxNumber (k .next c), 27)
     ∷ [])
 
 unfoldable pub closeRefusals : ℕ → Ledger → List (Bool × ℕ)
-closeRefusals c l =
-    let k = l .book in
-    notUpFor c l ((not (isRunning ((k .entry (newName c (k .next c))) .stage)), 28) ∷ (ltb (k .uncommitted c) (k .next c), 29) ∷ [])
+closeRefusals c l = notUpFor c l ((not (hasRunning (l .book) c), 28) ∷ (hasClosed (l .book) c, 29) ∷ [])
 
 unfoldable pub storeRefusals : ℕ → Ledger → List (Bool × ℕ)
-storeRefusals c l = notUpFor c l ((not (ltb (l .book .uncommitted c) (l .book .next c)), 30) ∷ [])
+storeRefusals c l = notUpFor c l ((not (hasClosed (l .book) c), 30) ∷ [])
 
 -- '33 a lower-stamped unretired transaction shares a block (both took it)'
 unfoldable pub sharesLowerIn : Ledger → Name → Bool
@@ -224,7 +277,7 @@ checkpointRefusals c l =
     let k = l .book in
     let t = newName c (k .oldest c) in
     notUpFor c l
-    ((not (ltb (k .oldest c) (k .uncommitted c)), 31)
+    ((not (hasCommitted k c), 31)
     ∷ (not (any (sameName t) (validIn k)), 32)
     ∷ (sharesLowerIn l t, 33)
     ∷ [])
