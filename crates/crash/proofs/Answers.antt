@@ -6,7 +6,7 @@ use native.Mathlib.Omega.{arith}
 use native.Mathlib.Decide.{decLt}
 use mathlib.Core.Path.{_≡_, refl, ap, ap₂, _∙_, sym}
 use mathlib.Core.Logic.{_⊎_, inl, inr, _≢_}
-use mathlib.Core.Bool.{Bool, true, false, cond, not, _&&_, _||_}
+use mathlib.Core.Bool.{Bool, false, cond, not, _&&_, _||_}
 use mathlib.Core.List.{List, [], _∷_}
 use mathlib.Core.Option.{some}
 use lib.ListN.{length, length-append}
@@ -16,20 +16,22 @@ use Rattle.model.specs.Lists.{any}
 use Rattle.model.specs.Bytes.{Bytes}
 use Rattle.model.specs.Card.{newName, sameName, lists, recordSize, coreOf}
 use Rattle.model.specs.Layout.{maxNumber}
-use Rattle.model.specs.Command.{World, refusal, wrongLength, notUp, noCore, noBlock}
+use Rattle.model.specs.Command.{World, refusal, notUp, noCore, noBlock}
 use Rattle.model.specs.Write.{writer, ruleFor, takesBlock, passesTwelve, listsFull, closedBlocks, journalFull, writeConditions}
 use Rattle.model.specs.Commit.{closeConditions, storeConditions}
 use Rattle.model.specs.declared.Shape.{Shape}
 use Rattle.model.specs.declared.Name.{Name}
 use Rattle.model.specs.declared.Transaction.{Transaction}
-use Rattle.model.proofs.Lists.{cases}
+use Rattle.model.proofs.Lists.{cases, or-none}
 use Rattle.crash.specs.Book.{absent, running, isRunning, Entry, Book, begin, staged, taking, naming, holderIn, wrote}
 use Rattle.crash.specs.Ledger.{Ledger, namesCount, holderNames, recordBlocks, notUpFor, writeRefusals, closeRefusals, storeRefusals}
 use Rattle.crash.proofs.Relation.{Matches, Up}
 use Rattle.crash.proofs.Entries.{change-at, records-snoc}
 use Rattle.crash.proofs.Books.{begun, meeting}
-use Rattle.crash.proofs.UpStore.{shape-up}
-use Rattle.crash.proofs.Rules.{running-present, entry-free, entry-own, entry-running, entry-closed, entry-holder, live-runs, writer-name, writer-matches, met-none, met-own, met-running, met-closed, rule-met, writer-after, holder-matches}
+use Rattle.crash.proofs.Rules.{entry-free, entry-own, entry-running, entry-closed, entry-holder, live-runs, writer-name, writer-matches, met-none, met-own, met-running, met-closed, rule-met, writer-after, holder-matches}
+use Rattle.crash.proofs.Stages.{running-present}
+use Rattle.crash.proofs.Master.{shape-up}
+use Rattle.crash.proofs.Down.{right-length}
 
 -- ---- conditions one by one
 -- the same conditions, each as far as none before it holds
@@ -43,16 +45,12 @@ same-refusal none-left = refl
 same-refusal (then {q = q} e h) = rw e (cases q (λ t. rw t refl) (λ f. rw f (same-refusal (h f))))
 
 module _ {l : Ledger} {w : World} (u : Up l w) where
-  right-length : wrongLength w ≡ false
-  unfolding wrongLength
-  right-length = rw (u .disk .size, u .memory) refl
-
   -- 1, 20, 22 and 5
   up-refusal : (c : ℕ) (xs ys : List (Bool × ℕ)) → (c < l .shape .cores → Same xs ys) → refusal (notUp w ((noCore w c, 5) ∷ xs)) ≡ refusal (notUpFor c l ys)
   unfolding refusal noCore
   up-refusal c xs ys h =
       let same : Same ((leb (l .shape .cores) c, 5) ∷ xs) ((leb (l .shape .cores) c, 5) ∷ ys) = then refl (λ e. h (leb-false (l .shape .cores) c e)) in
-      rw (right-length, shape-up u, u .phase, u .ledger) (same-refusal same)
+      rw (right-length w (u .disk .size) (u .memory), shape-up u, u .phase, u .ledger) (same-refusal same)
 
   module _ (c : ℕ) (in-range : c < l .shape .cores) where
     closing-live : (coreOf (w .card) c) .closed .live ≡ ltb (l .book .uncommitted c) (l .book .next c)
@@ -185,13 +183,9 @@ write-answers {l} {w} u c b o v opens =
     (λ _.
     then (lists-answer u c h b low (opens low) o v)
     (λ names.
-    let short : length ((k₂ .entry t) .names) ≤ 12 = ltb-false 12 (length ((k₂ .entry t) .names)) (neither _ _ names) in
+    let short : length ((k₂ .entry t) .names) ≤ 12 = ltb-false 12 (length ((k₂ .entry t) .names)) (or-none _ _ names .0) in
     then (blocks-answer u c h b low (opens low) o v)
     (λ blocks.
     then (journal-answer u c h b low (opens low) o v (ltb-false 8 (length ((k₂ .entry t) .blocks)) blocks) short)
     (λ _.
     then (ap₂ (λ (p : Bool) (n : ℕ). not p && ltb maxNumber n) (live-runs u c h) (u .cores c h .next)) (λ _. none-left)))))))
-  where
-    neither : (p q : Bool) → (p || q) ≡ false → p ≡ false
-    neither true q h = h
-    neither false q h = refl

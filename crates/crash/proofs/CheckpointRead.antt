@@ -12,7 +12,6 @@ use lib.ListN.{length}
 use lib.Dec.{ltb, eqb}
 use borrow.Author.Tests.{ltb-true, lt-ltb, le-ltb, le-leb, lt-leb, eq-eqb, ne-eqb, not-true}
 use Rattle.model.specs.Lists.{below, any}
-use Rattle.model.specs.Shape.{clamped}
 use Rattle.model.specs.Card.{newName, sameName, taken, shapeOf, tailOf, coreOf, committedCount}
 use Rattle.model.specs.Journal.{journals, nameOf, blocksOf}
 use Rattle.model.specs.Valid.{isIn, validSet}
@@ -21,21 +20,18 @@ use Rattle.model.specs.Checkpoint.{committedNow, validNow, committedOf, oldest,
 use Rattle.model.specs.declared.Shape.{Shape}
 use Rattle.model.specs.declared.Name.{Name}
 use Rattle.model.specs.declared.Committed.{Committed}
-use Rattle.model.proofs.Limits.{clamped-same}
 use Rattle.model.proofs.Lists.{and-both, and-left, and-right, or-left, or-right, or-cases, any-mem, mem-any, mem-below, below-mem}
 use Rattle.crash.specs.Book.{isClosed, isRetired}
 use Rattle.crash.specs.Ledger.{Ledger, validIn, sharesLowerIn, checkpointRefusals}
 use Rattle.crash.proofs.Relation.{Fine, Up}
-use Rattle.crash.proofs.Stages.{clash, closed-present, unretired-rank, closing-stage}
+use Rattle.crash.proofs.Stages.{closed-present, unretired-rank, closing-stage}
 use Rattle.crash.proofs.Records.{readRecord, readList, IsRead, length-readList, readList-has, readList-first, readList-is, journal-read}
-use Rattle.crash.proofs.Valid.{same-test, journals-are, listed-journals, valid-same}
+use Rattle.crash.proofs.Valid.{journals-are, listed-journals, valid-same}
+use Rattle.crash.proofs.Tests.{clash, same-test}
+use Rattle.crash.proofs.Master.{shape-up}
 
 -- ---- what is read
 module _ {l : Ledger} {w : World} (u : Up l w) where
-  pub shape-up : shapeOf (w .card) ≡ l .shape
-  unfolding shapeOf
-  shape-up = ap clamped (u .shape) ∙ clamped-same (l .shape) (u .fine .range)
-
   pub count-up : (c : ℕ) → c < l .shape .cores → committedCount (w .card) c ≡ l .book .uncommitted c - l .book .oldest c
   unfolding committedCount
   count-up c h =
@@ -51,15 +47,15 @@ module _ {l : Ledger} {w : World} (u : Up l w) where
 
   pub committed-now : committedNow w ≡ journals (l .shape) (w .disk) (tailOf (w .card)) (committedCount (w .card))
   unfolding committedNow
-  committed-now = rw shape-up
+  committed-now = rw (shape-up u)
 
   pub valid-now : validNow w ≡ validSet (l .shape) (w .disk) (tailOf (w .card)) (journals (l .shape) (w .disk) (tailOf (w .card)) (committedCount (w .card)))
   unfolding validNow
-  valid-now = rw (committed-now, shape-up)
+  valid-now = rw (committed-now, shape-up u)
 
   pub committed-of : (c : ℕ) → c < l .shape .cores → committedOf w c ≡ readList l c (tailOf (w .card) c)
   unfolding committedOf
-  committed-of c h = rw shape-up (journal-read (u .fine) (u .disk) c h (committedCount (w .card) c) (count-enough c h))
+  committed-of c h = rw (shape-up u) (journal-read (u .fine) (u .disk) c h (committedCount (w .card) c) (count-enough c h))
 
   pub oldest-of : (c : ℕ) → c < l .shape .cores → l .book .oldest c < l .book .uncommitted c
       → oldest (committedOf w c) ≡ readRecord l (newName c (l .book .oldest c)) ((tailOf (w .card) c) .position)

@@ -58,6 +58,11 @@ module _ (t : Name) (g : Entry → Entry) (entry : Name → Entry) where
   pub change-by : {A : Type 0} (f : Entry → A) → f (g (entry t)) ≡ f (entry t) → (u : Name) → f (change t g entry u) ≡ f (entry u)
   change-by f h u = same-or-not u t (λ e. rw (e, change-at) h) (λ ne. ap f (change-other u ne))
 
+-- what holds of t as it is changed, and of the others as they are, holds of each
+pub change-each : (P : Name → Entry → Type 0) (t : Name) (f : Entry → Entry) (entry : Name → Entry) → P t (f (entry t))
+    → ((u : Name) → u ≢ t → P u (entry u)) → (u : Name) → P u (change t f entry u)
+change-each P t f entry a b u = same-or-not u t (λ e. rw (e, change-at t f entry) a) (λ ne. rw (change-other t f entry u ne) (b u ne))
+
 -- ---- one number raised
 pub raise-at : (c : ℕ) (n : ℕ → ℕ) → raise c n c ≡ suc (n c)
 unfolding raise

@@ -6,9 +6,9 @@ use native.Mathlib.Omega.{arith}
 use native.Mathlib.Decide.{decLt, ℕ-discrete}
 use mathlib.Core.Path.{_≡_, refl, sym, ap, _∙_, subst}
 use mathlib.Core.Logic.{_⊎_, inl, inr, _≢_}
-use mathlib.Core.Bool.{Bool, true, false, _&&_}
+use mathlib.Core.Bool.{true, false}
 use mathlib.Core.List.{List, [], _∷_, _++_, map, List·Memᴰ, List·Memᴰ·head, List·Memᴰ·tail, List·Memᴰ·not-nil, List·Memᴰ·append-cases, Memᴰ·of-map}
-use lib.ListN.{length, take, drop, length-map, length-replicate, take-append-drop}
+use lib.ListN.{length, length-map, length-replicate}
 use lib.Dec.{ltb, eqb}
 use borrow.Author.Tests.{lt-ltb, le-ltb}
 use Rattle.model.specs.Lists.{all}
@@ -20,7 +20,7 @@ use Rattle.model.specs.declared.Phase.the-variants.{Down}
 use Rattle.model.specs.declared.Shape.{Shape}
 use Rattle.model.specs.declared.Name.{Name}
 use Rattle.model.proofs.Limits.{InRange}
-use Rattle.model.proofs.Lists.{cases, and-both, and-left, and-right, all-append, getD-mem}
+use Rattle.model.proofs.Lists.{cases, getD-mem}
 use Rattle.model.proofs.Select.{select-mem}
 use Rattle.model.proofs.Store.{length-replaced}
 use Rattle.crash.specs.Book.{Stage, absent, running, closed, committed, retired, isClosed, isRetired, Entry, Write, Book, emptyBook, raise, close, store, checkpoint, keptWrites, image, blank}
@@ -29,27 +29,14 @@ use Rattle.crash.specs.Claims.{IsBytes}
 use Rattle.crash.proofs.Relation.{IsBlock, Limits, WriteFits, Frozen, Ranks, sumNext, Fine}
 use Rattle.crash.proofs.Entries.{nextName, uncommittedName, oldestName, same-or-not, other-number, other-core, raise-at, raise-other}
 use Rattle.crash.proofs.Books.{Restages, restaged, restages, restages-keep, close-stamp, close-images, close-stamp-other, close-images-other, store-more, store-last, checkpoint-home, checkpoint-retires}
+use Rattle.crash.proofs.Stages.{closed-present, running-present}
+use Rattle.crash.proofs.Blocks.{bytes-replaced}
 
 -- ---- current images are blocks of bytes
-bytes-parts : (n : ℕ) (s : Bytes) → IsBytes s → IsBytes (take n s) × IsBytes (drop n s)
-bytes-parts n s h =
-    let test : ℕ → Bool = λ x. ltb x 256 in
-    let e : (all test (take n s) && all test (drop n s)) ≡ true = sym (all-append test (take n s) (drop n s)) ∙ ap (all test) (take-append-drop n s) ∙ h in
-    (and-left (all test (take n s)) (all test (drop n s)) e, and-right (all test (take n s)) (all test (drop n s)) e)
-
-bytes-append : (s t : Bytes) → IsBytes s → IsBytes t → IsBytes (s ++ t)
-bytes-append s t p q = all-append (λ x. ltb x 256) s t ∙ and-both p q
-
-replaced-bytes : (o : ℕ) (x v : Bytes) → IsBytes x → IsBytes v → IsBytes (replaced o 4 x v)
-unfolding replaced
-replaced-bytes o x v hx hv =
-    let p = bytes-parts o x hx in
-    bytes-append (take o x) (v ++ drop 4 (drop o x)) (p .0) (bytes-append v (drop 4 (drop o x)) hv (bytes-parts 4 (drop o x) (p .1) .1))
-
 pub replaced-block : (o : ℕ) (x v : Bytes) → o ≤ 124 → length v ≡ 4 → IsBytes v → IsBlock x → IsBlock (replaced o 4 x v)
 replaced-block o x v h n bv i =
     let fits : o + 4 ≤ length x = omega arith in
-    record { size = length-replaced o 4 x v fits n ∙ i .size; bytes = replaced-bytes o x v (i .bytes) bv }
+    record { size = length-replaced o 4 x v fits n ∙ i .size; bytes = bytes-replaced o 4 x v (i .bytes) bv }
 
 pub image-block : (s : Shape) (base : ℕ → Bytes) (b : ℕ) → IsBlock (base b) → (ws : List Write) → ((w : Write) → List·Memᴰ w ws → WriteFits s w) → IsBlock (image base ws b)
 unfolding image
@@ -416,9 +403,6 @@ module _ (k : Book) (c : ℕ) (r : Ranks k c) where
       ]
 
 -- ---- CLOSE, STORE, CHECKPOINT
-closed-open : (g : Stage) → isClosed g ≡ true → g ≢ absent
-closed-open g h e = let p : isClosed g ≡ false = ap isClosed e in let z : _≡_ {A = ℕ} 0 1 = cc in omega arith
-
 module _ (l : Ledger) (f : Fine l) (c : ℕ) (hc : c < l .shape .cores) where
   abbrev k : Book
   k = l .book
@@ -430,9 +414,6 @@ module _ (l : Ledger) (f : Fine l) (c : ℕ) (hc : c < l .shape .cores) where
 
     abbrev closing : Restages k (restaged t (closed 0) (k .oldest) (k .uncommitted) (raise c (k .next)) k) t (closed 0)
     closing = restages t (closed 0) (k .oldest) (k .uncommitted) (raise c (k .next)) k
-
-    run-open : (k .entry t) .stage ≢ absent
-    run-open e = let z : _≡_ {A = ℕ} 0 1 = cc in omega arith
 
     frozen-closed : Frozen (closeLedger c l) t
     unfolding closeLedger close
@@ -483,10 +464,10 @@ module _ (l : Ledger) (f : Fine l) (c : ℕ) (hc : c < l .shape .cores) where
     pub fine-close : Fine (closeLedger c l)
     unfolding closeLedger close
     fine-close =
-        fine-moved l f t (closed 0) run-open (λ e. let z : _≡_ {A = ℕ} 0 1 = cc in omega arith) (k .oldest) (k .uncommitted) (raise c (k .next))
+        fine-moved l f t (closed 0) (running-present _ run) (closed-present _ refl) (k .oldest) (k .uncommitted) (raise c (k .next))
         (suc (l .closes)) ((closeLedger c l) .stamp) ((closeLedger c l) .images)
         (λ a h. elim (ℕ-discrete a c) [
-          | yes e ↦ subst (λ (a : ℕ). Ranks (close c k) a) (sym e) (ranks-closed k c (f .ranks c hc) idle (f .limits t run-open .high))
+          | yes e ↦ subst (λ (a : ℕ). Ranks (close c k) a) (sym e) (ranks-closed k c (f .ranks c hc) idle (f .limits t (running-present _ run) .high))
           | no ne ↦ ranks-elsewhere k c (k .next c) (closed 0) (k .oldest) (k .uncommitted) (raise c (k .next)) a ne refl refl (raise-other c (k .next) a ne) (f .ranks a h)
         ])
         (λ u h. same-or-not u t (λ e. subst (λ (u : Name). Frozen (closeLedger c l) u) (sym e) frozen-closed) (λ ne. still-frozen u ne h))
@@ -503,7 +484,7 @@ module _ (l : Ledger) (f : Fine l) (c : ℕ) (hc : c < l .shape .cores) where
         let step = restages s g o u (k .next) k in
         let before : (x : Name) → isClosed ((after .entry x) .stage) ≡ true → isClosed ((k .entry x) .stage) ≡ true
         = λ x h. sym (restages-keep step isClosed (is ∙ sym was) x) ∙ h in
-        fine-moved l f s g (closed-open ((k .entry s) .stage) was) (closed-open g is) o u (k .next) (l .closes) (l .stamp) (l .images)
+        fine-moved l f s g (closed-present _ was) (closed-present g is) o u (k .next) (l .closes) (l .stamp) (l .images)
         (λ a h. elim (ℕ-discrete a c) [
           | yes e ↦ subst (λ (a : ℕ). Ranks after a) (sym e) here
           | no ne ↦ ranks-elsewhere k c i g o u (k .next) a ne (elsewhere a ne .0) (elsewhere a ne .1) refl (f .ranks a h)

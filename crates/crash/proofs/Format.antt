@@ -31,7 +31,8 @@ use Rattle.crash.proofs.Relation.{Up, target, DownBy}
 use Rattle.crash.proofs.Tests.{clash}
 use Rattle.crash.proofs.Blocks.{bytes-store}
 use Rattle.crash.proofs.Down.{zero-bytes, Gives, down-over}
-use Rattle.crash.proofs.Fresh.{master-bytes, ComeUp, fresh-up}
+use Rattle.crash.proofs.Fresh.{ComeUp, fresh-up}
+use Rattle.crash.proofs.Master.{master-bytes}
 
 -- ---- blocks of zeros
 abbrev zeros : ℕ → Bytes

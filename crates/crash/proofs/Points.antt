@@ -10,7 +10,7 @@ use lib.ListN.{length, take, drop, length-take, length-drop}
 use lib.Seq.{take-add, drop-drop}
 use lib.Dec.{ltb, eqb}
 use borrow.Author.Tests.{lt-ltb, le-ltb, ltb-true, ltb-false, not-false}
-use Rattle.model.specs.Lists.{below, all}
+use Rattle.model.specs.Lists.{below}
 use Rattle.model.specs.Bytes.{Bytes, part, blockAt}
 use Rattle.model.specs.Shape.{between, inRange, homeBlock}
 use Rattle.model.specs.Card.{isBlank, isUp, isDown, shapeOf}
@@ -20,7 +20,7 @@ use Rattle.model.specs.Tape.{step, operandLength, commandByte, operandsAt, isUn
 use Rattle.model.specs.declared.Phase.{Phase}
 use Rattle.model.specs.declared.Shape.{Shape}
 use Rattle.model.specs.declared.Phase.the-variants.{Blank, Up, Down}
-use Rattle.model.proofs.Lists.{cases, and-left, and-right, and-both, flatMap-append}
+use Rattle.model.proofs.Lists.{cases, flatMap-append, flatMap-below}
 use Rattle.model.proofs.Command.{unless-done, unless-refused, refusedWith}
 use Rattle.model.proofs.Tape.{pointAt, Runs, at-end, one-more, run-runs}
 use Rattle.crash.specs.Book.{keptWrites, image, blank}
@@ -28,6 +28,7 @@ use Rattle.crash.specs.Service.{Service, bookArea}
 use Rattle.crash.specs.Ledger.{Ledger, freshLedger, blankLedger, recoverLedger, entered, writeRefusals, closeRefusals, storeRefusals, checkpointRefusals, refusalsOf}
 use Rattle.crash.proofs.Agreement.{Agrees, Suits, blank-agrees, down-agrees, fed-agrees, area-same}
 use Rattle.crash.specs.Claims.{IsBytes, answerOf, JournalsRead, recoverStore, PointKept, LedgerKept, ComesUp, AreaKept, homeArea, fedPoint, blankStart, downStart, downLedger, Claim, Demands}
+use Rattle.crash.proofs.Blocks.{bytes-take, bytes-drop}
 
 -- ---- a command of the tape as a point: 2 and 3 by what stands on the tape
 module _ (t : Bytes) (at : ℕ) (on-tape : at < length t) where
@@ -46,18 +47,6 @@ module _ (t : Bytes) (at : ℕ) (on-tape : at < length t) where
       (λ h. rw h (sym (le-ltb _ n (omega (arith, l, ltb-false (length t) (at + 1 + n) h)))))
 
 -- bytes of a part of bytes
-pub take-bytes : (n : ℕ) (s : Bytes) → IsBytes s → IsBytes (take n s)
-unfolding all
-take-bytes zero s h = refl
-take-bytes (suc n) [] h = refl
-take-bytes (suc n) (x ∷ s) h = and-both (and-left (ltb x 256) _ h) (take-bytes n s (and-right (ltb x 256) _ h))
-
-pub drop-bytes : (n : ℕ) (s : Bytes) → IsBytes s → IsBytes (drop n s)
-unfolding all
-drop-bytes zero s h = h
-drop-bytes (suc n) [] h = refl
-drop-bytes (suc n) (x ∷ s) h = drop-bytes n s (and-right (ltb x 256) _ h)
-
 -- ---- what each command keeps of a relation of ledger and world
 pub record Kept (At : Ledger → World → Type 0) (l : Ledger) (w : World) (k : ℕ) (a : Bytes) : Type 0 where
   pub answer : (step k a w) .answer ≡ refusal (refusalsOf k a l)
@@ -118,7 +107,7 @@ module _ (At : Ledger → World → Type 0) (r : Relates At) where
     unfolding answerOf refusal
     reaches o known whole =
         let size : length a ≡ operandLength k = unfold operandsAt part in omega (arith, ltb-false (length (operandsAt t at)) (operandLength (commandByte t at)) whole, length-take (operandLength k) (drop (at + 1) t)) in
-        let b : IsBytes a = unfold operandsAt part in take-bytes (operandLength k) (drop (at + 1) t) (drop-bytes (at + 1) t bytes) in
+        let b : IsBytes a = unfold operandsAt part in bytes-take (operandLength k) (drop (at + 1) t) (bytes-drop (at + 1) t bytes) in
         let g : Kept At l w k a = r .keeps l w here k a (not-false _ known) size b in
         record {
           kept =
@@ -164,12 +153,6 @@ area-blocks d (suc n) =
     let f : 128 + 128 * n ≡ 128 * (1 + n) = omega arith in
     rw (e, take-add (128 * n) 128 (drop 128 d), drop-drop (128 * n) 128 d, f, flatMap-append (λ (b : ℕ). blockAt d (homeBlock b)) (below n) (n ∷ []), append-nil (take 128 (drop (128 * (1 + n)) d)))
     (ap (λ (x : Bytes). x ++ take 128 (drop (128 * (1 + n)) d)) (area-blocks d n))
-
-blocks-same : (f g : ℕ → Bytes) (n : ℕ) → ((b : ℕ) → b < n → f b ≡ g b) → flatMap f (below n) ≡ flatMap g (below n)
-unfolding below flatMap
-blocks-same f g zero h = refl
-blocks-same f g (suc n) h =
-    rw (flatMap-append f (below n) (n ∷ []), flatMap-append g (below n) (n ∷ []), blocks-same f g n (λ b l. h b (omega arith)), h n (omega arith))
 
 -- ---- an answer 0 suits the phase
 module _ (l : Ledger) where
@@ -261,7 +244,7 @@ module _ (At : Ledger → World → Type 0) (r : Relates At) where
         let z : shapeOf (p .outcome .world .card) ≡ l .shape = r .shape _ _ n u in
         area-blocks (p .outcome .world .disk) ((shapeOf (p .outcome .world .card)) .blocks)
         ∙ rw z
-        (blocks-same (λ (b : ℕ). blockAt (p .outcome .world .disk) (homeBlock b)) (image blank ((fedPoint p v) .saved)) (l .shape .blocks)
+        (flatMap-below (λ (b : ℕ). blockAt (p .outcome .world .disk) (homeBlock b)) (image blank ((fedPoint p v) .saved)) (l .shape .blocks)
         (λ b h. g .home (c .is-recover) (c .is-done) e b h ∙ sym (area-same (fedPoint p v) (recoverLedger [] l) refl s b)))
 
   -- At every point of a run where the card comes up, the home area is the book's area.

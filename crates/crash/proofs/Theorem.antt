@@ -4,9 +4,9 @@ use Prim.Native.Nat.{ℕ, zero, suc, _+_, _<_, _-_, _≤_}
 use native.Mathlib.Omega.{arith}
 use native.Mathlib.Decide.{decLt}
 use mathlib.Core.Path.{_≡_, refl, sym, ap, _∙_, subst}
-use mathlib.Core.Logic.{_⊎_, inl, inr, _≢_}
+use mathlib.Core.Logic.{inl, inr, _≢_}
 use mathlib.Core.Option.{some}
-use mathlib.Core.Bool.{true≢false, Bool, true, false, So, cond, not, _&&_, _||_}
+use mathlib.Core.Bool.{Bool, true, false, So, cond, not, _&&_, _||_}
 use mathlib.Core.List.{List, [], _∷_, List·Memᴰ, _++_, List·Memᴰ·not-nil}
 use lib.ListN.{length, getD, drop, length-take, length-drop}
 use lib.Dec.{eqb, ltb}
@@ -39,10 +39,10 @@ use Rattle.crash.proofs.FineWrite.{fine-wrote}
 use Rattle.crash.proofs.Answers.{write-answers, close-answers, store-answers}
 use Rattle.crash.proofs.CheckpointRead.{checkpoint-refusal}
 use Rattle.crash.proofs.Records.{journals-read}
-use Rattle.crash.specs.Book.{Book, Write, absent, running, closed as closed-stage, committed, retired, kept, image, blank, isClosed, holderIn, store, checkpoint, keptWrites, Stage, isRunning, wrote, meets}
+use Rattle.crash.specs.Book.{Book, Write, absent, running, committed, kept, image, blank, isClosed, holderIn, store, checkpoint, keptWrites, isRunning, wrote, meets}
 use Rattle.crash.specs.Ledger.{Ledger, freshLedger, blankLedger, cutLedger, entered, refusalsOf, withBook, closeLedger, validIn, sharesLowerIn, recoverLedger, formatRefusals, writeRefusals, closeRefusals, storeRefusals, checkpointRefusals, notUpFor, namesCount, holderNames, recordBlocks}
 use Rattle.crash.specs.Claims.{recoverStore, IsBytes, JournalsRead, Claim, Demands}
-use Rattle.crash.proofs.Points.{Kept, Relates, take-bytes, drop-bytes, claimed, demanded}
+use Rattle.crash.proofs.Points.{Kept, Relates, claimed, demanded}
 use Rattle.crash.proofs.Tests.{clash, any-in, in-any, nameEquality, blockEquality}
 use Rattle.crash.proofs.Largest.{memberOf, RetiredBelow, valid-is-kept}
 use Rattle.crash.proofs.Invariant.{Inv, imageAt, opened-of}
@@ -53,9 +53,12 @@ use Rattle.crash.proofs.Relation.{Fine, Up, DownBy, target}
 use Rattle.crash.proofs.FineSteps.{fine-close, fine-store, fine-checkpoint, below-oldest}
 use Rattle.crash.proofs.Down.{cut-up, cut-down, cut-done, right-length}
 use Rattle.crash.proofs.Given.{held-newest, home-target}
-use Rattle.crash.proofs.UpStore.{store-up, store-homes, shape-up}
+use Rattle.crash.proofs.UpStore.{store-up, store-homes}
 use Rattle.crash.proofs.UpClose.{close-up}
 use Rattle.crash.proofs.UpCheckpoint.{checkpoint-up, home-stored, home-others, homes-stay}
+use Rattle.crash.proofs.Master.{shape-up}
+use Rattle.crash.proofs.Blocks.{bytes-take, bytes-drop}
+use Rattle.crash.proofs.Stages.{running-is}
 
 -- ---- a card that is up: the bytes and the histories of the blocks agree with the ledger
 pub record UpAt (l : Ledger) (w : World) : Type 0 where
@@ -312,13 +315,6 @@ module _ {l : Ledger} {w : World} (d : DownBy l w) (a : Bytes) where
       k known)
 
 -- ---- up
-running-is : (g : Stage) → isRunning g ≡ true → g ≡ running
-running-is absent h = absurd (true≢false (sym h))
-running-is running h = refl
-running-is (closed-stage n) h = absurd (true≢false (sym h))
-running-is (committed n) h = absurd (true≢false (sym h))
-running-is retired h = absurd (true≢false (sym h))
-
 module _ {l : Ledger} {w : World} (u : UpAt l w) (a : Bytes) where
   abbrev core : ℕ
   core = getD a 0 0
@@ -377,7 +373,7 @@ module _ {l : Ledger} {w : World} (u : UpAt l w) (a : Bytes) where
 
     are-bytes : IsBytes v
     unfolding part
-    are-bytes = take-bytes 4 (drop 4 a) (drop-bytes 4 a bytes)
+    are-bytes = bytes-take 4 (drop 4 a) (bytes-drop 4 a bytes)
 
     write-at : (in-range : core < l .shape .cores) (low : b < l .shape .blocks) (inside : o ≤ 124)
         → (ltb 12 (namesCount (wrote core b o v (l .book)) (newName core (l .book .next core)))
@@ -390,7 +386,7 @@ module _ {l : Ledger} {w : World} (u : UpAt l w) (a : Bytes) where
     unfolding written
     write-at in-range low inside no-24 no-25 no-26 no-27 =
         let f = u .up .fine in
-        let current = swap (f .ranks core in-range .current) in
+        let current = f .ranks core in-range .current in
         record {
           up =
               write-up (u .up) core in-range b low o inside v four are-bytes (holder-open b)
@@ -401,10 +397,6 @@ module _ {l : Ledger} {w : World} (u : UpAt l w) (a : Bytes) where
           inv = inv-wrote (u .inv) core b o v current;
           imaged = imaged-wrote l (u .imaged) core b o v current;
         }
-      where
-        swap : {A B : Type 0} → A ⊎ B → B ⊎ A
-        swap (inl x) = inr x
-        swap (inr x) = inl x
 
     write-done : refusal (refusalsOf 2 a l) ≡ 0 → Done l w 2 a
     unfolding refusalsOf writeRefusals rowOf entered noted

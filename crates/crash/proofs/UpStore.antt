@@ -15,15 +15,14 @@ use borrow.Author.Tests.{le-leb, lt-leb, eq-eqb, ne-eqb}
 use Rattle.model.specs.Lists.{below}
 use Rattle.model.specs.Bytes.{Bytes, blockAt, be4, part, number, store as storeBlock}
 use Rattle.model.specs.Shape.{homeBlock, journalBlock}
-use Rattle.model.specs.Card.{newName, recordSize, shapeOf, tailOf, coreOf, holderOf, withCore}
+use Rattle.model.specs.Card.{newName, recordSize, tailOf, coreOf, holderOf, withCore}
 use Rattle.model.specs.Layout.{newHeld, hasHead, flagOf, escaped, descriptorBlock, commitBlock, isCommit}
 use Rattle.model.specs.Journal.{journalAt}
 use Rattle.model.specs.Command.{World}
 use Rattle.model.specs.Commit.{copyBlock, heldCopies, nextStored, nextPosition, coreStored, stored}
 use Rattle.model.specs.declared.Name.{Name}
 use Rattle.model.specs.declared.Core.{Core}
-use Rattle.model.proofs.Limits.{clamped-same}
-use Rattle.model.proofs.Lists.{cases, flatMap-append}
+use Rattle.model.proofs.Lists.{cases, flatMap-append, map-below, flatMap-below}
 use Rattle.model.proofs.Store.{length-store, block-stored, block-other}
 use Rattle.model.proofs.Words.{each-block}
 use Rattle.model.proofs.Encoding.{length-descriptor, length-commit, length-escaped, descriptor-head, commit-head, head-other, no-commit, escaped-head}
@@ -36,7 +35,8 @@ use Rattle.crash.proofs.Records.{record-sound, length-record}
 use Rattle.crash.proofs.Entries.{other-number, other-core, change-at, raise-at, raise-other, records-snoc}
 use Rattle.crash.proofs.Books.{Restages, restaged, restages-records, storedStage, store-restages, store-more, store-last, store-holder}
 use Rattle.crash.proofs.Blocks.{bytes-store, each-isBytes, escaped-bytes}
-use Rattle.crash.proofs.Frames.{SameClosed, core-set, core-other, map-below, record-same, flatMap-below, none-stored, journal-stays, core-stays}
+use Rattle.crash.proofs.Frames.{SameClosed, core-set, core-other, record-same, none-stored, journal-stays, core-stays}
+use Rattle.crash.proofs.Master.{shape-up}
 
 -- ---- the blocks of a record, one by one
 module _ {l : Ledger} (f : Fine l) (t : Name) (h : isClosed ((l .book .entry t) .stage) ≡ true) where
@@ -96,11 +96,6 @@ module _ {l : Ledger} (f : Fine l) (c : ℕ) (in-range : c < l .shape .cores) wh
       ∙ omega (arith, length-whole n (omega arith), records-snoc (l .book) c o n)
 
 -- ---- STORE
--- the shape of the card is read as it is
-pub shape-up : {l : Ledger} {w : World} → Up l w → shapeOf (w .card) ≡ l .shape
-unfolding shapeOf
-shape-up {l} {w} u = rw (u .shape) (clamped-same (l .shape) (u .fine .range))
-
 held-copies : (l : Ledger) (t : Name) (c : ℕ) (m : Bytes)
     → ((i : ℕ) → i < length ((l .book .entry t) .blocks) → blockAt m (copyBlock c i) ≡ getD (l .images t) i [])
     → heldCopies c ((l .book .entry t) .blocks) m ≡ heldOf l t

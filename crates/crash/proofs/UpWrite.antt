@@ -27,12 +27,13 @@ use Rattle.crash.specs.Book.{absent, running, isRunning, counted, Book, 
 use Rattle.crash.specs.Ledger.{Ledger, withBook, imageNow, recordBlocks}
 use Rattle.crash.specs.Claims.{IsBytes}
 use Rattle.crash.proofs.Relation.{Fine, Limits, JournalStands, Matches, CoreUp, holderAs, Up}
-use Rattle.crash.proofs.Stages.{clash}
 use Rattle.crash.proofs.Blocks.{block-written, block-unwritten, bytes-replaced, bytes-store, bytes-blockAt}
 use Rattle.crash.proofs.Entries.{other-core, meets-met, meets-running}
 use Rattle.crash.proofs.Books.{meeting, wrote-numbers, wrote-running, wrote-stage, wrote-blocks-other, wrote-other, wrote-holder, wrote-holder-other, wrote-image, wrote-image-other}
 use Rattle.crash.proofs.Frames.{SameClosed, core-set, core-other, none-stored, journal-stays, core-stays}
-use Rattle.crash.proofs.Rules.{running-present, running-next, present-open, writer-name, Met, met-none, met-own, met-running, met-closed, rule-met, writer-after, holder-after}
+use Rattle.crash.proofs.Rules.{running-next, writer-name, Met, met-none, met-own, met-running, met-closed, rule-met, writer-after, holder-after}
+use Rattle.crash.proofs.Tests.{clash}
+use Rattle.crash.proofs.Stages.{running-present, present-open}
 
 -- ---- the card afterwards
 -- what WRITE leaves of a card
