@@ -173,25 +173,6 @@ changed-mem t n f entry same u x p =
     (λ e. naming-mem n x (entry u) (let q : List·Memᴰ x ((f (entry t)) .names) = rw (e, change-at t f entry) at p in rw (same (entry t), ← e) at q))
     (λ ne. inl (rw (change-other t f entry u ne) at p))
 
--- a list with a name, which stands in it once
-abbrev pub listing : Option Name → List Name → List Name
-listing none ns = ns
-listing (some n) ns = cond (any (sameName n) ns) ns (ns ++ (n ∷ []))
-
-pub ruled-names-at : (m : Meeting) (t : Name) (b : ℕ) (entry : Name → Entry) → m ≢ running-holder t
-    → (ruled m t b entry t) .names ≡ listing (met m) ((entry t) .names)
-unfolding ruled
-ruled-names-at no-holder t b entry ne = ap (λ e. e .names) (change-at t (taking b) entry)
-ruled-names-at own t b entry ne = refl
-ruled-names-at (running-holder x) t b entry ne =
-    ap (λ e. e .names) (change-other x (naming t) (change t (naming x) entry) t (λ e. ne (ap running-holder (sym e))) ∙ change-at t (naming x) entry)
-ruled-names-at (closed-holder x) t b entry ne = ap (λ e. e .names) (change-at t (λ (e : Entry). taking b (naming x e)) entry)
-
-pub ruled-names-back : (u t : Name) (b : ℕ) (entry : Name → Entry) → u ≢ t → (ruled (running-holder u) t b entry u) .names ≡ listing (some t) ((entry u) .names)
-unfolding ruled
-ruled-names-back u t b entry ne =
-    ap (λ e. e .names) (change-at u (naming t) (change t (naming u) entry)) ∙ ap (λ e. listing (some t) (e .names)) (change-other t (naming u) entry u ne)
-
 -- whom a list names after the rules: those of before, the writer, the one met
 pub ruled-names : (m : Meeting) (t : Name) (b : ℕ) (entry : Name → Entry) (u x : Name) → List·Memᴰ x ((ruled m t b entry u) .names)
     → List·Memᴰ x ((entry u) .names) ⊎ ((x ≡ t) ⊎ (met m ≡ some x))

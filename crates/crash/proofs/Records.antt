@@ -422,10 +422,6 @@ module _ {l : Ledger} {d : Bytes} {tailAt : ℕ → Tail} (f : Fine l) (z : Disk
       (omega (arith, r .mid, j .room, blocks-more k c (k .oldest c) count-of (k .next c - k .oldest c) (omega (arith, r .mid))))
       (λ q. j .clear (k .oldest c + count-of) q (omega (arith, r .low))))
 
-  pub length-journal : (most : ℕ) → l .book .uncommitted c - l .book .oldest c ≤ most
-      → length (journal (l .shape) d c (tailAt c) most) ≡ l .book .uncommitted c - l .book .oldest c
-  length-journal most h = ap length (journal-read most h) ∙ length-readList l c (tailAt c)
-
   pub readList-is : (e : Committed) → List·Memᴰ e (readList l c (tailAt c)) → IsRead l d c e
   unfolding readList
   readList-is = each-is f d c in-range (l .book .oldest c) ((tailAt c) .position) count-of journal-standing (omega arith) (omega (arith, f .ranks c in-range .low))

@@ -17,8 +17,8 @@ use Rattle.model.specs.Shape.{homeBlock, journalBlock}
 use Rattle.model.specs.Card.{isUp, newTail, freshCard}
 use Rattle.model.specs.Layout.{maxNumber, masterBlock, isCommit}
 use Rattle.model.specs.Journal.{journal, journalAt}
-use Rattle.model.specs.Command.{World, Outcome, storing, refusal}
-use Rattle.model.specs.Recovery.{tailOn, recoverConditions, blocksLeft, recoveredTo, emptiedTail, broughtUp, recoverStep, recovered, recover}
+use Rattle.model.specs.Command.{World, Outcome, storing}
+use Rattle.model.specs.Recovery.{tailOn, blocksLeft, recoveredTo, emptiedTail, broughtUp, recoverStep, recovered}
 use Rattle.model.specs.declared.Phase.the-variants.{Up as PhaseUp, Down as PhaseDown}
 use Rattle.model.specs.declared.Shape.{Shape}
 use Rattle.model.specs.declared.Tail.{Tail}
@@ -27,18 +27,17 @@ use Rattle.model.proofs.Select.{select-mem, select-same}
 use Rattle.model.proofs.Store.{length-store, block-stored, block-other}
 use Rattle.model.proofs.Encoding.{length-master}
 use Rattle.model.proofs.Journal.{home-apart}
-use Rattle.model.proofs.Command.{unless-done}
 use Rattle.crash.specs.Book.{Write, keptWrites, blank}
 use Rattle.crash.specs.Ledger.{Ledger, freshLedger, blocksIn, recoverLedger}
 use Rattle.crash.specs.Claims.{recoverStore}
 use Rattle.crash.proofs.Relation.{IsBlock, WriteFits, Fine, DiskStands, Up, target, DownBy}
-use Rattle.crash.proofs.Master.{master-stands, shape-read, master-same, master-bytes}
+use Rattle.crash.proofs.Master.{shape-read, master-same, master-bytes}
 use Rattle.crash.proofs.Records.{length-readList, few-records, journal-read}
 use Rattle.crash.proofs.Valid.{own-tails, blocks-on}
 use Rattle.crash.proofs.Newest.{newest-image}
 use Rattle.crash.proofs.FineSteps.{image-block, blank-block, fine-home, fine-recovered}
 use Rattle.crash.proofs.Blocks.{bytes-store}
-use Rattle.crash.proofs.Down.{phased, stands-phased, target-phased, newest-phased, held-low, right-length}
+use Rattle.crash.proofs.Down.{phased, stands-phased, target-phased, newest-phased, held-low}
 use Rattle.crash.proofs.Fresh.{ComeUp, fresh-up}
 
 -- ---- ascending lists: those left after the first are those above it
@@ -130,12 +129,6 @@ module _ {l : Ledger} {d : Bytes} {tailAt : ℕ → Tail} (f : Fine l) (z : Disk
 
 -- ---- RECOVER
 module _ {l : Ledger} {w : World} (v : DownBy l w) where
-  pub recover-done : recover w ≡ recovered w
-  unfolding recover recoverConditions refusal
-  recover-done =
-      unless-done (recoverConditions w) w (recovered w)
-      (rw (right-length w (v .disk .size) (v .memory), v .phase, master-stands (v .fine) (v .disk)))
-
   pub left-read : blocksLeft w ≡ l .left
   unfolding blocksLeft
   left-read = rw (blocks-on (v .fine) (v .disk)) (sym (v .left))

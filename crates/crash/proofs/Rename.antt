@@ -315,12 +315,5 @@ module _ {shift : ℕ → ℕ} {k k′ : Book} (r : Renamed shift k k′) where
   pub kept-writes-same : SameWrites (keptWrites k) (keptWrites k′)
   kept-writes-same = sym (ap (map nameless) kept-writes-renamed ∙ map-map nameless (renamedWrite shift) (keptWrites k))
 
-  -- so that both give the same images, after saved writes too.
-  pub kept-writes : (base : ℕ → Bytes) (b : ℕ) → image base (keptWrites k) b ≡ image base (keptWrites k′) b
-  kept-writes base b = same-image base (keptWrites k) (keptWrites k′) kept-writes-same b
-
   pub kept-saved : (s s′ : List Write) → SameWrites s s′ → SameWrites (keptWrites k ++ s) (keptWrites k′ ++ s′)
   kept-saved s s′ p = rw (map-append nameless (keptWrites k) s, map-append nameless (keptWrites k′) s′, kept-writes-same, p) refl
-
-  pub kept-saved-image : (base : ℕ → Bytes) (s s′ : List Write) → SameWrites s s′ → (b : ℕ) → image base (keptWrites k ++ s) b ≡ image base (keptWrites k′ ++ s′) b
-  kept-saved-image base s s′ p b = same-image base (keptWrites k ++ s) (keptWrites k′ ++ s′) (kept-saved s s′ p) b

@@ -28,9 +28,6 @@ pub record Equality (A : Type 0) : Type 0 where
   pub is-true : (a b : A) → So (is a b) → a ≡ b
   pub is-refl : (a : A) → So (is a a)
 
-pub is-not : {A : Type 0} (E : Equality A) (a b : A) → E .is a b ≡ false → E .is b a ≡ false
-is-not E a b h = false-of _ (λ k. clash {b = E .is a b} (rw (E .is-true b a k) (E .is-refl a)) h)
-
 -- what `any` says of a list by the test for equality
 module _ {A : Type 0} (E : Equality A) where
   pub any-in : (a : A) (xs : List A) → So (any (E .is a) xs) → List·Memᴰ a xs

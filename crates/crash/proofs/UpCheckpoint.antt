@@ -446,9 +446,6 @@ module _ {l : Ledger} {w : World} (u : Up l w) (c : ℕ) (in-range : c < l .shap
       more-now : x .homed < length ((l .book .entry t) .blocks)
       more-now = omega (arith, homed-now)
 
-      pub home-below : getD ((l .book .entry t) .blocks) m 0 < l .shape .blocks
-      home-below = rw (← homed-now) (home-low more-now)
-
       pub home-store : (checkpointed c w) .world .disk ≡ storeBlock (w .disk) (homeBlock (getD ((l .book .entry t) .blocks) m 0)) (getD (l .images t) m [])
       home-store = rw (← homed-now) (ap (λ (z : Outcome). z .world .disk) (home-done more-now))
 
@@ -459,8 +456,5 @@ module _ {l : Ledger} {w : World} (u : Up l w) (c : ℕ) (in-range : c < l .shap
       home-others a ne = rw (home-store, ← homed-now) (home-elsewhere more-now (homeBlock a) (λ q. ne (rw (← homed-now) (omega arith))))
 
     module _ (all : m ≡ length ((l .book .entry t) .blocks)) where
-      pub master-store : (checkpointed c w) .world .disk ≡ storeBlock (w .disk) 0 (masterBlock (l .shape) (tailOf ((checkpointed c w) .world .card)))
-      master-store = rw (master-done (homed-now ∙ all)) refl
-
       pub homes-stay : (a : ℕ) → blockAt ((checkpointed c w) .world .disk) (homeBlock a) ≡ blockAt (w .disk) (homeBlock a)
       homes-stay a = rw (master-done (homed-now ∙ all)) (master-elsewhere (homed-now ∙ all) (homeBlock a) (omega arith))

@@ -145,17 +145,6 @@ module _ {l : Ledger} {d : Bytes} {tailAt : ℕ → Tail} (f : Fine l) (z : Disk
         ]) in
         valid-largest (l .shape) d tailAt es ss (λ x i. select-mem test es x i .0) closed e (mem-select test es e m (in-any nameEquality v))
 
-    -- the valid set is the records of the ledger's valid transactions
-    pub valid-listed : (e : Committed) → List·Memᴰ e (validSet (l .shape) d tailAt (journals (l .shape) d tailAt most))
-        → (e .core < l .shape .cores) × List·Memᴰ e (readList l (e .core) (tailAt (e .core))) × List·Memᴰ (nameOf e) (validIn (l .book))
-    valid-listed e m =
-        let r = journals-listed e (valid-within (l .shape) d tailAt (journals (l .shape) d tailAt most) e m) in
-        (r .0, r .1, valid-name e m)
-
-    pub listed-valid : (e : Committed) → e .core < l .shape .cores → List·Memᴰ e (readList l (e .core) (tailAt (e .core)))
-        → List·Memᴰ (nameOf e) (validIn (l .book)) → List·Memᴰ e (validSet (l .shape) d tailAt (journals (l .shape) d tailAt most))
-    listed-valid e h m v = name-valid e (listed-journals e h m) v
-
     -- a valid transaction of the ledger is read, as a valid one
     pub valid-read : (t : Name) → List·Memᴰ t (validIn (l .book))
         → (e : Committed) × List·Memᴰ e (validSet (l .shape) d tailAt (journals (l .shape) d tailAt most)) × (nameOf e ≡ t)
