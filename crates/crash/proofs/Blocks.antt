@@ -31,7 +31,7 @@ bytes-drop n s h =
     let p : ℕ → Bool = λ x. ltb x 256 in
     and-right (all p (take n s)) _ (sym (all-append p (take n s) (drop n s)) ∙ ap (all p) (take-append-drop n s) ∙ h)
 
-pub bytes-append : (s t : Bytes) → IsBytes s → IsBytes t → IsBytes (s ++ t)
+bytes-append : (s t : Bytes) → IsBytes s → IsBytes t → IsBytes (s ++ t)
 bytes-append s t p q = all-append (λ (x : ℕ). ltb x 256) s t ∙ and-both p q
 
 pub bytes-replaced : (at n : ℕ) (s b : Bytes) → IsBytes s → IsBytes b → IsBytes (replaced at n s b)

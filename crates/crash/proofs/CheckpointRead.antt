@@ -32,7 +32,7 @@ use Rattle.crash.proofs.Master.{shape-up}
 
 -- ---- what is read
 module _ {l : Ledger} {w : World} (u : Up l w) where
-  pub count-up : (c : ℕ) → c < l .shape .cores → committedCount (w .card) c ≡ l .book .uncommitted c - l .book .oldest c
+  count-up : (c : ℕ) → c < l .shape .cores → committedCount (w .card) c ≡ l .book .uncommitted c - l .book .oldest c
   unfolding committedCount
   count-up c h =
       let r = u .fine .ranks c h in
@@ -45,15 +45,15 @@ module _ {l : Ledger} {w : World} (u : Up l w) where
   count-enough : (c : ℕ) → c < l .shape .cores → l .book .uncommitted c - l .book .oldest c ≤ committedCount (w .card) c
   count-enough c h = omega (arith, count-up c h)
 
-  pub committed-now : committedNow w ≡ journals (l .shape) (w .disk) (tailOf (w .card)) (committedCount (w .card))
+  committed-now : committedNow w ≡ journals (l .shape) (w .disk) (tailOf (w .card)) (committedCount (w .card))
   unfolding committedNow
   committed-now = rw (shape-up u)
 
-  pub valid-now : validNow w ≡ validSet (l .shape) (w .disk) (tailOf (w .card)) (journals (l .shape) (w .disk) (tailOf (w .card)) (committedCount (w .card)))
+  valid-now : validNow w ≡ validSet (l .shape) (w .disk) (tailOf (w .card)) (journals (l .shape) (w .disk) (tailOf (w .card)) (committedCount (w .card)))
   unfolding validNow
   valid-now = rw (committed-now, shape-up u)
 
-  pub committed-of : (c : ℕ) → c < l .shape .cores → committedOf w c ≡ readList l c (tailOf (w .card) c)
+  committed-of : (c : ℕ) → c < l .shape .cores → committedOf w c ≡ readList l c (tailOf (w .card) c)
   unfolding committedOf
   committed-of c h = rw (shape-up u) (journal-read (u .fine) (u .disk) c h (committedCount (w .card) c) (count-enough c h))
 
@@ -182,7 +182,7 @@ module _ {l : Ledger} {w : World} (u : Up l w) (c : ℕ) (e : Committed) (x : Is
             (newName (r .0) (l .book .uncommitted (r .0)), closed-lower (r .0) (subst (λ (s : Shape). r .0 < s .cores) (shape-up u) (mem-below ((shapeOf (w .card)) .cores) (r .1))) (r .2)))
       ]
 
-  pub shares-same : sharesLower w e ≡ sharesLowerIn l (nameOf e)
+  shares-same : sharesLower w e ≡ sharesLowerIn l (nameOf e)
   shares-same =
       same-test
       (λ h. let r = found-lower h in lower-in (u .fine) (nameOf e) (r .0) (r .1))
@@ -191,7 +191,7 @@ module _ {l : Ledger} {w : World} (u : Up l w) (c : ℕ) (e : Committed) (x : Is
 -- ---- the conditions
 module _ {l : Ledger} {w : World} (u : Up l w) (c : ℕ) (in-range : c < l .shape .cores) where
   -- '31'
-  pub none-committed : eqb (length (committedOf w c)) 0 ≡ not (ltb (l .book .oldest c) (l .book .uncommitted c))
+  none-committed : eqb (length (committedOf w c)) 0 ≡ not (ltb (l .book .oldest c) (l .book .uncommitted c))
   none-committed =
       let n : length (committedOf w c) ≡ l .book .uncommitted c - l .book .oldest c = ap length (committed-of u c in-range) ∙ length-readList l c (tailOf (w .card) c) in
       elim (decLt (l .book .oldest c) (l .book .uncommitted c)) [
@@ -204,13 +204,13 @@ module _ {l : Ledger} {w : World} (u : Up l w) (c : ℕ) (in-range : c < l .shap
     oldest-name = ap nameOf (oldest-of u c in-range some)
 
     -- '32'
-    pub oldest-valid : isIn (validNow w) (nameOf (oldest (committedOf w c))) ≡ any (sameName (newName c (l .book .oldest c))) (validIn (l .book))
+    oldest-valid : isIn (validNow w) (nameOf (oldest (committedOf w c))) ≡ any (sameName (newName c (l .book .oldest c))) (validIn (l .book))
     oldest-valid =
         ap₂ isIn (valid-now u) oldest-name
         ∙ valid-same (u .fine) (u .disk) (committedCount (w .card)) (count-enough u) (newName c (l .book .oldest c))
 
     -- '33'
-    pub oldest-shares : sharesLower w (oldest (committedOf w c)) ≡ sharesLowerIn l (newName c (l .book .oldest c))
+    oldest-shares : sharesLower w (oldest (committedOf w c)) ≡ sharesLowerIn l (newName c (l .book .oldest c))
     oldest-shares = shares-same u c (oldest (committedOf w c)) (oldest-is u c in-range some) ∙ ap (sharesLowerIn l) oldest-name
 
 -- '24 to 33 is answered exactly when its condition holds of the ledger': of CHECKPOINT

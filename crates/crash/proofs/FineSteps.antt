@@ -33,7 +33,7 @@ use Rattle.crash.proofs.Stages.{closed-present, running-present}
 use Rattle.crash.proofs.Blocks.{bytes-replaced}
 
 -- ---- current images are blocks of bytes
-pub replaced-block : (o : ℕ) (x v : Bytes) → o ≤ 124 → length v ≡ 4 → IsBytes v → IsBlock x → IsBlock (replaced o 4 x v)
+replaced-block : (o : ℕ) (x v : Bytes) → o ≤ 124 → length v ≡ 4 → IsBytes v → IsBlock x → IsBlock (replaced o 4 x v)
 replaced-block o x v h n bv i =
     let fits : o + 4 ≤ length x = omega arith in
     record { size = length-replaced o 4 x v fits n ∙ i .size; bytes = bytes-replaced o 4 x v (i .bytes) bv }
@@ -52,7 +52,7 @@ pub blank-block : (b : ℕ) → IsBlock (blank b)
 unfolding blank all
 blank-block b = record { size = length-replicate {A = ℕ} 128 0; bytes = refl }
 
-pub now-block : (l : Ledger) → Fine l → (b : ℕ) → IsBlock (imageNow l b)
+now-block : (l : Ledger) → Fine l → (b : ℕ) → IsBlock (imageNow l b)
 unfolding imageNow
 now-block l f b =
     image-block (l .shape) (image blank (l .saved)) b (image-block (l .shape) blank b (blank-block b) (l .saved) (f .saved)) (l .book .writes) (f .writes)
@@ -127,7 +127,7 @@ pub fine-home : (b : ℕ) (bs : List ℕ) (l : Ledger) → Fine l → Fine (reco
 unfolding recoverLedger
 fine-home b bs l = fine-in l Down bs
 
-pub kept-written : (k : Book) (w : Write) → List·Memᴰ w (keptWrites k) → List·Memᴰ w (k .writes)
+kept-written : (k : Book) (w : Write) → List·Memᴰ w (keptWrites k) → List·Memᴰ w (k .writes)
 unfolding keptWrites
 kept-written k w m = select-mem _ (k .writes) w m .0
 
@@ -373,7 +373,7 @@ module _ (k : Book) (c : ℕ) (r : Ranks k c) where
         }
 
   -- which of the two a STORE is
-  pub store-by : (P : Book → Type 0) → k .uncommitted c < k .next c
+  store-by : (P : Book → Type 0) → k .uncommitted c < k .next c
       → ((n : ℕ) → (k .entry (uncommittedName c k)) .stage ≡ closed n → n < length ((k .entry (uncommittedName c k)) .blocks) + 1
       → P (restaged (uncommittedName c k) (closed (suc n)) (k .oldest) (k .uncommitted) (k .next) k))
       → ((n : ℕ) → (k .entry (uncommittedName c k)) .stage ≡ closed n → n ≡ length ((k .entry (uncommittedName c k)) .blocks) + 1
@@ -388,7 +388,7 @@ module _ (k : Book) (c : ℕ) (r : Ranks k c) where
       ]
 
   -- and a CHECKPOINT
-  pub checkpoint-by : (P : Book → Type 0) → k .oldest c < k .uncommitted c
+  checkpoint-by : (P : Book → Type 0) → k .oldest c < k .uncommitted c
       → ((n : ℕ) → (k .entry (oldestName c k)) .stage ≡ committed n → n < length ((k .entry (oldestName c k)) .blocks)
       → P (restaged (oldestName c k) (committed (suc n)) (k .oldest) (k .uncommitted) (k .next) k))
       → ((n : ℕ) → (k .entry (oldestName c k)) .stage ≡ committed n → n ≡ length ((k .entry (oldestName c k)) .blocks)

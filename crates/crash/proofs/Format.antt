@@ -112,7 +112,7 @@ fresh-target : (s : Shape) (saved : List Write) (first : ℕ → ℕ) (b : ℕ) 
 unfolding target freshLedger keptWrites select emptyBook
 fresh-target s saved first b = refl
 
-pub fresh-gives : (s : Shape) (saved : List Write) (first : ℕ → ℕ) (d : Bytes) → ((b : ℕ) → b < s .blocks → blockAt d (homeBlock b) ≡ image blank saved b)
+fresh-gives : (s : Shape) (saved : List Write) (first : ℕ → ℕ) (d : Bytes) → ((b : ℕ) → b < s .blocks → blockAt d (homeBlock b) ≡ image blank saved b)
     → Gives (freshLedger s saved first) d
 unfolding freshLedger
 fresh-gives s saved first d h =

@@ -69,7 +69,7 @@ module _ {Txn : Type 0} where
         next t u (inl h) n = lv .closed t u h n
         next t u (inr h) n = cases (retired u) inr (λ q. inl (kept-valid u (and-both (kept-listed t u (r t h) n) (rw q refl))))
 
-    pub valid-kept : (t : Txn) → v t ≡ (k t && not (retired t))
+    valid-kept : (t : Txn) → v t ≡ (k t && not (retired t))
     valid-kept t =
         same-test (λ h. and-both (valid-or-retired t (inl h)) (and-right (committed t) _ (lv .sub t h))) (kept-valid t)
 
@@ -148,7 +148,7 @@ module _ (k : Book) (opened : (t : Name) → So (isCommitted (stageOf k t)) → 
   unretired-is = member-select (λ t. isCommitted (stageOf k t) && not (isRetired (stageOf k t))) (k .opened) (λ t h. opened t (and-left _ _ h))
 
   module _ (numbered : RetiredBelow k) where
-    pub valid-largest : Largest (λ t. isCommitted (stageOf k t) && not (isRetired (stageOf k t))) (listsName k) (λ t. isRetired (stageOf k t)) (memberOf (validIn k))
+    valid-largest : Largest (λ t. isCommitted (stageOf k t) && not (isRetired (stageOf k t))) (listsName k) (λ t. isRetired (stageOf k t)) (memberOf (validIn k))
     unfolding validIn metIn
     valid-largest =
         largest-same _ _ (listsName k) _ _ _ unretired-is (λ t u h n. numbered t u (and-left _ _ (rw (unretired-is t) at h)) n)

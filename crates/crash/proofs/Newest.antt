@@ -134,7 +134,7 @@ module _ {l : Ledger} {d : Bytes} {tailAt : ℕ → Tail} (f : Fine l) (z : Disk
   abbrev taken-by : List·Memᴰ b ((l .book .entry (n .holder)) .blocks)
   taken-by = Memᴰ·cast (sym (n .block)) (getD-mem ((l .book .entry (n .holder)) .blocks) (n .place) 0 (n .within))
 
-  pub newest-read : (most : ℕ → ℕ) → ((c : ℕ) → c < l .shape .cores → l .book .uncommitted c - l .book .oldest c ≤ most c)
+  newest-read : (most : ℕ → ℕ) → ((c : ℕ) → c < l .shape .cores → l .book .uncommitted c - l .book .oldest c ≤ most c)
       → (e : Committed) × (newest (l .shape) d b Miss (validSet (l .shape) d tailAt (journals (l .shape) d tailAt most)) ≡ Whole e)
       × List·Memᴰ e (validSet (l .shape) d tailAt (journals (l .shape) d tailAt most)) × (nameOf e ≡ n .holder)
   newest-read most enough =
@@ -156,7 +156,7 @@ module _ {l : Ledger} {d : Bytes} {tailAt : ℕ → Tail} (f : Fine l) (z : Disk
         f .stamps (nameOf e) (n .holder) (y .unretired .is-closed) closed (omega (arith, y .stamp, v .most (h .0) (h .1) t)),
       )
 
-  pub image-found : (c : ℕ) (e : Committed) → IsRead l d c e → nameOf e ≡ n .holder → imageFound d b (Whole e) ≡ target l b
+  image-found : (c : ℕ) (e : Committed) → IsRead l d c e → nameOf e ≡ n .holder → imageFound d b (Whole e) ≡ target l b
   unfolding imageFound
   image-found c e r h =
       let bs = (l .book .entry (n .holder)) .blocks in

@@ -66,7 +66,7 @@ pub record Relates (At : Ledger → World → Type 0) : Type 0 where
 
 module _ (At : Ledger → World → Type 0) (r : Relates At) where
   -- a point and the relation after it
-  pub record Goes (l : Ledger) (p : Point) : Type 0 where
+  record Goes (l : Ledger) (p : Point) : Type 0 where
     pub kept : PointKept l p
     pub next : At (entered (p .byte) (p .operands) (p .outcome .answer) l) (p .outcome .world)
     pub home : p .byte ≡ 7 → p .outcome .answer ≡ 0 → l .left ≡ [] → (b : ℕ) → b < l .shape .blocks
@@ -125,7 +125,7 @@ module _ (At : Ledger → World → Type 0) (r : Relates At) where
           home = λ s z f b q. ap (λ (x : Outcome). blockAt (x .world .disk) (homeBlock b)) o ∙ g .home s (sym (ap (λ (x : Outcome). x .answer) o) ∙ z) f b q;
         }
 
-    pub goes : Goes l p
+    goes : Goes l p
     unfolding commandAt answerOf refusal
     goes =
         let z = r .sizes l w here in
@@ -138,7 +138,7 @@ module _ (At : Ledger → World → Type 0) (r : Relates At) where
         (λ y. reaches (unless-done _ w (step k a w) (rw (z, u, x, e, y))) x y))
 
   -- Demands 1 and 2 and the course of recovery, at every point of a run.
-  pub ledger-kept : (t : Bytes) → IsBytes t → {at n : ℕ} {l : Ledger} {w : World} {ps : List Point} → At l w → Runs step t at n w ps → LedgerKept l w ps
+  ledger-kept : (t : Bytes) → IsBytes t → {at n : ℕ} {l : Ledger} {w : World} {ps : List Point} → At l w → Runs step t at n w ps → LedgerKept l w ps
   ledger-kept t b {l = l} {w = w} here (at-end h) = (r .phase l w here, r .journals l w here)
   ledger-kept t b {at} {n} {l} {w} here (one-more h e rest) =
       let g : Goes l _ = subst (Goes l) (sym e) (goes t b at n h l w here) in
@@ -188,7 +188,7 @@ module _ (l : Ledger) where
   unfolding refusalsOf
   recover-suits a k e z = down-suits (rw e at z)
 
-  pub suits : (p : Point) → p .outcome .answer ≡ answerOf l p → p .outcome .answer ≡ 0 → Suits (p .byte) (l .phase)
+  suits : (p : Point) → p .outcome .answer ≡ answerOf l p → p .outcome .answer ≡ 0 → Suits (p .byte) (l .phase)
   unfolding answerOf refusal
   suits p h z =
       let y : refusal (refusalsOf (p .byte) (p .operands) l) ≡ 0 =
@@ -234,7 +234,7 @@ module _ (At : Ledger → World → Type 0) (r : Relates At) where
         let d : isDown (p .outcome .world .card .phase) ≡ true = ap isDown (r .phase _ _ n) in
         absurd (c .is-up (down-reads _ _ n d))
 
-    pub area-at : homeArea (p .outcome .world) ≡ bookArea (fedPoint p v) ((shapeOf (p .outcome .world .card)) .blocks)
+    area-at : homeArea (p .outcome .world) ≡ bookArea (fedPoint p v) ((shapeOf (p .outcome .world .card)) .blocks)
     unfolding homeArea bookArea recoverLedger freshLedger
     area-at =
         let e = none-left (l .left) refl in
@@ -248,7 +248,7 @@ module _ (At : Ledger → World → Type 0) (r : Relates At) where
         (λ b h. g .home (c .is-recover) (c .is-done) e b h ∙ sym (area-same (fedPoint p v) (recoverLedger [] l) refl s b)))
 
   -- At every point of a run where the card comes up, the home area is the book's area.
-  pub area-kept : (t : Bytes) → IsBytes t → {at n : ℕ} {v : Service} {l : Ledger} {w : World} {ps : List Point} → At l w → Agrees v l → Runs step t at n w ps → AreaKept v ps
+  area-kept : (t : Bytes) → IsBytes t → {at n : ℕ} {v : Service} {l : Ledger} {w : World} {ps : List Point} → At l w → Agrees v l → Runs step t at n w ps → AreaKept v ps
   unfolding fedPoint
   area-kept t b here agrees (at-end h) = tt
   area-kept t b {at} {n} {v} {l} {w} here agrees (one-more {p = p} h e rest) =

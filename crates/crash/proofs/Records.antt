@@ -64,11 +64,11 @@ recordsOf l c i zero = []
 recordsOf l c i (suc n) = recordOf l (newName c i) ++ recordsOf l c (suc i) n
 
 -- ---- a record of the ledger keeps the rules of the format
-pub length-held : (l : Ledger) (t : Name) → length (heldOf l t) ≡ length ((l .book .entry t) .blocks)
+length-held : (l : Ledger) (t : Name) → length (heldOf l t) ≡ length ((l .book .entry t) .blocks)
 unfolding heldOf
 length-held l t = length-map (below (length ((l .book .entry t) .blocks))) _ ∙ length-below (length ((l .book .entry t) .blocks))
 
-pub getD-held : (l : Ledger) (t : Name) (i : ℕ) → i < length ((l .book .entry t) .blocks)
+getD-held : (l : Ledger) (t : Name) (i : ℕ) → i < length ((l .book .entry t) .blocks)
     → getD (heldOf l t) i (newHeld 0 0) ≡ newHeld (getD ((l .book .entry t) .blocks) i 0) (flagOf (getD (l .images t) i []))
 unfolding heldOf
 getD-held l t i h =
@@ -146,7 +146,7 @@ module _ {l : Ledger} (f : Fine l) (t : Name) (h : isClosed ((l .book .entry t) 
         numbers = mem-each (λ (n : Name). IsWord (n .number)) ((l .book .entry t) .names) (λ u x. omega (arith, named u x .high));
       }
 
-  pub record-images : Images (heldOf l t) (l .images t)
+  record-images : Images (heldOf l t) (l .images t)
   record-images =
       let n = length-held l t in
       let z = f .frozen t h in
@@ -173,7 +173,7 @@ module _ {l : Ledger} (f : Fine l) (t : Name) (h : isClosed ((l .book .entry t) 
 
 -- ---- blocks that stand one after the other, from a position on
 module _ (s : Shape) (d : Bytes) (c : ℕ) where
-  abbrev pub BlocksStand : ℕ → List Bytes → Type 0
+  abbrev BlocksStand : ℕ → List Bytes → Type 0
   BlocksStand p xs = (q : ℕ) → q < length xs → journalAt s d c (p + q) ≡ getD xs q []
 
   stand-left : (p : ℕ) (xs ys : List Bytes) → BlocksStand p (xs ++ ys) → BlocksStand p xs
@@ -362,7 +362,7 @@ module _ (l : Ledger) (c : ℕ) where
     length-readList = length-from (l .book .oldest c) (t .position) (l .book .uncommitted c - l .book .oldest c)
 
     -- the records are in order of number
-    pub readList-at : (j : ℕ) (e : Committed) → j < l .book .uncommitted c - l .book .oldest c → (getD (readList l c t) j e) .number ≡ l .book .oldest c + j
+    readList-at : (j : ℕ) (e : Committed) → j < l .book .uncommitted c - l .book .oldest c → (getD (readList l c t) j e) .number ≡ l .book .oldest c + j
     unfolding readList
     readList-at j e h = from-at (l .book .oldest c) (t .position) (l .book .uncommitted c - l .book .oldest c) j e h
 

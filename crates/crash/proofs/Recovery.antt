@@ -108,7 +108,7 @@ module _ {l : Ledger} {d : Bytes} {tailAt : ℕ → Tail} (f : Fine l) (z : Disk
   unfolding journalAt
   home-journal c q = home-other (journalBlock (l .shape) c q) (λ e. home-apart (l .shape) c q (homeBlock b) (omega arith) (sym e))
 
-  pub home-stands : DiskStands l (store d (homeBlock b) x) tailAt
+  home-stands : DiskStands l (store d (homeBlock b) x) tailAt
   home-stands =
       record {
         size = length-store d (homeBlock b) x home-fits (block .size) ∙ z .size;
@@ -129,7 +129,7 @@ module _ {l : Ledger} {d : Bytes} {tailAt : ℕ → Tail} (f : Fine l) (z : Disk
 
 -- ---- RECOVER
 module _ {l : Ledger} {w : World} (v : DownBy l w) where
-  pub left-read : blocksLeft w ≡ l .left
+  left-read : blocksLeft w ≡ l .left
   unfolding blocksLeft
   left-read = rw (blocks-on (v .fine) (v .disk)) (sym (v .left))
 

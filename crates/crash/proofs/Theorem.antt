@@ -61,7 +61,7 @@ use Rattle.crash.proofs.Blocks.{bytes-take, bytes-drop}
 use Rattle.crash.proofs.Stages.{running-is}
 
 -- ---- a card that is up: the bytes and the histories of the blocks agree with the ledger
-pub record UpAt (l : Ledger) (w : World) : Type 0 where
+record UpAt (l : Ledger) (w : World) : Type 0 where
   pub up : Up l w
   pub home : ℕ → Bytes
   pub homes : (b : ℕ) → b < l .shape .blocks → blockAt (w .disk) (homeBlock b) ≡ home b
@@ -172,19 +172,19 @@ fresh-at s saved first w up homes =
     record { up = up; home = image blank saved; homes = homes; inv = inv-fresh s saved first; imaged = imaged-fresh s saved first }
 
 -- ---- blank, up or down
-pub record BlankAt (l : Ledger) (w : World) : Type 0 where
+record BlankAt (l : Ledger) (w : World) : Type 0 where
   pub card : w .card ≡ blankCard
   pub ledger : l ≡ blankLedger
   pub disk : length (w .disk) ≡ 32896
   pub memory : length (w .memory) ≡ 16384
 
-pub data At (l : Ledger) (w : World) : Type 0 where
+data At (l : Ledger) (w : World) : Type 0 where
   at-blank : BlankAt l w → At l w
   at-up : UpAt l w → At l w
   at-down : DownBy l w → At l w
 
 -- ---- one command: refused it changes nothing; carried out, `Done` says what must be shown
-pub record Done (l : Ledger) (w : World) (k : ℕ) (a : Bytes) : Type 0 where
+record Done (l : Ledger) (w : World) (k : ℕ) (a : Bytes) : Type 0 where
   pub next : At (entered k a 0 l) ((rowOf k a w) .done .world)
   pub stores : k ≡ 7 → (rowOf k a w) .done .world .disk ≡ recoverStore l (l .left) (w .disk)
   pub comes-up : k ≡ 7 → isUp ((rowOf k a w) .done .world .card .phase) ≡ eqb (length (l .left)) 0
@@ -220,7 +220,7 @@ module _ {l : Ledger} {w : World} (here : At l w) (k : ℕ) (a : Bytes) where
         home = λ s z f b q. rw u (d .home s f b q);
       }
 
-  pub kept-by : (step k a w) .answer ≡ refusal (refusalsOf k a l) → (refusal (refusalsOf k a l) ≡ 0 → Done l w k a) → Kept At l w k a
+  kept-by : (step k a w) .answer ≡ refusal (refusalsOf k a l) → (refusal (refusalsOf k a l) ≡ 0 → Done l w k a) → Kept At l w k a
   kept-by h d = by-answer ((step k a w) .answer) refl
     where
       by-answer : (n : ℕ) → (step k a w) .answer ≡ n → Kept At l w k a

@@ -57,7 +57,7 @@ module _ {l : Ledger} {d : Bytes} {tailAt : ℕ → Tail} (f : Fine l) (z : Disk
 
   module _ (most : ℕ → ℕ) (enough : (c : ℕ) → c < l .shape .cores → l .book .uncommitted c - l .book .oldest c ≤ most c) where
     -- ---- all journals
-    pub journals-listed : (e : Committed) → List·Memᴰ e (journals (l .shape) d tailAt most)
+    journals-listed : (e : Committed) → List·Memᴰ e (journals (l .shape) d tailAt most)
         → (e .core < l .shape .cores) × List·Memᴰ e (readList l (e .core) (tailAt (e .core)))
     unfolding journals
     journals-listed e m =
@@ -78,13 +78,13 @@ module _ {l : Ledger} {d : Bytes} {tailAt : ℕ → Tail} (f : Fine l) (z : Disk
     journals-are e m = let r = journals-listed e m in readList-is f z (e .core) (r .0) e (r .1)
 
     -- ---- they are the ledger's committed unretired transactions
-    pub read-unretired : (e : Committed) → List·Memᴰ e (journals (l .shape) d tailAt most) → List·Memᴰ (nameOf e) (unretired (l .book))
+    read-unretired : (e : Committed) → List·Memᴰ e (journals (l .shape) d tailAt most) → List·Memᴰ (nameOf e) (unretired (l .book))
     unfolding unretired
     read-unretired e m =
         let u = journals-are e m .unretired in
         mem-select _ (l .book .opened) (nameOf e) (f .known (nameOf e) (closed-present _ (u .is-closed))) (and-both (u .is-committed) (ap not (u .not-retired)))
 
-    pub unretired-read : (t : Name) → List·Memᴰ t (unretired (l .book)) → (e : Committed) × List·Memᴰ e (journals (l .shape) d tailAt most) × (nameOf e ≡ t)
+    unretired-read : (t : Name) → List·Memᴰ t (unretired (l .book)) → (e : Committed) × List·Memᴰ e (journals (l .shape) d tailAt most) × (nameOf e ≡ t)
     unfolding unretired
     unretired-read t m =
         let g = (l .book .entry t) .stage in
@@ -122,7 +122,7 @@ module _ {l : Ledger} {d : Bytes} {tailAt : ℕ → Tail} (f : Fine l) (z : Disk
         ]) in
         shrink-largest (metIn k) (metIn-monotone k) (unretired k) ts within closed (nameOf e) (Memᴰ·map nameOf m)
 
-    pub name-valid : (e : Committed) → List·Memᴰ e (journals (l .shape) d tailAt most) → List·Memᴰ (nameOf e) (validIn (l .book))
+    name-valid : (e : Committed) → List·Memᴰ e (journals (l .shape) d tailAt most) → List·Memᴰ (nameOf e) (validIn (l .book))
         → List·Memᴰ e (validSet (l .shape) d tailAt (journals (l .shape) d tailAt most))
     unfolding namesMet isMet isIn
     name-valid e m v =
@@ -166,7 +166,7 @@ module _ {l : Ledger} {d : Bytes} {tailAt : ℕ → Tail} (f : Fine l) (z : Disk
         mem-any (λ (e : Committed). sameName n (nameOf e)) (r .1) (rw (r .2) (sameName-refl n)))
 
     -- ---- the home blocks held in it
-    pub blocks-same : blocksHeld (l .shape) d (validSet (l .shape) d tailAt (journals (l .shape) d tailAt most)) ≡ blocksIn (l .shape .blocks) (l .book)
+    blocks-same : blocksHeld (l .shape) d (validSet (l .shape) d tailAt (journals (l .shape) d tailAt most)) ≡ blocksIn (l .shape .blocks) (l .book)
     unfolding blocksHeld blocksIn
     blocks-same =
         let vs = validSet (l .shape) d tailAt (journals (l .shape) d tailAt most) in

@@ -173,7 +173,7 @@ holder-last k b [] = refl
 holder-last k b (w ∷ ws) = cases (eqb b (w .block)) (λ h. rw h refl) (λ h. rw h (holder-last k b ws))
 
 -- what each rule goes by
-abbrev pub Ruled : Ledger → Name → ℕ → Meeting → Type 0
+abbrev Ruled : Ledger → Name → ℕ → Meeting → Type 0
 Ruled l t b no-holder = (u : Name) → lastHolder (historyOf l b) ≡ some u → So (isRetired (stageOf (l .book) u))
 Ruled l t b own = lastHolder (historyOf l b) ≡ some t
 Ruled l t b (running-holder u) = (lastHolder (historyOf l b) ≡ some u) × (isClosed (stageOf (l .book) u) ≡ false) × (u ≢ t)
