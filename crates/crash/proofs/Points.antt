@@ -1,6 +1,6 @@
--- Layer C: along a tape. If each command keeps a relation `At` of ledger and world and answers what the ledger says, then
--- at every point of every run the claims hold: the ledger's by going along the points, demand 3 because service book and
--- ledger keep the same writes and the last RECOVER leaves the area that they give.
+-- Along a tape: if each command keeps a relation `At` of ledger and world and answers what the ledger says, then at every
+-- point of every run the claims hold. The ledger's go along the points; demand 3 holds because service book and ledger
+-- keep the same writes and the last RECOVER leaves the area that they give.
 use Prim.Native.Nat.{ℕ, zero, suc, _+_, _-_, _*_, min, _≤_, _<_}
 use native.Mathlib.Omega.{arith}
 use mathlib.Core.Path.{_≡_, refl, sym, ap, _∙_, subst}
@@ -28,7 +28,7 @@ use Rattle.crash.specs.Service.{Service, bookArea}
 use Rattle.crash.specs.Ledger.{Ledger, freshLedger, blankLedger, recoverLedger, entered, writeRefusals, closeRefusals, storeRefusals, checkpointRefusals, refusalsOf}
 use Rattle.crash.proofs.Agreement.{Agrees, Suits, blank-agrees, down-agrees, fed-agrees, area-same}
 use Rattle.crash.specs.Claims.{IsBytes, answerOf, JournalsRead, recoverStore, PointKept, LedgerKept, ComesUp, AreaKept, homeArea, fedPoint, blankStart, downStart, downLedger, Claim, Demands}
-use Rattle.crash.proofs.Blocks.{bytes-take, bytes-drop}
+use Rattle.crash.proofs.BlockBytes.{bytes-take, bytes-drop}
 
 -- ---- a command of the tape as a point: 2 and 3 by what stands on the tape
 module _ (t : Bytes) (at : ℕ) (on-tape : at < length t) where

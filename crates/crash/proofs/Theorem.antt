@@ -1,5 +1,6 @@
--- The theorem: blank, up or down, card and ledger agree, and every command keeps it so. From one coming up to the next
--- cut layer A and the bytes go together (`UpAt`); from a cut on what recovery gives is fixed (`DownBy`). The claims follow.
+-- The theorem: blank, up or down, card and ledger agree (`At`), and every command keeps it so.
+-- From one coming up to the next cut layer A and the bytes go together (`UpAt`); from a cut on, what recovery gives is
+-- fixed (`DownBy`). The claims follow along the points of a run.
 use Prim.Native.Nat.{ℕ, zero, suc, _+_, _<_, _-_, _≤_}
 use native.Mathlib.Omega.{arith}
 use native.Mathlib.Decide.{decLt}
@@ -28,17 +29,17 @@ use Rattle.model.specs.declared.Card.{Card}
 use Rattle.model.specs.declared.Phase.the-variants.{Blank}
 use Rattle.model.proofs.Lists.{cases, and-left, getD-mem}
 use Rattle.model.specs.Format.{formatted}
-use Rattle.crash.proofs.Format.{format-home, format-up, down-start}
-use Rattle.crash.proofs.Recovery.{recover-home, recovered-home, recover-master, recover-stores, recover-up}
+use Rattle.crash.proofs.CardFormat.{format-home, format-up, down-start}
+use Rattle.crash.proofs.CardRecover.{recover-home, recovered-home, recover-master, recover-stores, recover-up}
 use Rattle.crash.proofs.PhaseAnswers.{down-answers, blank-answers, up-answers}
 use Rattle.crash.specs.Service.{noted}
 use Rattle.model.specs.Layout.{maxNumber}
 use Rattle.model.specs.Write.{written}
-use Rattle.crash.proofs.UpWrite.{write-up}
-use Rattle.crash.proofs.FineWrite.{fine-wrote}
-use Rattle.crash.proofs.Answers.{write-answers, close-answers, store-answers}
-use Rattle.crash.proofs.CheckpointRead.{checkpoint-refusal}
-use Rattle.crash.proofs.Records.{journals-read}
+use Rattle.crash.proofs.CardWrite.{write-up}
+use Rattle.crash.proofs.LedgerWrite.{fine-wrote}
+use Rattle.crash.proofs.CardAnswers.{write-answers, close-answers, store-answers}
+use Rattle.crash.proofs.ReadCheckpoint.{checkpoint-refusal}
+use Rattle.crash.proofs.ReadRecords.{journals-read}
 use Rattle.crash.specs.Book.{Book, Write, absent, running, committed, kept, image, blank, isClosed, holderIn, store, checkpoint, keptWrites, isRunning, wrote, meets}
 use Rattle.crash.specs.Ledger.{Ledger, freshLedger, blankLedger, cutLedger, entered, refusalsOf, withBook, closeLedger, validIn, sharesLowerIn, recoverLedger, formatRefusals, writeRefusals, closeRefusals, storeRefusals, checkpointRefusals, notUpFor, namesCount, holderNames, recordBlocks}
 use Rattle.crash.specs.Claims.{recoverStore, IsBytes, JournalsRead, Claim, Demands}
@@ -46,19 +47,19 @@ use Rattle.crash.proofs.Points.{Kept, Relates, claimed, demanded}
 use Rattle.crash.proofs.Tests.{clash, any-in, in-any, nameEquality, blockEquality}
 use Rattle.crash.proofs.Largest.{memberOf, RetiredBelow, valid-is-kept}
 use Rattle.crash.proofs.Invariant.{Inv, imageAt, opened-of}
-use Rattle.crash.proofs.Commands.{inv-fresh, inv-close, inv-store, inv-retire, inv-home-store, lower-retired}
-use Rattle.crash.proofs.Write.{home-current, open-holds, holder-took, inv-wrote}
-use Rattle.crash.proofs.Images.{Imaged, image-of-closed, imaged-fresh, imaged-close, imaged-store, imaged-retire, imaged-home-store, imaged-wrote}
+use Rattle.crash.proofs.InvariantSteps.{inv-fresh, inv-close, inv-store, inv-retire, inv-home-store, lower-retired}
+use Rattle.crash.proofs.InvariantWrite.{home-current, open-holds, holder-took, inv-wrote}
+use Rattle.crash.proofs.ClosedImages.{Imaged, image-of-closed, imaged-fresh, imaged-close, imaged-store, imaged-retire, imaged-home-store, imaged-wrote}
 use Rattle.crash.proofs.Relation.{Fine, Up, DownBy, target}
-use Rattle.crash.proofs.FineSteps.{fine-close, fine-store, fine-checkpoint, below-oldest}
-use Rattle.crash.proofs.Down.{cut-up, cut-down, cut-done, right-length}
+use Rattle.crash.proofs.LedgerSteps.{fine-close, fine-store, fine-checkpoint, below-oldest}
+use Rattle.crash.proofs.CardCut.{cut-up, cut-down, cut-done, right-length}
 use Rattle.crash.proofs.Given.{held-newest, home-target}
-use Rattle.crash.proofs.UpStore.{store-up, store-homes}
-use Rattle.crash.proofs.UpClose.{close-up}
-use Rattle.crash.proofs.UpCheckpoint.{checkpoint-up, home-stored, home-others, homes-stay}
-use Rattle.crash.proofs.Master.{shape-up}
-use Rattle.crash.proofs.Blocks.{bytes-take, bytes-drop}
-use Rattle.crash.proofs.Stages.{running-is}
+use Rattle.crash.proofs.CardStore.{store-up, store-homes}
+use Rattle.crash.proofs.CardClose.{close-up}
+use Rattle.crash.proofs.CardCheckpoint.{checkpoint-up, home-stored, home-others, homes-stay}
+use Rattle.crash.proofs.ReadMaster.{shape-up}
+use Rattle.crash.proofs.BlockBytes.{bytes-take, bytes-drop}
+use Rattle.crash.proofs.LedgerStages.{running-is}
 
 -- ---- a card that is up: the bytes and the histories of the blocks agree with the ledger
 record UpAt (l : Ledger) (w : World) : Type 0 where

@@ -1,6 +1,6 @@
--- A book after CLOSE, STORE and CHECKPOINT, which give one transaction its next stage, and after WRITE: what each leaves of
--- entries, holders, images and record sizes. Ledger and service book are both such books, so the theorem's layers share
--- these laws.
+-- A book after CLOSE, STORE and CHECKPOINT, which give one transaction its next stage, and after WRITE: what each leaves
+-- of entries, holders and record sizes, and what CLOSE and WRITE do to the images. Ledger and service book are both such
+-- books, so the layers share these laws.
 use Prim.Native.Nat.{ℕ, suc, _+_, _<_}
 use native.Mathlib.Omega.{arith}
 use mathlib.Core.Path.{_≡_, refl, sym, ap, _∙_}
@@ -18,7 +18,7 @@ use Rattle.model.proofs.Lists.{cases}
 use Rattle.model.proofs.Valid.{sameName-refl}
 use Rattle.crash.specs.Book.{Stage, absent, running, closed, committed, retired, isRunning, isClosed, isRetired, counted, Entry, Write, Book, change, raise, staged, begin, holderIn, Meeting, no-holder, own, running-holder, closed-holder, meets, ruled, holderAfter, note, wrote, close, store, checkpoint, image}
 use Rattle.crash.specs.Ledger.{Ledger, withBook, imageNow, closeLedger, recordBlocks}
-use Rattle.crash.proofs.Entries.{nextName, uncommittedName, oldestName, same-or-not, sameName-false, change-at, change-other, change-by, met, meets-met, meets-same, ruled-other, ruled-stage, ruled-blocks-other, holder-same, holder-live, records-same}
+use Rattle.crash.proofs.BookEntries.{nextName, uncommittedName, oldestName, same-or-not, sameName-false, change-at, change-other, change-by, metHolder, meets-met, meets-same, ruled-other, ruled-stage, ruled-blocks-other, holder-same, holder-live, records-same}
 
 -- ---- one transaction gets another stage
 pub record Restages (k k′ : Book) (t : Name) (g : Stage) : Type 0 where
@@ -224,7 +224,7 @@ module _ (k : Book) (c : ℕ) (current : ((k .entry (nextName c k)) .stage ≡ a
     holder-stays no-holder e = ap isRetired wrote-running
     holder-stays own e = ap isRetired wrote-running
     holder-stays (running-holder u) e =
-        wrote-retired u ∙ holder-live k b (k .writes) u (meets-met k (nextName c k) (holderIn k b (k .writes)) u (ap met e) .0)
+        wrote-retired u ∙ holder-live k b (k .writes) u (meets-met k (nextName c k) (holderIn k b (k .writes)) u (ap metHolder e) .0)
     holder-stays (closed-holder u) e = ap isRetired wrote-running
 
     pub wrote-holder : holderIn (wrote c b o v k) b ((wrote c b o v k) .writes) ≡ some (holderAfter (meeting c b k) (nextName c k))

@@ -29,10 +29,10 @@ use Rattle.crash.specs.Ledger.{freshLedger, unretired, validIn, blocksIn
 use Rattle.crash.specs.Claims.{IsBytes, downStart, downLedger}
 use Rattle.crash.proofs.Relation.{Up, target, DownBy}
 use Rattle.crash.proofs.Tests.{clash}
-use Rattle.crash.proofs.Blocks.{bytes-store}
-use Rattle.crash.proofs.Down.{zero-bytes, Gives, down-over}
-use Rattle.crash.proofs.Fresh.{ComeUp, fresh-up}
-use Rattle.crash.proofs.Master.{master-bytes}
+use Rattle.crash.proofs.BlockBytes.{bytes-store}
+use Rattle.crash.proofs.CardCut.{zero-bytes, Gives, down-over}
+use Rattle.crash.proofs.CardFresh.{ComeUp, fresh-up}
+use Rattle.crash.proofs.ReadMaster.{master-bytes}
 
 -- ---- blocks of zeros
 abbrev zeros : ℕ → Bytes

@@ -22,8 +22,8 @@ use Rattle.model.specs.declared.Card.{Card}
 use Rattle.model.proofs.Lists.{flatMap-below}
 use Rattle.crash.specs.Book.{Stage, absent, running, isRunning, isClosed, counted, Entry}
 use Rattle.crash.specs.Ledger.{Ledger, recordBlocks}
-use Rattle.crash.proofs.Stages.{closed-present}
-use Rattle.crash.proofs.Entries.{records-same}
+use Rattle.crash.proofs.LedgerStages.{closed-present}
+use Rattle.crash.proofs.BookEntries.{records-same}
 use Rattle.crash.proofs.Relation.{Fine, heldOf, recordOf, contents, JournalStands, CoreUp, Matches}
 
 -- ---- one core of the card replaced

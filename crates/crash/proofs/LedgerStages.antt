@@ -1,5 +1,5 @@
--- The stages of a core's transactions by their numbers: which are committed and unretired, and which is closed.
--- Tests of stages become bounds of numbers and back; nothing but the ledger's order (`Ranks`) is used.
+-- Stages by themselves, and the stages of a core's transactions by their numbers (`Ranks`).
+-- Tests of stages become bounds of numbers and back.
 -- So what the journals hold, and what the ledger's lists hold, can be compared by numbers alone.
 use Prim.Native.Nat.{ℕ, _≤_, _<_}
 use native.Mathlib.Omega.{arith}

@@ -24,11 +24,11 @@ use Rattle.model.proofs.Lists.{and-both, and-left, and-right, or-left, or-right
 use Rattle.crash.specs.Book.{isClosed, isRetired}
 use Rattle.crash.specs.Ledger.{Ledger, validIn, sharesLowerIn, checkpointRefusals}
 use Rattle.crash.proofs.Relation.{Fine, Up}
-use Rattle.crash.proofs.Stages.{closed-present, unretired-rank, closing-stage}
-use Rattle.crash.proofs.Records.{readRecord, readList, IsRead, length-readList, readList-has, readList-first, readList-is, journal-read}
-use Rattle.crash.proofs.Valid.{journals-are, listed-journals, valid-same}
+use Rattle.crash.proofs.LedgerStages.{closed-present, unretired-rank, closing-stage}
+use Rattle.crash.proofs.ReadRecords.{readRecord, readList, IsRead, length-readList, readList-has, readList-first, readList-is, journal-read}
+use Rattle.crash.proofs.ReadValid.{journals-are, listed-journals, valid-same}
 use Rattle.crash.proofs.Tests.{clash, same-test}
-use Rattle.crash.proofs.Master.{shape-up}
+use Rattle.crash.proofs.ReadMaster.{shape-up}
 
 -- ---- what is read
 module _ {l : Ledger} {w : World} (u : Up l w) where

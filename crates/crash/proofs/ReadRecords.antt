@@ -32,8 +32,8 @@ use Rattle.crash.specs.Book.{isClosed, Book}
 use Rattle.crash.specs.Ledger.{Ledger, recordBlocks, storedOf, storedSince}
 use Rattle.crash.specs.Claims.{readAs, JournalsRead}
 use Rattle.crash.proofs.Relation.{Limits, sumNext, Fine, heldOf, recordOf, contents, DiskStands}
-use Rattle.crash.proofs.Stages.{closed-present, Unretired, stored-unretired}
-use Rattle.crash.proofs.Master.{shape-read, tail-read}
+use Rattle.crash.proofs.LedgerStages.{closed-present, Unretired, stored-unretired}
+use Rattle.crash.proofs.ReadMaster.{shape-read, tail-read}
 
 -- ---- the list that the reader finds
 -- the record of transaction t at a position

@@ -26,12 +26,12 @@ use Rattle.model.proofs.Lists.{cases, or-none}
 use Rattle.crash.specs.Book.{absent, running, isRunning, Entry, Book, begin, staged, taking, naming, holderIn, wrote}
 use Rattle.crash.specs.Ledger.{Ledger, namesCount, holderNames, recordBlocks, notUpFor, writeRefusals, closeRefusals, storeRefusals}
 use Rattle.crash.proofs.Relation.{Matches, Up}
-use Rattle.crash.proofs.Entries.{change-at, records-snoc}
-use Rattle.crash.proofs.Books.{begun, meeting}
-use Rattle.crash.proofs.Rules.{entry-free, entry-own, entry-running, entry-closed, entry-holder, live-runs, writer-name, writer-matches, met-none, met-own, met-running, met-closed, rule-met, writer-after, holder-matches}
-use Rattle.crash.proofs.Stages.{running-present}
-use Rattle.crash.proofs.Master.{shape-up}
-use Rattle.crash.proofs.Down.{right-length}
+use Rattle.crash.proofs.BookEntries.{change-at, records-snoc}
+use Rattle.crash.proofs.BookSteps.{begun, meeting}
+use Rattle.crash.proofs.CardRules.{entry-free, entry-own, entry-running, entry-closed, entry-holder, live-runs, writer-name, writer-matches, met-none, met-own, met-running, met-closed, rule-met, writer-after, holder-matches}
+use Rattle.crash.proofs.LedgerStages.{running-present}
+use Rattle.crash.proofs.ReadMaster.{shape-up}
+use Rattle.crash.proofs.CardCut.{right-length}
 
 -- ---- conditions one by one
 -- the same conditions, each as far as none before it holds

@@ -30,12 +30,12 @@ use Rattle.model.proofs.Journal.{journal-low, home-apart, cores-apart, journal-
 use Rattle.crash.specs.Book.{closed, committed, isClosed, counted, Entry, Book, raise, staged, store}
 use Rattle.crash.specs.Ledger.{Ledger, withBook, imageNow, recordBlocks}
 use Rattle.crash.proofs.Relation.{IsBlock, Fine, heldOf, recordOf, contents, JournalStands, DiskStands, CoreUp, holderAs, Up}
-use Rattle.crash.proofs.Records.{record-sound, length-record, records-flat, length-records, stored-closed}
-use Rattle.crash.proofs.Entries.{other-number, other-core, change-at, raise-at, raise-other, records-snoc}
-use Rattle.crash.proofs.Books.{Restages, restaged, restages-records, storedStage, store-restages, store-more, store-last, store-holder}
-use Rattle.crash.proofs.Blocks.{bytes-store, each-isBytes, escaped-bytes}
-use Rattle.crash.proofs.Frames.{SameClosed, core-set, core-other, record-same, none-stored, journal-stays, core-stays}
-use Rattle.crash.proofs.Master.{shape-up}
+use Rattle.crash.proofs.ReadRecords.{record-sound, length-record, records-flat, length-records, stored-closed}
+use Rattle.crash.proofs.BookEntries.{other-number, other-core, change-at, raise-at, raise-other, records-snoc}
+use Rattle.crash.proofs.BookSteps.{Restages, restaged, restages-records, storedStage, store-restages, store-more, store-last, store-holder}
+use Rattle.crash.proofs.BlockBytes.{bytes-store, each-isBytes, escaped-bytes}
+use Rattle.crash.proofs.CardFrames.{SameClosed, core-set, core-other, record-same, none-stored, journal-stays, core-stays}
+use Rattle.crash.proofs.ReadMaster.{shape-up}
 
 -- ---- the blocks of a record, one by one
 module _ {l : Ledger} (f : Fine l) (t : Name) (h : isClosed ((l .book .entry t) .stage) ≡ true) where

@@ -21,10 +21,10 @@ use Rattle.crash.proofs.Tests.{clash, false-of, in-any, blockEquality}
 use Rattle.crash.proofs.History.{Event, value, upto}
 use Rattle.crash.proofs.Largest.{stageOf}
 use Rattle.crash.proofs.Invariant.{image-history, areaBefore, historyOf, imageAt, tookIn, Inv}
-use Rattle.crash.proofs.Commands.{Moved, moved-each, moved-blocks, begin-moved, close-moved, store-moved, retire-moved, home-moved}
-use Rattle.crash.proofs.Write.{Edits, withWrite, lastHolder, open-last, meets-ruled, rule-edits, rule-open}
-use Rattle.crash.proofs.Entries.{nextName, uncommittedName, oldestName}
-use Rattle.crash.proofs.Books.{begun, begun-by, begun-running, close-images}
+use Rattle.crash.proofs.InvariantSteps.{Moved, moved-each, moved-blocks, begin-moved, close-moved, store-moved, retire-moved, home-moved}
+use Rattle.crash.proofs.InvariantWrite.{Edits, withWrite, lastHolder, open-last, meets-ruled, rule-edits, rule-open}
+use Rattle.crash.proofs.BookEntries.{nextName, uncommittedName, oldestName}
+use Rattle.crash.proofs.BookSteps.{begun, begun-by, begun-running, close-images}
 
 abbrev pub Imaged : Ledger → Type 0
 Imaged l = (t : Name) → So (isClosed (stageOf (l .book) t)) → l .images t ≡ map (imageAt l t) ((l .book .entry t) .blocks)

@@ -1,6 +1,6 @@
--- The master of a disk that holds what the ledger says is read as the ledger's shape and the tails given.
--- The shape is within its limits and the tails are within theirs, so what was stored is read back.
--- Hence no RECOVER over such a disk meets 8.
+-- The master of a disk that holds what the ledger says is read as the ledger's shape and the tails given, since both are
+-- within their limits; so no RECOVER over such a disk meets 8. The card's own shape is read as it is.
+-- A master block has the tails of its cores alone, and is bytes.
 use Prim.Native.Nat.{ℕ, suc, _<_}
 use native.Mathlib.Omega.{arith}
 use mathlib.Core.Path.{_≡_, ap, _∙_}
@@ -21,7 +21,7 @@ use mathlib.Core.List.{List, _∷_}
 use Rattle.model.proofs.Lists.{map-below}
 use Rattle.model.proofs.Limits.{clamped-same}
 use Rattle.model.proofs.Words.{each-block}
-use Rattle.crash.proofs.Blocks.{each-isBytes}
+use Rattle.crash.proofs.BlockBytes.{each-isBytes}
 use Rattle.crash.specs.Claims.{IsBytes}
 
 module _ {l : Ledger} {d : Bytes} {tailAt : ℕ → Tail} (f : Fine l) (z : DiskStands l d tailAt) where

@@ -25,13 +25,13 @@ use Rattle.crash.specs.Book.{absent, running, closed, isRunning, Entry, 
 use Rattle.crash.specs.Ledger.{Ledger, closeLedger, imageNow, recordBlocks}
 use Rattle.crash.specs.Claims.{IsBytes}
 use Rattle.crash.proofs.Relation.{sumNext, Fine, contents, JournalStands, DiskStands, Matches, CoreUp, holderAs, Up}
-use Rattle.crash.proofs.Records.{sum-low}
-use Rattle.crash.proofs.Entries.{other-number, other-core, change-at, raise-at, raise-other, records-snoc}
-use Rattle.crash.proofs.Books.{Restages, restages-records, close-restages, close-book, close-holder, close-stamp, close-images, close-stamp-other, close-images-other}
-use Rattle.crash.proofs.Blocks.{bytes-store, bytes-blockAt}
-use Rattle.crash.proofs.Frames.{SameClosed, record-same, contents-same, none-stored, journal-stays, core-stays}
+use Rattle.crash.proofs.ReadRecords.{sum-low}
+use Rattle.crash.proofs.BookEntries.{other-number, other-core, change-at, raise-at, raise-other, records-snoc}
+use Rattle.crash.proofs.BookSteps.{Restages, restages-records, close-restages, close-book, close-holder, close-stamp, close-images, close-stamp-other, close-images-other}
+use Rattle.crash.proofs.BlockBytes.{bytes-store, bytes-blockAt}
+use Rattle.crash.proofs.CardFrames.{SameClosed, record-same, contents-same, none-stored, journal-stays, core-stays}
 use Rattle.crash.proofs.Tests.{clash}
-use Rattle.crash.proofs.Stages.{running-present}
+use Rattle.crash.proofs.LedgerStages.{running-present}
 
 -- ---- copies
 module _ (c : ℕ) (eight : c < 8) where

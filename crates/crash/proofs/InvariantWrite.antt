@@ -22,9 +22,9 @@ use Rattle.crash.proofs.History.{Event, value, Took, Status, Link, Next
 use Rattle.crash.proofs.Steps.{write}
 use Rattle.crash.proofs.Largest.{memberOf, stageOf}
 use Rattle.crash.proofs.Invariant.{eventOf, history, image-history, areaBefore, historyOf, tookIn, homedBy, homed, status, retired-closed, open-not-homed, Known, Inv, sound-of, retired-homed, Grows, extends, good-grown}
-use Rattle.crash.proofs.Commands.{inv-begin}
-use Rattle.crash.proofs.Entries.{change-at, change-other, change-each, nextName, same-or-not, sameName-false}
-use Rattle.crash.proofs.Books.{begun-by, begun-running}
+use Rattle.crash.proofs.InvariantSteps.{inv-begin}
+use Rattle.crash.proofs.BookEntries.{change-at, change-other, change-each, nextName, same-or-not, sameName-false}
+use Rattle.crash.proofs.BookSteps.{begun-by, begun-running}
 
 -- ---- what a write may do to a transaction: add to its names and, before it closes, to its blocks
 pub record Edits (x y : Entry) : Type 0 where

@@ -27,8 +27,8 @@ use Rattle.crash.specs.Ledger.{Ledger, blocksIn, cutLedger}
 use Rattle.crash.specs.Claims.{IsBytes}
 use Rattle.crash.proofs.Relation.{Fine, heldOf, recordOf, contents, JournalStands, DiskStands, Up, target, Newest, DownBy}
 use Rattle.crash.proofs.Tests.{clash, any-in, in-any, blockEquality}
-use Rattle.crash.proofs.FineSteps.{fine-cut}
-use Rattle.crash.proofs.Blocks.{each-isBytes}
+use Rattle.crash.proofs.LedgerSteps.{fine-cut}
+use Rattle.crash.proofs.BlockBytes.{each-isBytes}
 
 -- ---- the ledger in another phase, with other blocks left
 abbrev pub phased : Phase → List ℕ → Ledger → Ledger

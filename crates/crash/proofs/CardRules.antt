@@ -26,9 +26,9 @@ use Rattle.model.proofs.Valid.{sameName-refl}
 use Rattle.crash.specs.Book.{absent, running, isRunning, isClosed, Entry, Book, staged, taking, naming, begin, holderIn, Meeting, no-holder, own, running-holder, closed-holder, meets, ruled, change, wrote}
 use Rattle.crash.specs.Ledger.{Ledger}
 use Rattle.crash.proofs.Relation.{Ranks, Matches, holderAs, Up}
-use Rattle.crash.proofs.Stages.{committed-stage, present-open, closed-idle}
-use Rattle.crash.proofs.Entries.{same-or-not, sameName-false, change-at, change-other}
-use Rattle.crash.proofs.Books.{begun, meeting, begun-other, wrote-entry}
+use Rattle.crash.proofs.LedgerStages.{committed-stage, present-open, closed-idle}
+use Rattle.crash.proofs.BookEntries.{same-or-not, sameName-false, change-at, change-other}
+use Rattle.crash.proofs.BookSteps.{begun, meeting, begun-other, wrote-entry}
 use Rattle.crash.proofs.Tests.{clash}
 
 -- ---- a transaction of the card and its entry

@@ -24,9 +24,9 @@ use Rattle.crash.proofs.History.{Took, Good}
 use Rattle.crash.proofs.Steps.{with-one, store-home}
 use Rattle.crash.proofs.Largest.{memberOf, stageOf}
 use Rattle.crash.proofs.Invariant.{history, areaBefore, historyOf, imageAt, tookIn, homedBy, homed, status, isOpened, closed-opened, Known, Inv, sound-of, retired-homed, Grows, extends, good-grown}
-use Rattle.crash.proofs.Entries.{same-or-not, sameName-false, change-at, change-other, change-each, nextName, uncommittedName, oldestName}
+use Rattle.crash.proofs.BookEntries.{same-or-not, sameName-false, change-at, change-other, change-each, nextName, uncommittedName, oldestName}
 use mathlib.Core.Logic.{_≢_}
-use Rattle.crash.proofs.Books.{close-stamp, close-images-other, close-stamp-other}
+use Rattle.crash.proofs.BookSteps.{close-stamp, close-images-other, close-stamp-other}
 
 pub inv-fresh : (s : Shape) (saved : List Write) (first : ℕ → ℕ) → Inv (image blank saved) (freshLedger s saved first)
 unfolding freshLedger emptyBook any

@@ -22,10 +22,10 @@ use Rattle.crash.specs.Book.{absent, running, isRunning, isClosed, Entry
 use Rattle.crash.specs.Ledger.{Ledger, withBook, namesCount, holderNames}
 use Rattle.crash.specs.Claims.{IsBytes}
 use Rattle.crash.proofs.Relation.{Limits, WriteFits, Fine}
-use Rattle.crash.proofs.Entries.{nextName, same-or-not, change-at, change-other, change-by, takes, met, meets-met, meets-own, running-or-not, ruled-other, ruled-stage, ruled-blocks, ruled-blocks-other, ruled-names}
-use Rattle.crash.proofs.Books.{begun, begun-by, begun-fields, begun-same, begun-other, begun-running, begun-holder, begun-meets}
-use Rattle.crash.proofs.FineSteps.{ranks-kept, limits-same, same-frozen, sum-same}
-use Rattle.crash.proofs.Stages.{running-present}
+use Rattle.crash.proofs.BookEntries.{nextName, same-or-not, change-at, change-other, change-by, takes, metHolder, meets-met, meets-own, running-or-not, ruled-other, ruled-stage, ruled-blocks, ruled-blocks-other, ruled-names}
+use Rattle.crash.proofs.BookSteps.{begun, begun-by, begun-fields, begun-same, begun-other, begun-running, begun-holder, begun-meets}
+use Rattle.crash.proofs.LedgerSteps.{ranks-kept, limits-same, same-frozen, sum-same}
+use Rattle.crash.proofs.LedgerStages.{running-present}
 use Rattle.crash.proofs.Tests.{clash}
 
 -- ---- one block more
@@ -61,7 +61,7 @@ module _ (l : Ledger) (f : Fine l) (t : Name) (last : t .number ≡ l .book .nex
   after-stage : (u : Name) → (after u) .stage ≡ (l .book .entry u) .stage
   after-stage = ruled-stage m t b (l .book .entry)
 
-  met-open : (u : Name) → met m ≡ some u → (l .book .entry u) .stage ≢ absent
+  met-open : (u : Name) → metHolder m ≡ some u → (l .book .entry u) .stage ≢ absent
   met-open u e = opens u b (meets-met (l .book) t (holderIn (l .book) b (l .book .writes)) u e .0)
 
   -- one that does not run is not the writer, and one that is not open is not changed
@@ -72,7 +72,7 @@ module _ (l : Ledger) (f : Fine l) (t : Name) (last : t .number ≡ l .book .nex
   absent-same u h =
       ruled-other m t b (l .book .entry) u
       (not-writer u (λ e. running-present _ e h))
-      (λ e. met-open u (ap met e) h)
+      (λ e. met-open u (ap metHolder e) h)
 
   not-taken : takes m ≡ true → List·Memᴰ b ((l .book .entry t) .blocks) → ⊥
   not-taken h p =

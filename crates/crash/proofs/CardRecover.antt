@@ -31,14 +31,14 @@ use Rattle.crash.specs.Book.{Write, keptWrites, blank}
 use Rattle.crash.specs.Ledger.{Ledger, freshLedger, blocksIn, recoverLedger}
 use Rattle.crash.specs.Claims.{recoverStore}
 use Rattle.crash.proofs.Relation.{IsBlock, WriteFits, Fine, DiskStands, Up, target, DownBy}
-use Rattle.crash.proofs.Master.{shape-read, master-same, master-bytes}
-use Rattle.crash.proofs.Records.{length-readList, few-records, journal-read}
-use Rattle.crash.proofs.Valid.{own-tails, blocks-on}
-use Rattle.crash.proofs.Newest.{newest-image}
-use Rattle.crash.proofs.FineSteps.{image-block, blank-block, fine-home, fine-recovered}
-use Rattle.crash.proofs.Blocks.{bytes-store}
-use Rattle.crash.proofs.Down.{phased, stands-phased, target-phased, newest-phased, held-low}
-use Rattle.crash.proofs.Fresh.{ComeUp, fresh-up}
+use Rattle.crash.proofs.ReadMaster.{shape-read, master-same, master-bytes}
+use Rattle.crash.proofs.ReadRecords.{length-readList, few-records, journal-read}
+use Rattle.crash.proofs.ReadValid.{own-tails, blocks-on}
+use Rattle.crash.proofs.ReadNewest.{newest-image}
+use Rattle.crash.proofs.LedgerSteps.{image-block, blank-block, fine-home, fine-recovered}
+use Rattle.crash.proofs.BlockBytes.{bytes-store}
+use Rattle.crash.proofs.CardCut.{phased, stands-phased, target-phased, newest-phased, held-low}
+use Rattle.crash.proofs.CardFresh.{ComeUp, fresh-up}
 
 -- ---- ascending lists: those left after the first are those above it
 abbrev Ascending : List ℕ → Type 0

@@ -1,5 +1,5 @@
--- What a change of one entry, a raised number and the four rules of WRITE leave of a book's entries, and what of it the
--- holders, the images and the blocks of the records depend on: stages decide who holds, blocks how long a record is.
+-- What a change of one entry, a raised number and the four rules of WRITE leave of a book's entries, and what of these
+-- the holders and the blocks of the records depend on: stages decide who holds, blocks how long a record is.
 -- So a command that changes neither of an entry changes nothing of these.
 use Prim.Native.Nat.{ℕ, zero, suc, _+_, _≤_, _<_}
 use native.Mathlib.Omega.{arith}
@@ -74,11 +74,11 @@ raise-other c n i ne = rw (ne-eqb i c ne)
 
 -- ---- the four rules
 -- another's name that the writer lists
-abbrev pub met : Meeting → Option Name
-met no-holder = none
-met own = none
-met (running-holder u) = some u
-met (closed-holder u) = some u
+abbrev pub metHolder : Meeting → Option Name
+metHolder no-holder = none
+metHolder own = none
+metHolder (running-holder u) = some u
+metHolder (closed-holder u) = some u
 
 -- the writer takes the block
 abbrev pub takes : Meeting → Bool
@@ -88,13 +88,13 @@ takes (running-holder u) = false
 takes (closed-holder u) = true
 
 module _ (k : Book) (t : Name) where
-  pub meets-met : (h : Option Name) (u : Name) → met (meets k t h) ≡ some u → (h ≡ some u) × (u ≢ t)
+  pub meets-met : (h : Option Name) (u : Name) → metHolder (meets k t h) ≡ some u → (h ≡ some u) × (u ≢ t)
   unfolding meets
   meets-met none u e = absurd (let z : _≡_ {A = ℕ} 0 1 = cc in omega arith)
   meets-met (some x) u e =
       same-or-not x t
-      (λ q. absurd (let p : met (meets k t (some x)) ≡ none = rw (q, sameName-refl t) in let z : _≡_ {A = ℕ} 0 1 = cc in omega arith))
-      (λ ne. let p : met (meets k t (some x)) ≡ some x
+      (λ q. absurd (let p : metHolder (meets k t (some x)) ≡ none = rw (q, sameName-refl t) in let z : _≡_ {A = ℕ} 0 1 = cc in omega arith))
+      (λ ne. let p : metHolder (meets k t (some x)) ≡ some x
       = rw (sameName-false x t ne) (cases (isClosed ((k .entry x) .stage)) (λ c. rw c) (λ c. rw c)) in
       let q : x ≡ u = cc in (ap some q, λ r. ne (q ∙ r)))
 
@@ -175,7 +175,7 @@ changed-mem t n f entry same u x p =
 
 -- whom a list names after the rules: those of before, the writer, the one met
 pub ruled-names : (m : Meeting) (t : Name) (b : ℕ) (entry : Name → Entry) (u x : Name) → List·Memᴰ x ((ruled m t b entry u) .names)
-    → List·Memᴰ x ((entry u) .names) ⊎ ((x ≡ t) ⊎ (met m ≡ some x))
+    → List·Memᴰ x ((entry u) .names) ⊎ ((x ≡ t) ⊎ (metHolder m ≡ some x))
 unfolding ruled
 ruled-names no-holder t b entry u x p = inl (subst (λ l. List·Memᴰ x l) (change-by t (taking b) entry (λ e. e .names) refl u) p)
 ruled-names own t b entry u x p = inl p

@@ -27,9 +27,9 @@ use Rattle.model.proofs.Valid.{sameName-true, sameName-refl, valid-within, vali
 use Rattle.crash.specs.Book.{isCommitted, isRetired, Book}
 use Rattle.crash.specs.Ledger.{Ledger, unretired, metIn, validIn, blocksIn}
 use Rattle.crash.proofs.Relation.{Fine, JournalStands, DiskStands}
-use Rattle.crash.proofs.Stages.{closed-present, committed-rank}
-use Rattle.crash.proofs.Master.{shape-read, tail-read, master-same}
-use Rattle.crash.proofs.Records.{readList, IsRead, readList-has, readList-is, journal-read, few-records}
+use Rattle.crash.proofs.LedgerStages.{closed-present, committed-rank}
+use Rattle.crash.proofs.ReadMaster.{shape-read, tail-read, master-same}
+use Rattle.crash.proofs.ReadRecords.{readList, IsRead, readList-has, readList-is, journal-read, few-records}
 use Rattle.crash.proofs.Tests.{clash, same-test, any-in, in-any, nameEquality}
 
 -- ---- the ledger's valid set
