@@ -1,6 +1,6 @@
--- On a card that agrees with the ledger, WRITE, CLOSE and STORE are answered by the ledger's conditions: each condition of
--- the card is the ledger's. Only 26 counts the card's array of eight blocks, and there 25 has said before that eight are
--- enough. So the first that holds is the same, and with it the answer.
+-- On a card that agrees with the ledger, the commands from WRITE to CHECKPOINT are answered by the ledger's conditions:
+-- each condition of the card is the ledger's. Only 26 counts the card's array of eight blocks, and there 25 has said
+-- before that eight are enough. So the first that holds is the same, and with it the answer.
 use Prim.Native.Nat.{ℕ, suc, _+_, _-_, _≤_, _<_}
 use native.Mathlib.Omega.{arith}
 use native.Mathlib.Decide.{decLt}
@@ -11,7 +11,7 @@ use mathlib.Core.List.{List, [], _∷_}
 use mathlib.Core.Option.{some}
 use lib.ListN.{length, length-append}
 use lib.Dec.{ltb, leb}
-use borrow.Author.Tests.{lt-ltb, le-ltb, le-leb, lt-leb, leb-false, ltb-false}
+use borrow.Author.Tests.{lt-ltb, le-ltb, le-leb, lt-leb, leb-false, ltb-false, ltb-true, not-false}
 use Rattle.model.specs.Lists.{any}
 use Rattle.model.specs.Bytes.{Bytes}
 use Rattle.model.specs.Card.{newName, sameName, lists, recordSize, coreOf}
@@ -24,7 +24,7 @@ use Rattle.model.specs.declared.Name.{Name}
 use Rattle.model.specs.declared.Transaction.{Transaction}
 use Rattle.model.proofs.Lists.{cases, or-none}
 use Rattle.crash.specs.Book.{absent, running, isRunning, Entry, Book, begin, staged, taking, naming, holderIn, wrote}
-use Rattle.crash.specs.Ledger.{Ledger, namesCount, holderNames, recordBlocks, notUpFor, writeRefusals, closeRefusals, storeRefusals}
+use Rattle.crash.specs.Ledger.{Ledger, namesCount, holderNames, recordBlocks, notUpFor, writeRefusals, closeRefusals, storeRefusals, checkpointRefusals}
 use Rattle.crash.proofs.Relation.{Matches, Up}
 use Rattle.crash.proofs.BookEntries.{change-at, records-snoc}
 use Rattle.crash.proofs.BookSteps.{begun, meeting}
@@ -32,6 +32,8 @@ use Rattle.crash.proofs.CardRules.{entry-free, entry-own, entry-running
 use Rattle.crash.proofs.LedgerStages.{running-present}
 use Rattle.crash.proofs.ReadMaster.{shape-up}
 use Rattle.crash.proofs.CardCut.{right-length}
+use Rattle.crash.proofs.ReadCheckpoint.{none-committed, oldest-valid, oldest-shares}
+use Rattle.model.specs.Checkpoint.{checkpointConditions}
 
 -- ---- conditions one by one
 -- the same conditions, each as far as none before it holds
@@ -78,7 +80,7 @@ module _ {l : Ledger} {w : World} (u : Up l w) where
               rw (y .none-closing (sym e), y .used, e) (omega arith))
         ]
 
-  -- ---- CLOSE and STORE
+  -- ---- CLOSE, STORE and CHECKPOINT
   pub close-answers : (c : ℕ) → refusal (closeConditions c w) ≡ refusal (closeRefusals c l)
   unfolding closeConditions closeRefusals
   close-answers c = up-refusal c _ _ (λ h. then (ap not (live-runs u c h)) (λ _. then (closing-live c h) (λ _. none-left)))
@@ -86,6 +88,16 @@ module _ {l : Ledger} {w : World} (u : Up l w) where
   pub store-answers : (c : ℕ) → refusal (storeConditions c w) ≡ refusal (storeRefusals c l)
   unfolding storeConditions storeRefusals
   store-answers c = up-refusal c _ _ (λ h. then (ap not (closing-live c h)) (λ _. none-left))
+
+  pub checkpoint-answers : (c : ℕ) → refusal (checkpointConditions c w) ≡ refusal (checkpointRefusals c l)
+  unfolding checkpointConditions checkpointRefusals
+  checkpoint-answers c =
+      up-refusal c _ _
+      (λ h.
+      then (none-committed u c h)
+      (λ e.
+      let some : l .book .oldest c < l .book .uncommitted c = ltb-true _ _ (not-false _ e) in
+      then (ap not (oldest-valid u c h some)) (λ _. then (oldest-shares u c h some) (λ _. none-left))))
 
 -- ---- lists and blocks counted
 -- one more than so many

@@ -27,17 +27,17 @@ use Rattle.model.proofs.Select.{select-mem, select-same}
 use Rattle.model.proofs.Store.{length-store, block-stored, block-other}
 use Rattle.model.proofs.Encoding.{length-master}
 use Rattle.model.proofs.Journal.{home-apart}
-use Rattle.crash.specs.Book.{Write, keptWrites, blank}
-use Rattle.crash.specs.Ledger.{Ledger, freshLedger, blocksIn, recoverLedger}
+use Rattle.crash.specs.Book.{keptWrites, blank}
+use Rattle.crash.specs.Ledger.{Ledger, blocksIn, recoverLedger}
 use Rattle.crash.specs.Claims.{recoverStore}
-use Rattle.crash.proofs.Relation.{IsBlock, WriteFits, Fine, DiskStands, Up, target, DownBy}
+use Rattle.crash.proofs.Relation.{IsBlock, Fine, DiskStands, Up, target, DownBy}
 use Rattle.crash.proofs.ReadMaster.{shape-read, master-same, master-bytes}
 use Rattle.crash.proofs.ReadRecords.{length-readList, few-records, journal-read}
 use Rattle.crash.proofs.ReadValid.{own-tails, blocks-on}
 use Rattle.crash.proofs.ReadNewest.{newest-image}
-use Rattle.crash.proofs.LedgerSteps.{image-block, blank-block, fine-home, fine-recovered}
+use Rattle.crash.proofs.LedgerSteps.{image-block, blank-block, fine-home, phased, kept-fits}
 use Rattle.crash.proofs.BlockBytes.{bytes-store}
-use Rattle.crash.proofs.CardCut.{phased, stands-phased, target-phased, newest-phased, held-low}
+use Rattle.crash.proofs.CardCut.{stands-phased, target-phased, newest-phased, held-low}
 use Rattle.crash.proofs.CardFresh.{ComeUp, fresh-up}
 
 -- ---- ascending lists: those left after the first are those above it
@@ -87,10 +87,6 @@ unfolding blocksIn
 held-ascend l = ascending-select _ (below (l .shape .blocks)) (ascending-below (l .shape .blocks))
 
 -- ---- the kept writes fit, so the target's blocks are blocks of bytes
-kept-fits : (l : Ledger) → Fine l → (x : Write) → List·Memᴰ x (keptWrites (l .book) ++ l .saved) → WriteFits (l .shape) x
-unfolding recoverLedger freshLedger
-kept-fits l f = fine-recovered l f .saved
-
 target-block : (l : Ledger) → Fine l → (b : ℕ) → IsBlock (target l b)
 unfolding target
 target-block l f b =

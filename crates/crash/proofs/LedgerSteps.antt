@@ -100,9 +100,12 @@ same-frozen l l′ t i s c b z =
     record { count = rw (i, b) (z .count); images = rw i (z .images); low = rw s (z .low); high = rw (s, c) (z .high) }
 
 -- phase and blocks left to recover are no part of the order
-fine-in : (l : Ledger) (p : Phase) (left : List ℕ) → Fine l
-    → Fine (record { shape = l .shape; saved = l .saved; book = l .book; closes = l .closes; stamp = l .stamp; images = l .images; phase = p; left = left })
-fine-in l p left f =
+abbrev pub phased : Phase → List ℕ → Ledger → Ledger
+phased p left l =
+    record { shape = l .shape; saved = l .saved; book = l .book; closes = l .closes; stamp = l .stamp; images = l .images; phase = p; left = left }
+
+fine-phased : (l : Ledger) (p : Phase) (left : List ℕ) → Fine l → Fine (phased p left l)
+fine-phased l p left f =
     record {
       range = f .range;
       ranks = f .ranks;
@@ -121,21 +124,21 @@ fine-in l p left f =
 
 pub fine-cut : (l : Ledger) → Fine l → Fine (cutLedger l)
 unfolding cutLedger
-fine-cut l = fine-in l Down (blocksIn (l .shape .blocks) (l .book))
+fine-cut l = fine-phased l Down (blocksIn (l .shape .blocks) (l .book))
 
 pub fine-home : (b : ℕ) (bs : List ℕ) (l : Ledger) → Fine l → Fine (recoverLedger (b ∷ bs) l)
 unfolding recoverLedger
-fine-home b bs l = fine-in l Down bs
+fine-home b bs l = fine-phased l Down bs
 
-kept-written : (k : Book) (w : Write) → List·Memᴰ w (keptWrites k) → List·Memᴰ w (k .writes)
+pub kept-fits : (l : Ledger) → Fine l → (w : Write) → List·Memᴰ w (keptWrites (l .book) ++ l .saved) → WriteFits (l .shape) w
 unfolding keptWrites
-kept-written k w m = select-mem _ (k .writes) w m .0
+kept-fits l f w m =
+    elim (List·Memᴰ·append-cases (keptWrites (l .book)) m) [ inl p ↦ f .writes w (select-mem _ (l .book .writes) w p .0) | inr p ↦ f .saved w p ]
 
 pub fine-recovered : (l : Ledger) → Fine l → Fine (recoverLedger [] l)
 unfolding recoverLedger
 fine-recovered l f =
-    fine-fresh (l .shape) (keptWrites (l .book) ++ l .saved) (λ (c : ℕ). min (l .book .uncommitted c + 1) (suc maxNumber)) (f .range)
-    (λ w m. elim (List·Memᴰ·append-cases (keptWrites (l .book)) m) [ inl p ↦ f .writes w (kept-written (l .book) w p) | inr p ↦ f .saved w p ])
+    fine-fresh (l .shape) (keptWrites (l .book) ++ l .saved) (λ (c : ℕ). min (l .book .uncommitted c + 1) (suc maxNumber)) (f .range) (kept-fits l f)
     (λ c h. (omega arith, omega arith))
 
 -- a core whose numbers, stages and blocks stay, but for the one to open

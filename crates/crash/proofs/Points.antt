@@ -4,7 +4,7 @@
 use Prim.Native.Nat.{ℕ, zero, suc, _+_, _-_, _*_, min, _≤_, _<_}
 use native.Mathlib.Omega.{arith}
 use mathlib.Core.Path.{_≡_, refl, sym, ap, _∙_, subst}
-use mathlib.Core.Bool.{Bool, true, false, not, true≢false}
+use mathlib.Core.Bool.{Bool, true, false, not}
 use mathlib.Core.List.{List, [], _∷_, _++_, flatMap, append-nil}
 use lib.ListN.{length, take, drop, length-take, length-drop}
 use lib.Seq.{take-add, drop-drop}
@@ -21,7 +21,7 @@ use Rattle.model.specs.declared.Phase.{Phase}
 use Rattle.model.specs.declared.Shape.{Shape}
 use Rattle.model.specs.declared.Phase.the-variants.{Blank, Up, Down}
 use Rattle.model.proofs.Lists.{cases, flatMap-append, flatMap-below}
-use Rattle.model.proofs.Command.{unless-done, unless-refused, refusedWith}
+use Rattle.model.proofs.Command.{unless-done, unless-refused, refusedWith, refusal-passed}
 use Rattle.model.proofs.Tape.{pointAt, Runs, at-end, one-more, run-runs}
 use Rattle.crash.specs.Book.{keptWrites, image, blank}
 use Rattle.crash.specs.Service.{Service, bookArea}
@@ -29,6 +29,7 @@ use Rattle.crash.specs.Ledger.{Ledger, freshLedger, blankLedger, recover
 use Rattle.crash.proofs.Agreement.{Agrees, Suits, blank-agrees, down-agrees, fed-agrees, area-same}
 use Rattle.crash.specs.Claims.{IsBytes, answerOf, JournalsRead, recoverStore, PointKept, LedgerKept, ComesUp, AreaKept, homeArea, fedPoint, blankStart, downStart, downLedger, Claim, Demands}
 use Rattle.crash.proofs.BlockBytes.{bytes-take, bytes-drop}
+use Rattle.crash.proofs.Tests.{clash}
 
 -- ---- a command of the tape as a point: 2 and 3 by what stands on the tape
 module _ (t : Bytes) (at : ℕ) (on-tape : at < length t) where
@@ -157,21 +158,15 @@ area-blocks d (suc n) =
 -- ---- an answer 0 suits the phase
 module _ (l : Ledger) where
   up-suits : (rest : List (Bool × ℕ)) → refusal ((isBlank (l .phase), 20) ∷ (isDown (l .phase), 22) ∷ rest) ≡ 0 → isDown (l .phase) ≡ false
-  unfolding refusal
-  up-suits rest z =
-      cases (isBlank (l .phase)) (λ b. absurd (let y : 20 ≡ 0 = rw b at z in omega arith))
-      (λ b. cases (isDown (l .phase)) (λ d. absurd (let y : 22 ≡ 0 = rw (b, d) at z in omega arith)) (λ d. d))
+  up-suits rest z = refusal-passed _ 22 rest (omega arith) (refusal-passed _ 20 _ (omega arith) z .1) .0
 
   down-only : (p : Phase) → isBlank p ≡ false → isUp p ≡ false → isDown p ≡ true
-  down-only Blank b u = absurd (true≢false b)
-  down-only Up b u = absurd (true≢false u)
+  down-only Blank b u = clash refl b
+  down-only Up b u = clash refl u
   down-only Down b u = refl
 
   down-suits : refusal ((isBlank (l .phase), 20) ∷ (isUp (l .phase), 23) ∷ []) ≡ 0 → isDown (l .phase) ≡ true
-  unfolding refusal
-  down-suits z =
-      cases (isBlank (l .phase)) (λ b. absurd (let y : 20 ≡ 0 = rw b at z in omega arith))
-      (λ b. cases (isUp (l .phase)) (λ u. absurd (let y : 23 ≡ 0 = rw (b, u) at z in omega arith)) (λ u. down-only (l .phase) b u))
+  down-suits z = let y = refusal-passed _ 20 _ (omega arith) z in down-only (l .phase) (y .0) (refusal-passed _ 23 [] (omega arith) (y .1) .0)
 
   -- the commands from WRITE to CHECKPOINT are carried out only while the card is not down
   four-suits : (a : Bytes) (k : ℕ) → 2 ≤ k → k ≤ 5 → refusal (refusalsOf k a l) ≡ 0 → isDown (l .phase) ≡ false
@@ -189,12 +184,9 @@ module _ (l : Ledger) where
   recover-suits a k e z = down-suits (rw e at z)
 
   suits : (p : Point) → p .outcome .answer ≡ answerOf l p → p .outcome .answer ≡ 0 → Suits (p .byte) (l .phase)
-  unfolding answerOf refusal
+  unfolding answerOf
   suits p h z =
-      let y : refusal (refusalsOf (p .byte) (p .operands) l) ≡ 0 =
-      cases (not (between 1 (p .byte) 7)) (λ x. absurd (let q : 2 ≡ 0 = rw x at (sym h ∙ z) in omega arith))
-      (λ x. cases (ltb (length (p .operands)) (operandLength (p .byte))) (λ x₂. absurd (let q : 3 ≡ 0 = rw (x, x₂) at (sym h ∙ z) in omega arith))
-      (λ x₂. rw (x, x₂) at (sym h ∙ z))) in
+      let y = refusal-passed _ 3 _ (omega arith) (refusal-passed _ 2 _ (omega arith) (sym h ∙ z) .1) .1 in
       record { before-cut = λ a b. four-suits (p .operands) (p .byte) a b y; after-cut = λ e. recover-suits (p .operands) (p .byte) e y }
 
 -- ---- demand 3
@@ -205,7 +197,7 @@ module _ (At : Ledger → World → Type 0) (r : Relates At) where
   down-reads l w here d = let b : isBlank (w .card .phase) ≡ false = not-blank (w .card .phase) d in rw (r .sizes l w here, b, d)
     where
       not-blank : (p : Phase) → isDown p ≡ true → isBlank p ≡ false
-      not-blank Blank d = absurd (true≢false (sym d))
+      not-blank Blank d = clash d refl
       not-blank Up d = refl
       not-blank Down d = refl
 

@@ -1,4 +1,4 @@
--- On a card that is up, what CHECKPOINT reads is what the ledger says, and each of its conditions is the ledger's.
+-- On a card that is up, what CHECKPOINT reads is what the ledger says, and each of its conditions 31 to 33 is the ledger's.
 -- The card's count of committed ones is the ledger's, so the journals are read whole; the closed ones that still store
 -- stand in the card. Every closed unretired transaction is one of these two: so 33 looks at the same transactions.
 use Prim.Native.Nat.{ℕ, _-_, _≤_, _<_}
@@ -10,19 +10,19 @@ use mathlib.Core.Bool.{Bool, true, false, not, _&&_}
 use mathlib.Core.List.{List·Memᴰ, List·Memᴰ·head}
 use lib.ListN.{length}
 use lib.Dec.{ltb, eqb}
-use borrow.Author.Tests.{ltb-true, lt-ltb, le-ltb, le-leb, lt-leb, eq-eqb, ne-eqb, not-true}
+use borrow.Author.Tests.{ltb-true, lt-ltb, le-ltb, eq-eqb, ne-eqb, not-true}
 use Rattle.model.specs.Lists.{below, any}
 use Rattle.model.specs.Card.{newName, sameName, taken, shapeOf, tailOf, coreOf, committedCount}
 use Rattle.model.specs.Journal.{journals, nameOf, blocksOf}
 use Rattle.model.specs.Valid.{isIn, validSet}
-use Rattle.model.specs.Command.{World, refusal, wrongLength, noCore}
-use Rattle.model.specs.Checkpoint.{committedNow, validNow, committedOf, oldest, share, sharesLower, checkpointConditions}
+use Rattle.model.specs.Command.{World}
+use Rattle.model.specs.Checkpoint.{committedNow, validNow, committedOf, oldest, share, sharesLower}
 use Rattle.model.specs.declared.Shape.{Shape}
 use Rattle.model.specs.declared.Name.{Name}
 use Rattle.model.specs.declared.Committed.{Committed}
 use Rattle.model.proofs.Lists.{and-both, and-left, and-right, or-left, or-right, or-cases, any-mem, mem-any, mem-below, below-mem}
 use Rattle.crash.specs.Book.{isClosed, isRetired}
-use Rattle.crash.specs.Ledger.{Ledger, validIn, sharesLowerIn, checkpointRefusals}
+use Rattle.crash.specs.Ledger.{Ledger, validIn, sharesLowerIn}
 use Rattle.crash.proofs.Relation.{Fine, Up}
 use Rattle.crash.proofs.LedgerStages.{closed-present, unretired-rank, closing-stage}
 use Rattle.crash.proofs.ReadRecords.{readRecord, readList, IsRead, length-readList, readList-has, readList-first, readList-is, journal-read}
@@ -191,7 +191,7 @@ module _ {l : Ledger} {w : World} (u : Up l w) (c : ℕ) (e : Committed) (x : Is
 -- ---- the conditions
 module _ {l : Ledger} {w : World} (u : Up l w) (c : ℕ) (in-range : c < l .shape .cores) where
   -- '31'
-  none-committed : eqb (length (committedOf w c)) 0 ≡ not (ltb (l .book .oldest c) (l .book .uncommitted c))
+  pub none-committed : eqb (length (committedOf w c)) 0 ≡ not (ltb (l .book .oldest c) (l .book .uncommitted c))
   none-committed =
       let n : length (committedOf w c) ≡ l .book .uncommitted c - l .book .oldest c = ap length (committed-of u c in-range) ∙ length-readList l c (tailOf (w .card) c) in
       elim (decLt (l .book .oldest c) (l .book .uncommitted c)) [
@@ -204,33 +204,11 @@ module _ {l : Ledger} {w : World} (u : Up l w) (c : ℕ) (in-range : c < l .shap
     oldest-name = ap nameOf (oldest-of u c in-range some)
 
     -- '32'
-    oldest-valid : isIn (validNow w) (nameOf (oldest (committedOf w c))) ≡ any (sameName (newName c (l .book .oldest c))) (validIn (l .book))
+    pub oldest-valid : isIn (validNow w) (nameOf (oldest (committedOf w c))) ≡ any (sameName (newName c (l .book .oldest c))) (validIn (l .book))
     oldest-valid =
         ap₂ isIn (valid-now u) oldest-name
         ∙ valid-same (u .fine) (u .disk) (committedCount (w .card)) (count-enough u) (newName c (l .book .oldest c))
 
     -- '33'
-    oldest-shares : sharesLower w (oldest (committedOf w c)) ≡ sharesLowerIn l (newName c (l .book .oldest c))
+    pub oldest-shares : sharesLower w (oldest (committedOf w c)) ≡ sharesLowerIn l (newName c (l .book .oldest c))
     oldest-shares = shares-same u c (oldest (committedOf w c)) (oldest-is u c in-range some) ∙ ap (sharesLowerIn l) oldest-name
-
--- '24 to 33 is answered exactly when its condition holds of the ledger': of CHECKPOINT
-pub checkpoint-refusal : {l : Ledger} {w : World} → Up l w → (c : ℕ) → refusal (checkpointConditions c w) ≡ refusal (checkpointRefusals c l)
-unfolding refusal checkpointConditions checkpointRefusals wrongLength noCore
-checkpoint-refusal {l} {w} u c =
-    elim (decLt c (l .shape .cores)) [
-      | no n ↦ rw (shape-up u, le-leb (l .shape .cores) c (omega arith), u .disk .size, u .memory, u .phase, u .ledger)
-      | yes h ↦ elim (decLt (l .book .oldest c) (l .book .uncommitted c)) [
-        | no n ↦ rw (shape-up u, lt-leb (l .shape .cores) c h, none-committed u c h, le-ltb (l .book .oldest c) (l .book .uncommitted c) (omega arith), u .disk .size, u .memory, u .phase, u .ledger)
-        | yes g ↦ rw (
-          shape-up u,
-          lt-leb (l .shape .cores) c h,
-          none-committed u c h,
-          oldest-valid u c h g,
-          oldest-shares u c h g,
-          u .disk .size,
-          u .memory,
-          u .phase,
-          u .ledger,
-        )
-      ]
-    ]

@@ -19,10 +19,10 @@ use Rattle.model.specs.Card.{newName, sameName, blankCard, isBlank, isUp, isDow
 use Rattle.model.specs.Command.{World, Outcome, refusal, unstored, wrongLength}
 use Rattle.model.specs.Commit.{closed, stored}
 use Rattle.model.specs.Checkpoint.{checkpointed}
-use Rattle.model.specs.Recovery.{cut, recovered}
+use Rattle.model.specs.Recovery.{recovered}
 use Rattle.model.specs.Tape.{step, operandLength, operandLengths}
 use Rattle.model.proofs.Limits.{between-known, range-test}
-use Rattle.model.proofs.Command.{Numbered, rowOf, refusedWith, step-refused, step-done, Clear, refusal-clear, step-answer}
+use Rattle.model.proofs.Command.{Numbered, rowOf, refusedWith, step-refused, step-done, Clear, refusal-clear, step-answer, refusal-passed}
 use Rattle.model.specs.declared.Name.{Name}
 use Rattle.model.specs.declared.Shape.{Shape}
 use Rattle.model.specs.declared.Card.{Card}
@@ -37,8 +37,7 @@ use Rattle.model.specs.Layout.{maxNumber}
 use Rattle.model.specs.Write.{written}
 use Rattle.crash.proofs.CardWrite.{write-up}
 use Rattle.crash.proofs.LedgerWrite.{fine-wrote}
-use Rattle.crash.proofs.CardAnswers.{write-answers, close-answers, store-answers}
-use Rattle.crash.proofs.ReadCheckpoint.{checkpoint-refusal}
+use Rattle.crash.proofs.CardAnswers.{write-answers, close-answers, store-answers, checkpoint-answers}
 use Rattle.crash.proofs.ReadRecords.{journals-read}
 use Rattle.crash.specs.Book.{Book, Write, absent, running, committed, kept, image, blank, isClosed, holderIn, store, checkpoint, keptWrites, isRunning, wrote, meets}
 use Rattle.crash.specs.Ledger.{Ledger, freshLedger, blankLedger, cutLedger, entered, refusalsOf, withBook, closeLedger, validIn, sharesLowerIn, recoverLedger, formatRefusals, writeRefusals, closeRefusals, storeRefusals, checkpointRefusals, notUpFor, namesCount, holderNames, recordBlocks}
@@ -52,7 +51,7 @@ use Rattle.crash.proofs.InvariantWrite.{home-current, open-holds, holde
 use Rattle.crash.proofs.ClosedImages.{Imaged, image-of-closed, imaged-fresh, imaged-close, imaged-store, imaged-retire, imaged-home-store, imaged-wrote}
 use Rattle.crash.proofs.Relation.{Fine, Up, DownBy, target}
 use Rattle.crash.proofs.LedgerSteps.{fine-close, fine-store, fine-checkpoint, below-oldest}
-use Rattle.crash.proofs.CardCut.{cut-up, cut-down, cut-done, right-length}
+use Rattle.crash.proofs.CardCut.{cut-up, cut-down, right-length}
 use Rattle.crash.proofs.Given.{held-newest, home-target}
 use Rattle.crash.proofs.CardStore.{store-up, store-homes}
 use Rattle.crash.proofs.CardClose.{close-up}
@@ -60,6 +59,7 @@ use Rattle.crash.proofs.CardCheckpoint.{checkpoint-up, home-stored, hom
 use Rattle.crash.proofs.ReadMaster.{shape-up}
 use Rattle.crash.proofs.BlockBytes.{bytes-take, bytes-drop}
 use Rattle.crash.proofs.LedgerStages.{running-is}
+use Rattle.model.specs.declared.Phase.{Phase}
 
 -- ---- a card that is up: the bytes and the histories of the blocks agree with the ledger
 record UpAt (l : Ledger) (w : World) : Type 0 where
@@ -156,7 +156,7 @@ module _ {l : Ledger} {w : World} (u : UpAt l w) where
           elim (decLt (s .0) (length bs)) [ yes h ↦ home-at (s .1) h | no h ↦ retire-at (s .1) (omega (arith, s .2)) ]
 
   -- a cut hands on what recovery will give
-  cut-at : DownBy (cutLedger l) ((cut w) .world)
+  cut-at : DownBy (cutLedger l) ((unstored w downCard zeroMemory) .world)
   cut-at =
       let f = u .up .fine in
       cut-up (u .up)
@@ -247,8 +247,8 @@ module _ {l : Ledger} {w : World} (b : BlankAt l w) (a : Bytes) where
 
   -- any other command is refused with 20
   not-done : (ts : List (Bool × ℕ)) → refusal ((isBlank (l .phase), 20) ∷ ts) ≡ 0 → ⊥
-  unfolding refusal blankLedger
-  not-done ts h = let e : isBlank (l .phase) ≡ true = rw (b .ledger) refl in omega (arith, (rw e at h))
+  unfolding blankLedger
+  not-done ts h = clash (rw (b .ledger) refl) (refusal-passed (isBlank (l .phase)) 20 ts (omega arith) h .0)
 
   format-done : refusal (refusalsOf 1 a l) ≡ 0 → Done l w 1 a
   unfolding refusalsOf formatRefusals refusal rowOf entered image blankLedger
@@ -272,22 +272,14 @@ module _ {l : Ledger} {w : World} (b : BlankAt l w) (a : Bytes) where
 module _ {l : Ledger} {w : World} (d : DownBy l w) (a : Bytes) where
   -- FORMAT is refused with 21, the commands of a card that is up with 22
   refused-21 : (ts : List (Bool × ℕ)) → refusal ((not (isBlank (l .phase)), 21) ∷ ts) ≡ 0 → ⊥
-  unfolding refusal
-  refused-21 ts h = let e : isBlank (l .phase) ≡ false = ap isBlank (d .ledger) in omega (arith, (rw e at h))
+  refused-21 ts h = clash (ap (λ (p : Phase). not (isBlank p)) (d .ledger)) (refusal-passed _ 21 ts (omega arith) h .0)
 
   refused-22 : (ts : List (Bool × ℕ)) → refusal ((isBlank (l .phase), 20) ∷ (isDown (l .phase), 22) ∷ ts) ≡ 0 → ⊥
-  unfolding refusal
-  refused-22 ts h =
-      let e : isBlank (l .phase) ≡ false = ap isBlank (d .ledger) in
-      let f : isDown (l .phase) ≡ true = ap isDown (d .ledger) in
-      omega (arith, (rw (e, f) at h))
+  refused-22 ts h = clash (ap isDown (d .ledger)) (refusal-passed _ 22 ts (omega arith) (refusal-passed _ 20 _ (omega arith) h .1) .0)
 
   cut-again : Done l w 6 a
   unfolding rowOf entered
-  cut-again =
-      let e : (cut w) .world ≡ (unstored w downCard zeroMemory) .world =
-      ap (λ (o : Outcome). o .world) (cut-done w (right-length w (d .disk .size) (d .memory)) (ap isBlank (d .phase))) in
-      plain (omega arith) (at-down (subst (DownBy (cutLedger l)) e (cut-down d)))
+  cut-again = plain (omega arith) (at-down (cut-down d))
 
   recover-next : (left : List ℕ) → l .left ≡ left → At (recoverLedger (l .left) l) ((recovered w) .world)
   unfolding target
@@ -352,10 +344,7 @@ module _ {l : Ledger} {w : World} (u : UpAt l w) (a : Bytes) where
 
   cut-up-done : Done l w 6 a
   unfolding rowOf entered
-  cut-up-done =
-      let e : (cut w) .world ≡ (unstored w downCard zeroMemory) .world =
-      ap (λ (o : Outcome). o .world) (cut-done w (right-length w (u .up .disk .size) (u .up .memory)) (ap isBlank (u .up .phase))) in
-      plain (omega arith) (at-down (subst (DownBy (cutLedger l)) e (cut-at u)))
+  cut-up-done = plain (omega arith) (at-down (cut-at u))
 
   -- WRITE, with operands of eight bytes
   module _ (size : length a ≡ 8) (bytes : IsBytes a) where
@@ -415,21 +404,16 @@ module _ {l : Ledger} {w : World} (u : UpAt l w) (a : Bytes) where
       (step-answer 2 a w ∙ write-answers (u .up) core (number 0 (part 1 2 a)) (getD a 3 0) (part 4 4 a) (λ _. holder-open (number 0 (part 1 2 a))))
       (step-answer 3 a w ∙ close-answers (u .up) core)
       (step-answer 4 a w ∙ store-answers (u .up) core)
-      (step-answer 5 a w ∙ checkpoint-refusal (u .up) core)
+      (step-answer 5 a w ∙ checkpoint-answers (u .up) core)
       (up-answers (u .up) 6 a (inr (omega arith)))
       (up-answers (u .up) 7 a (inr (omega arith)))
 
   -- FORMAT is refused with 21, RECOVER with 23
   up-21 : (ts : List (Bool × ℕ)) → refusal ((not (isBlank (l .phase)), 21) ∷ ts) ≡ 0 → ⊥
-  unfolding refusal
-  up-21 ts h = let e : isBlank (l .phase) ≡ false = ap isBlank (u .up .ledger) in omega (arith, (rw e at h))
+  up-21 ts h = clash (ap (λ (p : Phase). not (isBlank p)) (u .up .ledger)) (refusal-passed _ 21 ts (omega arith) h .0)
 
   up-23 : refusal ((isBlank (l .phase), 20) ∷ (isUp (l .phase), 23) ∷ []) ≡ 0 → ⊥
-  unfolding refusal
-  up-23 h =
-      let e : isBlank (l .phase) ≡ false = ap isBlank (u .up .ledger) in
-      let f : isUp (l .phase) ≡ true = ap isUp (u .up .ledger) in
-      omega (arith, (rw (e, f) at h))
+  up-23 h = clash (ap isUp (u .up .ledger)) (refusal-passed _ 23 [] (omega arith) (refusal-passed _ 20 _ (omega arith) h .1) .0)
 
   up-keeps : (k : ℕ) → between 1 k 7 ≡ true → length a ≡ operandLength k → IsBytes a → Kept At l w k a
   unfolding refusalsOf formatRefusals operandLength operandLengths
