@@ -3,9 +3,9 @@
 -- has saved what the ledger still keeps in its book. So at every coming up both give the same area.
 use Prim.Native.Nat.{ℕ, zero, suc, _+_, _-_, _≤_, min}
 use native.Mathlib.Omega.{arith}
-use mathlib.Core.Path.{_≡_, refl, sym, _∙_}
+use mathlib.Core.Path.{_≡_, refl}
 use mathlib.Core.List.{List, [], _∷_, _++_}
-use mathlib.Core.Bool.{true, false, true≢false}
+use mathlib.Core.Bool.{true, false}
 use lib.ListN.{getD}
 use lib.Dec.{eqb}
 use borrow.Author.Tests.{eqb-true, ne-eqb}
@@ -21,6 +21,7 @@ use Rattle.crash.specs.Ledger.{Ledger, freshLedger, blankLedger, withBoo
 use Rattle.crash.specs.Claims.{downLedger}
 use Rattle.model.proofs.Lists.{cases}
 use Rattle.crash.proofs.Rename.{Renamed, SameWrites, empty-renamed, close-renamed, noted-renamed, same-image, kept-saved}
+use Rattle.crash.proofs.Tests.{clash}
 
 -- a blank card is as one just come up, with nothing written
 pub data Agrees (v : Service) (l : Ledger) : Type 0 where
@@ -68,7 +69,7 @@ module _ (v : Service) (l : Ledger) where
 
   recover-agrees : isDown (l .phase) ≡ true → Agrees v l → (bs : List ℕ) → Agrees v (recoverLedger bs l)
   unfolding recoverLedger freshLedger
-  recover-agrees d (not-down shift p r s) bs = absurd (true≢false (sym d ∙ p))
+  recover-agrees d (not-down shift p r s) bs = clash d p
   recover-agrees d (down p e s) [] =
       let n : ℕ → ℕ = λ c. min (l .book .uncommitted c + 1) (suc maxNumber) in
       not-down (λ c. n c - 1) refl (rw e (empty-renamed (λ c. n c - 1) (λ c. 1) n (λ c. omega arith))) s
@@ -78,13 +79,13 @@ module _ (v : Service) (l : Ledger) where
       → Agrees (record { saved = v .saved; book = noted 3 a (v .book) }) (closeLedger (getD a 0 0) l)
   unfolding closeLedger noted
   close-agrees a d (not-down shift p r s) = not-down shift p (close-renamed r (getD a 0 0)) s
-  close-agrees a d (down p e s) = absurd (true≢false (sym p ∙ d))
+  close-agrees a d (down p e s) = clash p d
 
   noted-agrees : (k : ℕ) (a : Bytes) → (2 ≤ k → k ≤ 5 → isDown (l .phase) ≡ false) → Agrees v l
       → Agrees (record { saved = v .saved; book = noted k a (v .book) }) (withBook l (noted k a (l .book)))
   noted-agrees k a h (not-down shift p r s) = not-down shift p (noted-renamed r k a) s
   noted-agrees k a h (down p e s) =
-      let other : (2 ≤ k → k ≤ 5 → ⊥) = λ x y. true≢false (sym p ∙ h x y) in
+      let other : (2 ≤ k → k ≤ 5 → ⊥) = λ x y. clash p (h x y) in
       rw (noted-other k a (v .book) other, noted-other k a (l .book) other) (down p e s)
 
   -- answered 0
@@ -105,4 +106,4 @@ fed-agrees k a (suc n) v l h g = g
 -- ---- the areas
 pub area-same : (v : Service) (l : Ledger) → isDown (l .phase) ≡ false → Agrees v l → (b : ℕ) → image blank (v .saved) b ≡ image blank (l .saved) b
 area-same v l d (not-down shift p r s) b = same-image blank (v .saved) (l .saved) s b
-area-same v l d (down p e s) b = absurd (true≢false (sym p ∙ d))
+area-same v l d (down p e s) b = clash p d

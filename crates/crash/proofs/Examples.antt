@@ -1,5 +1,6 @@
--- The claims are not empty: computed runs on which the card comes up with kept writes, with a committed transaction that
--- is not kept, and after a cut inside recovery.
+-- The claims are not empty: computed runs on which the card comes up with kept writes, also after a cut inside recovery.
+-- In one of them a transaction is committed and not kept, so kept is less than committed.
+-- Each is one computed fact over the definitions.
 use Prim.Native.Nat.{ℕ}
 use mathlib.Core.Path.{_≡_, refl}
 use mathlib.Core.Bool.{Bool, not, _&&_}

@@ -1,5 +1,6 @@
--- What recovery will give, from layer A: of each block that the valid set holds the newest image, and of each other block
--- what stands at home, is what the kept writes give. This is what a cut hands on to recovery.
+-- What a cut hands on to recovery, from layer A to the relation of layer B.
+-- The newest image of each block that the valid set holds is the one that the kept writes give; a block that it does not
+-- hold has at home what they give.
 use Prim.Native.Nat.{ℕ, _<_}
 use mathlib.Core.Path.{_≡_, _∙_, ap}
 use mathlib.Core.Option.{Option, none, some}
@@ -17,8 +18,8 @@ use Rattle.crash.specs.Ledger.{Ledger, unretired, metIn, validIn, blocks
 use Rattle.crash.proofs.Tests.{clash, any-in, in-any, nameEquality, blockEquality}
 use Rattle.crash.proofs.Largest.{stageOf, RetiredBelow}
 use Rattle.crash.proofs.Invariant.{Inv, committed-closed, tookIn, imageAt}
-use Rattle.crash.proofs.Images.{Imaged, image-of-closed}
-use Rattle.crash.proofs.Cut.{NewestHolder, newest-holder, gives}
+use Rattle.crash.proofs.ClosedImages.{Imaged, image-of-closed}
+use Rattle.crash.proofs.CutImages.{NewestHolder, newest-holder, gives}
 use Rattle.crash.proofs.Relation.{Newest, target}
 
 module _ {home : ℕ → Bytes} {l : Ledger} (v : Inv home l) (imaged : Imaged l) (numbered : RetiredBelow (l .book)) where

@@ -9,7 +9,7 @@ use mathlib.Core.Option.{Option, none, some}
 use Prim.Native.Nat.{ℕ, _≤_, _<_}
 use native.Mathlib.Omega.{arith}
 use Rattle.model.proofs.Lists.{cases}
-use Rattle.crash.proofs.Tests.{clash, false-of, agree, Equality}
+use Rattle.crash.proofs.Tests.{clash, false-of, same-test, Equality}
 
 -- ---- a history
 -- a write of the block: its transaction, the one that holds the block after it, and what it makes of the image
@@ -146,7 +146,7 @@ module _ {Txn : Type 0} (s : Status Txn) where
     kept-writer : (e : Event Txn Image) → Own homed e → s .kept (e .writer) ≡ s .kept (e .holder)
     kept-writer e o =
         ⊎-elim (ap (s .kept))
-        (λ d. agree _ _ (λ h. sound .kept-names _ _ h (d .0)) (λ h. sound .kept-names _ _ h (d .1)))
+        (λ d. same-test (λ h. sound .kept-names _ _ h (d .0)) (λ h. sound .kept-names _ _ h (d .1)))
         (o .writer-holder)
 
     kept-next : (t : Txn) (es : List (Event Txn Image)) → Next homed t es → So (s .kept t) → upto (s .kept) es ≡ es

@@ -17,7 +17,7 @@ use Rattle.model.proofs.Valid.{sameName-true, sameName-refl}
 use Rattle.crash.specs.Book.{Book, Stage, isCommitted, isRetired, committedIn, namesIn, kept}
 use Rattle.crash.specs.Ledger.{unretired, metIn, validIn}
 use Rattle.crash.specs.Claims.{LargestKept}
-use Rattle.crash.proofs.Tests.{clash, agree, any-in, in-any, nameEquality}
+use Rattle.crash.proofs.Tests.{clash, same-test, any-in, in-any, nameEquality}
 
 -- `k` is the largest set of those in `from` in which each one listed is in the set, or is met without it
 pub record Largest {Txn : Type 0} (from : Txn → Bool) (lists : Txn → Txn → Bool) (met : Txn → Bool) (k : Txn → Bool) : Type 1 where
@@ -69,9 +69,9 @@ module _ {Txn : Type 0} where
         next t u (inl h) n = lv .closed t u h n
         next t u (inr h) n = cases (retired u) inr (λ q. inl (kept-valid u (and-both (kept-listed t u (r t h) n) (rw q refl))))
 
-    pub valid-kept : (t : Txn) → v t ≡ (k t && not (retired t))
+    valid-kept : (t : Txn) → v t ≡ (k t && not (retired t))
     valid-kept t =
-        agree (v t) _ (λ h. and-both (valid-or-retired t (inl h)) (and-right (committed t) _ (lv .sub t h))) (kept-valid t)
+        same-test (λ h. and-both (valid-or-retired t (inl h)) (and-right (committed t) _ (lv .sub t h))) (kept-valid t)
 
 -- ---- the sets that shrinking leaves
 -- a list of names as a set
@@ -105,7 +105,7 @@ module _ (names : Name → List Name) (gone : Name → Bool) (es : List Name) wh
 
 member-select : (p : Name → Bool) (ts : List Name) → ((t : Name) → So (p t) → List·Memᴰ t ts) → (t : Name) → memberOf (select p ts) t ≡ p t
 member-select p ts f t =
-    agree (memberOf (select p ts) t) (p t)
+    same-test
     (λ h. select-mem p ts t (any-in nameEquality t _ h) .1)
     (λ h. in-any nameEquality (mem-select p ts t (f t h) h))
 
@@ -148,7 +148,7 @@ module _ (k : Book) (opened : (t : Name) → So (isCommitted (stageOf k t)) → 
   unretired-is = member-select (λ t. isCommitted (stageOf k t) && not (isRetired (stageOf k t))) (k .opened) (λ t h. opened t (and-left _ _ h))
 
   module _ (numbered : RetiredBelow k) where
-    pub valid-largest : Largest (λ t. isCommitted (stageOf k t) && not (isRetired (stageOf k t))) (listsName k) (λ t. isRetired (stageOf k t)) (memberOf (validIn k))
+    valid-largest : Largest (λ t. isCommitted (stageOf k t) && not (isRetired (stageOf k t))) (listsName k) (λ t. isRetired (stageOf k t)) (memberOf (validIn k))
     unfolding validIn metIn
     valid-largest =
         largest-same _ _ (listsName k) _ _ _ unretired-is (λ t u h n. numbered t u (and-left _ _ (rw (unretired-is t) at h)) n)

@@ -1,41 +1,45 @@
--- Why the claims are true. Layer A: one block's history. Layer B: the bytes. Layer C: from one coming up to the next.
+-- Why the claims are true.
+-- Shared: tests, books and what the commands do to them, bytes in blocks.
 pub mod BookExamples
 pub mod Tests
+pub mod BookEntries
+pub mod BookSteps
+pub mod BlockBytes
+-- Layer A: the history of one home block, and the invariant of ledger and home area from one coming up to the next cut.
 pub mod History
 pub mod Steps
 pub mod Largest
 pub mod Invariant
-pub mod Commands
-pub mod Write
-pub mod Images
-pub mod Cut
+pub mod InvariantSteps
+pub mod InvariantWrite
+pub mod ClosedImages
+pub mod CutImages
+-- Layer B: the bytes. The relation of ledger, disk and card; the ledger's order; what is read of the disk; each command.
+pub mod Relation
+pub mod LedgerStages
+pub mod LedgerSteps
+pub mod LedgerWrite
+pub mod ReadMaster
+pub mod ReadRecords
+pub mod ReadValid
+pub mod ReadNewest
+pub mod ReadCheckpoint
+pub mod CardFrames
+pub mod CardFresh
+pub mod CardFormat
+pub mod CardRules
+pub mod CardWrite
+pub mod CardClose
+pub mod CardStore
+pub mod CardCheckpoint
+pub mod CardCut
+pub mod CardRecover
+pub mod CardAnswers
+pub mod PhaseAnswers
+-- Layer C: from one coming up to the next. Service book and ledger agree; the layers joined; all points of a run.
 pub mod Rename
 pub mod Agreement
-pub mod Relation
-pub mod Stages
-pub mod Entries
-pub mod Books
-pub mod FineSteps
-pub mod FineWrite
-pub mod Master
-pub mod Records
-pub mod Valid
-pub mod Newest
-pub mod CheckpointRead
-pub mod Blocks
-pub mod Frames
-pub mod Fresh
-pub mod UpStore
-pub mod UpClose
-pub mod Rules
-pub mod UpWrite
-pub mod Answers
-pub mod UpCheckpoint
-pub mod Down
-pub mod Recovery
-pub mod Format
 pub mod Given
-pub mod PhaseAnswers
 pub mod Points
 pub mod Theorem
 pub mod Examples

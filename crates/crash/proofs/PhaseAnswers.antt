@@ -28,8 +28,8 @@ use Rattle.model.proofs.Command.{Row, rowOf, each-command, step-answer}
 use Rattle.crash.specs.Ledger.{Ledger, blankLedger, notUpFor, formatRefusals, writeRefusals, closeRefusals, storeRefusals, checkpointRefusals, refusalsOf}
 use Rattle.crash.proofs.Relation.{Up, DownBy}
 use Rattle.crash.proofs.Tests.{clash}
-use Rattle.crash.proofs.Master.{master-stands}
-use Rattle.crash.proofs.Down.{right-length}
+use Rattle.crash.proofs.ReadMaster.{master-stands}
+use Rattle.crash.proofs.CardCut.{right-length}
 
 -- ---- by the phase
 module _ (l : Ledger) (w : World) (sizes : wrongLength w ≡ false) where

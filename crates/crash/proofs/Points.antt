@@ -1,16 +1,16 @@
--- Layer C: along a tape. If each command keeps a relation `At` of ledger and world and answers what the ledger says, then
--- at every point of every run the claims hold: the ledger's by going along the points, demand 3 because service book and
--- ledger keep the same writes and the last RECOVER leaves the area that they give.
+-- Along a tape: if each command keeps a relation `At` of ledger and world and answers what the ledger says, then at every
+-- point of every run the claims hold. The ledger's go along the points; demand 3 holds because service book and ledger
+-- keep the same writes and the last RECOVER leaves the area that they give.
 use Prim.Native.Nat.{ℕ, zero, suc, _+_, _-_, _*_, min, _≤_, _<_}
 use native.Mathlib.Omega.{arith}
 use mathlib.Core.Path.{_≡_, refl, sym, ap, _∙_, subst}
-use mathlib.Core.Bool.{Bool, true, false, not, true≢false}
+use mathlib.Core.Bool.{Bool, true, false, not}
 use mathlib.Core.List.{List, [], _∷_, _++_, flatMap, append-nil}
 use lib.ListN.{length, take, drop, length-take, length-drop}
 use lib.Seq.{take-add, drop-drop}
 use lib.Dec.{ltb, eqb}
 use borrow.Author.Tests.{lt-ltb, le-ltb, ltb-true, ltb-false, not-false}
-use Rattle.model.specs.Lists.{below, all}
+use Rattle.model.specs.Lists.{below}
 use Rattle.model.specs.Bytes.{Bytes, part, blockAt}
 use Rattle.model.specs.Shape.{between, inRange, homeBlock}
 use Rattle.model.specs.Card.{isBlank, isUp, isDown, shapeOf}
@@ -20,14 +20,16 @@ use Rattle.model.specs.Tape.{step, operandLength, commandByte, operandsAt, isUn
 use Rattle.model.specs.declared.Phase.{Phase}
 use Rattle.model.specs.declared.Shape.{Shape}
 use Rattle.model.specs.declared.Phase.the-variants.{Blank, Up, Down}
-use Rattle.model.proofs.Lists.{cases, and-left, and-right, and-both, flatMap-append}
-use Rattle.model.proofs.Command.{unless-done, unless-refused, refusedWith}
+use Rattle.model.proofs.Lists.{cases, flatMap-append, flatMap-below}
+use Rattle.model.proofs.Command.{unless-done, unless-refused, refusedWith, refusal-passed}
 use Rattle.model.proofs.Tape.{pointAt, Runs, at-end, one-more, run-runs}
 use Rattle.crash.specs.Book.{keptWrites, image, blank}
 use Rattle.crash.specs.Service.{Service, bookArea}
 use Rattle.crash.specs.Ledger.{Ledger, freshLedger, blankLedger, recoverLedger, entered, writeRefusals, closeRefusals, storeRefusals, checkpointRefusals, refusalsOf}
 use Rattle.crash.proofs.Agreement.{Agrees, Suits, blank-agrees, down-agrees, fed-agrees, area-same}
 use Rattle.crash.specs.Claims.{IsBytes, answerOf, JournalsRead, recoverStore, PointKept, LedgerKept, ComesUp, AreaKept, homeArea, fedPoint, blankStart, downStart, downLedger, Claim, Demands}
+use Rattle.crash.proofs.BlockBytes.{bytes-take, bytes-drop}
+use Rattle.crash.proofs.Tests.{clash}
 
 -- ---- a command of the tape as a point: 2 and 3 by what stands on the tape
 module _ (t : Bytes) (at : ℕ) (on-tape : at < length t) where
@@ -46,18 +48,6 @@ module _ (t : Bytes) (at : ℕ) (on-tape : at < length t) where
       (λ h. rw h (sym (le-ltb _ n (omega (arith, l, ltb-false (length t) (at + 1 + n) h)))))
 
 -- bytes of a part of bytes
-pub take-bytes : (n : ℕ) (s : Bytes) → IsBytes s → IsBytes (take n s)
-unfolding all
-take-bytes zero s h = refl
-take-bytes (suc n) [] h = refl
-take-bytes (suc n) (x ∷ s) h = and-both (and-left (ltb x 256) _ h) (take-bytes n s (and-right (ltb x 256) _ h))
-
-pub drop-bytes : (n : ℕ) (s : Bytes) → IsBytes s → IsBytes (drop n s)
-unfolding all
-drop-bytes zero s h = h
-drop-bytes (suc n) [] h = refl
-drop-bytes (suc n) (x ∷ s) h = drop-bytes n s (and-right (ltb x 256) _ h)
-
 -- ---- what each command keeps of a relation of ledger and world
 pub record Kept (At : Ledger → World → Type 0) (l : Ledger) (w : World) (k : ℕ) (a : Bytes) : Type 0 where
   pub answer : (step k a w) .answer ≡ refusal (refusalsOf k a l)
@@ -77,7 +67,7 @@ pub record Relates (At : Ledger → World → Type 0) : Type 0 where
 
 module _ (At : Ledger → World → Type 0) (r : Relates At) where
   -- a point and the relation after it
-  pub record Goes (l : Ledger) (p : Point) : Type 0 where
+  record Goes (l : Ledger) (p : Point) : Type 0 where
     pub kept : PointKept l p
     pub next : At (entered (p .byte) (p .operands) (p .outcome .answer) l) (p .outcome .world)
     pub home : p .byte ≡ 7 → p .outcome .answer ≡ 0 → l .left ≡ [] → (b : ℕ) → b < l .shape .blocks
@@ -118,7 +108,7 @@ module _ (At : Ledger → World → Type 0) (r : Relates At) where
     unfolding answerOf refusal
     reaches o known whole =
         let size : length a ≡ operandLength k = unfold operandsAt part in omega (arith, ltb-false (length (operandsAt t at)) (operandLength (commandByte t at)) whole, length-take (operandLength k) (drop (at + 1) t)) in
-        let b : IsBytes a = unfold operandsAt part in take-bytes (operandLength k) (drop (at + 1) t) (drop-bytes (at + 1) t bytes) in
+        let b : IsBytes a = unfold operandsAt part in bytes-take (operandLength k) (drop (at + 1) t) (bytes-drop (at + 1) t bytes) in
         let g : Kept At l w k a = r .keeps l w here k a (not-false _ known) size b in
         record {
           kept =
@@ -136,7 +126,7 @@ module _ (At : Ledger → World → Type 0) (r : Relates At) where
           home = λ s z f b q. ap (λ (x : Outcome). blockAt (x .world .disk) (homeBlock b)) o ∙ g .home s (sym (ap (λ (x : Outcome). x .answer) o) ∙ z) f b q;
         }
 
-    pub goes : Goes l p
+    goes : Goes l p
     unfolding commandAt answerOf refusal
     goes =
         let z = r .sizes l w here in
@@ -149,7 +139,7 @@ module _ (At : Ledger → World → Type 0) (r : Relates At) where
         (λ y. reaches (unless-done _ w (step k a w) (rw (z, u, x, e, y))) x y))
 
   -- Demands 1 and 2 and the course of recovery, at every point of a run.
-  pub ledger-kept : (t : Bytes) → IsBytes t → {at n : ℕ} {l : Ledger} {w : World} {ps : List Point} → At l w → Runs step t at n w ps → LedgerKept l w ps
+  ledger-kept : (t : Bytes) → IsBytes t → {at n : ℕ} {l : Ledger} {w : World} {ps : List Point} → At l w → Runs step t at n w ps → LedgerKept l w ps
   ledger-kept t b {l = l} {w = w} here (at-end h) = (r .phase l w here, r .journals l w here)
   ledger-kept t b {at} {n} {l} {w} here (one-more h e rest) =
       let g : Goes l _ = subst (Goes l) (sym e) (goes t b at n h l w here) in
@@ -165,30 +155,18 @@ area-blocks d (suc n) =
     rw (e, take-add (128 * n) 128 (drop 128 d), drop-drop (128 * n) 128 d, f, flatMap-append (λ (b : ℕ). blockAt d (homeBlock b)) (below n) (n ∷ []), append-nil (take 128 (drop (128 * (1 + n)) d)))
     (ap (λ (x : Bytes). x ++ take 128 (drop (128 * (1 + n)) d)) (area-blocks d n))
 
-blocks-same : (f g : ℕ → Bytes) (n : ℕ) → ((b : ℕ) → b < n → f b ≡ g b) → flatMap f (below n) ≡ flatMap g (below n)
-unfolding below flatMap
-blocks-same f g zero h = refl
-blocks-same f g (suc n) h =
-    rw (flatMap-append f (below n) (n ∷ []), flatMap-append g (below n) (n ∷ []), blocks-same f g n (λ b l. h b (omega arith)), h n (omega arith))
-
 -- ---- an answer 0 suits the phase
 module _ (l : Ledger) where
   up-suits : (rest : List (Bool × ℕ)) → refusal ((isBlank (l .phase), 20) ∷ (isDown (l .phase), 22) ∷ rest) ≡ 0 → isDown (l .phase) ≡ false
-  unfolding refusal
-  up-suits rest z =
-      cases (isBlank (l .phase)) (λ b. absurd (let y : 20 ≡ 0 = rw b at z in omega arith))
-      (λ b. cases (isDown (l .phase)) (λ d. absurd (let y : 22 ≡ 0 = rw (b, d) at z in omega arith)) (λ d. d))
+  up-suits rest z = refusal-passed _ 22 rest (omega arith) (refusal-passed _ 20 _ (omega arith) z .1) .0
 
   down-only : (p : Phase) → isBlank p ≡ false → isUp p ≡ false → isDown p ≡ true
-  down-only Blank b u = absurd (true≢false b)
-  down-only Up b u = absurd (true≢false u)
+  down-only Blank b u = clash refl b
+  down-only Up b u = clash refl u
   down-only Down b u = refl
 
   down-suits : refusal ((isBlank (l .phase), 20) ∷ (isUp (l .phase), 23) ∷ []) ≡ 0 → isDown (l .phase) ≡ true
-  unfolding refusal
-  down-suits z =
-      cases (isBlank (l .phase)) (λ b. absurd (let y : 20 ≡ 0 = rw b at z in omega arith))
-      (λ b. cases (isUp (l .phase)) (λ u. absurd (let y : 23 ≡ 0 = rw (b, u) at z in omega arith)) (λ u. down-only (l .phase) b u))
+  down-suits z = let y = refusal-passed _ 20 _ (omega arith) z in down-only (l .phase) (y .0) (refusal-passed _ 23 [] (omega arith) (y .1) .0)
 
   -- the commands from WRITE to CHECKPOINT are carried out only while the card is not down
   four-suits : (a : Bytes) (k : ℕ) → 2 ≤ k → k ≤ 5 → refusal (refusalsOf k a l) ≡ 0 → isDown (l .phase) ≡ false
@@ -205,13 +183,10 @@ module _ (l : Ledger) where
   unfolding refusalsOf
   recover-suits a k e z = down-suits (rw e at z)
 
-  pub suits : (p : Point) → p .outcome .answer ≡ answerOf l p → p .outcome .answer ≡ 0 → Suits (p .byte) (l .phase)
-  unfolding answerOf refusal
+  suits : (p : Point) → p .outcome .answer ≡ answerOf l p → p .outcome .answer ≡ 0 → Suits (p .byte) (l .phase)
+  unfolding answerOf
   suits p h z =
-      let y : refusal (refusalsOf (p .byte) (p .operands) l) ≡ 0 =
-      cases (not (between 1 (p .byte) 7)) (λ x. absurd (let q : 2 ≡ 0 = rw x at (sym h ∙ z) in omega arith))
-      (λ x. cases (ltb (length (p .operands)) (operandLength (p .byte))) (λ x₂. absurd (let q : 3 ≡ 0 = rw (x, x₂) at (sym h ∙ z) in omega arith))
-      (λ x₂. rw (x, x₂) at (sym h ∙ z))) in
+      let y = refusal-passed _ 3 _ (omega arith) (refusal-passed _ 2 _ (omega arith) (sym h ∙ z) .1) .1 in
       record { before-cut = λ a b. four-suits (p .operands) (p .byte) a b y; after-cut = λ e. recover-suits (p .operands) (p .byte) e y }
 
 -- ---- demand 3
@@ -222,7 +197,7 @@ module _ (At : Ledger → World → Type 0) (r : Relates At) where
   down-reads l w here d = let b : isBlank (w .card .phase) ≡ false = not-blank (w .card .phase) d in rw (r .sizes l w here, b, d)
     where
       not-blank : (p : Phase) → isDown p ≡ true → isBlank p ≡ false
-      not-blank Blank d = absurd (true≢false (sym d))
+      not-blank Blank d = clash d refl
       not-blank Up d = refl
       not-blank Down d = refl
 
@@ -251,7 +226,7 @@ module _ (At : Ledger → World → Type 0) (r : Relates At) where
         let d : isDown (p .outcome .world .card .phase) ≡ true = ap isDown (r .phase _ _ n) in
         absurd (c .is-up (down-reads _ _ n d))
 
-    pub area-at : homeArea (p .outcome .world) ≡ bookArea (fedPoint p v) ((shapeOf (p .outcome .world .card)) .blocks)
+    area-at : homeArea (p .outcome .world) ≡ bookArea (fedPoint p v) ((shapeOf (p .outcome .world .card)) .blocks)
     unfolding homeArea bookArea recoverLedger freshLedger
     area-at =
         let e = none-left (l .left) refl in
@@ -261,11 +236,11 @@ module _ (At : Ledger → World → Type 0) (r : Relates At) where
         let z : shapeOf (p .outcome .world .card) ≡ l .shape = r .shape _ _ n u in
         area-blocks (p .outcome .world .disk) ((shapeOf (p .outcome .world .card)) .blocks)
         ∙ rw z
-        (blocks-same (λ (b : ℕ). blockAt (p .outcome .world .disk) (homeBlock b)) (image blank ((fedPoint p v) .saved)) (l .shape .blocks)
+        (flatMap-below (λ (b : ℕ). blockAt (p .outcome .world .disk) (homeBlock b)) (image blank ((fedPoint p v) .saved)) (l .shape .blocks)
         (λ b h. g .home (c .is-recover) (c .is-done) e b h ∙ sym (area-same (fedPoint p v) (recoverLedger [] l) refl s b)))
 
   -- At every point of a run where the card comes up, the home area is the book's area.
-  pub area-kept : (t : Bytes) → IsBytes t → {at n : ℕ} {v : Service} {l : Ledger} {w : World} {ps : List Point} → At l w → Agrees v l → Runs step t at n w ps → AreaKept v ps
+  area-kept : (t : Bytes) → IsBytes t → {at n : ℕ} {v : Service} {l : Ledger} {w : World} {ps : List Point} → At l w → Agrees v l → Runs step t at n w ps → AreaKept v ps
   unfolding fedPoint
   area-kept t b here agrees (at-end h) = tt
   area-kept t b {at} {n} {v} {l} {w} here agrees (one-more {p = p} h e rest) =

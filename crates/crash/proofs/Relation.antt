@@ -4,7 +4,7 @@
 use Prim.Native.Nat.{ℕ, zero, suc, _+_, _-_, _≤_, _<_}
 use mathlib.Core.Path.{_≡_}
 use mathlib.Core.Logic.{_⊎_, _≢_}
-use mathlib.Core.List.{List, [], _∷_, _++_, map, flatMap, List·Memᴰ}
+use mathlib.Core.List.{List, [], _++_, map, flatMap, List·Memᴰ}
 use mathlib.Core.Option.{Option, none, some}
 use mathlib.Core.Bool.{true, false}
 use lib.ListN.{length, take, getD}
@@ -13,7 +13,7 @@ use Rattle.model.specs.Lists.{below, any, select}
 use Rattle.model.specs.Bytes.{Bytes, blockAt}
 use Rattle.model.specs.Shape.{homeBlock}
 use Rattle.model.specs.Card.{newName, taken, listed, noHolder, tailOf, coreOf, holderOf}
-use Rattle.model.specs.Layout.{Held, newHeld, flagOf, escaped, descriptorBlock, commitBlock, masterBlock, isCommit}
+use Rattle.model.specs.Layout.{Held, newHeld, flagOf, masterBlock, isCommit}
 use Rattle.model.specs.Journal.{journalAt}
 use Rattle.model.specs.Commit.{copyBlock}
 use Rattle.model.specs.Command.{World}
@@ -28,6 +28,7 @@ use Rattle.model.proofs.Limits.{InRange}
 use Rattle.crash.specs.Book.{absent, running, closed, committed, retired, isRunning, isClosed, counted, Entry, Write, Book, holderIn, keptWrites, image, blank}
 use Rattle.crash.specs.Ledger.{Ledger, imageNow, validIn, blocksIn, recordBlocks}
 use Rattle.crash.specs.Claims.{IsBytes}
+use Rattle.model.proofs.Journal.{recordBlocks as storedBlocks}
 
 -- a block of bytes
 pub record IsBlock (x : Bytes) : Type 0 where
@@ -103,9 +104,7 @@ heldOf l t =
     map (λ (i : ℕ). newHeld (getD bs i 0) (flagOf (getD (l .images t) i []))) (below (length bs))
 
 unfoldable pub recordOf : Ledger → Name → List Bytes
-recordOf l t =
-    descriptorBlock (t .number) (heldOf l t)
-    ∷ (map escaped (l .images t) ++ (commitBlock (t .number) (l .stamp t) ((l .book .entry t) .names) ∷ []))
+recordOf l t = storedBlocks (t .number) (heldOf l t) (l .stamp t) ((l .book .entry t) .names) (l .images t)
 
 -- core c's journal from its tail: the records stored whole, then what is stored of the closed one
 unfoldable pub contents : Ledger → ℕ → List Bytes

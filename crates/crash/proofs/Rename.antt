@@ -68,10 +68,10 @@ module _ {A B : Type 0} (f : A → B) (stays : List A → A → Bool) (stays′ 
 unfoldable pub renamed : (ℕ → ℕ) → Name → Name
 renamed shift t = newName (t .core) (t .number + shift (t .core))
 
-abbrev pub renamedEntry : (ℕ → ℕ) → Entry → Entry
+abbrev renamedEntry : (ℕ → ℕ) → Entry → Entry
 renamedEntry shift e = record { blocks = e .blocks; names = map (renamed shift) (e .names); stage = e .stage }
 
-abbrev pub renamedWrite : (ℕ → ℕ) → Write → Write
+abbrev renamedWrite : (ℕ → ℕ) → Write → Write
 renamedWrite shift w = record { writer = renamed shift (w .writer); holder = renamed shift (w .holder); block = w .block; offset = w .offset; bytes = w .bytes }
 
 abbrev renamedHolder : (ℕ → ℕ) → Option Name → Option Name
@@ -100,7 +100,7 @@ eqb-shift a b n =
     (λ e. rw e (ne-eqb (a + n) (b + n) (λ q. eqb-false a b e (omega arith))))
 
 module _ (shift : ℕ → ℕ) where
-  pub same-renamed : (t u : Name) → sameName (renamed shift t) (renamed shift u) ≡ sameName t u
+  same-renamed : (t u : Name) → sameName (renamed shift t) (renamed shift u) ≡ sameName t u
   unfolding sameName renamed
   same-renamed t u =
       cases (eqb (t .core) (u .core)) (λ e. rw (e, eqb-true (t .core) (u .core) e) (eqb-shift (t .number) (u .number) (shift (u .core))))
@@ -205,7 +205,7 @@ module _ {shift : ℕ → ℕ} {k k′ : Book} (r : Renamed shift k k′) where
       }
 
 module _ {shift : ℕ → ℕ} {k k′ : Book} (r : Renamed shift k k′) where
-  pub wrote-renamed : (c b o : ℕ) (v : Bytes) → Renamed shift (wrote c b o v k) (wrote c b o v k′)
+  wrote-renamed : (c b o : ℕ) (v : Bytes) → Renamed shift (wrote c b o v k) (wrote c b o v k′)
   unfolding wrote
   wrote-renamed c b o v =
       let t = newName c (k .next c) in
@@ -224,7 +224,7 @@ module _ {shift : ℕ → ℕ} {k k′ : Book} (r : Renamed shift k k′) where
         next = raise-renamed shift c (k .next) (k′ .next) (r .next);
       }
 
-  pub store-renamed : (c : ℕ) → Renamed shift (store c k) (store c k′)
+  store-renamed : (c : ℕ) → Renamed shift (store c k) (store c k′)
   unfolding store
   store-renamed c =
       let t = newName c (k .uncommitted c) in
@@ -242,7 +242,7 @@ module _ {shift : ℕ → ℕ} {k k′ : Book} (r : Renamed shift k k′) where
         next = r .next;
       }
 
-  pub checkpoint-renamed : (c : ℕ) → Renamed shift (checkpoint c k) (checkpoint c k′)
+  checkpoint-renamed : (c : ℕ) → Renamed shift (checkpoint c k) (checkpoint c k′)
   unfolding checkpoint
   checkpoint-renamed c =
       let t = newName c (k .oldest c) in
@@ -269,7 +269,7 @@ module _ {shift : ℕ → ℕ} {k k′ : Book} (r : Renamed shift k k′) where
 
 -- ---- what a cut keeps
 -- writes that are the same but for the names of transactions
-abbrev pub nameless : Write → Write
+abbrev nameless : Write → Write
 nameless w = record { writer = newName 0 0; holder = newName 0 0; block = w .block; offset = w .offset; bytes = w .bytes }
 
 abbrev pub SameWrites : List Write → List Write → Type 0
@@ -301,7 +301,7 @@ module _ {shift : ℕ → ℕ} {k k′ : Book} (r : Renamed shift k k′) where
   kept-renamed = rw committed-renamed (shrink-map (renamed shift) (namesIn k) (namesIn k′) names-renamed (committedIn k))
 
   -- A cut keeps the same transactions,
-  pub kept-same : (t : Name) → any (sameName (renamed shift t)) (kept k′) ≡ any (sameName t) (kept k)
+  kept-same : (t : Name) → any (sameName (renamed shift t)) (kept k′) ≡ any (sameName t) (kept k)
   kept-same t = rw kept-renamed (any-renamed shift t (kept k))
 
   -- and the same writes of them,
@@ -312,15 +312,8 @@ module _ {shift : ℕ → ℕ} {k k′ : Book} (r : Renamed shift k k′) where
       let q : Write → Bool = λ w. any (sameName (w .writer)) (kept k′) in
       ap (select q) (r .writes) ∙ select-map (renamedWrite shift) p q (λ w. kept-same (w .writer)) (k .writes)
 
-  pub kept-writes-same : SameWrites (keptWrites k) (keptWrites k′)
+  kept-writes-same : SameWrites (keptWrites k) (keptWrites k′)
   kept-writes-same = sym (ap (map nameless) kept-writes-renamed ∙ map-map nameless (renamedWrite shift) (keptWrites k))
-
-  -- so that both give the same images, after saved writes too.
-  pub kept-writes : (base : ℕ → Bytes) (b : ℕ) → image base (keptWrites k) b ≡ image base (keptWrites k′) b
-  kept-writes base b = same-image base (keptWrites k) (keptWrites k′) kept-writes-same b
 
   pub kept-saved : (s s′ : List Write) → SameWrites s s′ → SameWrites (keptWrites k ++ s) (keptWrites k′ ++ s′)
   kept-saved s s′ p = rw (map-append nameless (keptWrites k) s, map-append nameless (keptWrites k′) s′, kept-writes-same, p) refl
-
-  pub kept-saved-image : (base : ℕ → Bytes) (s s′ : List Write) → SameWrites s s′ → (b : ℕ) → image base (keptWrites k ++ s) b ≡ image base (keptWrites k′ ++ s′) b
-  kept-saved-image base s s′ p b = same-image base (keptWrites k ++ s) (keptWrites k′ ++ s′) (kept-saved s s′ p) b

@@ -33,7 +33,7 @@ module _ {Txn : Type 0} (s s′ : Status Txn) (x : Extends s s′) (homed : Txn 
 
 module _ {Txn Image : Type 0} (s s′ : Status Txn) (x : Extends s s′) (homed : Txn → Bool) where
   -- only those that have stored the block home retire
-  abbrev pub Stored : List (Event Txn Image) → Type 0
+  abbrev Stored : List (Event Txn Image) → Type 0
   Stored es = (t : Txn) → Took t es → So (s′ .retired t) → So (homed t)
 
   next-extends : (t : Txn) (es : List (Event Txn Image)) → Next s homed t es → Next s′ homed t es
@@ -88,7 +88,7 @@ module _ {Txn : Type 0} (E : Equality Txn) (s : Status Txn) (sound : Sound s) (h
 
   module _ {Image : Type 0} where
     -- each closed one of lower stamp that took the block is retired: 33 does not apply
-    abbrev pub LowerRetired : List (Event Txn Image) → Type 0
+    abbrev LowerRetired : List (Event Txn Image) → Type 0
     LowerRetired es = (u : Txn) → Took u es → So (s .closed u) → s .stamp u < s .stamp t → So (s .retired u)
 
     next-home : (v : Txn) (es : List (Event Txn Image)) → LowerRetired es → Next s homed v es → Next s (with-one E homed t) v es

@@ -1,4 +1,4 @@
--- Tests: when one fails, when two agree, and types whose equality is tested.
+-- Tests: a test that holds and fails, two tests that hold together, and types whose equality is tested.
 -- A set of transactions is given by a test throughout the proof, so that histories can be cut by it.
 -- The two equalities used are those of names and of block numbers.
 use Prim.Native.Nat.{ℕ}
@@ -10,7 +10,7 @@ use borrow.Author.Tests.{eqb-true, eq-eqb}
 use Rattle.model.specs.Lists.{any}
 use Rattle.model.specs.Card.{sameName}
 use Rattle.model.specs.declared.Name.{Name}
-use Rattle.model.proofs.Lists.{any-mem, mem-any}
+use Rattle.model.proofs.Lists.{any-mem, mem-any, cases}
 use Rattle.model.proofs.Valid.{sameName-true, sameName-refl}
 
 pub clash {ℓ} : {A : Type ℓ} {b : Bool} → b ≡ true → b ≡ false → A
@@ -20,18 +20,13 @@ pub false-of : (b : Bool) → (So b → ⊥) → b ≡ false
 false-of true f = absurd (f refl)
 false-of false f = refl
 
-pub agree : (a b : Bool) → (So a → So b) → (So b → So a) → a ≡ b
-agree true b f g = sym (f refl)
-agree false true f g = g refl
-agree false false f g = refl
+pub same-test : {a b : Bool} → (So a → So b) → (So b → So a) → a ≡ b
+same-test {a} {b} f g = cases a (λ h. h ∙ sym (f h)) (λ h. h ∙ sym (false-of b (λ k. clash (g k) h)))
 
 pub record Equality (A : Type 0) : Type 0 where
   pub is : A → A → Bool
   pub is-true : (a b : A) → So (is a b) → a ≡ b
   pub is-refl : (a : A) → So (is a a)
-
-pub is-not : {A : Type 0} (E : Equality A) (a b : A) → E .is a b ≡ false → E .is b a ≡ false
-is-not E a b h = false-of _ (λ k. clash {b = E .is a b} (rw (E .is-true b a k) (E .is-refl a)) h)
 
 -- what `any` says of a list by the test for equality
 module _ {A : Type 0} (E : Equality A) where

@@ -1,12 +1,13 @@
--- The theorem: blank, up or down, card and ledger agree, and every command keeps it so. From one coming up to the next
--- cut layer A and the bytes go together (`UpAt`); from a cut on what recovery gives is fixed (`DownBy`). The claims follow.
+-- The theorem: blank, up or down, card and ledger agree (`At`), and every command keeps it so.
+-- From one coming up to the next cut layer A and the bytes go together (`UpAt`); from a cut on, what recovery gives is
+-- fixed (`DownBy`). The claims follow along the points of a run.
 use Prim.Native.Nat.{ℕ, zero, suc, _+_, _<_, _-_, _≤_}
 use native.Mathlib.Omega.{arith}
 use native.Mathlib.Decide.{decLt}
 use mathlib.Core.Path.{_≡_, refl, sym, ap, _∙_, subst}
-use mathlib.Core.Logic.{_⊎_, inl, inr, _≢_}
+use mathlib.Core.Logic.{inl, inr, _≢_}
 use mathlib.Core.Option.{some}
-use mathlib.Core.Bool.{true≢false, Bool, true, false, So, cond, not, _&&_, _||_}
+use mathlib.Core.Bool.{Bool, true, false, So, cond, not, _&&_, _||_}
 use mathlib.Core.List.{List, [], _∷_, List·Memᴰ, _++_, List·Memᴰ·not-nil}
 use lib.ListN.{length, getD, drop, length-take, length-drop}
 use lib.Dec.{eqb, ltb}
@@ -18,47 +19,50 @@ use Rattle.model.specs.Card.{newName, sameName, blankCard, isBlank, isUp, isDow
 use Rattle.model.specs.Command.{World, Outcome, refusal, unstored, wrongLength}
 use Rattle.model.specs.Commit.{closed, stored}
 use Rattle.model.specs.Checkpoint.{checkpointed}
-use Rattle.model.specs.Recovery.{cut, recovered}
+use Rattle.model.specs.Recovery.{recovered}
 use Rattle.model.specs.Tape.{step, operandLength, operandLengths}
 use Rattle.model.proofs.Limits.{between-known, range-test}
-use Rattle.model.proofs.Command.{Numbered, rowOf, refusedWith, step-refused, step-done, Clear, refusal-clear, step-answer}
+use Rattle.model.proofs.Command.{Numbered, rowOf, refusedWith, step-refused, step-done, Clear, refusal-clear, step-answer, refusal-passed}
 use Rattle.model.specs.declared.Name.{Name}
 use Rattle.model.specs.declared.Shape.{Shape}
 use Rattle.model.specs.declared.Card.{Card}
 use Rattle.model.specs.declared.Phase.the-variants.{Blank}
 use Rattle.model.proofs.Lists.{cases, and-left, getD-mem}
 use Rattle.model.specs.Format.{formatted}
-use Rattle.crash.proofs.Format.{format-home, format-up, down-start}
-use Rattle.crash.proofs.Recovery.{recover-home, recovered-home, recover-master, recover-stores, recover-up}
+use Rattle.crash.proofs.CardFormat.{format-home, format-up, down-start}
+use Rattle.crash.proofs.CardRecover.{recover-home, recovered-home, recover-master, recover-stores, recover-up}
 use Rattle.crash.proofs.PhaseAnswers.{down-answers, blank-answers, up-answers}
 use Rattle.crash.specs.Service.{noted}
 use Rattle.model.specs.Layout.{maxNumber}
 use Rattle.model.specs.Write.{written}
-use Rattle.crash.proofs.UpWrite.{write-up}
-use Rattle.crash.proofs.FineWrite.{fine-wrote}
-use Rattle.crash.proofs.Answers.{write-answers, close-answers, store-answers}
-use Rattle.crash.proofs.CheckpointRead.{checkpoint-refusal}
-use Rattle.crash.proofs.Records.{journals-read}
-use Rattle.crash.specs.Book.{Book, Write, absent, running, closed as closed-stage, committed, retired, kept, image, blank, isClosed, holderIn, store, checkpoint, keptWrites, Stage, isRunning, wrote, meets}
+use Rattle.crash.proofs.CardWrite.{write-up}
+use Rattle.crash.proofs.LedgerWrite.{fine-wrote}
+use Rattle.crash.proofs.CardAnswers.{write-answers, close-answers, store-answers, checkpoint-answers}
+use Rattle.crash.proofs.ReadRecords.{journals-read}
+use Rattle.crash.specs.Book.{Book, Write, absent, running, committed, kept, image, blank, isClosed, holderIn, store, checkpoint, keptWrites, isRunning, wrote, meets}
 use Rattle.crash.specs.Ledger.{Ledger, freshLedger, blankLedger, cutLedger, entered, refusalsOf, withBook, closeLedger, validIn, sharesLowerIn, recoverLedger, formatRefusals, writeRefusals, closeRefusals, storeRefusals, checkpointRefusals, notUpFor, namesCount, holderNames, recordBlocks}
 use Rattle.crash.specs.Claims.{recoverStore, IsBytes, JournalsRead, Claim, Demands}
-use Rattle.crash.proofs.Points.{Kept, Relates, take-bytes, drop-bytes, claimed, demanded}
+use Rattle.crash.proofs.Points.{Kept, Relates, claimed, demanded}
 use Rattle.crash.proofs.Tests.{clash, any-in, in-any, nameEquality, blockEquality}
 use Rattle.crash.proofs.Largest.{memberOf, RetiredBelow, valid-is-kept}
 use Rattle.crash.proofs.Invariant.{Inv, imageAt, opened-of}
-use Rattle.crash.proofs.Commands.{inv-fresh, inv-close, inv-store, inv-retire, inv-home-store, lower-retired}
-use Rattle.crash.proofs.Write.{home-current, open-holds, holder-took, inv-wrote}
-use Rattle.crash.proofs.Images.{Imaged, image-of-closed, imaged-fresh, imaged-close, imaged-store, imaged-retire, imaged-home-store, imaged-wrote}
+use Rattle.crash.proofs.InvariantSteps.{inv-fresh, inv-close, inv-store, inv-retire, inv-home-store, lower-retired}
+use Rattle.crash.proofs.InvariantWrite.{home-current, open-holds, holder-took, inv-wrote}
+use Rattle.crash.proofs.ClosedImages.{Imaged, image-of-closed, imaged-fresh, imaged-close, imaged-store, imaged-retire, imaged-home-store, imaged-wrote}
 use Rattle.crash.proofs.Relation.{Fine, Up, DownBy, target}
-use Rattle.crash.proofs.FineSteps.{fine-close, fine-store, fine-checkpoint, below-oldest}
-use Rattle.crash.proofs.Down.{cut-up, cut-down, cut-done, right-length}
+use Rattle.crash.proofs.LedgerSteps.{fine-close, fine-store, fine-checkpoint, below-oldest}
+use Rattle.crash.proofs.CardCut.{cut-up, cut-down, right-length}
 use Rattle.crash.proofs.Given.{held-newest, home-target}
-use Rattle.crash.proofs.UpStore.{store-up, store-homes, shape-up}
-use Rattle.crash.proofs.UpClose.{close-up}
-use Rattle.crash.proofs.UpCheckpoint.{checkpoint-up, home-stored, home-others, homes-stay}
+use Rattle.crash.proofs.CardStore.{store-up, store-homes}
+use Rattle.crash.proofs.CardClose.{close-up}
+use Rattle.crash.proofs.CardCheckpoint.{checkpoint-up, home-stored, home-others, homes-stay}
+use Rattle.crash.proofs.ReadMaster.{shape-up}
+use Rattle.crash.proofs.BlockBytes.{bytes-take, bytes-drop}
+use Rattle.crash.proofs.LedgerStages.{running-is}
+use Rattle.model.specs.declared.Phase.{Phase}
 
 -- ---- a card that is up: the bytes and the histories of the blocks agree with the ledger
-pub record UpAt (l : Ledger) (w : World) : Type 0 where
+record UpAt (l : Ledger) (w : World) : Type 0 where
   pub up : Up l w
   pub home : ℕ → Bytes
   pub homes : (b : ℕ) → b < l .shape .blocks → blockAt (w .disk) (homeBlock b) ≡ home b
@@ -152,7 +156,7 @@ module _ {l : Ledger} {w : World} (u : UpAt l w) where
           elim (decLt (s .0) (length bs)) [ yes h ↦ home-at (s .1) h | no h ↦ retire-at (s .1) (omega (arith, s .2)) ]
 
   -- a cut hands on what recovery will give
-  cut-at : DownBy (cutLedger l) ((cut w) .world)
+  cut-at : DownBy (cutLedger l) ((unstored w downCard zeroMemory) .world)
   cut-at =
       let f = u .up .fine in
       cut-up (u .up)
@@ -169,19 +173,19 @@ fresh-at s saved first w up homes =
     record { up = up; home = image blank saved; homes = homes; inv = inv-fresh s saved first; imaged = imaged-fresh s saved first }
 
 -- ---- blank, up or down
-pub record BlankAt (l : Ledger) (w : World) : Type 0 where
+record BlankAt (l : Ledger) (w : World) : Type 0 where
   pub card : w .card ≡ blankCard
   pub ledger : l ≡ blankLedger
   pub disk : length (w .disk) ≡ 32896
   pub memory : length (w .memory) ≡ 16384
 
-pub data At (l : Ledger) (w : World) : Type 0 where
+data At (l : Ledger) (w : World) : Type 0 where
   at-blank : BlankAt l w → At l w
   at-up : UpAt l w → At l w
   at-down : DownBy l w → At l w
 
 -- ---- one command: refused it changes nothing; carried out, `Done` says what must be shown
-pub record Done (l : Ledger) (w : World) (k : ℕ) (a : Bytes) : Type 0 where
+record Done (l : Ledger) (w : World) (k : ℕ) (a : Bytes) : Type 0 where
   pub next : At (entered k a 0 l) ((rowOf k a w) .done .world)
   pub stores : k ≡ 7 → (rowOf k a w) .done .world .disk ≡ recoverStore l (l .left) (w .disk)
   pub comes-up : k ≡ 7 → isUp ((rowOf k a w) .done .world .card .phase) ≡ eqb (length (l .left)) 0
@@ -217,7 +221,7 @@ module _ {l : Ledger} {w : World} (here : At l w) (k : ℕ) (a : Bytes) where
         home = λ s z f b q. rw u (d .home s f b q);
       }
 
-  pub kept-by : (step k a w) .answer ≡ refusal (refusalsOf k a l) → (refusal (refusalsOf k a l) ≡ 0 → Done l w k a) → Kept At l w k a
+  kept-by : (step k a w) .answer ≡ refusal (refusalsOf k a l) → (refusal (refusalsOf k a l) ≡ 0 → Done l w k a) → Kept At l w k a
   kept-by h d = by-answer ((step k a w) .answer) refl
     where
       by-answer : (n : ℕ) → (step k a w) .answer ≡ n → Kept At l w k a
@@ -243,8 +247,8 @@ module _ {l : Ledger} {w : World} (b : BlankAt l w) (a : Bytes) where
 
   -- any other command is refused with 20
   not-done : (ts : List (Bool × ℕ)) → refusal ((isBlank (l .phase), 20) ∷ ts) ≡ 0 → ⊥
-  unfolding refusal blankLedger
-  not-done ts h = let e : isBlank (l .phase) ≡ true = rw (b .ledger) refl in omega (arith, (rw e at h))
+  unfolding blankLedger
+  not-done ts h = clash (rw (b .ledger) refl) (refusal-passed (isBlank (l .phase)) 20 ts (omega arith) h .0)
 
   format-done : refusal (refusalsOf 1 a l) ≡ 0 → Done l w 1 a
   unfolding refusalsOf formatRefusals refusal rowOf entered image blankLedger
@@ -268,22 +272,14 @@ module _ {l : Ledger} {w : World} (b : BlankAt l w) (a : Bytes) where
 module _ {l : Ledger} {w : World} (d : DownBy l w) (a : Bytes) where
   -- FORMAT is refused with 21, the commands of a card that is up with 22
   refused-21 : (ts : List (Bool × ℕ)) → refusal ((not (isBlank (l .phase)), 21) ∷ ts) ≡ 0 → ⊥
-  unfolding refusal
-  refused-21 ts h = let e : isBlank (l .phase) ≡ false = ap isBlank (d .ledger) in omega (arith, (rw e at h))
+  refused-21 ts h = clash (ap (λ (p : Phase). not (isBlank p)) (d .ledger)) (refusal-passed _ 21 ts (omega arith) h .0)
 
   refused-22 : (ts : List (Bool × ℕ)) → refusal ((isBlank (l .phase), 20) ∷ (isDown (l .phase), 22) ∷ ts) ≡ 0 → ⊥
-  unfolding refusal
-  refused-22 ts h =
-      let e : isBlank (l .phase) ≡ false = ap isBlank (d .ledger) in
-      let f : isDown (l .phase) ≡ true = ap isDown (d .ledger) in
-      omega (arith, (rw (e, f) at h))
+  refused-22 ts h = clash (ap isDown (d .ledger)) (refusal-passed _ 22 ts (omega arith) (refusal-passed _ 20 _ (omega arith) h .1) .0)
 
   cut-again : Done l w 6 a
   unfolding rowOf entered
-  cut-again =
-      let e : (cut w) .world ≡ (unstored w downCard zeroMemory) .world =
-      ap (λ (o : Outcome). o .world) (cut-done w (right-length w (d .disk .size) (d .memory)) (ap isBlank (d .phase))) in
-      plain (omega arith) (at-down (subst (DownBy (cutLedger l)) e (cut-down d)))
+  cut-again = plain (omega arith) (at-down (cut-down d))
 
   recover-next : (left : List ℕ) → l .left ≡ left → At (recoverLedger (l .left) l) ((recovered w) .world)
   unfolding target
@@ -312,13 +308,6 @@ module _ {l : Ledger} {w : World} (d : DownBy l w) (a : Bytes) where
       k known)
 
 -- ---- up
-running-is : (g : Stage) → isRunning g ≡ true → g ≡ running
-running-is absent h = absurd (true≢false (sym h))
-running-is running h = refl
-running-is (closed-stage n) h = absurd (true≢false (sym h))
-running-is (committed n) h = absurd (true≢false (sym h))
-running-is retired h = absurd (true≢false (sym h))
-
 module _ {l : Ledger} {w : World} (u : UpAt l w) (a : Bytes) where
   abbrev core : ℕ
   core = getD a 0 0
@@ -355,10 +344,7 @@ module _ {l : Ledger} {w : World} (u : UpAt l w) (a : Bytes) where
 
   cut-up-done : Done l w 6 a
   unfolding rowOf entered
-  cut-up-done =
-      let e : (cut w) .world ≡ (unstored w downCard zeroMemory) .world =
-      ap (λ (o : Outcome). o .world) (cut-done w (right-length w (u .up .disk .size) (u .up .memory)) (ap isBlank (u .up .phase))) in
-      plain (omega arith) (at-down (subst (DownBy (cutLedger l)) e (cut-at u)))
+  cut-up-done = plain (omega arith) (at-down (cut-at u))
 
   -- WRITE, with operands of eight bytes
   module _ (size : length a ≡ 8) (bytes : IsBytes a) where
@@ -377,7 +363,7 @@ module _ {l : Ledger} {w : World} (u : UpAt l w) (a : Bytes) where
 
     are-bytes : IsBytes v
     unfolding part
-    are-bytes = take-bytes 4 (drop 4 a) (drop-bytes 4 a bytes)
+    are-bytes = bytes-take 4 (drop 4 a) (bytes-drop 4 a bytes)
 
     write-at : (in-range : core < l .shape .cores) (low : b < l .shape .blocks) (inside : o ≤ 124)
         → (ltb 12 (namesCount (wrote core b o v (l .book)) (newName core (l .book .next core)))
@@ -390,7 +376,7 @@ module _ {l : Ledger} {w : World} (u : UpAt l w) (a : Bytes) where
     unfolding written
     write-at in-range low inside no-24 no-25 no-26 no-27 =
         let f = u .up .fine in
-        let current = swap (f .ranks core in-range .current) in
+        let current = f .ranks core in-range .current in
         record {
           up =
               write-up (u .up) core in-range b low o inside v four are-bytes (holder-open b)
@@ -401,10 +387,6 @@ module _ {l : Ledger} {w : World} (u : UpAt l w) (a : Bytes) where
           inv = inv-wrote (u .inv) core b o v current;
           imaged = imaged-wrote l (u .imaged) core b o v current;
         }
-      where
-        swap : {A B : Type 0} → A ⊎ B → B ⊎ A
-        swap (inl x) = inr x
-        swap (inr x) = inl x
 
     write-done : refusal (refusalsOf 2 a l) ≡ 0 → Done l w 2 a
     unfolding refusalsOf writeRefusals rowOf entered noted
@@ -422,21 +404,16 @@ module _ {l : Ledger} {w : World} (u : UpAt l w) (a : Bytes) where
       (step-answer 2 a w ∙ write-answers (u .up) core (number 0 (part 1 2 a)) (getD a 3 0) (part 4 4 a) (λ _. holder-open (number 0 (part 1 2 a))))
       (step-answer 3 a w ∙ close-answers (u .up) core)
       (step-answer 4 a w ∙ store-answers (u .up) core)
-      (step-answer 5 a w ∙ checkpoint-refusal (u .up) core)
+      (step-answer 5 a w ∙ checkpoint-answers (u .up) core)
       (up-answers (u .up) 6 a (inr (omega arith)))
       (up-answers (u .up) 7 a (inr (omega arith)))
 
   -- FORMAT is refused with 21, RECOVER with 23
   up-21 : (ts : List (Bool × ℕ)) → refusal ((not (isBlank (l .phase)), 21) ∷ ts) ≡ 0 → ⊥
-  unfolding refusal
-  up-21 ts h = let e : isBlank (l .phase) ≡ false = ap isBlank (u .up .ledger) in omega (arith, (rw e at h))
+  up-21 ts h = clash (ap (λ (p : Phase). not (isBlank p)) (u .up .ledger)) (refusal-passed _ 21 ts (omega arith) h .0)
 
   up-23 : refusal ((isBlank (l .phase), 20) ∷ (isUp (l .phase), 23) ∷ []) ≡ 0 → ⊥
-  unfolding refusal
-  up-23 h =
-      let e : isBlank (l .phase) ≡ false = ap isBlank (u .up .ledger) in
-      let f : isUp (l .phase) ≡ true = ap isUp (u .up .ledger) in
-      omega (arith, (rw (e, f) at h))
+  up-23 h = clash (ap isUp (u .up .ledger)) (refusal-passed _ 23 [] (omega arith) (refusal-passed _ 20 _ (omega arith) h .1) .0)
 
   up-keeps : (k : ℕ) → between 1 k 7 ≡ true → length a ≡ operandLength k → IsBytes a → Kept At l w k a
   unfolding refusalsOf formatRefusals operandLength operandLengths

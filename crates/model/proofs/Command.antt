@@ -57,13 +57,15 @@ unfolding refusal
 clear-refusal [] c = refl
 clear-refusal (t ∷ ts) c = rw (c .0) (clear-refusal ts (c .1))
 
-pub refusal-clear : (ts : List (Bool × ℕ)) → Numbered ts → refusal ts ≡ 0 → Clear ts
+-- the first condition does not hold where 0 is answered
+pub refusal-passed : (p : Bool) (n : ℕ) (ts : List (Bool × ℕ)) → 0 < n → refusal ((p, n) ∷ ts) ≡ 0 → (p ≡ false) × (refusal ts ≡ 0)
 unfolding refusal
+refusal-passed true n ts i h = absurd (omega arith)
+refusal-passed false n ts i h = (refl, h)
+
+pub refusal-clear : (ts : List (Bool × ℕ)) → Numbered ts → refusal ts ≡ 0 → Clear ts
 refusal-clear [] p h = tt
-refusal-clear (t ∷ ts) p h =
-    cases (t .0)
-    (λ k. let z : t .1 ≡ 0 = rw k at h in absurd (omega (arith, p .0)))
-    (λ k. (k, refusal-clear ts (p .1) (rw k at h)))
+refusal-clear (t ∷ ts) p h = let r = refusal-passed (t .0) (t .1) ts (p .0) h in (r .0, refusal-clear ts (p .1) (r .1))
 
 -- the same of two lists joined
 first-joined : {n : ℕ} {xs : List (Bool × ℕ)} (ys : List (Bool × ℕ)) → First n xs → First n (xs ++ ys)

@@ -123,6 +123,27 @@ module _ {s : Shape} (l : InRange s) (c : ℕ) (in-range : c < s .cores) where
 unfoldable pub recordBlocks : ℕ → List Held → ℕ → List Name → List Bytes → List Bytes
 recordBlocks k hs stamp ns images = descriptorBlock k hs ∷ (map escaped images ++ (commitBlock k stamp ns ∷ []))
 
+module _ (k : ℕ) (hs : List Held) (stamp : ℕ) (ns : List Name) (images : List Bytes) where
+  pub length-recordBlocks : length (recordBlocks k hs stamp ns images) ≡ length images + 2
+  unfolding recordBlocks
+  length-recordBlocks = simp length-append (omega (arith, length-map images escaped))
+
+  -- what holds of the descriptor, of each image as it is stored and of the commit holds of each block
+  pub recordBlocks-each : (P : ℕ → Bytes → Type 0) → P 0 (descriptorBlock k hs) → ((i : ℕ) → i < length images → P (suc i) (escaped (getD images i [])))
+      → P (suc (length images)) (commitBlock k stamp ns) → (i : ℕ) → i < length images + 2 → P i (getD (recordBlocks k hs stamp ns images) i [])
+  unfolding recordBlocks
+  recordBlocks-each P a b c zero h = a
+  recordBlocks-each P a b c (suc i) h =
+      let n = length-map images escaped in
+      let last = commitBlock k stamp ns in
+      let at : getD (map escaped images) i [] ≡ escaped (getD images i []) = unfold escaped be4 part number in List·getD-map escaped images i [] in
+      elim (decLt i (length images)) [
+        | yes lt ↦ subst (P (suc i)) (sym (List·getD-append (map escaped images) (last ∷ []) [] i (omega arith) ∙ at)) (b i lt)
+        | no ge ↦ (let e : length images ≡ i = omega arith in
+            subst (λ (j : ℕ). P (suc j) (getD (map escaped images ++ (last ∷ [])) j [])) e
+            (subst (P (suc (length images))) (sym (getD-at (map escaped images) last [] [] (length images) n)) c))
+      ]
+
 -- blocks of bytes, with the flags that the descriptor has for them
 pub record Images (hs : List Held) (images : List Bytes) : Type 0 where
   pub flags : map (λ (h : Held). h .flag) hs ≡ map flagOf images
@@ -147,28 +168,34 @@ each-escaped : (images : List Bytes) → Each IsBlock images → Each IsBlock (m
 each-escaped [] z = tt
 each-escaped (b ∷ bs) z = (length-escaped b (omega (arith, z .0)) ∙ z .0, each-escaped bs (z .1))
 
--- a record stored block by block stands
-pub stored-stands : {s : Shape} {k : ℕ} {hs : List Held} {stamp : ℕ} {ns : List Name} {images : List Bytes} → Sound s k hs stamp ns → Images hs images
-    → (d : Bytes) (c p : ℕ) → c < s .cores → length d ≡ 32896 → length hs + 2 ≤ s .journal
-    → Stands s (storesAt s c p (recordBlocks k hs stamp ns images) d) c p k hs stamp ns images
+-- a record whose blocks stand one after the other stands
+pub record-stands : {s : Shape} {d : Bytes} {c p k : ℕ} {hs : List Held} {stamp : ℕ} {ns : List Name} {images : List Bytes} → length images ≡ length hs
+    → ((q : ℕ) → q < length hs + 2 → journalAt s d c (p + q) ≡ getD (recordBlocks k hs stamp ns images) q [])
+    → Stands s d c p k hs stamp ns images
 unfolding recordBlocks
-stored-stands {s} {k} {hs} {stamp} {ns} {images} g z d c p h n j =
-    let bs = recordBlocks k hs stamp ns images in
-    let m : length (map escaped images) ≡ length hs = length-map images escaped ∙ images-length z in
-    let size : length bs ≡ length hs + 2 = simp length-append (omega arith) in
-    let whole : Each IsBlock bs = (
-      length-descriptor k hs (g .few),
-      each-append IsBlock (map escaped images) (commitBlock k stamp ns ∷ []) (each-escaped images (z .sizes)) (length-commit k stamp ns (g .short), tt),
-    ) in
-    let read = stores-in (g .shape) c h bs p d whole n (omega arith) in
+record-stands {k = k} {hs = hs} {stamp = stamp} {ns = ns} {images = images} n read =
+    let m : length (map escaped images) ≡ length hs = length-map images escaped ∙ n in
     record {
       descriptor = rw add-zero at (read 0 (omega arith));
       data-blocks =
-          λ i hi.
+          λ i h.
           read (i + 1) (omega arith)
           ∙ rw add-one (List·getD-append (map escaped images) (commitBlock k stamp ns ∷ []) [] i (omega arith) ∙ (unfold escaped be4 part number in List·getD-map escaped images i []));
       commit = read (length hs + 1) (omega arith) ∙ rw add-one (getD-at (map escaped images) (commitBlock k stamp ns) [] [] (length hs) m);
     }
+
+-- a record stored block by block stands
+pub stored-stands : {s : Shape} {k : ℕ} {hs : List Held} {stamp : ℕ} {ns : List Name} {images : List Bytes} → Sound s k hs stamp ns → Images hs images
+    → (d : Bytes) (c p : ℕ) → c < s .cores → length d ≡ 32896 → length hs + 2 ≤ s .journal
+    → Stands s (storesAt s c p (recordBlocks k hs stamp ns images) d) c p k hs stamp ns images
+stored-stands {s} {k} {hs} {stamp} {ns} {images} g z d c p h n j =
+    let size : length (recordBlocks k hs stamp ns images) ≡ length hs + 2 = length-recordBlocks k hs stamp ns images ∙ ap (λ (i : ℕ). i + 2) (images-length z) in
+    let whole : Each IsBlock (recordBlocks k hs stamp ns images) =
+    unfold recordBlocks in (
+      length-descriptor k hs (g .few),
+      each-append IsBlock (map escaped images) (commitBlock k stamp ns ∷ []) (each-escaped images (z .sizes)) (length-commit k stamp ns (g .short), tt),
+    ) in
+    record-stands (images-length z) (λ q l. stores-in (g .shape) c h (recordBlocks k hs stamp ns images) p d whole n (omega arith) q (omega arith))
 
 -- ---- the record at a position
 -- the record as it is read

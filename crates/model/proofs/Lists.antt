@@ -3,7 +3,7 @@
 use Prim.Native.Nat.{ℕ, zero, suc, _<_}
 use native.Mathlib.Omega.{arith}
 use native.Mathlib.Decide.{decLt}
-use mathlib.Core.Path.{_≡_, refl, ap, _∙_, sym, subst}
+use mathlib.Core.Path.{_≡_, refl, ap, ap₂, _∙_, sym, subst}
 use mathlib.Core.Bool.{Bool, true, false, false≢true, _&&_, _||_, and-assoc, or-assoc}
 use mathlib.Core.Logic.{_⊎_, inl, inr}
 use mathlib.Core.List.{List, [], _∷_, _++_, map, flatMap, append-assoc, List·Memᴰ, List·Memᴰ·head, List·Memᴰ·tail, List·Memᴰ·not-nil, List·Memᴰ·cases-cons, List·Memᴰ·append-cases, List·Memᴰ·eq-of-singleton, Memᴰ·append-left, Memᴰ·append-right, map-append}
@@ -37,6 +37,10 @@ or-right false q = q
 pub or-cases : (a b : Bool) → (a || b) ≡ true → (a ≡ true) ⊎ (b ≡ true)
 or-cases true b h = inl refl
 or-cases false b h = inr h
+
+pub or-none : (a b : Bool) → (a || b) ≡ false → (a ≡ false) × (b ≡ false)
+or-none true b h = absurd (false≢true (sym h))
+or-none false b h = (refl, h)
 
 -- ---- all, any
 module _ {A : Type 0} (p : A → Bool) where
@@ -84,6 +88,20 @@ module _ {A : Type 0} where
   mem-getD (List·Memᴰ·tail m) d = let r = mem-getD m d in (suc (r .0), omega (arith, r .1), r .2)
 
 module _ {A B : Type 0} where
+  pub getD-map : (f : A → B) (xs : List A) (i : ℕ) (a : A) (b : B) → i < length xs → getD (map f xs) i b ≡ f (getD xs i a)
+  getD-map f [] i a b h = absurd (omega arith)
+  getD-map f (x ∷ xs) zero a b h = refl
+  getD-map f (x ∷ xs) (suc i) a b h = getD-map f xs i a b (omega arith)
+
+  pub map-same : (f g : A → B) (xs : List A) → ((x : A) → List·Memᴰ x xs → f x ≡ g x) → map f xs ≡ map g xs
+  map-same f g [] h = refl
+  map-same f g (x ∷ xs) h = ap₂ _∷_ (h x (List·Memᴰ·head refl)) (map-same f g xs (λ y m. h y (List·Memᴰ·tail m)))
+
+  pub flatMap-same : (f g : A → List B) (xs : List A) → ((x : A) → List·Memᴰ x xs → f x ≡ g x) → flatMap f xs ≡ flatMap g xs
+  unfolding flatMap
+  flatMap-same f g [] h = refl
+  flatMap-same f g (x ∷ xs) h = ap₂ _++_ (h x (List·Memᴰ·head refl)) (flatMap-same f g xs (λ y m. h y (List·Memᴰ·tail m)))
+
   pub flatMap-append : (f : B → List A) (xs ys : List B) → flatMap f (xs ++ ys) ≡ flatMap f xs ++ flatMap f ys
   unfolding flatMap
   flatMap-append f [] ys = refl
@@ -133,6 +151,22 @@ below-mem (suc n) i h =
     ]
 
 module _ {A : Type 0} where
+  pub map-below : (f g : ℕ → A) (n : ℕ) → ((i : ℕ) → i < n → f i ≡ g i) → map f (below n) ≡ map g (below n)
+  map-below f g n h = map-same f g (below n) (λ i m. h i (mem-below n m))
+
+  pub flatMap-below : (f g : ℕ → List A) (n : ℕ) → ((i : ℕ) → i < n → f i ≡ g i) → flatMap f (below n) ≡ flatMap g (below n)
+  flatMap-below f g n h = flatMap-same f g (below n) (λ i m. h i (mem-below n m))
+
+  -- the first of them apart
+  pub flatMap-first : (f : ℕ → List A) (n : ℕ) → flatMap f (below (suc n)) ≡ f 0 ++ flatMap (λ (i : ℕ). f (suc i)) (below n)
+  unfolding below flatMap
+  flatMap-first f zero = refl
+  flatMap-first f (suc n) =
+      flatMap-append f (below (suc n)) (suc n ∷ [])
+      ∙ ap (λ (x : List A). x ++ (f (suc n) ++ [])) (flatMap-first f n)
+      ∙ append-assoc (f 0) (flatMap (λ (i : ℕ). f (suc i)) (below n)) (f (suc n) ++ [])
+      ∙ ap (λ (x : List A). f 0 ++ x) (sym (flatMap-append (λ (i : ℕ). f (suc i)) (below n) (n ∷ [])))
+
   pub getD-map-below : (f : ℕ → A) (n i : ℕ) (d : A) → i < n → getD (map f (below n)) i d ≡ f i
   unfolding below
   getD-map-below f zero i d h = absurd (omega arith)

@@ -1,12 +1,12 @@
--- A book after CLOSE, STORE and CHECKPOINT, which give one transaction its next stage, and after WRITE: what each leaves of
--- entries, holders, images and record sizes. Ledger and service book are both such books, so the theorem's layers share
--- these laws.
-use Prim.Native.Nat.{ℕ, suc, _+_, _≤_, _<_}
+-- A book after CLOSE, STORE and CHECKPOINT, which give one transaction its next stage, and after WRITE: what each leaves
+-- of entries, holders and record sizes, and what CLOSE and WRITE do to the images. Ledger and service book are both such
+-- books, so the layers share these laws.
+use Prim.Native.Nat.{ℕ, suc, _+_, _<_}
 use native.Mathlib.Omega.{arith}
 use mathlib.Core.Path.{_≡_, refl, sym, ap, _∙_}
 use mathlib.Core.Logic.{_⊎_, inl, inr, _≢_}
-use mathlib.Core.Bool.{true, false, cond}
-use mathlib.Core.List.{List, [], _∷_, _++_, map}
+use mathlib.Core.Bool.{false, cond}
+use mathlib.Core.List.{List, [], _∷_, map}
 use mathlib.Core.Option.{none, some}
 use lib.ListN.{length}
 use lib.Dec.{leb, eqb}
@@ -18,7 +18,7 @@ use Rattle.model.proofs.Lists.{cases}
 use Rattle.model.proofs.Valid.{sameName-refl}
 use Rattle.crash.specs.Book.{Stage, absent, running, closed, committed, retired, isRunning, isClosed, isRetired, counted, Entry, Write, Book, change, raise, staged, begin, holderIn, Meeting, no-holder, own, running-holder, closed-holder, meets, ruled, holderAfter, note, wrote, close, store, checkpoint, image}
 use Rattle.crash.specs.Ledger.{Ledger, withBook, imageNow, closeLedger, recordBlocks}
-use Rattle.crash.proofs.Entries.{nextName, uncommittedName, oldestName, same-or-not, sameName-false, change-at, change-other, change-by, takes, met, meets-met, meets-running, meets-same, ruled-other, ruled-stage, ruled-blocks, ruled-blocks-other, ruled-names-at, ruled-names-back, listing, holder-same, holder-live, records-same}
+use Rattle.crash.proofs.BookEntries.{nextName, uncommittedName, oldestName, same-or-not, sameName-false, change-at, change-other, change-by, metHolder, meets-met, meets-same, ruled-other, ruled-stage, ruled-blocks-other, holder-same, holder-live, records-same}
 
 -- ---- one transaction gets another stage
 pub record Restages (k k′ : Book) (t : Name) (g : Stage) : Type 0 where
@@ -77,16 +77,8 @@ module _ {k k′ : Book} {t : Name} (r : Restages k k′ t retired) (b : ℕ) wh
       (λ ne. rw (e, r .other (w .holder) ne)))
       (λ e. rw e (retired-other ws (λ p. h (rw e p))))
 
-pub restages-image : (l : Ledger) (k′ : Book) {t : Name} {g : Stage} → Restages (l .book) k′ t g → (b : ℕ) → imageNow (withBook l k′) b ≡ imageNow l b
-unfolding imageNow
-restages-image l k′ r b = rw (r .writes)
-
 -- ---- CLOSE
 module _ (c : ℕ) (k : Book) where
-  pub close-restaged : close c k ≡ restaged (nextName c k) (closed 0) (k .oldest) (k .uncommitted) (raise c (k .next)) k
-  unfolding close
-  close-restaged = refl
-
   pub close-restages : Restages k (close c k) (nextName c k) (closed 0)
   unfolding close
   close-restages = restages (nextName c k) (closed 0) (k .oldest) (k .uncommitted) (raise c (k .next)) k
@@ -98,10 +90,6 @@ module _ (l : Ledger) (c : ℕ) where
   pub close-book : (closeLedger c l) .book ≡ close c (l .book)
   unfolding closeLedger
   close-book = refl
-
-  pub close-image : (b : ℕ) → imageNow (closeLedger c l) b ≡ imageNow l b
-  unfolding closeLedger close imageNow
-  close-image b = refl
 
   pub close-stamp : (closeLedger c l) .stamp (nextName c (l .book)) ≡ suc (l .closes)
   unfolding closeLedger
@@ -124,17 +112,10 @@ module _ (l : Ledger) (c : ℕ) where
 abbrev pub storedStage : Entry → Stage
 storedStage e = cond (leb (length (e .blocks) + 2) (suc (counted (e .stage)))) (committed 0) (closed (suc (counted (e .stage))))
 
-abbrev pub checkpointedStage : Entry → Stage
-checkpointedStage e = cond (leb (length (e .blocks) + 1) (suc (counted (e .stage)))) retired (committed (suc (counted (e .stage))))
-
 module _ (c : ℕ) (k : Book) where
   pub store-restages : Restages k (store c k) (uncommittedName c k) (storedStage (k .entry (uncommittedName c k)))
   unfolding store
   store-restages = restages (uncommittedName c k) (storedStage (k .entry (uncommittedName c k))) (k .oldest) (store c k .uncommitted) (k .next) k
-
-  pub checkpoint-restages : Restages k (checkpoint c k) (oldestName c k) (checkpointedStage (k .entry (oldestName c k)))
-  unfolding checkpoint
-  checkpoint-restages = restages (oldestName c k) (checkpointedStage (k .entry (oldestName c k))) (checkpoint c k .oldest) (k .uncommitted) (k .next) k
 
 -- which of the two it is
 module _ (c n : ℕ) (k : Book) where
@@ -163,16 +144,6 @@ module _ (c n : ℕ) (k : Book) where
       let d = k .entry (uncommittedName c k) in
       restages-holder (store-restages c k)
       (cases (leb (length (d .blocks) + 2) (suc (counted (d .stage)))) (λ h. rw h (sym (ap isRetired e))) (λ h. rw h (sym (ap isRetired e))))
-
-  pub home-holder : (k .entry (oldestName c k)) .stage ≡ committed n → n < length ((k .entry (oldestName c k)) .blocks)
-      → (b : ℕ) (ws : List Write) → holderIn (checkpoint c k) b ws ≡ holderIn k b ws
-  home-holder e h b ws =
-      rw (checkpoint-home e h)
-      (restages-holder (restages (oldestName c k) (committed (suc n)) (k .oldest) (k .uncommitted) (k .next) k) (sym (ap isRetired e)) b ws)
-
-  pub retire-restages : (k .entry (oldestName c k)) .stage ≡ committed n → n ≡ length ((k .entry (oldestName c k)) .blocks)
-      → Restages k (checkpoint c k) (oldestName c k) retired
-  retire-restages e h = rw (checkpoint-retires e h) (restages (oldestName c k) retired (raise c (k .oldest)) (k .uncommitted) (k .next) k)
 
 -- ---- WRITE
 -- before the rules: the writer's transaction is open
@@ -221,7 +192,7 @@ module _ (k : Book) (c : ℕ) (current : ((k .entry (nextName c k)) .stage ≡ a
     unfolding wrote note
     wrote-entry = ap (λ m. ruled m (nextName c k) b (begun c k .entry)) (begun-meets b)
 
-    pub wrote-writes : (wrote c b o v k) .writes
+    wrote-writes : (wrote c b o v k) .writes
         ≡ record { writer = nextName c k; holder = holderAfter (meeting c b k) (nextName c k); block = b; offset = o; bytes = v } ∷ k .writes
     unfolding wrote note
     wrote-writes = rw (begun-meets b, begun-fields .0)
@@ -236,42 +207,12 @@ module _ (k : Book) (c : ℕ) (current : ((k .entry (nextName c k)) .stage ≡ a
     pub wrote-stage : (u : Name) → u ≢ nextName c k → ((wrote c b o v k) .entry u) .stage ≡ (k .entry u) .stage
     wrote-stage u ne = rw wrote-entry (ruled-stage (meeting c b k) (nextName c k) b (begun c k .entry) u ∙ ap (λ e. e .stage) (begun-other u ne))
 
-    pub wrote-blocks : ((wrote c b o v k) .entry (nextName c k)) .blocks
-        ≡ cond (takes (meeting c b k)) ((k .entry (nextName c k)) .blocks ++ (b ∷ [])) ((k .entry (nextName c k)) .blocks)
-    wrote-blocks =
-        rw wrote-entry (ruled-blocks (meeting c b k) (nextName c k) b (begun c k .entry)
-        ∙ ap (λ (bs : List ℕ). cond (takes (meeting c b k)) (bs ++ (b ∷ [])) bs) (begun-same (λ e. e .blocks) (λ e. refl) (nextName c k)))
-
     pub wrote-blocks-other : (u : Name) → u ≢ nextName c k → ((wrote c b o v k) .entry u) .blocks ≡ (k .entry u) .blocks
     wrote-blocks-other u ne =
         rw wrote-entry (ruled-blocks-other (meeting c b k) (nextName c k) b (begun c k .entry) u ne ∙ ap (λ e. e .blocks) (begun-other u ne))
 
     pub wrote-other : (u : Name) → u ≢ nextName c k → meeting c b k ≢ running-holder u → (wrote c b o v k) .entry u ≡ k .entry u
     wrote-other u ne nr = rw wrote-entry (ruled-other (meeting c b k) (nextName c k) b (begun c k .entry) u ne nr ∙ begun-other u ne)
-
-    -- whom the writer lists, and whom a running holder
-    pub wrote-names : ((wrote c b o v k) .entry (nextName c k)) .names ≡ listing (met (meeting c b k)) ((k .entry (nextName c k)) .names)
-    wrote-names =
-        rw wrote-entry (ruled-names-at (meeting c b k) (nextName c k) b (begun c k .entry) (λ e. meets-met k (nextName c k) (holderIn k b (k .writes)) (nextName c k) (ap met e) .1 refl)
-        ∙ ap (listing (met (meeting c b k))) (begun-same (λ e. e .names) (λ e. refl) (nextName c k)))
-
-    pub wrote-names-back : (u : Name) → meeting c b k ≡ running-holder u → ((wrote c b o v k) .entry u) .names ≡ listing (some (nextName c k)) ((k .entry u) .names)
-    wrote-names-back u e =
-        rw (wrote-entry, e) (ruled-names-back u (nextName c k) b (begun c k .entry) (meets-met k (nextName c k) (holderIn k b (k .writes)) u (ap met e) .1)
-        ∙ ap (listing (some (nextName c k))) (begun-same (λ e. e .names) (λ e. refl) u))
-
-    pub wrote-closed : (u : Name) → isClosed ((k .entry u) .stage) ≡ true → (wrote c b o v k) .entry u ≡ k .entry u
-    wrote-closed u h =
-        wrote-other u
-        (λ e. let p : isClosed ((k .entry (nextName c k)) .stage) ≡ true = rw e at h in
-        let q : isClosed ((k .entry (nextName c k)) .stage) ≡ false = elim current [ inl a ↦ ap isClosed a | inr a ↦ ap isClosed a ] in
-        let z : _≡_ {A = ℕ} 0 1 = cc in omega arith)
-        (λ e. let q = meets-running k (nextName c k) (holderIn k b (k .writes)) u e in let z : _≡_ {A = ℕ} 0 1 = cc in omega arith)
-
-    pub wrote-records : (a i n : ℕ) → (a ≡ c → i + n ≤ k .next c) → recordBlocks (wrote c b o v k) a i n ≡ recordBlocks k a i n
-    wrote-records a i n h =
-        records-same k (wrote c b o v k) a i n (λ j lo hi. ap length (wrote-blocks-other (newName a j)
-        (λ e. let p : j ≡ k .next c = ap (λ (n : Name). n .number) e in let q = h (ap (λ (n : Name). n .core) e) in omega arith)))
 
     wrote-retired : (u : Name) → isRetired (((wrote c b o v k) .entry u) .stage) ≡ isRetired ((k .entry u) .stage)
     wrote-retired u =
@@ -283,7 +224,7 @@ module _ (k : Book) (c : ℕ) (current : ((k .entry (nextName c k)) .stage ≡ a
     holder-stays no-holder e = ap isRetired wrote-running
     holder-stays own e = ap isRetired wrote-running
     holder-stays (running-holder u) e =
-        wrote-retired u ∙ holder-live k b (k .writes) u (meets-met k (nextName c k) (holderIn k b (k .writes)) u (ap met e) .0)
+        wrote-retired u ∙ holder-live k b (k .writes) u (meets-met k (nextName c k) (holderIn k b (k .writes)) u (ap metHolder e) .0)
     holder-stays (closed-holder u) e = ap isRetired wrote-running
 
     pub wrote-holder : holderIn (wrote c b o v k) b ((wrote c b o v k) .writes) ≡ some (holderAfter (meeting c b k) (nextName c k))

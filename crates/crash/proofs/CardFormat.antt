@@ -29,9 +29,10 @@ use Rattle.crash.specs.Ledger.{freshLedger, unretired, validIn, blocksIn
 use Rattle.crash.specs.Claims.{IsBytes, downStart, downLedger}
 use Rattle.crash.proofs.Relation.{Up, target, DownBy}
 use Rattle.crash.proofs.Tests.{clash}
-use Rattle.crash.proofs.Blocks.{bytes-store}
-use Rattle.crash.proofs.Down.{zero-bytes, Gives, down-over}
-use Rattle.crash.proofs.Fresh.{master-bytes, ComeUp, fresh-up}
+use Rattle.crash.proofs.BlockBytes.{bytes-store}
+use Rattle.crash.proofs.CardCut.{zero-bytes, Gives, down-over}
+use Rattle.crash.proofs.CardFresh.{ComeUp, fresh-up}
+use Rattle.crash.proofs.ReadMaster.{master-bytes}
 
 -- ---- blocks of zeros
 abbrev zeros : ℕ → Bytes
@@ -111,7 +112,7 @@ fresh-target : (s : Shape) (saved : List Write) (first : ℕ → ℕ) (b : ℕ) 
 unfolding target freshLedger keptWrites select emptyBook
 fresh-target s saved first b = refl
 
-pub fresh-gives : (s : Shape) (saved : List Write) (first : ℕ → ℕ) (d : Bytes) → ((b : ℕ) → b < s .blocks → blockAt d (homeBlock b) ≡ image blank saved b)
+fresh-gives : (s : Shape) (saved : List Write) (first : ℕ → ℕ) (d : Bytes) → ((b : ℕ) → b < s .blocks → blockAt d (homeBlock b) ≡ image blank saved b)
     → Gives (freshLedger s saved first) d
 unfolding freshLedger
 fresh-gives s saved first d h =

@@ -1,35 +1,39 @@
--- On a card that agrees with the ledger, WRITE, CLOSE and STORE are answered by the ledger's conditions: each condition of
--- the card is the ledger's. Only 26 counts the card's array of eight blocks, and there 25 has said before that eight are
--- enough. So the first that holds is the same, and with it the answer.
+-- On a card that agrees with the ledger, the commands from WRITE to CHECKPOINT are answered by the ledger's conditions:
+-- each condition of the card is the ledger's. Only 26 counts the card's array of eight blocks, and there 25 has said
+-- before that eight are enough. So the first that holds is the same, and with it the answer.
 use Prim.Native.Nat.{ℕ, suc, _+_, _-_, _≤_, _<_}
 use native.Mathlib.Omega.{arith}
 use native.Mathlib.Decide.{decLt}
 use mathlib.Core.Path.{_≡_, refl, ap, ap₂, _∙_, sym}
 use mathlib.Core.Logic.{_⊎_, inl, inr, _≢_}
-use mathlib.Core.Bool.{Bool, true, false, cond, not, _&&_, _||_}
+use mathlib.Core.Bool.{Bool, false, cond, not, _&&_, _||_}
 use mathlib.Core.List.{List, [], _∷_}
 use mathlib.Core.Option.{some}
 use lib.ListN.{length, length-append}
 use lib.Dec.{ltb, leb}
-use borrow.Author.Tests.{lt-ltb, le-ltb, le-leb, lt-leb, leb-false, ltb-false}
+use borrow.Author.Tests.{lt-ltb, le-ltb, le-leb, lt-leb, leb-false, ltb-false, ltb-true, not-false}
 use Rattle.model.specs.Lists.{any}
 use Rattle.model.specs.Bytes.{Bytes}
 use Rattle.model.specs.Card.{newName, sameName, lists, recordSize, coreOf}
 use Rattle.model.specs.Layout.{maxNumber}
-use Rattle.model.specs.Command.{World, refusal, wrongLength, notUp, noCore, noBlock}
+use Rattle.model.specs.Command.{World, refusal, notUp, noCore, noBlock}
 use Rattle.model.specs.Write.{writer, ruleFor, takesBlock, passesTwelve, listsFull, closedBlocks, journalFull, writeConditions}
 use Rattle.model.specs.Commit.{closeConditions, storeConditions}
 use Rattle.model.specs.declared.Shape.{Shape}
 use Rattle.model.specs.declared.Name.{Name}
 use Rattle.model.specs.declared.Transaction.{Transaction}
-use Rattle.model.proofs.Lists.{cases}
+use Rattle.model.proofs.Lists.{cases, or-none}
 use Rattle.crash.specs.Book.{absent, running, isRunning, Entry, Book, begin, staged, taking, naming, holderIn, wrote}
-use Rattle.crash.specs.Ledger.{Ledger, namesCount, holderNames, recordBlocks, notUpFor, writeRefusals, closeRefusals, storeRefusals}
+use Rattle.crash.specs.Ledger.{Ledger, namesCount, holderNames, recordBlocks, notUpFor, writeRefusals, closeRefusals, storeRefusals, checkpointRefusals}
 use Rattle.crash.proofs.Relation.{Matches, Up}
-use Rattle.crash.proofs.Entries.{change-at, records-snoc}
-use Rattle.crash.proofs.Books.{begun, meeting}
-use Rattle.crash.proofs.UpStore.{shape-up}
-use Rattle.crash.proofs.Rules.{running-present, entry-free, entry-own, entry-running, entry-closed, entry-holder, live-runs, writer-name, writer-matches, met-none, met-own, met-running, met-closed, rule-met, writer-after, holder-matches}
+use Rattle.crash.proofs.BookEntries.{change-at, records-snoc}
+use Rattle.crash.proofs.BookSteps.{begun, meeting}
+use Rattle.crash.proofs.CardRules.{entry-free, entry-own, entry-running, entry-closed, entry-holder, live-runs, writer-name, writer-matches, met-none, met-own, met-running, met-closed, rule-met, writer-after, holder-matches}
+use Rattle.crash.proofs.LedgerStages.{running-present}
+use Rattle.crash.proofs.ReadMaster.{shape-up}
+use Rattle.crash.proofs.CardCut.{right-length}
+use Rattle.crash.proofs.ReadCheckpoint.{none-committed, oldest-valid, oldest-shares}
+use Rattle.model.specs.Checkpoint.{checkpointConditions}
 
 -- ---- conditions one by one
 -- the same conditions, each as far as none before it holds
@@ -43,16 +47,12 @@ same-refusal none-left = refl
 same-refusal (then {q = q} e h) = rw e (cases q (λ t. rw t refl) (λ f. rw f (same-refusal (h f))))
 
 module _ {l : Ledger} {w : World} (u : Up l w) where
-  right-length : wrongLength w ≡ false
-  unfolding wrongLength
-  right-length = rw (u .disk .size, u .memory) refl
-
   -- 1, 20, 22 and 5
   up-refusal : (c : ℕ) (xs ys : List (Bool × ℕ)) → (c < l .shape .cores → Same xs ys) → refusal (notUp w ((noCore w c, 5) ∷ xs)) ≡ refusal (notUpFor c l ys)
   unfolding refusal noCore
   up-refusal c xs ys h =
       let same : Same ((leb (l .shape .cores) c, 5) ∷ xs) ((leb (l .shape .cores) c, 5) ∷ ys) = then refl (λ e. h (leb-false (l .shape .cores) c e)) in
-      rw (right-length, shape-up u, u .phase, u .ledger) (same-refusal same)
+      rw (right-length w (u .disk .size) (u .memory), shape-up u, u .phase, u .ledger) (same-refusal same)
 
   module _ (c : ℕ) (in-range : c < l .shape .cores) where
     closing-live : (coreOf (w .card) c) .closed .live ≡ ltb (l .book .uncommitted c) (l .book .next c)
@@ -80,7 +80,7 @@ module _ {l : Ledger} {w : World} (u : Up l w) where
               rw (y .none-closing (sym e), y .used, e) (omega arith))
         ]
 
-  -- ---- CLOSE and STORE
+  -- ---- CLOSE, STORE and CHECKPOINT
   pub close-answers : (c : ℕ) → refusal (closeConditions c w) ≡ refusal (closeRefusals c l)
   unfolding closeConditions closeRefusals
   close-answers c = up-refusal c _ _ (λ h. then (ap not (live-runs u c h)) (λ _. then (closing-live c h) (λ _. none-left)))
@@ -88,6 +88,16 @@ module _ {l : Ledger} {w : World} (u : Up l w) where
   pub store-answers : (c : ℕ) → refusal (storeConditions c w) ≡ refusal (storeRefusals c l)
   unfolding storeConditions storeRefusals
   store-answers c = up-refusal c _ _ (λ h. then (ap not (closing-live c h)) (λ _. none-left))
+
+  pub checkpoint-answers : (c : ℕ) → refusal (checkpointConditions c w) ≡ refusal (checkpointRefusals c l)
+  unfolding checkpointConditions checkpointRefusals
+  checkpoint-answers c =
+      up-refusal c _ _
+      (λ h.
+      then (none-committed u c h)
+      (λ e.
+      let some : l .book .oldest c < l .book .uncommitted c = ltb-true _ _ (not-false _ e) in
+      then (ap not (oldest-valid u c h some)) (λ _. then (oldest-shares u c h some) (λ _. none-left))))
 
 -- ---- lists and blocks counted
 -- one more than so many
@@ -185,13 +195,9 @@ write-answers {l} {w} u c b o v opens =
     (λ _.
     then (lists-answer u c h b low (opens low) o v)
     (λ names.
-    let short : length ((k₂ .entry t) .names) ≤ 12 = ltb-false 12 (length ((k₂ .entry t) .names)) (neither _ _ names) in
+    let short : length ((k₂ .entry t) .names) ≤ 12 = ltb-false 12 (length ((k₂ .entry t) .names)) (or-none _ _ names .0) in
     then (blocks-answer u c h b low (opens low) o v)
     (λ blocks.
     then (journal-answer u c h b low (opens low) o v (ltb-false 8 (length ((k₂ .entry t) .blocks)) blocks) short)
     (λ _.
     then (ap₂ (λ (p : Bool) (n : ℕ). not p && ltb maxNumber n) (live-runs u c h) (u .cores c h .next)) (λ _. none-left)))))))
-  where
-    neither : (p q : Bool) → (p || q) ≡ false → p ≡ false
-    neither true q h = h
-    neither false q h = refl

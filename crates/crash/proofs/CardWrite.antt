@@ -27,12 +27,13 @@ use Rattle.crash.specs.Book.{absent, running, isRunning, counted, Book, 
 use Rattle.crash.specs.Ledger.{Ledger, withBook, imageNow, recordBlocks}
 use Rattle.crash.specs.Claims.{IsBytes}
 use Rattle.crash.proofs.Relation.{Fine, Limits, JournalStands, Matches, CoreUp, holderAs, Up}
-use Rattle.crash.proofs.Stages.{clash}
-use Rattle.crash.proofs.Blocks.{block-written, block-unwritten, bytes-replaced, bytes-store, bytes-blockAt}
-use Rattle.crash.proofs.Entries.{other-core, meets-met, meets-running}
-use Rattle.crash.proofs.Books.{meeting, wrote-numbers, wrote-running, wrote-stage, wrote-blocks-other, wrote-other, wrote-holder, wrote-holder-other, wrote-image, wrote-image-other}
-use Rattle.crash.proofs.Frames.{SameClosed, core-set, core-other, none-stored, journal-stays, core-stays}
-use Rattle.crash.proofs.Rules.{running-present, running-next, present-open, writer-name, Met, met-none, met-own, met-running, met-closed, rule-met, writer-after, holder-after}
+use Rattle.crash.proofs.BlockBytes.{block-written, block-unwritten, bytes-replaced, bytes-store, bytes-blockAt}
+use Rattle.crash.proofs.BookEntries.{other-core, meets-met, meets-running, metHolder}
+use Rattle.crash.proofs.BookSteps.{meeting, wrote-numbers, wrote-running, wrote-stage, wrote-blocks-other, wrote-other, wrote-holder, wrote-holder-other, wrote-image, wrote-image-other}
+use Rattle.crash.proofs.CardFrames.{SameClosed, core-set, core-other, none-stored, journal-stays, core-stays}
+use Rattle.crash.proofs.CardRules.{running-next, writer-name, Met, met-none, met-own, met-running, met-closed, rule-met, writer-after, holder-after}
+use Rattle.crash.proofs.Tests.{clash}
+use Rattle.crash.proofs.LedgerStages.{running-present, present-open}
 
 -- ---- the card afterwards
 -- what WRITE leaves of a card
@@ -194,7 +195,7 @@ module _ {l : Ledger} {w : World} (u : Up l w) (c : ℕ) (in-range : c < l .shap
       wrote-other (l .book) c current b o v (newName a i)
       (λ e. let p : i ≡ l .book .next c = ap (λ (n : Name). n .number) e in let q : l .book .next a ≡ l .book .next c = ap (λ (n : Name). l .book .next (n .core)) e in omega arith)
       (λ e.
-      let q = meets-met (l .book) t (holderIn (l .book) b (l .book .writes)) (newName a i) (ap Rattle.crash.proofs.Entries.met e) .0 in
+      let q = meets-met (l .book) t (holderIn (l .book) b (l .book .writes)) (newName a i) (ap metHolder e) .0 in
       let p = meets-running (l .book) t (holderIn (l .book) b (l .book .writes)) (newName a i) e in
       let r = present-open ((l .book .entry (newName a i)) .stage) (opens (newName a i) q) p in
       omega (arith, running-next (u .fine .ranks a h) i (ap isRunning r)))

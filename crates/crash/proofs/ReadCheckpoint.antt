@@ -1,4 +1,4 @@
--- On a card that is up, what CHECKPOINT reads is what the ledger says, and each of its conditions is the ledger's.
+-- On a card that is up, what CHECKPOINT reads is what the ledger says, and each of its conditions 31 to 33 is the ledger's.
 -- The card's count of committed ones is the ledger's, so the journals are read whole; the closed ones that still store
 -- stand in the card. Every closed unretired transaction is one of these two: so 33 looks at the same transactions.
 use Prim.Native.Nat.{ℕ, _-_, _≤_, _<_}
@@ -10,33 +10,29 @@ use mathlib.Core.Bool.{Bool, true, false, not, _&&_}
 use mathlib.Core.List.{List·Memᴰ, List·Memᴰ·head}
 use lib.ListN.{length}
 use lib.Dec.{ltb, eqb}
-use borrow.Author.Tests.{ltb-true, lt-ltb, le-ltb, le-leb, lt-leb, eq-eqb, ne-eqb, not-true}
+use borrow.Author.Tests.{ltb-true, lt-ltb, le-ltb, eq-eqb, ne-eqb, not-true}
 use Rattle.model.specs.Lists.{below, any}
-use Rattle.model.specs.Shape.{clamped}
 use Rattle.model.specs.Card.{newName, sameName, taken, shapeOf, tailOf, coreOf, committedCount}
 use Rattle.model.specs.Journal.{journals, nameOf, blocksOf}
 use Rattle.model.specs.Valid.{isIn, validSet}
-use Rattle.model.specs.Command.{World, refusal, wrongLength, noCore}
-use Rattle.model.specs.Checkpoint.{committedNow, validNow, committedOf, oldest, share, sharesLower, checkpointConditions}
+use Rattle.model.specs.Command.{World}
+use Rattle.model.specs.Checkpoint.{committedNow, validNow, committedOf, oldest, share, sharesLower}
 use Rattle.model.specs.declared.Shape.{Shape}
 use Rattle.model.specs.declared.Name.{Name}
 use Rattle.model.specs.declared.Committed.{Committed}
-use Rattle.model.proofs.Limits.{clamped-same}
 use Rattle.model.proofs.Lists.{and-both, and-left, and-right, or-left, or-right, or-cases, any-mem, mem-any, mem-below, below-mem}
 use Rattle.crash.specs.Book.{isClosed, isRetired}
-use Rattle.crash.specs.Ledger.{Ledger, validIn, sharesLowerIn, checkpointRefusals}
+use Rattle.crash.specs.Ledger.{Ledger, validIn, sharesLowerIn}
 use Rattle.crash.proofs.Relation.{Fine, Up}
-use Rattle.crash.proofs.Stages.{clash, closed-present, unretired-rank, closing-stage}
-use Rattle.crash.proofs.Records.{readRecord, readList, IsRead, length-readList, readList-has, readList-first, readList-is, journal-read}
-use Rattle.crash.proofs.Valid.{same-test, journals-are, listed-journals, valid-same}
+use Rattle.crash.proofs.LedgerStages.{closed-present, unretired-rank, closing-stage}
+use Rattle.crash.proofs.ReadRecords.{readRecord, readList, IsRead, length-readList, readList-has, readList-first, readList-is, journal-read}
+use Rattle.crash.proofs.ReadValid.{journals-are, listed-journals, valid-same}
+use Rattle.crash.proofs.Tests.{clash, same-test}
+use Rattle.crash.proofs.ReadMaster.{shape-up}
 
 -- ---- what is read
 module _ {l : Ledger} {w : World} (u : Up l w) where
-  pub shape-up : shapeOf (w .card) ≡ l .shape
-  unfolding shapeOf
-  shape-up = ap clamped (u .shape) ∙ clamped-same (l .shape) (u .fine .range)
-
-  pub count-up : (c : ℕ) → c < l .shape .cores → committedCount (w .card) c ≡ l .book .uncommitted c - l .book .oldest c
+  count-up : (c : ℕ) → c < l .shape .cores → committedCount (w .card) c ≡ l .book .uncommitted c - l .book .oldest c
   unfolding committedCount
   count-up c h =
       let r = u .fine .ranks c h in
@@ -49,17 +45,17 @@ module _ {l : Ledger} {w : World} (u : Up l w) where
   count-enough : (c : ℕ) → c < l .shape .cores → l .book .uncommitted c - l .book .oldest c ≤ committedCount (w .card) c
   count-enough c h = omega (arith, count-up c h)
 
-  pub committed-now : committedNow w ≡ journals (l .shape) (w .disk) (tailOf (w .card)) (committedCount (w .card))
+  committed-now : committedNow w ≡ journals (l .shape) (w .disk) (tailOf (w .card)) (committedCount (w .card))
   unfolding committedNow
-  committed-now = rw shape-up
+  committed-now = rw (shape-up u)
 
-  pub valid-now : validNow w ≡ validSet (l .shape) (w .disk) (tailOf (w .card)) (journals (l .shape) (w .disk) (tailOf (w .card)) (committedCount (w .card)))
+  valid-now : validNow w ≡ validSet (l .shape) (w .disk) (tailOf (w .card)) (journals (l .shape) (w .disk) (tailOf (w .card)) (committedCount (w .card)))
   unfolding validNow
-  valid-now = rw (committed-now, shape-up)
+  valid-now = rw (committed-now, shape-up u)
 
-  pub committed-of : (c : ℕ) → c < l .shape .cores → committedOf w c ≡ readList l c (tailOf (w .card) c)
+  committed-of : (c : ℕ) → c < l .shape .cores → committedOf w c ≡ readList l c (tailOf (w .card) c)
   unfolding committedOf
-  committed-of c h = rw shape-up (journal-read (u .fine) (u .disk) c h (committedCount (w .card) c) (count-enough c h))
+  committed-of c h = rw (shape-up u) (journal-read (u .fine) (u .disk) c h (committedCount (w .card) c) (count-enough c h))
 
   pub oldest-of : (c : ℕ) → c < l .shape .cores → l .book .oldest c < l .book .uncommitted c
       → oldest (committedOf w c) ≡ readRecord l (newName c (l .book .oldest c)) ((tailOf (w .card) c) .position)
@@ -186,7 +182,7 @@ module _ {l : Ledger} {w : World} (u : Up l w) (c : ℕ) (e : Committed) (x : Is
             (newName (r .0) (l .book .uncommitted (r .0)), closed-lower (r .0) (subst (λ (s : Shape). r .0 < s .cores) (shape-up u) (mem-below ((shapeOf (w .card)) .cores) (r .1))) (r .2)))
       ]
 
-  pub shares-same : sharesLower w e ≡ sharesLowerIn l (nameOf e)
+  shares-same : sharesLower w e ≡ sharesLowerIn l (nameOf e)
   shares-same =
       same-test
       (λ h. let r = found-lower h in lower-in (u .fine) (nameOf e) (r .0) (r .1))
@@ -216,25 +212,3 @@ module _ {l : Ledger} {w : World} (u : Up l w) (c : ℕ) (in-range : c < l .shap
     -- '33'
     pub oldest-shares : sharesLower w (oldest (committedOf w c)) ≡ sharesLowerIn l (newName c (l .book .oldest c))
     oldest-shares = shares-same u c (oldest (committedOf w c)) (oldest-is u c in-range some) ∙ ap (sharesLowerIn l) oldest-name
-
--- '24 to 33 is answered exactly when its condition holds of the ledger': of CHECKPOINT
-pub checkpoint-refusal : {l : Ledger} {w : World} → Up l w → (c : ℕ) → refusal (checkpointConditions c w) ≡ refusal (checkpointRefusals c l)
-unfolding refusal checkpointConditions checkpointRefusals wrongLength noCore
-checkpoint-refusal {l} {w} u c =
-    elim (decLt c (l .shape .cores)) [
-      | no n ↦ rw (shape-up u, le-leb (l .shape .cores) c (omega arith), u .disk .size, u .memory, u .phase, u .ledger)
-      | yes h ↦ elim (decLt (l .book .oldest c) (l .book .uncommitted c)) [
-        | no n ↦ rw (shape-up u, lt-leb (l .shape .cores) c h, none-committed u c h, le-ltb (l .book .oldest c) (l .book .uncommitted c) (omega arith), u .disk .size, u .memory, u .phase, u .ledger)
-        | yes g ↦ rw (
-          shape-up u,
-          lt-leb (l .shape .cores) c h,
-          none-committed u c h,
-          oldest-valid u c h g,
-          oldest-shares u c h g,
-          u .disk .size,
-          u .memory,
-          u .phase,
-          u .ledger,
-        )
-      ]
-    ]

@@ -1,16 +1,15 @@
 -- What a command leaves alone: the journal of a core and the core itself, where its closed transactions stay.
 -- Both are read through the core's own entries, numbers, stamps and images alone, and nothing of the running one is
 -- stored; so they stay in agreement with the ledger.
-use Prim.Native.Nat.{ℕ, zero, suc, _+_, _-_, _≤_, _<_}
+use Prim.Native.Nat.{ℕ, _+_, _-_, _≤_, _<_}
 use native.Mathlib.Omega.{arith}
 use native.Mathlib.Decide.{ℕ-discrete}
-use mathlib.Core.Path.{_≡_, refl, ap, ap₂, _∙_, sym}
+use mathlib.Core.Path.{_≡_, refl, ap, _∙_}
 use mathlib.Core.Logic.{_⊎_, inl, inr, _≢_}
 use mathlib.Core.Bool.{true, false}
-use mathlib.Core.List.{List, [], _∷_, _++_, map, flatMap, map-append}
+use mathlib.Core.List.{List, _++_}
 use lib.ListN.{length, take}
 use lib.Seq.{getD-set-same, getD-set-other}
-use Rattle.model.specs.Lists.{below}
 use Rattle.model.specs.Bytes.{Bytes, blockAt}
 use Rattle.model.specs.Card.{newName, freshCore, coreOf, withCore, withRunning}
 use Rattle.model.specs.Journal.{journalAt}
@@ -20,11 +19,11 @@ use Rattle.model.specs.declared.Tail.{Tail}
 use Rattle.model.specs.declared.Transaction.{Transaction}
 use Rattle.model.specs.declared.Core.{Core}
 use Rattle.model.specs.declared.Card.{Card}
-use Rattle.model.proofs.Lists.{flatMap-append}
+use Rattle.model.proofs.Lists.{flatMap-below}
 use Rattle.crash.specs.Book.{Stage, absent, running, isRunning, isClosed, counted, Entry}
 use Rattle.crash.specs.Ledger.{Ledger, recordBlocks}
-use Rattle.crash.proofs.Stages.{closed-present}
-use Rattle.crash.proofs.Entries.{records-same}
+use Rattle.crash.proofs.LedgerStages.{closed-present}
+use Rattle.crash.proofs.BookEntries.{records-same}
 use Rattle.crash.proofs.Relation.{Fine, heldOf, recordOf, contents, JournalStands, CoreUp, Matches}
 
 -- ---- one core of the card replaced
@@ -37,23 +36,6 @@ unfolding coreOf
 core-other x c k a ne = getD-set-other (x .cores) c a k (freshCore 0) ne
 
 -- ---- records and what a journal holds
-module _ {A : Type 0} where
-  pub map-below : (f g : ℕ → A) (n : ℕ) → ((i : ℕ) → i < n → f i ≡ g i) → map f (below n) ≡ map g (below n)
-  unfolding below
-  map-below f g zero h = refl
-  map-below f g (suc n) h =
-      map-append f (below n) (n ∷ [])
-      ∙ ap₂ _++_ (map-below f g n (λ i l. h i (omega arith))) (ap (λ (x : A). x ∷ []) (h n (omega arith)))
-      ∙ sym (map-append g (below n) (n ∷ []))
-
-  pub flatMap-below : (f g : ℕ → List A) (n : ℕ) → ((i : ℕ) → i < n → f i ≡ g i) → flatMap f (below n) ≡ flatMap g (below n)
-  unfolding below flatMap
-  flatMap-below f g zero h = refl
-  flatMap-below f g (suc n) h =
-      flatMap-append f (below n) (n ∷ [])
-      ∙ ap₂ _++_ (flatMap-below f g n (λ i l. h i (omega arith))) (ap (λ (x : List A). x ++ []) (h n (omega arith)))
-      ∙ sym (flatMap-append g (below n) (n ∷ []))
-
 -- blocks and names of an entry, its images and its stamp make its record
 pub record-same : (l l₂ : Ledger) (t : Name) → (l₂ .book .entry t) .blocks ≡ (l .book .entry t) .blocks → (l₂ .book .entry t) .names ≡ (l .book .entry t) .names
     → l₂ .images t ≡ l .images t → l₂ .stamp t ≡ l .stamp t → recordOf l₂ t ≡ recordOf l t

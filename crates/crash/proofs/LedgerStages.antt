@@ -1,29 +1,44 @@
--- The stages of a core's transactions by their numbers: which are committed and unretired, and which is closed.
--- Tests of stages become bounds of numbers and back; nothing but the ledger's order (`Ranks`) is used.
+-- Stages by themselves, and the stages of a core's transactions by their numbers (`Ranks`).
+-- Tests of stages become bounds of numbers and back.
 -- So what the journals hold, and what the ledger's lists hold, can be compared by numbers alone.
 use Prim.Native.Nat.{ℕ, _≤_, _<_}
 use native.Mathlib.Omega.{arith}
 use native.Mathlib.Decide.{decLt, ℕ-discrete}
 use mathlib.Core.Path.{_≡_, refl, sym, ap, _∙_, subst}
 use mathlib.Core.Logic.{_⊎_, inl, inr, _≢_}
-use mathlib.Core.Bool.{Bool, true, false, true≢false}
+use mathlib.Core.Bool.{true, false}
 use Rattle.model.specs.Card.{newName}
-use Rattle.crash.specs.Book.{Stage, absent, running, closed, committed, retired, isClosed, isCommitted, isRetired, Book}
+use Rattle.crash.specs.Book.{Stage, absent, running, closed, committed, retired, isRunning, isClosed, isCommitted, isRetired, Book}
+use Rattle.crash.proofs.Tests.{clash}
+use Rattle.crash.proofs.Invariant.{committed-closed}
 use Rattle.crash.proofs.Relation.{Ranks}
-
--- a test that holds and does not
-pub clash : {A : Type 0} {b : Bool} → b ≡ true → b ≡ false → A
-clash p q = absurd (true≢false (sym p ∙ q))
-
-committed-closed : (g : Stage) → isCommitted g ≡ true → isClosed g ≡ true
-committed-closed absent h = h
-committed-closed running h = h
-committed-closed (closed n) h = refl
-committed-closed (committed n) h = refl
-committed-closed retired h = refl
 
 pub closed-present : (g : Stage) → isClosed g ≡ true → g ≢ absent
 closed-present g h e = clash h (ap isClosed e)
+
+pub running-present : (g : Stage) → g ≡ running → g ≢ absent
+running-present g p q = clash (ap isRunning p) (ap isRunning q)
+
+pub running-is : (g : Stage) → isRunning g ≡ true → g ≡ running
+running-is absent h = clash h refl
+running-is running h = refl
+running-is (closed n) h = clash h refl
+running-is (committed n) h = clash h refl
+running-is retired h = clash h refl
+
+pub present-open : (g : Stage) → g ≢ absent → isClosed g ≡ false → g ≡ running
+present-open absent ne h = absurd (ne refl)
+present-open running ne h = refl
+present-open (closed n) ne h = clash refl h
+present-open (committed n) ne h = clash refl h
+present-open retired ne h = clash refl h
+
+pub closed-idle : (g : Stage) → isClosed g ≡ true → isRunning g ≡ false
+closed-idle absent h = refl
+closed-idle running h = clash h refl
+closed-idle (closed n) h = refl
+closed-idle (committed n) h = refl
+closed-idle retired h = refl
 
 -- committed and not retired
 pub record Unretired (g : Stage) : Type 0 where

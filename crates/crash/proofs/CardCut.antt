@@ -3,7 +3,7 @@
 -- area of the kept writes stay; and recovery, starting over, has all held blocks before it.
 use Prim.Native.Nat.{ℕ, _<_}
 use native.Mathlib.Omega.{arith}
-use mathlib.Core.Path.{_≡_, refl, sym, ap, _∙_, subst}
+use mathlib.Core.Path.{_≡_, refl, sym, _∙_, subst}
 use mathlib.Core.Bool.{false}
 use mathlib.Core.List.{List, List·Memᴰ}
 use lib.ListN.{length, replicate, length-replicate}
@@ -12,38 +12,23 @@ use borrow.Author.Tests.{eq-eqb, le-leb}
 use Rattle.model.specs.Lists.{below, any, select}
 use Rattle.model.specs.Bytes.{Bytes, blockAt, zeroMemory}
 use Rattle.model.specs.Shape.{homeBlock}
-use Rattle.model.specs.Card.{isBlank, freshCard, emptyCard, downCard}
-use Rattle.model.specs.Command.{World, Outcome, unstored, refusal, wrongLength}
-use Rattle.model.specs.Recovery.{cutConditions, cut}
+use Rattle.model.specs.Card.{freshCard, emptyCard, downCard}
+use Rattle.model.specs.Command.{World, unstored, wrongLength}
 use Rattle.model.specs.declared.Phase.{Phase}
 use Rattle.model.specs.declared.Phase.the-variants.{Down as PhaseDown}
 use Rattle.model.specs.declared.Tail.{Tail}
 use Rattle.model.proofs.Lists.{cases, mem-below, each-replicate}
 use Rattle.model.proofs.Select.{select-mem, select-same}
 use Rattle.model.proofs.Words.{IsByte}
-use Rattle.model.proofs.Command.{unless-done}
 use Rattle.crash.specs.Book.{Book}
 use Rattle.crash.specs.Ledger.{Ledger, blocksIn, cutLedger}
 use Rattle.crash.specs.Claims.{IsBytes}
 use Rattle.crash.proofs.Relation.{Fine, heldOf, recordOf, contents, JournalStands, DiskStands, Up, target, Newest, DownBy}
 use Rattle.crash.proofs.Tests.{clash, any-in, in-any, blockEquality}
-use Rattle.crash.proofs.FineSteps.{fine-cut}
-use Rattle.crash.proofs.Blocks.{each-isBytes}
+use Rattle.crash.proofs.LedgerSteps.{fine-cut, phased}
+use Rattle.crash.proofs.BlockBytes.{each-isBytes}
 
 -- ---- the ledger in another phase, with other blocks left
-abbrev pub phased : Phase → List ℕ → Ledger → Ledger
-phased p bs l =
-    record {
-      shape = l .shape;
-      saved = l .saved;
-      book = l .book;
-      closes = l .closes;
-      stamp = l .stamp;
-      images = l .images;
-      phase = p;
-      left = bs;
-    }
-
 pub target-phased : (p : Phase) (bs : List ℕ) (l : Ledger) (b : ℕ) → target (phased p bs l) b ≡ target l b
 unfolding target
 target-phased p bs l b = refl
@@ -85,10 +70,6 @@ right-length w d m = rw (eq-eqb (length (w .disk)) 32896 d, eq-eqb (length (w .m
 pub zero-bytes : (n : ℕ) → IsBytes (replicate n 0)
 zero-bytes n = each-isBytes (replicate n 0) (each-replicate IsByte n 0 (omega arith))
 
-pub cut-done : (w : World) → wrongLength w ≡ false → isBlank (w .card .phase) ≡ false → cut w ≡ unstored w downCard zeroMemory
-unfolding cut cutConditions refusal
-cut-done w n b = unless-done (cutConditions w) w (unstored w downCard zeroMemory) (rw (n, b))
-
 -- what the commands before a cut leave to recovery
 pub record Gives (l : Ledger) (d : Bytes) : Type 0 where
   pub held : (b : ℕ) → b < l .shape .blocks → List·Memᴰ b (blocksIn (l .shape .blocks) (l .book)) → Newest l b
@@ -113,15 +94,12 @@ module _ {l : Ledger} {d : Bytes} {tailAt : ℕ → Tail} (f : Fine l) (z : Disk
         at-home = λ i h a. g .home i h a ∙ sym (target-phased PhaseDown bs l i);
       }
 
-  cut-over : (w : World) → w .disk ≡ d → length (w .memory) ≡ 16384 → isBlank (w .card .phase) ≡ false → DownBy (cutLedger l) ((cut w) .world)
+  cut-over : DownBy (cutLedger l) (record { card = downCard; disk = d; memory = zeroMemory })
   unfolding zeroMemory
-  cut-over w e n b =
-      subst (λ (o : Outcome). DownBy (cutLedger l) (o .world)) (sym (cut-done w (right-length w (ap length e ∙ z .size) n) b))
-      (subst (λ (x : Bytes). DownBy (cutLedger l) (record { card = downCard; disk = x; memory = zeroMemory })) (sym e)
-      (down-over zeroMemory (length-replicate {A = ℕ} 16384 0) (zero-bytes 16384)))
+  cut-over = down-over zeroMemory (length-replicate {A = ℕ} 16384 0) (zero-bytes 16384)
 
-pub cut-up : {l : Ledger} {w : World} → Up l w → Gives l (w .disk) → DownBy (cutLedger l) ((cut w) .world)
-cut-up {l} {w} u g = cut-over (u .fine) (u .disk) g w refl (u .memory) (ap isBlank (u .phase))
+pub cut-up : {l : Ledger} {w : World} → Up l w → Gives l (w .disk) → DownBy (cutLedger l) ((unstored w downCard zeroMemory) .world)
+cut-up u g = cut-over (u .fine) (u .disk) g
 
 -- 'a recovery under way starts over'
 down-gives : {l : Ledger} {w : World} → DownBy l w → Gives l (w .disk)
@@ -139,5 +117,5 @@ down-gives {l} {w} v =
           (λ y. y));
     }
 
-pub cut-down : {l : Ledger} {w : World} → DownBy l w → DownBy (cutLedger l) ((cut w) .world)
-cut-down {l} {w} v = cut-over (v .fine) (v .disk) (down-gives v) w refl (v .memory) (ap isBlank (v .phase))
+pub cut-down : {l : Ledger} {w : World} → DownBy l w → DownBy (cutLedger l) ((unstored w downCard zeroMemory) .world)
+cut-down v = cut-over (v .fine) (v .disk) (down-gives v)

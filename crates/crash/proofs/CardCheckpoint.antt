@@ -1,14 +1,14 @@
 -- CHECKPOINT keeps card and ledger in agreement: the card's oldest record is that of the ledger's oldest committed one.
 -- A home store puts its next image into its home block and touches nothing else; the master store moves the tail past its
 -- record, so the journal holds the same without that record, and its blocks have no holder any more.
-use Prim.Native.Nat.{ℕ, zero, suc, _+_, _-_, _*_, _%_, _≤_, _<_}
+use Prim.Native.Nat.{ℕ, suc, _+_, _-_, _*_, _%_, _≤_, _<_}
 use native.Mathlib.Omega.{arith}
 use native.Mathlib.Nat.{mod-lt}
 use native.Mathlib.Decide.{decLt, ℕ-discrete}
 use mathlib.Core.Path.{_≡_, refl, ap, _∙_, sym, subst}
 use mathlib.Core.Logic.{_≢_}
 use mathlib.Core.Bool.{true, cond, _&&_}
-use mathlib.Core.List.{List, [], _∷_, _++_, flatMap, append-assoc}
+use mathlib.Core.List.{List, [], _++_, flatMap, append-assoc}
 use mathlib.Core.Option.{Option, none, some}
 use lib.ListN.{length, take, getD, length-append, length-map, length-set, List·getD-map}
 use lib.Seq.{getD-append-add, getD-set-same, getD-set-other}
@@ -27,23 +27,23 @@ use Rattle.model.specs.declared.Core.{Core}
 use Rattle.model.specs.declared.Holder.{Holder}
 use Rattle.model.specs.declared.Card.{Card}
 use Rattle.model.specs.declared.Committed.{Committed}
-use Rattle.model.proofs.Lists.{cases, flatMap-append, getD-mem}
+use Rattle.model.proofs.Lists.{cases, getD-mem, flatMap-below, flatMap-first}
 use Rattle.model.proofs.Store.{length-store, block-stored, block-other}
-use Rattle.model.proofs.Words.{each-block}
 use Rattle.model.proofs.Encoding.{length-master}
 use Rattle.model.proofs.Journal.{home-apart, journal-wrap}
 use Rattle.model.proofs.Valid.{sameName-refl}
 use Rattle.crash.specs.Book.{Stage, committed, retired, isClosed, isRetired, counted, Entry, Write, Book, raise, holderIn, checkpoint}
 use Rattle.crash.specs.Ledger.{Ledger, withBook, imageNow, recordBlocks}
-use Rattle.crash.specs.Claims.{IsBytes}
 use Rattle.crash.proofs.Relation.{IsBlock, Fine, recordOf, contents, JournalStands, DiskStands, CoreUp, holderAs, Up}
-use Rattle.crash.proofs.Stages.{clash, closed-present}
-use Rattle.crash.proofs.Records.{readRecord, IsRead, length-record}
-use Rattle.crash.proofs.Entries.{same-or-not, sameName-false, other-number, other-core, raise-at, raise-other, records-cons}
-use Rattle.crash.proofs.Books.{Restages, restaged, restages, restages-records, restages-holder, retired-none, retired-other, checkpoint-home, checkpoint-retires}
-use Rattle.crash.proofs.Blocks.{bytes-store, each-isBytes}
-use Rattle.crash.proofs.Frames.{core-set, core-other, flatMap-below, record-same, contents-same}
-use Rattle.crash.proofs.CheckpointRead.{shape-up, oldest-of, oldest-is}
+use Rattle.crash.proofs.LedgerStages.{closed-present}
+use Rattle.crash.proofs.ReadRecords.{readRecord, IsRead, length-record}
+use Rattle.crash.proofs.BookEntries.{same-or-not, sameName-false, other-number, other-core, raise-at, raise-other, records-cons}
+use Rattle.crash.proofs.BookSteps.{Restages, restaged, restages, restages-records, restages-holder, retired-none, retired-other, checkpoint-home, checkpoint-retires}
+use Rattle.crash.proofs.BlockBytes.{bytes-store}
+use Rattle.crash.proofs.CardFrames.{core-set, core-other, record-same, contents-same}
+use Rattle.crash.proofs.ReadCheckpoint.{oldest-of, oldest-is}
+use Rattle.crash.proofs.Tests.{clash}
+use Rattle.crash.proofs.ReadMaster.{shape-up, master-bytes}
 
 -- ---- the ledger with one stage and the oldest numbers changed
 module _ (l : Ledger) (t : Name) (g : Stage) (o : ℕ → ℕ) where
@@ -107,17 +107,6 @@ module _ (l : Ledger) (t : Name) (g : Stage) (o : ℕ → ℕ) where
         → JournalStands l d a tail → JournalStands advanced d₂ a tail
     journal-kept d d₂ tail at e j =
         journal-advanced d d₂ tail tail at (j .number ∙ sym e) (j .position) (rw (contents-kept e) (j .stands)) (rw e (omega arith)) j
-
--- the first of the numbers below a count
-module _ {A : Type 0} where
-  flatMap-first : (f : ℕ → List A) (n : ℕ) → flatMap f (below (suc n)) ≡ f 0 ++ flatMap (λ (i : ℕ). f (suc i)) (below n)
-  unfolding below flatMap
-  flatMap-first f zero = refl
-  flatMap-first f (suc n) =
-      flatMap-append f (below (suc n)) (suc n ∷ [])
-      ∙ ap (λ (x : List A). x ++ (f (suc n) ++ [])) (flatMap-first f n)
-      ∙ append-assoc (f 0) (flatMap (λ (i : ℕ). f (suc i)) (below n)) (f (suc n) ++ [])
-      ∙ ap (λ (x : List A). f 0 ++ x) (sym (flatMap-append (λ (i : ℕ). f (suc i)) (below n) (n ∷ [])))
 
 -- ---- who held a block holds it no more
 abbrev releasedFrom : Name → Holder → Holder
@@ -324,10 +313,6 @@ module _ {l : Ledger} {w : World} (u : Up l w) (c : ℕ) (in-range : c < l .shap
     master-size : length block₂ ≡ 128
     master-size = length-master (u .fine .range) (tailOf card₂)
 
-    master-bytes : IsBytes block₂
-    unfolding masterBlock
-    master-bytes = each-isBytes _ (each-block _)
-
     master-elsewhere : (k : ℕ) → k ≢ 0 → blockAt (storeBlock (w .disk) 0 block₂) k ≡ blockAt (w .disk) k
     master-elsewhere = block-other (w .disk) 0 block₂ master-fits master-size
 
@@ -386,7 +371,7 @@ module _ {l : Ledger} {w : World} (u : Up l w) (c : ℕ) (in-range : c < l .shap
     master-disk =
         record {
           size = length-store (w .disk) 0 block₂ master-fits master-size ∙ u .disk .size;
-          bytes = bytes-store (w .disk) 0 block₂ (u .disk .bytes) master-bytes;
+          bytes = bytes-store (w .disk) 0 block₂ (u .disk .bytes) (master-bytes (l .shape) (tailOf card₂));
           master = block-stored (w .disk) 0 block₂ master-fits master-size;
           journals =
               λ a h.
@@ -461,10 +446,7 @@ module _ {l : Ledger} {w : World} (u : Up l w) (c : ℕ) (in-range : c < l .shap
       more-now : x .homed < length ((l .book .entry t) .blocks)
       more-now = omega (arith, homed-now)
 
-      pub home-below : getD ((l .book .entry t) .blocks) m 0 < l .shape .blocks
-      home-below = rw (← homed-now) (home-low more-now)
-
-      pub home-store : (checkpointed c w) .world .disk ≡ storeBlock (w .disk) (homeBlock (getD ((l .book .entry t) .blocks) m 0)) (getD (l .images t) m [])
+      home-store : (checkpointed c w) .world .disk ≡ storeBlock (w .disk) (homeBlock (getD ((l .book .entry t) .blocks) m 0)) (getD (l .images t) m [])
       home-store = rw (← homed-now) (ap (λ (z : Outcome). z .world .disk) (home-done more-now))
 
       pub home-stored : blockAt ((checkpointed c w) .world .disk) (homeBlock (getD ((l .book .entry t) .blocks) m 0)) ≡ getD (l .images t) m []
@@ -474,8 +456,5 @@ module _ {l : Ledger} {w : World} (u : Up l w) (c : ℕ) (in-range : c < l .shap
       home-others a ne = rw (home-store, ← homed-now) (home-elsewhere more-now (homeBlock a) (λ q. ne (rw (← homed-now) (omega arith))))
 
     module _ (all : m ≡ length ((l .book .entry t) .blocks)) where
-      pub master-store : (checkpointed c w) .world .disk ≡ storeBlock (w .disk) 0 (masterBlock (l .shape) (tailOf ((checkpointed c w) .world .card)))
-      master-store = rw (master-done (homed-now ∙ all)) refl
-
       pub homes-stay : (a : ℕ) → blockAt ((checkpointed c w) .world .disk) (homeBlock a) ≡ blockAt (w .disk) (homeBlock a)
       homes-stay a = rw (master-done (homed-now ∙ all)) (master-elsewhere (homed-now ∙ all) (homeBlock a) (omega arith))

@@ -11,13 +11,13 @@ use mathlib.Core.Bool.{true, false, not}
 use mathlib.Core.List.{List, [], _∷_, _++_, map, flatMap, append-assoc, List·Memᴰ, List·Memᴰ·head, List·Memᴰ·tail, List·Memᴰ·not-nil, List·Memᴰ·cases-cons}
 use mathlib.Core.Logic.{inl, inr}
 use lib.ListN.{length, getD, length-append, length-map, List·getD-append, List·getD-map}
-use lib.Seq.{getD-at, getD-append-add, ext-getD}
+use lib.Seq.{getD-append-add, ext-getD}
 use lib.Dec.{ltb, eqb}
 use borrow.Author.Tests.{le-leb, lt-ltb, ltb-true, ne-eqb}
 use Rattle.model.specs.Lists.{below}
 use Rattle.model.specs.Bytes.{Bytes, be4, part, number}
 use Rattle.model.specs.Card.{newName}
-use Rattle.model.specs.Layout.{Held, newHeld, distinct, isHeld, isListable, isCommit, commitBlock, flagOf, escaped, mark}
+use Rattle.model.specs.Layout.{Held, newHeld, distinct, isHeld, isListable, isCommit, flagOf, mark}
 use Rattle.model.specs.Journal.{journalAt, recordAt, recordsFrom, journal, nameOf, heldBy, blocksOf, namesOf, imageOf}
 use Rattle.model.specs.declared.Shape.{Shape}
 use Rattle.model.specs.declared.Tail.{Tail}
@@ -27,13 +27,13 @@ use Rattle.model.specs.declared.Found.the-variants.{Whole}
 use Rattle.model.proofs.Lists.{cases, and-both, all-mem, mem-all, getD-mem, mem-getD, flatMap-append, length-below, getD-map-below, Each, getD-each, mem-each}
 use Rattle.model.proofs.Words.{IsByte, IsWord}
 use Rattle.model.proofs.Encoding.{Sound}
-use Rattle.model.proofs.Journal.{IsBlock, Images, Stands, asRead, journal-wrap, record-read, held-read, names-read, image-read, records-miss, records-hit, miss-commit}
+use Rattle.model.proofs.Journal.{IsBlock, Images, Stands, asRead, journal-wrap, record-read, held-read, names-read, image-read, records-miss, records-hit, miss-commit, record-stands, length-recordBlocks}
 use Rattle.crash.specs.Book.{isClosed, Book}
 use Rattle.crash.specs.Ledger.{Ledger, recordBlocks, storedOf, storedSince}
 use Rattle.crash.specs.Claims.{readAs, JournalsRead}
 use Rattle.crash.proofs.Relation.{Limits, sumNext, Fine, heldOf, recordOf, contents, DiskStands}
-use Rattle.crash.proofs.Stages.{closed-present, Unretired, stored-unretired}
-use Rattle.crash.proofs.Master.{shape-read, tail-read}
+use Rattle.crash.proofs.LedgerStages.{closed-present, Unretired, stored-unretired}
+use Rattle.crash.proofs.ReadMaster.{shape-read, tail-read}
 
 -- ---- the list that the reader finds
 -- the record of transaction t at a position
@@ -59,16 +59,16 @@ unfoldable pub readList : Ledger → ℕ → Tail → List Committed
 readList l c t = readFrom l c (l .book .oldest c) (t .position) (l .book .uncommitted c - l .book .oldest c)
 
 -- their blocks
-unfoldable recordsOf : Ledger → ℕ → ℕ → ℕ → List Bytes
+unfoldable pub recordsOf : Ledger → ℕ → ℕ → ℕ → List Bytes
 recordsOf l c i zero = []
 recordsOf l c i (suc n) = recordOf l (newName c i) ++ recordsOf l c (suc i) n
 
 -- ---- a record of the ledger keeps the rules of the format
-pub length-held : (l : Ledger) (t : Name) → length (heldOf l t) ≡ length ((l .book .entry t) .blocks)
+length-held : (l : Ledger) (t : Name) → length (heldOf l t) ≡ length ((l .book .entry t) .blocks)
 unfolding heldOf
 length-held l t = length-map (below (length ((l .book .entry t) .blocks))) _ ∙ length-below (length ((l .book .entry t) .blocks))
 
-pub getD-held : (l : Ledger) (t : Name) (i : ℕ) → i < length ((l .book .entry t) .blocks)
+getD-held : (l : Ledger) (t : Name) (i : ℕ) → i < length ((l .book .entry t) .blocks)
     → getD (heldOf l t) i (newHeld 0 0) ≡ newHeld (getD ((l .book .entry t) .blocks) i 0) (flagOf (getD (l .images t) i []))
 unfolding heldOf
 getD-held l t i h =
@@ -146,7 +146,7 @@ module _ {l : Ledger} (f : Fine l) (t : Name) (h : isClosed ((l .book .entry t) 
         numbers = mem-each (λ (n : Name). IsWord (n .number)) ((l .book .entry t) .names) (λ u x. omega (arith, named u x .high));
       }
 
-  pub record-images : Images (heldOf l t) (l .images t)
+  record-images : Images (heldOf l t) (l .images t)
   record-images =
       let n = length-held l t in
       let z = f .frozen t h in
@@ -165,14 +165,15 @@ module _ {l : Ledger} (f : Fine l) (t : Name) (h : isClosed ((l .book .entry t) 
 
   pub length-record : length (recordOf l t) ≡ length ((l .book .entry t) .blocks) + 2
   unfolding recordOf
-  length-record = simp length-append (omega (arith, length-map (l .images t) escaped, f .frozen t h .count))
+  length-record =
+      length-recordBlocks (t .number) (heldOf l t) (l .stamp t) ((l .book .entry t) .names) (l .images t) ∙ ap (λ (n : ℕ). n + 2) (f .frozen t h .count)
 
   as-read : (p : ℕ) → asRead (t .core) p (t .number) (heldOf l t) (l .stamp t) ((l .book .entry t) .names) ≡ readRecord l t p
   as-read p = rw (length-held l t)
 
 -- ---- blocks that stand one after the other, from a position on
 module _ (s : Shape) (d : Bytes) (c : ℕ) where
-  abbrev pub BlocksStand : ℕ → List Bytes → Type 0
+  abbrev BlocksStand : ℕ → List Bytes → Type 0
   BlocksStand p xs = (q : ℕ) → q < length xs → journalAt s d c (p + q) ≡ getD xs q []
 
   stand-left : (p : ℕ) (xs ys : List Bytes) → BlocksStand p (xs ++ ys) → BlocksStand p xs
@@ -187,25 +188,6 @@ module _ (s : Shape) (d : Bytes) (c : ℕ) where
   unfolding journalAt
   stand-wrap p xs z q h = rw (journal-wrap s c p q) (z q h)
 
--- a record of the ledger whose blocks stand
-pub record-stands : {l : Ledger} (f : Fine l) (t : Name) → isClosed ((l .book .entry t) .stage) ≡ true → (d : Bytes) (p : ℕ)
-    → BlocksStand (l .shape) d (t .core) p (recordOf l t)
-    → Stands (l .shape) d (t .core) p (t .number) (heldOf l t) (l .stamp t) ((l .book .entry t) .names) (l .images t)
-unfolding recordOf
-record-stands {l} f t h d p z =
-    let n = length-held l t in
-    let m : length (map escaped (l .images t)) ≡ length (heldOf l t) = length-map (l .images t) escaped ∙ f .frozen t h .count ∙ sym n in
-    let size : length (recordOf l t) ≡ length (heldOf l t) + 2 = length-record f t h ∙ omega arith in
-    let last = commitBlock (t .number) (l .stamp t) ((l .book .entry t) .names) in
-    record {
-      descriptor = rw add-zero at (z 0 (omega arith));
-      data-blocks =
-          λ i hi.
-          z (i + 1) (omega arith)
-          ∙ rw add-one (List·getD-append (map escaped (l .images t)) (last ∷ []) [] i (omega arith) ∙ (unfold escaped be4 part number in List·getD-map escaped (l .images t) i []));
-      commit = z (length (heldOf l t) + 1) (omega arith) ∙ rw add-one (getD-at (map escaped (l .images t)) last [] [] (length (heldOf l t)) m);
-    }
-
 -- ---- the records of a journal
 records-snoc : (l : Ledger) (c i n : ℕ) → recordsOf l c i n ++ (recordOf l (newName c (i + n)) ++ []) ≡ recordsOf l c i (suc n)
 unfolding recordsOf
@@ -215,12 +197,12 @@ records-snoc l c i (suc n) =
     append-assoc (recordOf l (newName c i)) (recordsOf l c (suc i) n) (recordOf l (newName c (i + suc n)) ++ [])
     ∙ ap (λ (x : List Bytes). recordOf l (newName c i) ++ x) (rw e (records-snoc l c (suc i) n))
 
-records-cons : (l : Ledger) (c i n : ℕ) → flatMap (λ (j : ℕ). recordOf l (newName c (i + j))) (below n) ≡ recordsOf l c i n
+pub records-flat : (l : Ledger) (c i n : ℕ) → flatMap (λ (j : ℕ). recordOf l (newName c (i + j))) (below n) ≡ recordsOf l c i n
 unfolding below flatMap recordsOf
-records-cons l c i zero = refl
-records-cons l c i (suc n) =
+records-flat l c i zero = refl
+records-flat l c i (suc n) =
     flatMap-append (λ (j : ℕ). recordOf l (newName c (i + j))) (below n) (n ∷ [])
-    ∙ ap (λ (x : List Bytes). x ++ (recordOf l (newName c (i + n)) ++ [])) (records-cons l c i n)
+    ∙ ap (λ (x : List Bytes). x ++ (recordOf l (newName c (i + n)) ++ [])) (records-flat l c i n)
     ∙ records-snoc l c i n
 
 -- blocks of the records of closed transactions
@@ -239,14 +221,14 @@ blocks-more k c i (suc m) (suc n) h = omega (arith, blocks-more k c (suc i) m n 
 abbrev ClosedFrom : Ledger → ℕ → ℕ → ℕ → Type 0
 ClosedFrom l c i n = (j : ℕ) → i ≤ j → j < i + n → isClosed ((l .book .entry (newName c j)) .stage) ≡ true
 
-module _ {l : Ledger} (f : Fine l) (d : Bytes) (c : ℕ) where
-  length-records : (i n : ℕ) → ClosedFrom l c i n → length (recordsOf l c i n) ≡ recordBlocks (l .book) c i n
-  unfolding recordsOf recordBlocks
-  length-records i zero g = refl
-  length-records i (suc n) g =
-      length-append (recordOf l (newName c i)) (recordsOf l c (suc i) n)
-      ∙ omega (arith, length-record f (newName c i) (g i (omega arith) (omega arith)), length-records (suc i) n (λ j a b. g j (omega arith) (omega arith)))
+pub length-records : {l : Ledger} → Fine l → (c i n : ℕ) → ClosedFrom l c i n → length (recordsOf l c i n) ≡ recordBlocks (l .book) c i n
+unfolding recordsOf recordBlocks
+length-records f c i zero g = refl
+length-records {l} f c i (suc n) g =
+    length-append (recordOf l (newName c i)) (recordsOf l c (suc i) n)
+    ∙ omega (arith, length-record f (newName c i) (g i (omega arith) (omega arith)), length-records f c (suc i) n (λ j a b. g j (omega arith) (omega arith)))
 
+module _ {l : Ledger} (f : Fine l) (d : Bytes) (c : ℕ) where
   abbrev Standing : ℕ → ℕ → ℕ → Type 0
   Standing i p n = ClosedFrom l c i n × BlocksStand (l .shape) d c p (recordsOf l c i n)
 
@@ -254,7 +236,12 @@ module _ {l : Ledger} (f : Fine l) (d : Bytes) (c : ℕ) where
       → Stands (l .shape) d c p i (heldOf l (newName c i)) (l .stamp (newName c i)) ((l .book .entry (newName c i)) .names) (l .images (newName c i))
   unfolding recordsOf
   first-stands i p n z =
-      record-stands f (newName c i) (z .0 i (omega arith) (omega arith)) d p (stand-left (l .shape) d c p (recordOf l (newName c i)) (recordsOf l c (suc i) n) (z .1))
+      let t = newName c i in
+      let h = z .0 i (omega arith) (omega arith) in
+      let size = length-record f t h in
+      let e = length-held l t in
+      let stand = stand-left (l .shape) d c p (recordOf l t) (recordsOf l c (suc i) n) (z .1) in
+      record-stands (f .frozen t h .count ∙ sym e) (unfold recordOf in (λ q g. stand q (omega arith)))
 
   rest-stands : (i p n : ℕ) → Standing i p (suc n) → Standing (suc i) ((p + (length ((l .book .entry (newName c i)) .blocks) + 2)) % l .shape .journal) n
   unfolding recordsOf
@@ -375,7 +362,7 @@ module _ (l : Ledger) (c : ℕ) where
     length-readList = length-from (l .book .oldest c) (t .position) (l .book .uncommitted c - l .book .oldest c)
 
     -- the records are in order of number
-    pub readList-at : (j : ℕ) (e : Committed) → j < l .book .uncommitted c - l .book .oldest c → (getD (readList l c t) j e) .number ≡ l .book .oldest c + j
+    readList-at : (j : ℕ) (e : Committed) → j < l .book .uncommitted c - l .book .oldest c → (getD (readList l c t) j e) .number ≡ l .book .oldest c + j
     unfolding readList
     readList-at j e h = from-at (l .book .oldest c) (t .position) (l .book .uncommitted c - l .book .oldest c) j e h
 
@@ -401,7 +388,7 @@ module _ {l : Ledger} {d : Bytes} {tailAt : ℕ → Tail} (f : Fine l) (z : Disk
   abbrev count-of : ℕ
   count-of = l .book .uncommitted c - l .book .oldest c
 
-  stored-closed : ClosedFrom l c (l .book .oldest c) count-of
+  pub stored-closed : ClosedFrom l c (l .book .oldest c) count-of
   stored-closed j a b = stored-unretired (f .ranks c in-range) j a (omega arith) .is-closed
 
   journal-standing : Standing f d c (l .book .oldest c) ((tailAt c) .position) count-of
@@ -409,7 +396,7 @@ module _ {l : Ledger} {d : Bytes} {tailAt : ℕ → Tail} (f : Fine l) (z : Disk
     stored-closed,
     (unfold contents in
         stand-left (l .shape) d c ((tailAt c) .position) (recordsOf l c (l .book .oldest c) count-of) _
-        (rw (records-cons l c (l .book .oldest c) count-of) at (z .journals c in-range .stands))),
+        (rw (records-flat l c (l .book .oldest c) count-of) at (z .journals c in-range .stands))),
   )
 
   -- no record is shorter than two blocks, and all fit: J bounds their number
@@ -434,10 +421,6 @@ module _ {l : Ledger} {d : Bytes} {tailAt : ℕ → Tail} (f : Fine l) (z : Disk
       (records-are f d c most (k .oldest c) ((tailAt c) .position) (l .shape .journal) count-of h journal-standing
       (omega (arith, r .mid, j .room, blocks-more k c (k .oldest c) count-of (k .next c - k .oldest c) (omega (arith, r .mid))))
       (λ q. j .clear (k .oldest c + count-of) q (omega (arith, r .low))))
-
-  pub length-journal : (most : ℕ) → l .book .uncommitted c - l .book .oldest c ≤ most
-      → length (journal (l .shape) d c (tailAt c) most) ≡ l .book .uncommitted c - l .book .oldest c
-  length-journal most h = ap length (journal-read most h) ∙ length-readList l c (tailAt c)
 
   pub readList-is : (e : Committed) → List·Memᴰ e (readList l c (tailAt c)) → IsRead l d c e
   unfolding readList

@@ -6,9 +6,9 @@ use native.Mathlib.Omega.{arith}
 use native.Mathlib.Decide.{decLt, ℕ-discrete}
 use mathlib.Core.Path.{_≡_, refl, sym, ap, _∙_, subst}
 use mathlib.Core.Logic.{_⊎_, inl, inr, _≢_}
-use mathlib.Core.Bool.{Bool, true, false, _&&_}
+use mathlib.Core.Bool.{true, false}
 use mathlib.Core.List.{List, [], _∷_, _++_, map, List·Memᴰ, List·Memᴰ·head, List·Memᴰ·tail, List·Memᴰ·not-nil, List·Memᴰ·append-cases, Memᴰ·of-map}
-use lib.ListN.{length, take, drop, length-map, length-replicate, take-append-drop}
+use lib.ListN.{length, length-map, length-replicate}
 use lib.Dec.{ltb, eqb}
 use borrow.Author.Tests.{lt-ltb, le-ltb}
 use Rattle.model.specs.Lists.{all}
@@ -20,36 +20,23 @@ use Rattle.model.specs.declared.Phase.the-variants.{Down}
 use Rattle.model.specs.declared.Shape.{Shape}
 use Rattle.model.specs.declared.Name.{Name}
 use Rattle.model.proofs.Limits.{InRange}
-use Rattle.model.proofs.Lists.{cases, and-both, and-left, and-right, all-append, getD-mem}
+use Rattle.model.proofs.Lists.{cases, getD-mem}
 use Rattle.model.proofs.Select.{select-mem}
 use Rattle.model.proofs.Store.{length-replaced}
 use Rattle.crash.specs.Book.{Stage, absent, running, closed, committed, retired, isClosed, isRetired, Entry, Write, Book, emptyBook, raise, close, store, checkpoint, keptWrites, image, blank}
 use Rattle.crash.specs.Ledger.{Ledger, freshLedger, withBook, imageNow, closeLedger, cutLedger, recoverLedger, blocksIn}
 use Rattle.crash.specs.Claims.{IsBytes}
 use Rattle.crash.proofs.Relation.{IsBlock, Limits, WriteFits, Frozen, Ranks, sumNext, Fine}
-use Rattle.crash.proofs.Entries.{nextName, uncommittedName, oldestName, same-or-not, other-number, other-core, raise-at, raise-other}
-use Rattle.crash.proofs.Books.{Restages, restaged, restages, restages-keep, close-stamp, close-images, close-stamp-other, close-images-other, store-more, store-last, checkpoint-home, checkpoint-retires}
+use Rattle.crash.proofs.BookEntries.{nextName, uncommittedName, oldestName, same-or-not, other-number, other-core, raise-at, raise-other}
+use Rattle.crash.proofs.BookSteps.{Restages, restaged, restages, restages-keep, close-stamp, close-images, close-stamp-other, close-images-other, store-more, store-last, checkpoint-home, checkpoint-retires}
+use Rattle.crash.proofs.LedgerStages.{closed-present, running-present}
+use Rattle.crash.proofs.BlockBytes.{bytes-replaced}
 
 -- ---- current images are blocks of bytes
-bytes-parts : (n : ℕ) (s : Bytes) → IsBytes s → IsBytes (take n s) × IsBytes (drop n s)
-bytes-parts n s h =
-    let test : ℕ → Bool = λ x. ltb x 256 in
-    let e : (all test (take n s) && all test (drop n s)) ≡ true = sym (all-append test (take n s) (drop n s)) ∙ ap (all test) (take-append-drop n s) ∙ h in
-    (and-left (all test (take n s)) (all test (drop n s)) e, and-right (all test (take n s)) (all test (drop n s)) e)
-
-bytes-append : (s t : Bytes) → IsBytes s → IsBytes t → IsBytes (s ++ t)
-bytes-append s t p q = all-append (λ x. ltb x 256) s t ∙ and-both p q
-
-replaced-bytes : (o : ℕ) (x v : Bytes) → IsBytes x → IsBytes v → IsBytes (replaced o 4 x v)
-unfolding replaced
-replaced-bytes o x v hx hv =
-    let p = bytes-parts o x hx in
-    bytes-append (take o x) (v ++ drop 4 (drop o x)) (p .0) (bytes-append v (drop 4 (drop o x)) hv (bytes-parts 4 (drop o x) (p .1) .1))
-
-pub replaced-block : (o : ℕ) (x v : Bytes) → o ≤ 124 → length v ≡ 4 → IsBytes v → IsBlock x → IsBlock (replaced o 4 x v)
+replaced-block : (o : ℕ) (x v : Bytes) → o ≤ 124 → length v ≡ 4 → IsBytes v → IsBlock x → IsBlock (replaced o 4 x v)
 replaced-block o x v h n bv i =
     let fits : o + 4 ≤ length x = omega arith in
-    record { size = length-replaced o 4 x v fits n ∙ i .size; bytes = replaced-bytes o x v (i .bytes) bv }
+    record { size = length-replaced o 4 x v fits n ∙ i .size; bytes = bytes-replaced o 4 x v (i .bytes) bv }
 
 pub image-block : (s : Shape) (base : ℕ → Bytes) (b : ℕ) → IsBlock (base b) → (ws : List Write) → ((w : Write) → List·Memᴰ w ws → WriteFits s w) → IsBlock (image base ws b)
 unfolding image
@@ -65,7 +52,7 @@ pub blank-block : (b : ℕ) → IsBlock (blank b)
 unfolding blank all
 blank-block b = record { size = length-replicate {A = ℕ} 128 0; bytes = refl }
 
-pub now-block : (l : Ledger) → Fine l → (b : ℕ) → IsBlock (imageNow l b)
+now-block : (l : Ledger) → Fine l → (b : ℕ) → IsBlock (imageNow l b)
 unfolding imageNow
 now-block l f b =
     image-block (l .shape) (image blank (l .saved)) b (image-block (l .shape) blank b (blank-block b) (l .saved) (f .saved)) (l .book .writes) (f .writes)
@@ -113,9 +100,12 @@ same-frozen l l′ t i s c b z =
     record { count = rw (i, b) (z .count); images = rw i (z .images); low = rw s (z .low); high = rw (s, c) (z .high) }
 
 -- phase and blocks left to recover are no part of the order
-fine-in : (l : Ledger) (p : Phase) (left : List ℕ) → Fine l
-    → Fine (record { shape = l .shape; saved = l .saved; book = l .book; closes = l .closes; stamp = l .stamp; images = l .images; phase = p; left = left })
-fine-in l p left f =
+abbrev pub phased : Phase → List ℕ → Ledger → Ledger
+phased p left l =
+    record { shape = l .shape; saved = l .saved; book = l .book; closes = l .closes; stamp = l .stamp; images = l .images; phase = p; left = left }
+
+fine-phased : (l : Ledger) (p : Phase) (left : List ℕ) → Fine l → Fine (phased p left l)
+fine-phased l p left f =
     record {
       range = f .range;
       ranks = f .ranks;
@@ -134,21 +124,21 @@ fine-in l p left f =
 
 pub fine-cut : (l : Ledger) → Fine l → Fine (cutLedger l)
 unfolding cutLedger
-fine-cut l = fine-in l Down (blocksIn (l .shape .blocks) (l .book))
+fine-cut l = fine-phased l Down (blocksIn (l .shape .blocks) (l .book))
 
 pub fine-home : (b : ℕ) (bs : List ℕ) (l : Ledger) → Fine l → Fine (recoverLedger (b ∷ bs) l)
 unfolding recoverLedger
-fine-home b bs l = fine-in l Down bs
+fine-home b bs l = fine-phased l Down bs
 
-pub kept-written : (k : Book) (w : Write) → List·Memᴰ w (keptWrites k) → List·Memᴰ w (k .writes)
+pub kept-fits : (l : Ledger) → Fine l → (w : Write) → List·Memᴰ w (keptWrites (l .book) ++ l .saved) → WriteFits (l .shape) w
 unfolding keptWrites
-kept-written k w m = select-mem _ (k .writes) w m .0
+kept-fits l f w m =
+    elim (List·Memᴰ·append-cases (keptWrites (l .book)) m) [ inl p ↦ f .writes w (select-mem _ (l .book .writes) w p .0) | inr p ↦ f .saved w p ]
 
 pub fine-recovered : (l : Ledger) → Fine l → Fine (recoverLedger [] l)
 unfolding recoverLedger
 fine-recovered l f =
-    fine-fresh (l .shape) (keptWrites (l .book) ++ l .saved) (λ (c : ℕ). min (l .book .uncommitted c + 1) (suc maxNumber)) (f .range)
-    (λ w m. elim (List·Memᴰ·append-cases (keptWrites (l .book)) m) [ inl p ↦ f .writes w (kept-written (l .book) w p) | inr p ↦ f .saved w p ])
+    fine-fresh (l .shape) (keptWrites (l .book) ++ l .saved) (λ (c : ℕ). min (l .book .uncommitted c + 1) (suc maxNumber)) (f .range) (kept-fits l f)
     (λ c h. (omega arith, omega arith))
 
 -- a core whose numbers, stages and blocks stay, but for the one to open
@@ -386,7 +376,7 @@ module _ (k : Book) (c : ℕ) (r : Ranks k c) where
         }
 
   -- which of the two a STORE is
-  pub store-by : (P : Book → Type 0) → k .uncommitted c < k .next c
+  store-by : (P : Book → Type 0) → k .uncommitted c < k .next c
       → ((n : ℕ) → (k .entry (uncommittedName c k)) .stage ≡ closed n → n < length ((k .entry (uncommittedName c k)) .blocks) + 1
       → P (restaged (uncommittedName c k) (closed (suc n)) (k .oldest) (k .uncommitted) (k .next) k))
       → ((n : ℕ) → (k .entry (uncommittedName c k)) .stage ≡ closed n → n ≡ length ((k .entry (uncommittedName c k)) .blocks) + 1
@@ -401,7 +391,7 @@ module _ (k : Book) (c : ℕ) (r : Ranks k c) where
       ]
 
   -- and a CHECKPOINT
-  pub checkpoint-by : (P : Book → Type 0) → k .oldest c < k .uncommitted c
+  checkpoint-by : (P : Book → Type 0) → k .oldest c < k .uncommitted c
       → ((n : ℕ) → (k .entry (oldestName c k)) .stage ≡ committed n → n < length ((k .entry (oldestName c k)) .blocks)
       → P (restaged (oldestName c k) (committed (suc n)) (k .oldest) (k .uncommitted) (k .next) k))
       → ((n : ℕ) → (k .entry (oldestName c k)) .stage ≡ committed n → n ≡ length ((k .entry (oldestName c k)) .blocks)
@@ -416,9 +406,6 @@ module _ (k : Book) (c : ℕ) (r : Ranks k c) where
       ]
 
 -- ---- CLOSE, STORE, CHECKPOINT
-closed-open : (g : Stage) → isClosed g ≡ true → g ≢ absent
-closed-open g h e = let p : isClosed g ≡ false = ap isClosed e in let z : _≡_ {A = ℕ} 0 1 = cc in omega arith
-
 module _ (l : Ledger) (f : Fine l) (c : ℕ) (hc : c < l .shape .cores) where
   abbrev k : Book
   k = l .book
@@ -430,9 +417,6 @@ module _ (l : Ledger) (f : Fine l) (c : ℕ) (hc : c < l .shape .cores) where
 
     abbrev closing : Restages k (restaged t (closed 0) (k .oldest) (k .uncommitted) (raise c (k .next)) k) t (closed 0)
     closing = restages t (closed 0) (k .oldest) (k .uncommitted) (raise c (k .next)) k
-
-    run-open : (k .entry t) .stage ≢ absent
-    run-open e = let z : _≡_ {A = ℕ} 0 1 = cc in omega arith
 
     frozen-closed : Frozen (closeLedger c l) t
     unfolding closeLedger close
@@ -483,10 +467,10 @@ module _ (l : Ledger) (f : Fine l) (c : ℕ) (hc : c < l .shape .cores) where
     pub fine-close : Fine (closeLedger c l)
     unfolding closeLedger close
     fine-close =
-        fine-moved l f t (closed 0) run-open (λ e. let z : _≡_ {A = ℕ} 0 1 = cc in omega arith) (k .oldest) (k .uncommitted) (raise c (k .next))
+        fine-moved l f t (closed 0) (running-present _ run) (closed-present _ refl) (k .oldest) (k .uncommitted) (raise c (k .next))
         (suc (l .closes)) ((closeLedger c l) .stamp) ((closeLedger c l) .images)
         (λ a h. elim (ℕ-discrete a c) [
-          | yes e ↦ subst (λ (a : ℕ). Ranks (close c k) a) (sym e) (ranks-closed k c (f .ranks c hc) idle (f .limits t run-open .high))
+          | yes e ↦ subst (λ (a : ℕ). Ranks (close c k) a) (sym e) (ranks-closed k c (f .ranks c hc) idle (f .limits t (running-present _ run) .high))
           | no ne ↦ ranks-elsewhere k c (k .next c) (closed 0) (k .oldest) (k .uncommitted) (raise c (k .next)) a ne refl refl (raise-other c (k .next) a ne) (f .ranks a h)
         ])
         (λ u h. same-or-not u t (λ e. subst (λ (u : Name). Frozen (closeLedger c l) u) (sym e) frozen-closed) (λ ne. still-frozen u ne h))
@@ -503,7 +487,7 @@ module _ (l : Ledger) (f : Fine l) (c : ℕ) (hc : c < l .shape .cores) where
         let step = restages s g o u (k .next) k in
         let before : (x : Name) → isClosed ((after .entry x) .stage) ≡ true → isClosed ((k .entry x) .stage) ≡ true
         = λ x h. sym (restages-keep step isClosed (is ∙ sym was) x) ∙ h in
-        fine-moved l f s g (closed-open ((k .entry s) .stage) was) (closed-open g is) o u (k .next) (l .closes) (l .stamp) (l .images)
+        fine-moved l f s g (closed-present _ was) (closed-present g is) o u (k .next) (l .closes) (l .stamp) (l .images)
         (λ a h. elim (ℕ-discrete a c) [
           | yes e ↦ subst (λ (a : ℕ). Ranks after a) (sym e) here
           | no ne ↦ ranks-elsewhere k c i g o u (k .next) a ne (elsewhere a ne .0) (elsewhere a ne .1) refl (f .ranks a h)

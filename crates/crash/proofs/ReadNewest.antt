@@ -21,14 +21,15 @@ use Rattle.model.specs.declared.Name.{Name}
 use Rattle.model.specs.declared.Committed.{Committed}
 use Rattle.model.specs.declared.Found.{Found}
 use Rattle.model.specs.declared.Found.the-variants.{Whole, Miss}
-use Rattle.model.proofs.Lists.{cases, any-mem, mem-any, getD-mem}
+use Rattle.model.proofs.Lists.{cases, getD-mem}
 use Rattle.crash.specs.Book.{isClosed}
 use Rattle.crash.specs.Ledger.{Ledger}
 use Rattle.crash.proofs.Relation.{Fine, DiskStands, Newest, target}
-use Rattle.crash.proofs.Stages.{clash, closed-present}
-use Rattle.crash.proofs.Master.{shape-read}
-use Rattle.crash.proofs.Records.{IsRead, few-records}
-use Rattle.crash.proofs.Valid.{valid-name, valid-read, valid-are, own-tails, valid-on}
+use Rattle.crash.proofs.LedgerStages.{closed-present}
+use Rattle.crash.proofs.ReadMaster.{shape-read}
+use Rattle.crash.proofs.ReadRecords.{IsRead, few-records}
+use Rattle.crash.proofs.ReadValid.{valid-name, valid-read, valid-are, own-tails, valid-on}
+use Rattle.crash.proofs.Tests.{clash, any-in, in-any, blockEquality}
 
 -- ---- the newest of a list
 module _ (s : Shape) (d : Bytes) (b : ℕ) where
@@ -112,9 +113,6 @@ module _ (s : Shape) (d : Bytes) (b : ℕ) where
       ])
 
 -- ---- a block's place in a list
-any-block : (b : ℕ) (bs : List ℕ) → any (eqb b) bs ≡ true → List·Memᴰ b bs
-any-block b bs h = let r = any-mem (eqb b) bs h in Memᴰ·cast (eqb-true b (r .0) (r .2)) (r .1)
-
 place-in : (b : ℕ) (bs : List ℕ) → List·Memᴰ b bs → (placeOf b bs < length bs) × (getD bs (placeOf b bs) 0 ≡ b)
 unfolding placeOf
 place-in b [] m = absurd (List·Memᴰ·not-nil m)
@@ -136,20 +134,20 @@ module _ {l : Ledger} {d : Bytes} {tailAt : ℕ → Tail} (f : Fine l) (z : Disk
   abbrev taken-by : List·Memᴰ b ((l .book .entry (n .holder)) .blocks)
   taken-by = Memᴰ·cast (sym (n .block)) (getD-mem ((l .book .entry (n .holder)) .blocks) (n .place) 0 (n .within))
 
-  pub newest-read : (most : ℕ → ℕ) → ((c : ℕ) → c < l .shape .cores → l .book .uncommitted c - l .book .oldest c ≤ most c)
+  newest-read : (most : ℕ → ℕ) → ((c : ℕ) → c < l .shape .cores → l .book .uncommitted c - l .book .oldest c ≤ most c)
       → (e : Committed) × (newest (l .shape) d b Miss (validSet (l .shape) d tailAt (journals (l .shape) d tailAt most)) ≡ Whole e)
       × List·Memᴰ e (validSet (l .shape) d tailAt (journals (l .shape) d tailAt most)) × (nameOf e ≡ n .holder)
   newest-read most enough =
       let vs = validSet (l .shape) d tailAt (journals (l .shape) d tailAt most) in
       let h = valid-read f z most enough (n .holder) (n .valid) in
       let x = valid-are f z most enough (h .0) (h .1) in
-      let t : took (l .shape) d b (h .0) ≡ true = took-read b x ∙ mem-any (eqb b) (rw (h .2) taken-by) (eq-eqb b b refl) in
+      let t : took (l .shape) d b (h .0) ≡ true = took-read b x ∙ in-any blockEquality (rw (h .2) taken-by) in
       let r = newest-highest (l .shape) d b vs (h .0) (h .1) t in
       let e = r .0 in
       let v = r .2 in
       let y = valid-are f z most enough e (v .among) in
       let m : l .stamp (nameOf e) ≤ l .stamp (n .holder) =
-      n .highest (nameOf e) (valid-name f z most enough e (v .among)) (any-block b ((l .book .entry (nameOf e)) .blocks) (sym (took-read b y) ∙ v .took-it)) in
+      n .highest (nameOf e) (valid-name f z most enough e (v .among)) (any-in blockEquality b ((l .book .entry (nameOf e)) .blocks) (sym (took-read b y) ∙ v .took-it)) in
       let o : h .0 .stamp ≡ l .stamp (n .holder) = x .stamp ∙ ap (l .stamp) (h .2) in
       let closed : isClosed ((l .book .entry (n .holder)) .stage) ≡ true = rw (h .2) at (x .unretired .is-closed) in (
         e,
@@ -158,7 +156,7 @@ module _ {l : Ledger} {d : Bytes} {tailAt : ℕ → Tail} (f : Fine l) (z : Disk
         f .stamps (nameOf e) (n .holder) (y .unretired .is-closed) closed (omega (arith, y .stamp, v .most (h .0) (h .1) t)),
       )
 
-  pub image-found : (c : ℕ) (e : Committed) → IsRead l d c e → nameOf e ≡ n .holder → imageFound d b (Whole e) ≡ target l b
+  image-found : (c : ℕ) (e : Committed) → IsRead l d c e → nameOf e ≡ n .holder → imageFound d b (Whole e) ≡ target l b
   unfolding imageFound
   image-found c e r h =
       let bs = (l .book .entry (n .holder)) .blocks in

@@ -1,60 +1,56 @@
 -- STORE keeps card and ledger in agreement: what it stores is the next block of the closed transaction's record, and it
 -- stands right after what its journal holds. The journal has room for the record, so nothing live is overwritten; the
 -- block is no commit of a number that is still uncommitted afterwards.
-use Prim.Native.Nat.{ℕ, zero, suc, _+_, _-_, _*_, _≤_, _<_}
+use Prim.Native.Nat.{ℕ, suc, _+_, _-_, _*_, _≤_, _<_}
 use native.Mathlib.Omega.{arith}
 use native.Mathlib.Decide.{decLt, ℕ-discrete}
 use mathlib.Core.Path.{_≡_, refl, ap, ap₂, _∙_, sym, subst}
 use mathlib.Core.Logic.{_≢_}
 use mathlib.Core.Bool.{true, false}
-use mathlib.Core.List.{List, [], _∷_, _++_, map, flatMap, append-assoc, append-nil}
-use lib.ListN.{length, take, getD, length-append, length-map, length-set, List·getD-append, List·getD-map}
+use mathlib.Core.List.{List, [], _∷_, _++_, flatMap, append-assoc, append-nil}
+use lib.ListN.{length, take, getD, length-append, length-set, List·getD-append}
 use lib.Seq.{getD-at, take-suc, take-all, length-take-le}
 use lib.Dec.{leb}
 use borrow.Author.Tests.{le-leb, lt-leb, eq-eqb, ne-eqb}
 use Rattle.model.specs.Lists.{below}
-use Rattle.model.specs.Bytes.{Bytes, blockAt, be4, part, number, store as storeBlock}
+use Rattle.model.specs.Bytes.{Bytes, blockAt, part, number, store as storeBlock}
 use Rattle.model.specs.Shape.{homeBlock, journalBlock}
-use Rattle.model.specs.Card.{newName, recordSize, shapeOf, tailOf, coreOf, holderOf, withCore}
+use Rattle.model.specs.Card.{newName, recordSize, tailOf, coreOf, holderOf, withCore}
 use Rattle.model.specs.Layout.{newHeld, hasHead, flagOf, escaped, descriptorBlock, commitBlock, isCommit}
 use Rattle.model.specs.Journal.{journalAt}
 use Rattle.model.specs.Command.{World}
 use Rattle.model.specs.Commit.{copyBlock, heldCopies, nextStored, nextPosition, coreStored, stored}
 use Rattle.model.specs.declared.Name.{Name}
 use Rattle.model.specs.declared.Core.{Core}
-use Rattle.model.proofs.Limits.{clamped-same}
-use Rattle.model.proofs.Lists.{cases, flatMap-append}
+use Rattle.model.proofs.Lists.{cases, flatMap-append, map-below, flatMap-below}
 use Rattle.model.proofs.Store.{length-store, block-stored, block-other}
 use Rattle.model.proofs.Words.{each-block}
 use Rattle.model.proofs.Encoding.{length-descriptor, length-commit, length-escaped, descriptor-head, commit-head, head-other, no-commit, escaped-head}
-use Rattle.model.proofs.Journal.{journal-low, home-apart, cores-apart, journal-apart}
+use Rattle.model.proofs.Journal.{journal-low, home-apart, cores-apart, journal-apart, length-recordBlocks, recordBlocks-each}
 use Rattle.crash.specs.Book.{closed, committed, isClosed, counted, Entry, Book, raise, staged, store}
 use Rattle.crash.specs.Ledger.{Ledger, withBook, imageNow, recordBlocks}
 use Rattle.crash.proofs.Relation.{IsBlock, Fine, heldOf, recordOf, contents, JournalStands, DiskStands, CoreUp, holderAs, Up}
-use Rattle.crash.proofs.Stages.{stored-unretired}
-use Rattle.crash.proofs.Records.{record-sound, length-record}
-use Rattle.crash.proofs.Entries.{other-number, other-core, change-at, raise-at, raise-other, records-snoc}
-use Rattle.crash.proofs.Books.{Restages, restaged, restages-records, storedStage, store-restages, store-more, store-last, store-holder}
-use Rattle.crash.proofs.Blocks.{bytes-store, each-isBytes, escaped-bytes}
-use Rattle.crash.proofs.Frames.{SameClosed, core-set, core-other, map-below, record-same, flatMap-below, none-stored, journal-stays, core-stays}
+use Rattle.crash.proofs.ReadRecords.{record-sound, length-record, records-flat, length-records, stored-closed}
+use Rattle.crash.proofs.BookEntries.{other-number, other-core, change-at, raise-at, raise-other, records-snoc}
+use Rattle.crash.proofs.BookSteps.{Restages, restaged, restages-records, storedStage, store-restages, store-more, store-last, store-holder}
+use Rattle.crash.proofs.BlockBytes.{bytes-store, each-isBytes, escaped-bytes}
+use Rattle.crash.proofs.CardFrames.{SameClosed, core-set, core-other, record-same, none-stored, journal-stays, core-stays}
+use Rattle.crash.proofs.ReadMaster.{shape-up}
 
 -- ---- the blocks of a record, one by one
 module _ {l : Ledger} (f : Fine l) (t : Name) (h : isClosed ((l .book .entry t) .stage) ≡ true) where
+  record-size : length (recordOf l t) ≡ length (l .images t) + 2
+  unfolding recordOf
+  record-size = length-recordBlocks (t .number) (heldOf l t) (l .stamp t) ((l .book .entry t) .names) (l .images t)
+
   record-each : (P : ℕ → Bytes → Type 0) → P 0 (descriptorBlock (t .number) (heldOf l t))
       → ((i : ℕ) → i < length (l .images t) → P (suc i) (escaped (getD (l .images t) i [])))
       → P (suc (length (l .images t))) (commitBlock (t .number) (l .stamp t) ((l .book .entry t) .names))
       → (i : ℕ) → i < length (recordOf l t) → P i (getD (recordOf l t) i [])
   unfolding recordOf
-  record-each P a b c zero g = a
-  record-each P a b c (suc i) g =
-      let n = length-map (l .images t) escaped in
-      let last = commitBlock (t .number) (l .stamp t) ((l .book .entry t) .names) in
-      let at : getD (map escaped (l .images t)) i [] ≡ escaped (getD (l .images t) i []) = unfold escaped be4 part number in List·getD-map escaped (l .images t) i [] in
-      elim (decLt i (length (l .images t))) [
-        | yes lt ↦ subst (P (suc i)) (sym (List·getD-append (map escaped (l .images t)) (last ∷ []) [] i (omega arith) ∙ at)) (b i lt)
-        | no ge ↦ (let e : length (l .images t) ≡ i = omega (arith, length-append (map escaped (l .images t)) (last ∷ [])) in
-            subst (λ (j : ℕ). P (suc j) (getD (map escaped (l .images t) ++ (last ∷ [])) j [])) e (subst (P (suc (length (l .images t)))) (sym (getD-at (map escaped (l .images t)) last [] [] (length (l .images t)) n)) c))
-      ]
+  record-each P a b c i g =
+      recordBlocks-each (t .number) (heldOf l t) (l .stamp t) ((l .book .entry t) .names) (l .images t) P a b c i
+      (omega (arith, length-recordBlocks (t .number) (heldOf l t) (l .stamp t) ((l .book .entry t) .names) (l .images t)))
 
   record-blocks : (i : ℕ) → i < length (recordOf l t) → IsBlock (getD (recordOf l t) i [])
   unfolding descriptorBlock commitBlock
@@ -72,7 +68,7 @@ module _ {l : Ledger} (f : Fine l) (t : Name) (h : isClosed ((l .book .entry t) 
       → isCommit (l .shape) n (getD (recordOf l t) i []) ≡ false
   record-clear i n g low last =
       let s = record-sound f t h in
-      let size : length (recordOf l t) ≡ length (l .images t) + 2 = length-record f t h ∙ ap (λ (n : ℕ). n + 2) (sym (f .frozen t h .count)) in
+      let size = record-size in
       no-commit (l .shape) n (getD (recordOf l t) i [])
       (record-each (λ (j : ℕ) (b : Bytes). (suc j ≡ length (recordOf l t) → t .number < n) → hasHead 2 n b ≡ false)
       (λ _. head-other 1 (t .number) 2 n _ (descriptor-head s) (λ e _. omega arith))
@@ -80,27 +76,7 @@ module _ {l : Ledger} (f : Fine l) (t : Name) (h : isClosed ((l .book .entry t) 
       (λ z. head-other 2 (t .number) 2 n _ (commit-head s) (λ _ e. omega (arith, z (omega arith))))
       i g last)
 
--- ---- what a journal holds, in blocks
-module _ {l : Ledger} (f : Fine l) (c : ℕ) (in-range : c < l .shape .cores) where
-  length-whole : (n : ℕ) → l .book .oldest c + n ≤ l .book .uncommitted c
-      → length (flatMap (λ (i : ℕ). recordOf l (newName c (l .book .oldest c + i))) (below n)) ≡ recordBlocks (l .book) c (l .book .oldest c) n
-  unfolding below flatMap recordBlocks
-  length-whole zero h = refl
-  length-whole (suc n) h =
-      let o = l .book .oldest c in
-      let g : ℕ → List Bytes = λ i. recordOf l (newName c (o + i)) in
-      let x = length-record f (newName c (o + n)) (stored-unretired (f .ranks c in-range) (o + n) (omega arith) (omega arith) .is-closed) in
-      let e : length (g n ++ []) ≡ length (g n) = ap length (append-nil (g n)) in
-      ap length (flatMap-append g (below n) (n ∷ []))
-      ∙ length-append (flatMap g (below n)) (g n ++ [])
-      ∙ omega (arith, length-whole n (omega arith), records-snoc (l .book) c o n)
-
 -- ---- STORE
--- the shape of the card is read as it is
-pub shape-up : {l : Ledger} {w : World} → Up l w → shapeOf (w .card) ≡ l .shape
-unfolding shapeOf
-shape-up {l} {w} u = rw (u .shape) (clamped-same (l .shape) (u .fine .range))
-
 held-copies : (l : Ledger) (t : Name) (c : ℕ) (m : Bytes)
     → ((i : ℕ) → i < length ((l .book .entry t) .blocks) → blockAt m (copyBlock c i) ≡ getD (l .images t) i [])
     → heldCopies c ((l .book .entry t) .blocks) m ≡ heldOf l t
@@ -165,7 +141,8 @@ module _ {l : Ledger} {w : World} (u : Up l w) (c : ℕ) (in-range : c < l .shap
       let o = l .book .oldest c in
       let n = l .book .uncommitted c - o in
       let g = flatMap (λ (i : ℕ). recordOf l (newName c (o + i))) (below n) in
-      let whole : length g ≡ x .used = length-whole (u .fine) c in-range n (omega (arith, r .low)) ∙ sym (u .cores c in-range .used) in
+      let whole : length g ≡ x .used =
+      ap length (records-flat l c o n) ∙ length-records (u .fine) c o n (stored-closed (u .fine) (u .disk) c in-range) ∙ sym (u .cores c in-range .used) in
       let part : length (take (counted ((l .book .entry t) .stage)) (recordOf l t)) ≡ x .stored =
       ap (λ (i : ℕ). length (take i (recordOf l t))) (ap counted stage-now) ∙ length-take-le (x .stored) (recordOf l t) (omega (arith, within, size)) in
       length-append g (take (counted ((l .book .entry t) .stage)) (recordOf l t)) ∙ ap₂ _+_ whole part

@@ -3,35 +3,31 @@
 -- the whole history. From then on no write is held by it, so that part of the history stays as it is.
 use mathlib.Core.Path.{_≡_, refl, sym, _∙_, ap, fun-ext}
 use mathlib.Core.Bool.{false, So}
-use mathlib.Core.Logic.{_⊎_, inl, inr}
-use mathlib.Core.List.{List, [], _∷_, map, List·Memᴰ, List·Memᴰ·head, List·Memᴰ·tail}
+use mathlib.Core.Logic.{_⊎_}
+use mathlib.Core.List.{List, [], _∷_, map}
 use mathlib.Core.Option.{some}
-use Prim.Native.Nat.{ℕ, zero, suc, _≤_, _<_}
-use native.Mathlib.Omega.{arith}
+use Prim.Native.Nat.{ℕ, _≤_, _<_}
 use lib.ListN.{length, getD}
 use lib.Dec.{eqb}
 use Rattle.model.specs.Bytes.{Bytes}
 use Rattle.model.specs.Card.{sameName}
 use Rattle.model.specs.declared.Name.{Name}
 use Rattle.model.specs.declared.Shape.{Shape}
-use Rattle.model.proofs.Lists.{cases}
+use Rattle.model.proofs.Lists.{cases, map-same, getD-map}
 use Rattle.model.proofs.Valid.{sameName-true, sameName-refl}
-use Rattle.crash.specs.Book.{Stage, absent, running, closed, committed, isClosed, Entry, Write, emptyBook, begin, store, checkpoint, holderIn, Meeting, meets, ruled, holderAfter, note, wrote}
+use Rattle.crash.specs.Book.{Stage, absent, running, closed, committed, isClosed, Entry, Write, emptyBook, begin, store, checkpoint, holderIn, Meeting, meets, ruled, holderAfter, note, wrote, Book}
 use Rattle.crash.specs.Ledger.{Ledger, freshLedger, withBook, imageNow, closeLedger}
 use Rattle.crash.proofs.Tests.{clash, false-of, in-any, blockEquality}
 use Rattle.crash.proofs.History.{Event, value, upto}
 use Rattle.crash.proofs.Largest.{stageOf}
 use Rattle.crash.proofs.Invariant.{image-history, areaBefore, historyOf, imageAt, tookIn, Inv}
-use Rattle.crash.proofs.Commands.{Moved, moved-each, moved-blocks, begin-moved, close-moved, store-moved, retire-moved, home-moved, nextName, uncommittedName, oldestName}
-use Rattle.crash.proofs.Write.{Edits, withWrite, lastHolder, open-last, meets-ruled, rule-edits, rule-open, begin-runs}
+use Rattle.crash.proofs.InvariantSteps.{Moved, moved-each, moved-blocks, begin-moved, close-moved, store-moved, retire-moved, home-moved}
+use Rattle.crash.proofs.InvariantWrite.{Edits, withWrite, lastHolder, open-last, meets-ruled, rule-edits, rule-open}
+use Rattle.crash.proofs.BookEntries.{nextName, uncommittedName, oldestName}
+use Rattle.crash.proofs.BookSteps.{begun, begun-by, begun-running, close-images}
 
 abbrev pub Imaged : Ledger → Type 0
 Imaged l = (t : Name) → So (isClosed (stageOf (l .book) t)) → l .images t ≡ map (imageAt l t) ((l .book .entry t) .blocks)
-
-getD-map : {A B : Type 0} (f : A → B) (xs : List A) (i : ℕ) (a : A) (b : B) → i < length xs → getD (map f xs) i b ≡ f (getD xs i a)
-getD-map f [] i a b h = absurd (omega arith)
-getD-map f (x ∷ xs) zero a b h = refl
-getD-map f (x ∷ xs) (suc i) a b h = getD-map f xs i a b (omega arith)
 
 -- of the i-th block that a closed transaction took
 pub image-of-closed : (l : Ledger) → Imaged l → (t : Name) → So (isClosed (stageOf (l .book) t)) → (i : ℕ) → i < length ((l .book .entry t) .blocks)
@@ -55,10 +51,6 @@ module _ {t : Name} {g : Stage} {l l′ : Ledger} (m : Moved t g l l′) where
       closing (λ u n p q. clash q p) u was h)
       ∙ rw (moved-image u, moved-blocks m u) refl
 
-map-on : {A B : Type 0} (f g : A → B) (xs : List A) → ((a : A) → List·Memᴰ a xs → f a ≡ g a) → map f xs ≡ map g xs
-map-on f g [] h = refl
-map-on f g (x ∷ xs) h = rw (h x (List·Memᴰ·head refl), map-on f g xs (λ a m. h a (List·Memᴰ·tail m))) refl
-
 imaged-begin : (l : Ledger) → Imaged l → (t : Name) → stageOf (l .book) t ≡ absent → Imaged (withBook l (begin t (l .book)))
 imaged-begin l imaged t r = imaged-moved (begin-moved l t r) (λ p q. clash q refl) imaged
 
@@ -73,25 +65,21 @@ module _ {home : ℕ → Bytes} {l : Ledger} (v : Inv home l) (imaged : Imaged l
       image-history (areaBefore l) (l .book .writes) b ∙ ap (value (areaBefore l b)) (sym (upto-last t (historyOf l b) (open-last v b t runs k)))
 
   module _ (c : ℕ) where
-    images-at-close : (closeLedger c l) .images (nextName (l .book) c) ≡ map (imageNow l) ((l .book .entry (nextName (l .book) c)) .blocks)
-    unfolding closeLedger
-    images-at-close = rw (sameName-refl (nextName (l .book) c)) refl
-
-    pub imaged-close : stageOf (l .book) (nextName (l .book) c) ≡ running → Imaged (closeLedger c l)
+    pub imaged-close : stageOf (l .book) (nextName c (l .book)) ≡ running → Imaged (closeLedger c l)
     imaged-close r =
         imaged-moved (close-moved v c r)
-        (λ runs q. images-at-close
-        ∙ map-on (imageNow l) (imageAt l (nextName (l .book) c)) ((l .book .entry (nextName (l .book) c)) .blocks) (λ b m. image-now b (nextName (l .book) c) runs (in-any blockEquality m)))
+        (λ runs q. close-images l c
+        ∙ map-same (imageNow l) (imageAt l (nextName c (l .book))) ((l .book .entry (nextName c (l .book))) .blocks) (λ b m. image-now b (nextName c (l .book)) runs (in-any blockEquality m)))
         imaged
 
-    pub imaged-store : (n : ℕ) → stageOf (l .book) (uncommittedName (l .book) c) ≡ closed n → Imaged (withBook l (store c (l .book)))
+    pub imaged-store : (n : ℕ) → stageOf (l .book) (uncommittedName c (l .book)) ≡ closed n → Imaged (withBook l (store c (l .book)))
     imaged-store n r = imaged-moved (store-moved v c n r) (λ p q. clash (rw r refl) p) imaged
 
-    module _ (m : ℕ) (r : stageOf (l .book) (oldestName (l .book) c) ≡ committed m) where
-      pub imaged-retire : length ((l .book .entry (oldestName (l .book) c)) .blocks) ≤ m → Imaged (withBook l (checkpoint c (l .book)))
+    module _ (m : ℕ) (r : stageOf (l .book) (oldestName c (l .book)) ≡ committed m) where
+      pub imaged-retire : length ((l .book .entry (oldestName c (l .book))) .blocks) ≤ m → Imaged (withBook l (checkpoint c (l .book)))
       imaged-retire h = imaged-moved (retire-moved v c m r h) (λ p q. clash (rw r refl) p) imaged
 
-      pub imaged-home-store : m < length ((l .book .entry (oldestName (l .book) c)) .blocks) → Imaged (withBook l (checkpoint c (l .book)))
+      pub imaged-home-store : m < length ((l .book .entry (oldestName c (l .book))) .blocks) → Imaged (withBook l (checkpoint c (l .book)))
       imaged-home-store h = imaged-moved (home-moved v c m r h) (λ p q. clash (rw r refl) p) imaged
 
 -- ---- WRITE
@@ -116,10 +104,11 @@ imaged-note l imaged t runs b o bytes =
     (rule-edits l t runs b m (meets-ruled l t b)) (rule-open l t runs b m (meets-ruled l t b)) imaged
 
 pub imaged-wrote : (l : Ledger) → Imaged l → (c b o : ℕ) (bytes : Bytes)
-    → (stageOf (l .book) (nextName (l .book) c) ≡ running) ⊎ (stageOf (l .book) (nextName (l .book) c) ≡ absent)
+    → (stageOf (l .book) (nextName c (l .book)) ≡ absent) ⊎ (stageOf (l .book) (nextName c (l .book)) ≡ running)
     → Imaged (withBook l (wrote c b o bytes (l .book)))
 unfolding wrote
-imaged-wrote l imaged c b o bytes (inl r) = rw r (imaged-note l imaged (nextName (l .book) c) (rw r refl) b o bytes)
-imaged-wrote l imaged c b o bytes (inr r) =
-    let t : Name = nextName (l .book) c in
-    rw r (imaged-note (withBook l (begin t (l .book))) (imaged-begin l imaged t r) t (rw (begin-runs t (l .book)) refl) b o bytes)
+imaged-wrote l imaged c b o bytes current =
+    let t : Name = nextName c (l .book) in
+    imaged-note (withBook l (begun c (l .book)))
+    (begun-by (l .book) c current (λ (k : Book). Imaged (withBook l k)) (λ e. imaged) (λ e. imaged-begin l imaged t e)) t
+    (ap isClosed (begun-running (l .book) c current)) b o bytes

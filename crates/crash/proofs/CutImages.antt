@@ -87,7 +87,7 @@ newest-holder l b = as-tests (highest (tookIn (l .book) b) (l .stamp) (validIn (
     as-tests (some t, k) = (some t, (in-any nameEquality (k .0), k .1, λ u m q. k .2 u (any-in nameEquality u _ m) q))
 
 -- what the block then holds: the image of the one found, `imageAt l t b`, or what stood at home, `home b`
-abbrev pub blockAfter : (ℕ → Bytes) → Ledger → ℕ → Option Name → Bytes
+abbrev blockAfter : (ℕ → Bytes) → Ledger → ℕ → Option Name → Bytes
 blockAfter home l b = recovered nameEquality (areaBefore l b) (home b) (historyOf l b)
 
 module _ {home : ℕ → Bytes} {l : Ledger} (v : Inv home l) (numbered : RetiredBelow (l .book)) (b : ℕ) where

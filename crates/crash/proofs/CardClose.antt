@@ -8,7 +8,7 @@ use native.Mathlib.Decide.{ℕ-discrete}
 use mathlib.Core.Path.{_≡_, refl, ap, _∙_, sym, subst}
 use mathlib.Core.Logic.{_≢_}
 use mathlib.Core.Bool.{true}
-use mathlib.Core.List.{List, [], _∷_, map, List·Memᴰ}
+use mathlib.Core.List.{List, [], _∷_, List·Memᴰ}
 use mathlib.Core.Option.{some}
 use lib.ListN.{length, getD, length-set}
 use lib.Seq.{getD-set-same, getD-set-other}
@@ -19,19 +19,19 @@ use Rattle.model.specs.Commit.{copyBlock, copied, closed as closedOutcome, clos
 use Rattle.model.specs.declared.Name.{Name}
 use Rattle.model.specs.declared.Core.{Core}
 use Rattle.model.specs.declared.Holder.{Holder}
-use Rattle.model.proofs.Lists.{getD-mem}
+use Rattle.model.proofs.Lists.{getD-mem, getD-map}
 use Rattle.model.proofs.Store.{length-store, length-blockAt, block-stored, block-other}
 use Rattle.crash.specs.Book.{absent, running, closed, isRunning, Entry, staged, close, holderIn}
 use Rattle.crash.specs.Ledger.{Ledger, closeLedger, imageNow, recordBlocks}
 use Rattle.crash.specs.Claims.{IsBytes}
 use Rattle.crash.proofs.Relation.{sumNext, Fine, contents, JournalStands, DiskStands, Matches, CoreUp, holderAs, Up}
-use Rattle.crash.proofs.Stages.{clash}
-use Rattle.crash.proofs.Records.{sum-low}
-use Rattle.crash.proofs.Rules.{running-present}
-use Rattle.crash.proofs.Entries.{other-number, other-core, change-at, raise-at, raise-other, records-snoc}
-use Rattle.crash.proofs.Books.{Restages, restages-records, close-restages, close-book, close-holder, close-stamp, close-images, close-stamp-other, close-images-other}
-use Rattle.crash.proofs.Blocks.{bytes-store, bytes-blockAt}
-use Rattle.crash.proofs.Frames.{SameClosed, record-same, contents-same, none-stored, journal-stays, core-stays}
+use Rattle.crash.proofs.ReadRecords.{sum-low}
+use Rattle.crash.proofs.BookEntries.{other-number, other-core, change-at, raise-at, raise-other, records-snoc}
+use Rattle.crash.proofs.BookSteps.{Restages, restages-records, close-restages, close-book, close-holder, close-stamp, close-images, close-stamp-other, close-images-other}
+use Rattle.crash.proofs.BlockBytes.{bytes-store, bytes-blockAt}
+use Rattle.crash.proofs.CardFrames.{SameClosed, record-same, contents-same, none-stored, journal-stays, core-stays}
+use Rattle.crash.proofs.Tests.{clash}
+use Rattle.crash.proofs.LedgerStages.{running-present}
 
 -- ---- copies
 module _ (c : ℕ) (eight : c < 8) where
@@ -96,12 +96,6 @@ cores-copies : (a c i j : ℕ) → i < 8 → j < 8 → a ≢ c → copyBlock a i
 unfolding copyBlock
 cores-copies a c i j h g ne e = ne (omega arith)
 
-getD-map-in : {A B : Type 0} (f : A → B) (xs : List A) (i : ℕ) (d : A) (e : B) → i < length xs → getD (map f xs) i e ≡ f (getD xs i d)
-getD-map-in f [] i d e h = absurd (omega arith)
-getD-map-in f (x ∷ xs) zero d e h = refl
-getD-map-in f (x ∷ xs) (suc i) d e h = getD-map-in f xs i d e (omega arith)
-
--- ---- CLOSE
 module _ {l : Ledger} {w : World} (u : Up l w) (c : ℕ) (in-range : c < l .shape .cores)
     (runs : (l .book .entry (newName c (l .book .next c))) .stage ≡ running) (free : l .book .uncommitted c ≡ l .book .next c)
     (holds : (b : ℕ) → List·Memᴰ b ((l .book .entry (newName c (l .book .next c))) .blocks) → holderIn (l .book) b (l .book .writes) ≡ some (newName c (l .book .next c)))
@@ -231,7 +225,7 @@ module _ {l : Ledger} {w : World} (u : Up l w) (c : ℕ) (in-range : c < l .shap
       rw (close-images l c, matches .blocks)
       ((rw zero-add at (copied-in c eight bs 0 (w .memory) (u .memory) (omega (arith, few, ap length (matches .blocks))) i h))
       ∙ rw e (u .images b g held)
-      ∙ sym (getD-map-in (imageNow l) bs i 0 [] h))
+      ∙ sym (getD-map (imageNow l) bs i 0 [] h))
 
   abbrev x₂ : Core
   x₂ =

@@ -3,7 +3,7 @@
 -- or it is the writer, and the holder before it is retired, or closed and then named by the writer.
 use mathlib.Core.Path.{_≡_, refl, sym, _∙_, ap}
 use mathlib.Core.Bool.{Bool, true, false, So, cond, _||_, or-false}
-use mathlib.Core.Logic.{_⊎_, inl, inr, ⊎-elim, ⊎-map}
+use mathlib.Core.Logic.{_⊎_, inl, inr, ⊎-elim, ⊎-map, _≢_}
 use mathlib.Core.List.{List, [], _∷_, _++_}
 use mathlib.Core.Option.{Option, none, some}
 use Prim.Native.Nat.{ℕ}
@@ -14,15 +14,17 @@ use Rattle.model.specs.Bytes.{Bytes}
 use Rattle.model.specs.Card.{sameName}
 use Rattle.model.specs.declared.Name.{Name}
 use Rattle.model.proofs.Lists.{cases, or-cases, or-left, or-right, any-append}
-use Rattle.model.proofs.Valid.{sameName-true, sameName-refl}
-use Rattle.crash.specs.Book.{absent, running, isClosed, isRetired, Entry, Write, Book, change, staged, taking, naming, begin, holderIn, Meeting, no-holder, own, running-holder, closed-holder, meets, ruled, holderAfter, note, wrote, kept}
+use Rattle.model.proofs.Valid.{sameName-refl}
+use Rattle.crash.specs.Book.{absent, running, isClosed, isRetired, Entry, Write, Book, change, taking, naming, holderIn, Meeting, no-holder, own, running-holder, closed-holder, meets, ruled, holderAfter, note, wrote, kept}
 use Rattle.crash.specs.Ledger.{Ledger, withBook, imageNow}
-use Rattle.crash.proofs.Tests.{clash, false-of, is-not, nameEquality, blockEquality}
+use Rattle.crash.proofs.Tests.{clash, false-of, blockEquality}
 use Rattle.crash.proofs.History.{Event, value, Took, Status, Link, Next, Chain, Good, older}
 use Rattle.crash.proofs.Steps.{write}
 use Rattle.crash.proofs.Largest.{memberOf, stageOf}
 use Rattle.crash.proofs.Invariant.{eventOf, history, image-history, areaBefore, historyOf, tookIn, homedBy, homed, status, retired-closed, open-not-homed, Known, Inv, sound-of, retired-homed, Grows, extends, good-grown}
-use Rattle.crash.proofs.Commands.{change-same, change-other, change-each, inv-begin, nextName}
+use Rattle.crash.proofs.InvariantSteps.{inv-begin}
+use Rattle.crash.proofs.BookEntries.{change-at, change-other, change-each, nextName, same-or-not, sameName-false}
+use Rattle.crash.proofs.BookSteps.{begun-by, begun-running}
 
 -- ---- what a write may do to a transaction: add to its names and, before it closes, to its blocks
 pub record Edits (x y : Entry) : Type 0 where
@@ -171,10 +173,10 @@ holder-last k b [] = refl
 holder-last k b (w ∷ ws) = cases (eqb b (w .block)) (λ h. rw h refl) (λ h. rw h (holder-last k b ws))
 
 -- what each rule goes by
-abbrev pub Ruled : Ledger → Name → ℕ → Meeting → Type 0
+abbrev Ruled : Ledger → Name → ℕ → Meeting → Type 0
 Ruled l t b no-holder = (u : Name) → lastHolder (historyOf l b) ≡ some u → So (isRetired (stageOf (l .book) u))
 Ruled l t b own = lastHolder (historyOf l b) ≡ some t
-Ruled l t b (running-holder u) = (lastHolder (historyOf l b) ≡ some u) × (isClosed (stageOf (l .book) u) ≡ false) × (sameName u t ≡ false)
+Ruled l t b (running-holder u) = (lastHolder (historyOf l b) ≡ some u) × (isClosed (stageOf (l .book) u) ≡ false) × (u ≢ t)
 Ruled l t b (closed-holder u) = (lastHolder (historyOf l b) ≡ some u) × So (isClosed (stageOf (l .book) u))
 
 pub meets-ruled : (l : Ledger) (t : Name) (b : ℕ) → Ruled l t b (meets (l .book) t (holderIn (l .book) b (l .book .writes)))
@@ -187,9 +189,9 @@ meets-ruled l t b = rw (holder-last (l .book) b (l .book .writes)) (by-last (las
         cases (isRetired (stageOf (l .book) u))
         (λ h. rw h (λ w p. let same : u ≡ w = cc in rw same at h))
         (λ h. rw h
-        (cases (sameName u t)
-        (λ k. rw k (rw (sameName-true u t k) at q))
-        (λ k. rw k (cases (isClosed (stageOf (l .book) u)) (λ c. rw c (q, c)) (λ c. rw c (q, c, k))))))
+        (same-or-not u t
+        (λ e. rw (e, sameName-refl t) (q ∙ ap some e))
+        (λ ne. rw (sameName-false u t ne) (cases (isClosed (stageOf (l .book) u)) (λ c. rw c (q, c)) (λ c. rw c (q, c, ne))))))
 
 -- ---- what the rules do to transactions
 module _ (l : Ledger) (t : Name) (runs : isClosed (stageOf (l .book) t) ≡ false) where
@@ -198,7 +200,7 @@ module _ (l : Ledger) (t : Name) (runs : isClosed (stageOf (l .book) t) ≡ fals
   edits-closed b u = edits-both (edits-naming u (l .book .entry t) runs) (edits-taking b (naming u (l .book .entry t)) runs)
 
   -- writer and running holder u name each other
-  module _ (u : Name) (open-holder : isClosed (stageOf (l .book) u) ≡ false) (other : sameName u t ≡ false) where
+  module _ (u : Name) (open-holder : isClosed (stageOf (l .book) u) ≡ false) (other : u ≢ t) where
     abbrev writerNames : Name → Entry
     writerNames = change t (naming u) (l .book .entry)
 
@@ -217,8 +219,8 @@ module _ (l : Ledger) (t : Name) (runs : isClosed (stageOf (l .book) t) ≡ fals
 
     both-names : So (memberOf ((bothName t) .names) u) × So (memberOf ((bothName u) .names) t)
     both-names = (
-      rw (change-other u (naming t) writerNames t (is-not nameEquality u t other), change-same t (naming u) (l .book .entry)) (naming-lists u (l .book .entry t)),
-      rw (change-same u (naming t) writerNames) (naming-lists t (writerNames u)),
+      rw (change-other u (naming t) writerNames t (λ e. other (sym e)), change-at t (naming u) (l .book .entry)) (naming-lists u (l .book .entry t)),
+      rw (change-at u (naming t) writerNames) (naming-lists t (writerNames u)),
     )
 
   module _ (b : ℕ) where
@@ -272,14 +274,14 @@ module _ {home : ℕ → Bytes} {l : Ledger} (v : Inv home l) (t : Name) (runs :
         let after : Ledger = withWrite l (writeBy t) entryTaken in
         let open-after : isClosed (stageOf (after .book) t) ≡ false = rw (taken-edits t .stage) runs in
         inv-noted v (writeBy t) entryTaken taken-edits runs taken-more taken-same
-        (rw (change-same t f (l .book .entry), taken-t b) (or-right (tookIn (l .book) b t) (blockEquality .is-refl b))) (inl refl)
+        (rw (change-at t f (l .book .entry), taken-t b) (or-right (tookIn (l .book) b t) (blockEquality .is-refl b))) (inl refl)
         (next-by (status after) (homed after b) t (historyOf l b) (λ u q. inr (
           record {
             is-closed = rw (taken-edits u .stage) (prior u q .0);
             lower = λ h. clash h open-after;
             retires-first = λ h. clash h (open-not-homed b ((after .book .entry t) .blocks) (stageOf (after .book) t) open-after);
           },
-          ⊎-map (λ h. rw (change-same t f (l .book .entry)) h) (λ h. rw (taken-edits u .stage) h) (prior u q .1),
+          ⊎-map (λ h. rw (change-at t f (l .book .entry)) h) (λ h. rw (taken-edits u .stage) h) (prior u q .1),
         )))
 
   -- the holder stays
@@ -307,18 +309,15 @@ module _ {home : ℕ → Bytes} {l : Ledger} (v : Inv home l) (t : Name) (runs :
   unfolding note
   inv-note = inv-rule (meets (l .book) t (holderIn (l .book) b (l .book .writes))) (meets-ruled l t b)
 
-pub begin-runs : (t : Name) (k : Book) → stageOf (begin t k) t ≡ running
-unfolding begin
-begin-runs t k = ap (λ e. e .stage) (change-same t (staged running) (k .entry))
-
 -- WRITE by core c, whose transaction is running or opened by it
-module _ {home : ℕ → Bytes} {l : Ledger} (v : Inv home l) (c b o : ℕ) (bytes : Bytes) where
-  pub inv-wrote : (stageOf (l .book) (nextName (l .book) c) ≡ running) ⊎ (stageOf (l .book) (nextName (l .book) c) ≡ absent)
-      → Inv home (withBook l (wrote c b o bytes (l .book)))
-  unfolding wrote
-  inv-wrote (inl r) = rw r (inv-note v (nextName (l .book) c) (rw r refl) b o bytes)
-  inv-wrote (inr r) =
-      rw r (inv-note (inv-begin v (nextName (l .book) c) r) (nextName (l .book) c) (rw (begin-runs (nextName (l .book) c) (l .book)) refl) b o bytes)
+pub inv-wrote : {home : ℕ → Bytes} {l : Ledger} → Inv home l → (c b o : ℕ) (bytes : Bytes)
+    → (stageOf (l .book) (nextName c (l .book)) ≡ absent) ⊎ (stageOf (l .book) (nextName c (l .book)) ≡ running)
+    → Inv home (withBook l (wrote c b o bytes (l .book)))
+unfolding wrote
+inv-wrote {home} {l} v c b o bytes current =
+    let t : Name = nextName c (l .book) in
+    inv-note (begun-by (l .book) c current (λ (k : Book). Inv home (withBook l k)) (λ e. v) (λ e. inv-begin v t e)) t
+    (ap isClosed (begun-running (l .book) c current)) b o bytes
 
 -- ---- a block and its holder
 module _ {home : ℕ → Bytes} {l : Ledger} (v : Inv home l) (b : ℕ) where

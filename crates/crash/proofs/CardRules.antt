@@ -23,12 +23,13 @@ use Rattle.model.specs.declared.Transaction.{Transaction}
 use Rattle.model.specs.declared.Rule.the-variants.{Free, Own, Running, Closed}
 use Rattle.model.proofs.Lists.{cases}
 use Rattle.model.proofs.Valid.{sameName-refl}
-use Rattle.crash.specs.Book.{Stage, absent, running, closed, committed, retired, isRunning, isClosed, Entry, Book, staged, taking, naming, begin, holderIn, Meeting, no-holder, own, running-holder, closed-holder, meets, ruled, change, wrote}
+use Rattle.crash.specs.Book.{absent, running, isRunning, isClosed, Entry, Book, staged, taking, naming, begin, holderIn, Meeting, no-holder, own, running-holder, closed-holder, meets, ruled, change, wrote}
 use Rattle.crash.specs.Ledger.{Ledger}
 use Rattle.crash.proofs.Relation.{Ranks, Matches, holderAs, Up}
-use Rattle.crash.proofs.Stages.{clash, committed-stage}
-use Rattle.crash.proofs.Entries.{same-or-not, sameName-false, change-at, change-other}
-use Rattle.crash.proofs.Books.{begun, meeting, begun-other, wrote-entry}
+use Rattle.crash.proofs.LedgerStages.{committed-stage, present-open, closed-idle}
+use Rattle.crash.proofs.BookEntries.{same-or-not, sameName-false, change-at, change-other}
+use Rattle.crash.proofs.BookSteps.{begun, meeting, begun-other, wrote-entry}
+use Rattle.crash.proofs.Tests.{clash}
 
 -- ---- a transaction of the card and its entry
 matches-block : {t : Transaction} {e : Entry} → Matches t e → (b : ℕ) → length (e .blocks) < 8 → Matches (withBlock t b) (taking b e)
@@ -135,23 +136,6 @@ running-next {k} {a} r i h =
                 subst (λ (j : ℕ). isRunning ((k .entry (newName a j)) .stage) ≡ false) e (ap isRunning (s .1)))
           ]
         ]
-
-pub running-present : (g : Stage) → g ≡ running → g ≢ absent
-running-present g p q = clash (ap isRunning p) (ap isRunning q)
-
-pub present-open : (g : Stage) → g ≢ absent → isClosed g ≡ false → g ≡ running
-present-open absent ne h = absurd (ne refl)
-present-open running ne h = refl
-present-open (closed n) ne h = clash refl h
-present-open (committed n) ne h = clash refl h
-present-open retired ne h = clash refl h
-
-closed-idle : (g : Stage) → isClosed g ≡ true → isRunning g ≡ false
-closed-idle absent h = refl
-closed-idle running h = clash h refl
-closed-idle (closed n) h = refl
-closed-idle (committed n) h = refl
-closed-idle retired h = refl
 
 module _ {l : Ledger} {w : World} (u : Up l w) where
   -- a core's transaction runs in the card where it does in the ledger

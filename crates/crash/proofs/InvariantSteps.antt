@@ -12,19 +12,21 @@ use lib.Dec.{eqb, leb}
 use borrow.Author.Tests.{le-leb, lt-leb, lt-ltb, eqb-true}
 use Rattle.model.specs.Lists.{any}
 use Rattle.model.specs.Bytes.{Bytes}
-use Rattle.model.specs.Card.{newName, sameName}
 use Rattle.model.specs.Checkpoint.{share}
 use Rattle.model.specs.declared.Name.{Name}
 use Rattle.model.specs.declared.Shape.{Shape}
 use Rattle.model.proofs.Lists.{cases, and-both, or-left, or-right, mem-any, any-append, getD-mem}
-use Rattle.model.proofs.Valid.{sameName-true, sameName-refl}
+use Rattle.model.proofs.Valid.{sameName-refl}
 use Rattle.crash.specs.Book.{Stage, absent, running, closed, committed, retired, isClosed, isCommitted, isRetired, Entry, Write, Book, emptyBook, change, staged, begin, close, store, checkpoint, kept, image, blank}
 use Rattle.crash.specs.Ledger.{Ledger, freshLedger, withBook, closeLedger, sharesLowerIn}
-use Rattle.crash.proofs.Tests.{clash, false-of, is-not, any-in, in-any, nameEquality, blockEquality}
+use Rattle.crash.proofs.Tests.{clash, any-in, in-any, nameEquality, blockEquality}
 use Rattle.crash.proofs.History.{Took, Good}
 use Rattle.crash.proofs.Steps.{with-one, store-home}
 use Rattle.crash.proofs.Largest.{memberOf, stageOf}
 use Rattle.crash.proofs.Invariant.{history, areaBefore, historyOf, imageAt, tookIn, homedBy, homed, status, isOpened, closed-opened, Known, Inv, sound-of, retired-homed, Grows, extends, good-grown}
+use Rattle.crash.proofs.BookEntries.{same-or-not, sameName-false, change-at, change-other, change-each, nextName, uncommittedName, oldestName}
+use mathlib.Core.Logic.{_≢_}
+use Rattle.crash.proofs.BookSteps.{close-stamp, close-images-other, close-stamp-other}
 
 pub inv-fresh : (s : Shape) (saved : List Write) (first : ℕ → ℕ) → Inv (image blank saved) (freshLedger s saved first)
 unfolding freshLedger emptyBook any
@@ -73,30 +75,14 @@ pub record Moved (t : Name) (g : Stage) (l l′ : Ledger) : Type 0 where
   pub stamp-new : isClosed (stageOf (l .book) t) ≡ false → So (isClosed g) → (l′ .stamp t ≡ l′ .closes) × (l .closes < l′ .closes)
   pub images : (u : Name) → So (isClosed (stageOf (l .book) u)) → l′ .images u ≡ l .images u
 
-pub change-same : (t : Name) (f : Entry → Entry) (entry : Name → Entry) → change t f entry t ≡ f (entry t)
-unfolding change
-change-same t f entry = rw (sameName-refl t) refl
-
-pub change-other : (t : Name) (f : Entry → Entry) (entry : Name → Entry) (u : Name) → sameName u t ≡ false → change t f entry u ≡ entry u
-unfolding change
-change-other t f entry u h = rw h refl
-
--- what holds of t as it is changed, and of the others as they are, holds of each
-pub change-each : (P : Name → Entry → Type 0) (t : Name) (f : Entry → Entry) (entry : Name → Entry) → P t (f (entry t))
-    → ((u : Name) → sameName u t ≡ false → P u (entry u)) → (u : Name) → P u (change t f entry u)
-change-each P t f entry a b u =
-    cases (sameName u t)
-    (λ h. rw (sameName-true u t h, change-same t f entry) a)
-    (λ h. rw (change-other t f entry u h) (b u h))
-
 module _ {t : Name} {g : Stage} {l l′ : Ledger} (m : Moved t g l l′) where
   moved-t : l′ .book .entry t ≡ staged g (l .book .entry t)
-  moved-t = m .entry t ∙ change-same t (staged g) (l .book .entry)
+  moved-t = m .entry t ∙ change-at t (staged g) (l .book .entry)
 
-  moved-other : (u : Name) → sameName u t ≡ false → l′ .book .entry u ≡ l .book .entry u
+  moved-other : (u : Name) → u ≢ t → l′ .book .entry u ≡ l .book .entry u
   moved-other u h = m .entry u ∙ change-other t (staged g) (l .book .entry) u h
 
-  pub moved-each : (P : Name → Entry → Type 0) → P t (staged g (l .book .entry t)) → ((u : Name) → sameName u t ≡ false → P u (l .book .entry u))
+  pub moved-each : (P : Name → Entry → Type 0) → P t (staged g (l .book .entry t)) → ((u : Name) → u ≢ t → P u (l .book .entry u))
       → (u : Name) → P u (l′ .book .entry u)
   moved-each P a b u = rw (m .entry u) (change-each P t (staged g) (l .book .entry) a b u)
 
@@ -109,9 +95,9 @@ module _ {t : Name} {g : Stage} {l l′ : Ledger} (m : Moved t g l l′) where
 
   moved-grows : (u : Name) → Grows l l′ u
   moved-grows u =
-      cases (sameName u t)
-      (λ h. let g-is : stageOf (l′ .book) t ≡ g = ap (λ e. e .stage) moved-t in
-      rw (sameName-true u t h)
+      same-or-not u t
+      (λ e. let g-is : stageOf (l′ .book) t ≡ g = ap (λ e. e .stage) moved-t in
+      rw e
       (record {
         closed = λ h. rw g-is (onward (m .moves) .closed h);
         committed = λ h. rw g-is (onward (m .moves) .committed h);
@@ -121,7 +107,7 @@ module _ {t : Name} {g : Stage} {l l′ : Ledger} (m : Moved t g l l′) where
         stamp-fixed = m .stamp t;
         stamp-new = λ p q. let n : (l′ .stamp t ≡ l′ .closes) × (l .closes < l′ .closes) = m .stamp-new p (rw g-is at q) in omega arith;
       }))
-      (λ h. let same : l′ .book .entry u ≡ l .book .entry u = moved-other u h in
+      (λ ne. let same : l′ .book .entry u ≡ l .book .entry u = moved-other u ne in
       let stage : stageOf (l′ .book) u ≡ stageOf (l .book) u = ap (λ e. e .stage) same in
       record {
         closed = λ h. rw stage h;
@@ -144,7 +130,7 @@ module _ {t : Name} {g : Stage} {l l′ : Ledger} (m : Moved t g l l′) where
     -- a history good with h as those that stored home stays good, where the ledger says then of each that it is in h
     moved-good : (b : ℕ) (image : Bytes) (h : Name → Bool) → Good (status l) h (areaBefore l b) image (historyOf l b)
         → ((u : Name) → Took u (historyOf l b) → So (isRetired (stageOf (l′ .book) u)) → So (h u))
-        → h t ≡ homedBy b ((l .book .entry t) .blocks) g → ((u : Name) → sameName u t ≡ false → h u ≡ homed l b u)
+        → h t ≡ homedBy b ((l .book .entry t) .blocks) g → ((u : Name) → u ≢ t → h u ≡ homed l b u)
         → Good (status l′) (homed l′ b) (areaBefore l b) image (historyOf l b)
     moved-good b image h good stored at-t others =
         good-grown v l′ (moved-known (v .known)) moved-grows b image h good stored (moved-each (λ u e. h u ≡ homedBy b (e .blocks) (e .stage)) at-t others)
@@ -197,16 +183,6 @@ book-moved l k t g moves writes opened opened-t entry was-closed =
       images = λ u h. refl;
     }
 
--- ---- the transactions that the commands of core c act on
-abbrev pub nextName : Book → ℕ → Name
-nextName k c = newName c (k .next c)
-
-abbrev pub uncommittedName : Book → ℕ → Name
-uncommittedName k c = newName c (k .uncommitted c)
-
-abbrev pub oldestName : Book → ℕ → Name
-oldestName k c = newName c (k .oldest c)
-
 -- where 33 does not apply to t, each closed one that took a block of it with a lower stamp is retired
 pub lower-retired : {home : ℕ → Bytes} {l : Ledger} → Inv home l → (t : Name) → sharesLowerIn l t ≡ false → (b : ℕ) → So (tookIn (l .book) b t)
     → (u : Name) → So (tookIn (l .book) b u) → So (isClosed (stageOf (l .book) u)) → l .stamp u < l .stamp t → So (isRetired (stageOf (l .book) u))
@@ -230,11 +206,11 @@ inv-begin {l = l} v t r = inv-moved (begin-moved l t r) v (λ h. clash h refl) (
 
 module _ {home : ℕ → Bytes} {l : Ledger} (v : Inv home l) (c : ℕ) where
   -- ---- CLOSE
-  module _ (r : stageOf (l .book) (nextName (l .book) c) ≡ running) where
-    closed-other : (u : Name) → So (isClosed (stageOf (l .book) u)) → sameName u (nextName (l .book) c) ≡ false
-    closed-other u h = false-of _ (λ e. clash h (rw (sameName-true u (nextName (l .book) c) e, r) refl))
+  module _ (r : stageOf (l .book) (nextName c (l .book)) ≡ running) where
+    closed-other : (u : Name) → So (isClosed (stageOf (l .book) u)) → u ≢ nextName c (l .book)
+    closed-other u h e = clash h (rw (e, r) refl)
 
-    pub close-moved : Moved (nextName (l .book) c) (closed 0) l (closeLedger c l)
+    pub close-moved : Moved (nextName c (l .book)) (closed 0) l (closeLedger c l)
     unfolding closeLedger close
     close-moved =
         record {
@@ -242,28 +218,28 @@ module _ {home : ℕ → Bytes} {l : Ledger} (v : Inv home l) (c : ℕ) where
           saved = refl;
           writes = refl;
           opened = λ u h. h;
-          opened-t = v .known (nextName (l .book) c) (rw r refl);
+          opened-t = v .known (nextName c (l .book)) (rw r refl);
           entry = λ u. refl;
           closes = omega arith;
-          stamp = λ u h. rw (closed-other u h) refl;
-          stamp-new = λ p q. (rw (sameName-refl (nextName (l .book) c)) refl, omega arith);
-          images = λ u h. rw (closed-other u h) refl;
+          stamp = λ u h. close-stamp-other l c u (closed-other u h);
+          stamp-new = λ p q. (close-stamp l c, omega arith);
+          images = λ u h. close-images-other l c u (closed-other u h);
         }
 
     pub inv-close : Inv home (closeLedger c l)
     inv-close = inv-moved close-moved v (λ h. clash h refl) (λ b. rw r refl)
 
   -- ---- STORE: the last one commits
-  module _ (n : ℕ) (r : stageOf (l .book) (uncommittedName (l .book) c) ≡ closed n) where
+  module _ (n : ℕ) (r : stageOf (l .book) (uncommittedName c (l .book)) ≡ closed n) where
     abbrev isLastStore : Bool
-    isLastStore = leb (length ((l .book .entry (uncommittedName (l .book) c)) .blocks) + 2) (suc n)
+    isLastStore = leb (length ((l .book .entry (uncommittedName c (l .book))) .blocks) + 2) (suc n)
 
-    pub store-moved : Moved (uncommittedName (l .book) c) (cond isLastStore (committed 0) (closed (suc n))) l (withBook l (store c (l .book)))
+    pub store-moved : Moved (uncommittedName c (l .book)) (cond isLastStore (committed 0) (closed (suc n))) l (withBook l (store c (l .book)))
     unfolding store
     store-moved =
-        book-moved l (store c (l .book)) (uncommittedName (l .book) c) (cond isLastStore (committed 0) (closed (suc n)))
+        book-moved l (store c (l .book)) (uncommittedName c (l .book)) (cond isLastStore (committed 0) (closed (suc n)))
         (rw r (cases isLastStore (λ h. rw h commits) (λ h. rw h stores)))
-        refl (λ u h. h) (v .known (uncommittedName (l .book) c) (rw r refl)) (λ u. rw r refl) (λ h. rw r refl)
+        refl (λ u h. h) (v .known (uncommittedName c (l .book)) (rw r refl)) (λ u. rw r refl) (λ h. rw r refl)
 
     pub inv-store : Inv home (withBook l (store c (l .book)))
     unfolding any
@@ -273,27 +249,27 @@ module _ {home : ℕ → Bytes} {l : Ledger} (v : Inv home l) (c : ℕ) where
         (λ b. rw r (cases isLastStore (λ h. rw h refl) (λ h. rw h refl)))
 
   -- ---- CHECKPOINT
-  module _ (m : ℕ) (r : stageOf (l .book) (oldestName (l .book) c) ≡ committed m) where
+  module _ (m : ℕ) (r : stageOf (l .book) (oldestName c (l .book)) ≡ committed m) where
     abbrev oldestBlocks : List ℕ
-    oldestBlocks = (l .book .entry (oldestName (l .book) c)) .blocks
+    oldestBlocks = (l .book .entry (oldestName c (l .book))) .blocks
 
     abbrev checkpointed : Ledger
     checkpointed = withBook l (checkpoint c (l .book))
 
     checkpoint-moved : (g : Stage) → cond (leb (length oldestBlocks + 1) (suc m)) retired (committed (suc m)) ≡ g → Moves (committed m) g
-        → Moved (oldestName (l .book) c) g l checkpointed
+        → Moved (oldestName c (l .book)) g l checkpointed
     unfolding checkpoint
     checkpoint-moved g e moves =
-        book-moved l (checkpoint c (l .book)) (oldestName (l .book) c) g (rw r moves)
-        refl (λ u h. h) (v .known (oldestName (l .book) c) (rw r refl)) (λ u. rw (r, e) refl) (λ h. rw r refl)
+        book-moved l (checkpoint c (l .book)) (oldestName c (l .book)) g (rw r moves)
+        refl (λ u h. h) (v .known (oldestName c (l .book)) (rw r refl)) (λ u. rw (r, e) refl) (λ h. rw r refl)
 
-    pub retire-moved : length oldestBlocks ≤ m → Moved (oldestName (l .book) c) retired l (withBook l (checkpoint c (l .book)))
+    pub retire-moved : length oldestBlocks ≤ m → Moved (oldestName c (l .book)) retired l (withBook l (checkpoint c (l .book)))
     retire-moved h = checkpoint-moved retired (rw (le-leb (length oldestBlocks + 1) (suc m) (omega arith)) refl) retires
 
-    pub home-moved : m < length oldestBlocks → Moved (oldestName (l .book) c) (committed (suc m)) l (withBook l (checkpoint c (l .book)))
+    pub home-moved : m < length oldestBlocks → Moved (oldestName c (l .book)) (committed (suc m)) l (withBook l (checkpoint c (l .book)))
     home-moved h = checkpoint-moved (committed (suc m)) (rw (lt-leb (length oldestBlocks + 1) (suc m) (omega arith)) refl) stores-home
 
-    module _ (is-kept : So (memberOf (kept (l .book)) (oldestName (l .book) c))) where
+    module _ (is-kept : So (memberOf (kept (l .book)) (oldestName c (l .book)))) where
       -- the master store, after the home stores of all its blocks
       pub inv-retire : length oldestBlocks ≤ m → Inv home (withBook l (checkpoint c (l .book)))
       inv-retire h =
@@ -303,14 +279,14 @@ module _ {home : ℕ → Bytes} {l : Ledger} (v : Inv home l) (c : ℕ) where
       -- a home store, of its m-th block; 33 does not apply: each closed one that took the block with a lower stamp is retired
       module _ (less : m < length oldestBlocks)
           (lower-retired : (u : Name) → So (tookIn (l .book) (getD oldestBlocks m 0) u) → So (isClosed (stageOf (l .book) u))
-          → l .stamp u < l .stamp (oldestName (l .book) c) → So (isRetired (stageOf (l .book) u))) where
+          → l .stamp u < l .stamp (oldestName c (l .book)) → So (isRetired (stageOf (l .book) u))) where
         abbrev homeBlock : ℕ
         homeBlock = getD oldestBlocks m 0
 
         abbrev homeImage : Bytes
-        homeImage = imageAt l (oldestName (l .book) c) homeBlock
+        homeImage = imageAt l (oldestName c (l .book)) homeBlock
 
-        homed-next : (b : ℕ) → homedBy b oldestBlocks (committed (suc m)) ≡ (homed l b (oldestName (l .book) c) || eqb b homeBlock)
+        homed-next : (b : ℕ) → homedBy b oldestBlocks (committed (suc m)) ≡ (homed l b (oldestName c (l .book)) || eqb b homeBlock)
         unfolding any
         homed-next b = rw (r, take-suc oldestBlocks m 0 less, any-append (eqb b) (take m oldestBlocks) (homeBlock ∷ []), or-false (eqb b homeBlock)) refl
 
@@ -318,11 +294,11 @@ module _ {home : ℕ → Bytes} {l : Ledger} (v : Inv home l) (c : ℕ) where
         good-other b e =
             moved-good (home-moved less) v b (home b) (homed l b) (v .good b)
             (moved-stored (home-moved less) v (λ h. clash h refl) b)
-            (sym (homed-next b ∙ rw e (or-false (homed l b (oldestName (l .book) c))))) (λ u h. refl)
+            (sym (homed-next b ∙ rw e (or-false (homed l b (oldestName c (l .book)))))) (λ u h. refl)
 
         good-here : Good (status checkpointed) (homed checkpointed homeBlock) (areaBefore l homeBlock) homeImage (historyOf l homeBlock)
         good-here =
-            let t : Name = oldestName (l .book) c in
+            let t : Name = oldestName c (l .book) in
             moved-good (home-moved less) v homeBlock homeImage (with-one nameEquality (homed l homeBlock) t)
             (store-home nameEquality (status l) (sound-of l (v .known) (v .retired-kept)) (homed l homeBlock) t is-kept
             (areaBefore l homeBlock) (home homeBlock) (historyOf l homeBlock) (rw r refl)
@@ -331,9 +307,9 @@ module _ {home : ℕ → Bytes} {l : Ledger} (v : Inv home l) (c : ℕ) where
             (λ u k h. or-left _ (moved-stored (home-moved less) v (λ q. clash q refl) homeBlock u k h))
             (or-right (homed l homeBlock t) (sameName-refl t)
             ∙ sym (homed-next homeBlock ∙ or-right (homed l homeBlock t) (blockEquality .is-refl homeBlock)))
-            (λ u h. rw (is-not nameEquality u t h) (or-false (homed l homeBlock u)))
+            (λ u ne. rw (sameName-false t u (λ e. ne (sym e))) (or-false (homed l homeBlock u)))
 
-        pub inv-home-store : Inv (λ b. cond (eqb b (getD oldestBlocks m 0)) (imageAt l (oldestName (l .book) c) (getD oldestBlocks m 0)) (home b)) (withBook l (checkpoint c (l .book)))
+        pub inv-home-store : Inv (λ b. cond (eqb b (getD oldestBlocks m 0)) (imageAt l (oldestName c (l .book)) (getD oldestBlocks m 0)) (home b)) (withBook l (checkpoint c (l .book)))
         inv-home-store =
             inv-by-good (home-moved less) v (λ h. clash h refl)
             (λ b. cases (eqb b homeBlock)

@@ -21,17 +21,17 @@ use Rattle.model.proofs.Words.{IsByte}
 use Rattle.crash.specs.Claims.{IsBytes}
 
 -- ---- bytes
-bytes-take : (n : ℕ) (s : Bytes) → IsBytes s → IsBytes (take n s)
+pub bytes-take : (n : ℕ) (s : Bytes) → IsBytes s → IsBytes (take n s)
 bytes-take n s h =
     let p : ℕ → Bool = λ x. ltb x 256 in
     and-left _ _ (sym (all-append p (take n s) (drop n s)) ∙ ap (all p) (take-append-drop n s) ∙ h)
 
-bytes-drop : (n : ℕ) (s : Bytes) → IsBytes s → IsBytes (drop n s)
+pub bytes-drop : (n : ℕ) (s : Bytes) → IsBytes s → IsBytes (drop n s)
 bytes-drop n s h =
     let p : ℕ → Bool = λ x. ltb x 256 in
     and-right (all p (take n s)) _ (sym (all-append p (take n s) (drop n s)) ∙ ap (all p) (take-append-drop n s) ∙ h)
 
-pub bytes-append : (s t : Bytes) → IsBytes s → IsBytes t → IsBytes (s ++ t)
+bytes-append : (s t : Bytes) → IsBytes s → IsBytes t → IsBytes (s ++ t)
 bytes-append s t p q = all-append (λ (x : ℕ). ltb x 256) s t ∙ and-both p q
 
 pub bytes-replaced : (at n : ℕ) (s b : Bytes) → IsBytes s → IsBytes b → IsBytes (replaced at n s b)

@@ -6,7 +6,7 @@ use native.Mathlib.Omega.{arith}
 use native.Mathlib.Decide.{decLt}
 use mathlib.Core.Path.{_≡_, refl, sym, ap, _∙_, subst}
 use mathlib.Core.Logic.{_⊎_, inl, inr, _≢_}
-use mathlib.Core.Bool.{Bool, true, false, not, _&&_, _||_}
+use mathlib.Core.Bool.{true, false, not, _&&_, _||_}
 use mathlib.Core.List.{List, [], _∷_, _++_, List·Memᴰ, List·Memᴰ·head, List·Memᴰ·tail, List·Memᴰ·not-nil, List·Memᴰ·cases-cons, List·Memᴰ·append-cases, List·Memᴰ·eq-of-singleton}
 use mathlib.Core.Option.{some}
 use lib.ListN.{length, getD, length-append, List·getD-append}
@@ -17,20 +17,16 @@ use Rattle.model.specs.Bytes.{Bytes}
 use Rattle.model.specs.Card.{newName}
 use Rattle.model.specs.Layout.{maxNumber}
 use Rattle.model.specs.declared.Name.{Name}
-use Rattle.model.proofs.Lists.{cases, getD-mem}
-use Rattle.crash.specs.Book.{Stage, absent, running, isRunning, isClosed, Entry, Book, change, staged, begin, holderIn, Meeting, own, running-holder, meets, ruled, note, wrote}
+use Rattle.model.proofs.Lists.{cases, getD-mem, or-none}
+use Rattle.crash.specs.Book.{absent, running, isRunning, isClosed, Entry, Book, change, staged, begin, holderIn, Meeting, own, running-holder, meets, ruled, note, wrote}
 use Rattle.crash.specs.Ledger.{Ledger, withBook, namesCount, holderNames}
 use Rattle.crash.specs.Claims.{IsBytes}
 use Rattle.crash.proofs.Relation.{Limits, WriteFits, Fine}
-use Rattle.crash.proofs.Entries.{nextName, same-or-not, change-at, change-other, change-by, takes, met, meets-met, meets-own, running-or-not, ruled-other, ruled-stage, ruled-blocks, ruled-blocks-other, ruled-names}
-use Rattle.crash.proofs.Books.{begun, begun-by, begun-fields, begun-same, begun-other, begun-running, begun-holder, begun-meets}
-use Rattle.crash.proofs.FineSteps.{ranks-kept, limits-same, same-frozen, sum-same}
-
-running-open : (g : Stage) → g ≡ running → g ≢ absent
-running-open g p q = let z : _≡_ {A = ℕ} 0 1 = cc in omega arith
-
-running-unclosed : (g : Stage) → g ≡ running → isClosed g ≢ true
-running-unclosed g p h = let q : isClosed g ≡ false = ap isClosed p in let z : _≡_ {A = ℕ} 0 1 = cc in omega arith
+use Rattle.crash.proofs.BookEntries.{nextName, same-or-not, change-at, change-other, change-by, takes, metHolder, meets-met, meets-own, running-or-not, ruled-other, ruled-stage, ruled-blocks, ruled-blocks-other, ruled-names}
+use Rattle.crash.proofs.BookSteps.{begun, begun-by, begun-fields, begun-same, begun-other, begun-running, begun-holder, begun-meets}
+use Rattle.crash.proofs.LedgerSteps.{ranks-kept, limits-same, same-frozen, sum-same}
+use Rattle.crash.proofs.LedgerStages.{running-present}
+use Rattle.crash.proofs.Tests.{clash}
 
 -- ---- one block more
 snoc-distinct : (xs : List ℕ) (b : ℕ) → ((i j : ℕ) → i < length xs → j < length xs → getD xs i 0 ≡ getD xs j 0 → i ≡ j) → (List·Memᴰ b xs → ⊥)
@@ -65,7 +61,7 @@ module _ (l : Ledger) (f : Fine l) (t : Name) (last : t .number ≡ l .book .nex
   after-stage : (u : Name) → (after u) .stage ≡ (l .book .entry u) .stage
   after-stage = ruled-stage m t b (l .book .entry)
 
-  met-open : (u : Name) → met m ≡ some u → (l .book .entry u) .stage ≢ absent
+  met-open : (u : Name) → metHolder m ≡ some u → (l .book .entry u) .stage ≢ absent
   met-open u e = opens u b (meets-met (l .book) t (holderIn (l .book) b (l .book .writes)) u e .0)
 
   -- one that does not run is not the writer, and one that is not open is not changed
@@ -75,8 +71,8 @@ module _ (l : Ledger) (f : Fine l) (t : Name) (last : t .number ≡ l .book .nex
   absent-same : (u : Name) → (l .book .entry u) .stage ≡ absent → after u ≡ l .book .entry u
   absent-same u h =
       ruled-other m t b (l .book .entry) u
-      (not-writer u (λ e. running-open _ e h))
-      (λ e. met-open u (ap met e) h)
+      (not-writer u (λ e. running-present _ e h))
+      (λ e. met-open u (ap metHolder e) h)
 
   not-taken : takes m ≡ true → List·Memᴰ b ((l .book .entry t) .blocks) → ⊥
   not-taken h p =
@@ -92,7 +88,7 @@ module _ (l : Ledger) (f : Fine l) (t : Name) (last : t .number ≡ l .book .nex
 
     writer-limits : Limits (l .shape) t (after t)
     writer-limits =
-        let z = f .limits t (running-open _ run) in
+        let z = f .limits t (running-present _ run) in
         record {
           core = z .core;
           low = z .low;
@@ -140,12 +136,12 @@ module _ (l : Ledger) (f : Fine l) (t : Name) (last : t .number ≡ l .book .nex
           unopened = λ u h. let g : (l .book .entry u) .stage ≡ absent = rw (after-stage u) at h in rw (absent-same u g) (f .unopened u g);
           named = λ u x p. rw (after-stage x) (elim (ruled-names m t b (l .book .entry) u x p) [
             | inl q ↦ f .named u x q
-            | inr s ↦ elim s [ inl e ↦ rw e (running-open _ run) | inr e ↦ met-open x e ]
+            | inr s ↦ elim s [ inl e ↦ rw e (running-present _ run) | inr e ↦ met-open x e ]
           ]);
           frozen = λ u h.
               let g : isClosed ((l .book .entry u) .stage) ≡ true = rw (after-stage u) at h in
               same-frozen l (withBook l (note t b o v (l .book))) u refl refl refl
-              (ruled-blocks-other m t b (l .book .entry) u (not-writer u (λ e. running-unclosed _ e g))) (f .frozen u g);
+              (ruled-blocks-other m t b (l .book .entry) u (not-writer u (λ e. clash g (ap isClosed e)))) (f .frozen u g);
           stamps = λ u x hu hx. f .stamps u x (rw (after-stage u) at hu) (rw (after-stage x) at hx);
           closes = (let e = sum-same (l .book) (note t b o v (l .book)) (λ a. refl) (l .shape .cores) in let h = f .closes in omega arith);
           opened = λ u p. rw (after-stage u) (f .opened u p);
@@ -156,10 +152,6 @@ module _ (l : Ledger) (f : Fine l) (t : Name) (last : t .number ≡ l .book .nex
         }
 
 -- ---- WRITE
-no-or : (a b : Bool) → (a || b) ≡ false → (a ≡ false) × (b ≡ false)
-no-or true b h = absurd (let z : _≡_ {A = ℕ} 0 1 = cc in omega arith)
-no-or false b h = (refl, h)
-
 module _ (l : Ledger) (f : Fine l) (c : ℕ) (hc : c < l .shape .cores) where
   abbrev k : Book
   k = l .book
@@ -188,7 +180,7 @@ module _ (l : Ledger) (f : Fine l) (c : ℕ) (hc : c < l .shape .cores) where
     opening-at u e = rw (e, change-at w (staged running) (k .entry))
 
     opens-after : (u : Name) → (k .entry u) .stage ≢ absent → (opening u) .stage ≢ absent
-    opens-after u h = same-or-not u w (λ e. running-open _ (opening-at u e)) (λ ne. rw (opening-other u ne) h)
+    opens-after u h = same-or-not u w (λ e. running-present _ (opening-at u e)) (λ ne. rw (opening-other u ne) h)
 
     fine-begin : Fine (withBook l (begin w k))
     unfolding begin
@@ -224,13 +216,13 @@ module _ (l : Ledger) (f : Fine l) (c : ℕ) (hc : c < l .shape .cores) where
               (λ ne. limits-same (l .shape) u (k .entry u) (opening u) (opening-blocks u) (opening-names u) (f .limits u (rw (opening-other u ne) at h)));
           unopened = λ u h.
               same-or-not u w
-              (λ e. absurd (running-open _ (opening-at u e) h))
+              (λ e. absurd (running-present _ (opening-at u e) h))
               (λ ne. rw (opening-other u ne) (f .unopened u (rw (opening-other u ne) at h)));
           named = λ u x m. opens-after x (f .named u x (rw (opening-names u) at m));
           frozen = λ u h. same-frozen l (withBook l (begin w k)) u refl refl refl (opening-blocks u) (f .frozen u (sym (opening-closed u) ∙ h));
           stamps = λ u x hu hx. f .stamps u x (sym (opening-closed u) ∙ hu) (sym (opening-closed x) ∙ hx);
           closes = (let e = sum-same k (begin w k) (λ a. refl) (l .shape .cores) in let h = f .closes in omega arith);
-          opened = λ u m. elim (List·Memᴰ·cases-cons m) [ inl e ↦ running-open _ (opening-at u e) | inr p ↦ opens-after u (f .opened u p) ];
+          opened = λ u m. elim (List·Memᴰ·cases-cons m) [ inl e ↦ running-present _ (opening-at u e) | inr p ↦ opens-after u (f .opened u p) ];
           known = λ u h.
               same-or-not u w (λ e. List·Memᴰ·head e) (λ ne. List·Memᴰ·tail (f .known u (rw (opening-other u ne) at h)));
           writes = f .writes;
@@ -262,7 +254,7 @@ module _ (l : Ledger) (f : Fine l) (c : ℕ) (hc : c < l .shape .cores) where
       still-open : (u : Name) (x : ℕ) → holderIn open-book x (open-book .writes) ≡ some u → (open-book .entry u) .stage ≢ absent
       still-open u x h =
           same-or-not u w
-          (λ e. rw e (running-open _ (begun-running k c current)))
+          (λ e. rw e (running-present _ (begun-running k c current)))
           (λ ne. rw (begun-other k c current u ne) (opens u x (sym (same-holder x) ∙ h)))
 
     pub fine-wrote : (ltb 12 (namesCount (wrote c b o v k) w) || ltb 12 (holderNames (wrote c b o v k) (meets k w (holderIn k b (k .writes))))) ≡ false
@@ -272,7 +264,7 @@ module _ (l : Ledger) (f : Fine l) (c : ℕ) (hc : c < l .shape .cores) where
     unfolding wrote note namesCount holderNames
     fine-wrote no-24 no-25 no-27 =
         let current = f .ranks c hc .current in
-        let short = no-or _ _ no-24 in
+        let short = or-none _ _ no-24 in
         let opened : Fine (withBook l open-book)
         = begun-by k c current (λ x. Fine (withBook l x)) (λ e. f) (λ e. fine-begin e (ltb-false maxNumber (k .next c) (rw (ap isRunning e) at no-27))) in
         fine-note (withBook l open-book) opened w (ap (λ (n : ℕ → ℕ). n c) (sym (begun-fields k c current .3))) b o v (begun-running k c current)

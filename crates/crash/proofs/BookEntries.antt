@@ -1,5 +1,5 @@
--- What a change of one entry, a raised number and the four rules of WRITE leave of a book's entries, and what of it the
--- holders, the images and the blocks of the records depend on: stages decide who holds, blocks how long a record is.
+-- What a change of one entry, a raised number and the four rules of WRITE leave of a book's entries, and what of these
+-- the holders and the blocks of the records depend on: stages decide who holds, blocks how long a record is.
 -- So a command that changes neither of an entry changes nothing of these.
 use Prim.Native.Nat.{ℕ, zero, suc, _+_, _≤_, _<_}
 use native.Mathlib.Omega.{arith}
@@ -58,6 +58,11 @@ module _ (t : Name) (g : Entry → Entry) (entry : Name → Entry) where
   pub change-by : {A : Type 0} (f : Entry → A) → f (g (entry t)) ≡ f (entry t) → (u : Name) → f (change t g entry u) ≡ f (entry u)
   change-by f h u = same-or-not u t (λ e. rw (e, change-at) h) (λ ne. ap f (change-other u ne))
 
+-- what holds of t as it is changed, and of the others as they are, holds of each
+pub change-each : (P : Name → Entry → Type 0) (t : Name) (f : Entry → Entry) (entry : Name → Entry) → P t (f (entry t))
+    → ((u : Name) → u ≢ t → P u (entry u)) → (u : Name) → P u (change t f entry u)
+change-each P t f entry a b u = same-or-not u t (λ e. rw (e, change-at t f entry) a) (λ ne. rw (change-other t f entry u ne) (b u ne))
+
 -- ---- one number raised
 pub raise-at : (c : ℕ) (n : ℕ → ℕ) → raise c n c ≡ suc (n c)
 unfolding raise
@@ -69,11 +74,11 @@ raise-other c n i ne = rw (ne-eqb i c ne)
 
 -- ---- the four rules
 -- another's name that the writer lists
-abbrev pub met : Meeting → Option Name
-met no-holder = none
-met own = none
-met (running-holder u) = some u
-met (closed-holder u) = some u
+abbrev pub metHolder : Meeting → Option Name
+metHolder no-holder = none
+metHolder own = none
+metHolder (running-holder u) = some u
+metHolder (closed-holder u) = some u
 
 -- the writer takes the block
 abbrev pub takes : Meeting → Bool
@@ -83,13 +88,13 @@ takes (running-holder u) = false
 takes (closed-holder u) = true
 
 module _ (k : Book) (t : Name) where
-  pub meets-met : (h : Option Name) (u : Name) → met (meets k t h) ≡ some u → (h ≡ some u) × (u ≢ t)
+  pub meets-met : (h : Option Name) (u : Name) → metHolder (meets k t h) ≡ some u → (h ≡ some u) × (u ≢ t)
   unfolding meets
   meets-met none u e = absurd (let z : _≡_ {A = ℕ} 0 1 = cc in omega arith)
   meets-met (some x) u e =
       same-or-not x t
-      (λ q. absurd (let p : met (meets k t (some x)) ≡ none = rw (q, sameName-refl t) in let z : _≡_ {A = ℕ} 0 1 = cc in omega arith))
-      (λ ne. let p : met (meets k t (some x)) ≡ some x
+      (λ q. absurd (let p : metHolder (meets k t (some x)) ≡ none = rw (q, sameName-refl t) in let z : _≡_ {A = ℕ} 0 1 = cc in omega arith))
+      (λ ne. let p : metHolder (meets k t (some x)) ≡ some x
       = rw (sameName-false x t ne) (cases (isClosed ((k .entry x) .stage)) (λ c. rw c) (λ c. rw c)) in
       let q : x ≡ u = cc in (ap some q, λ r. ne (q ∙ r)))
 
@@ -168,28 +173,9 @@ changed-mem t n f entry same u x p =
     (λ e. naming-mem n x (entry u) (let q : List·Memᴰ x ((f (entry t)) .names) = rw (e, change-at t f entry) at p in rw (same (entry t), ← e) at q))
     (λ ne. inl (rw (change-other t f entry u ne) at p))
 
--- a list with a name, which stands in it once
-abbrev pub listing : Option Name → List Name → List Name
-listing none ns = ns
-listing (some n) ns = cond (any (sameName n) ns) ns (ns ++ (n ∷ []))
-
-pub ruled-names-at : (m : Meeting) (t : Name) (b : ℕ) (entry : Name → Entry) → m ≢ running-holder t
-    → (ruled m t b entry t) .names ≡ listing (met m) ((entry t) .names)
-unfolding ruled
-ruled-names-at no-holder t b entry ne = ap (λ e. e .names) (change-at t (taking b) entry)
-ruled-names-at own t b entry ne = refl
-ruled-names-at (running-holder x) t b entry ne =
-    ap (λ e. e .names) (change-other x (naming t) (change t (naming x) entry) t (λ e. ne (ap running-holder (sym e))) ∙ change-at t (naming x) entry)
-ruled-names-at (closed-holder x) t b entry ne = ap (λ e. e .names) (change-at t (λ (e : Entry). taking b (naming x e)) entry)
-
-pub ruled-names-back : (u t : Name) (b : ℕ) (entry : Name → Entry) → u ≢ t → (ruled (running-holder u) t b entry u) .names ≡ listing (some t) ((entry u) .names)
-unfolding ruled
-ruled-names-back u t b entry ne =
-    ap (λ e. e .names) (change-at u (naming t) (change t (naming u) entry)) ∙ ap (λ e. listing (some t) (e .names)) (change-other t (naming u) entry u ne)
-
 -- whom a list names after the rules: those of before, the writer, the one met
 pub ruled-names : (m : Meeting) (t : Name) (b : ℕ) (entry : Name → Entry) (u x : Name) → List·Memᴰ x ((ruled m t b entry u) .names)
-    → List·Memᴰ x ((entry u) .names) ⊎ ((x ≡ t) ⊎ (met m ≡ some x))
+    → List·Memᴰ x ((entry u) .names) ⊎ ((x ≡ t) ⊎ (metHolder m ≡ some x))
 unfolding ruled
 ruled-names no-holder t b entry u x p = inl (subst (λ l. List·Memᴰ x l) (change-by t (taking b) entry (λ e. e .names) refl u) p)
 ruled-names own t b entry u x p = inl p

@@ -4,16 +4,15 @@
 use Prim.Native.Nat.{ℕ, _-_, _≤_, _<_}
 use native.Mathlib.Omega.{arith}
 use native.Mathlib.Decide.{decLt}
-use mathlib.Core.Path.{_≡_, refl, sym, ap, ap₂, _∙_, subst}
+use mathlib.Core.Path.{_≡_, sym, ap, _∙_, subst, fun-ext}
 use mathlib.Core.Logic.{_⊎_, inl, inr}
 use mathlib.Core.Bool.{Bool, true, false, not, _&&_, _||_}
-use mathlib.Core.List.{List, [], _∷_, map, flatMap, List·Memᴰ, List·Memᴰ·head, List·Memᴰ·tail, Memᴰ·cast, Memᴰ·map, Memᴰ·of-map}
+use mathlib.Core.List.{map, flatMap, List·Memᴰ, Memᴰ·cast, Memᴰ·map, Memᴰ·of-map}
 use lib.Dec.{ltb, eqb}
 use borrow.Author.Tests.{not-true}
 use Rattle.model.specs.Lists.{below, any, select}
-use Rattle.model.specs.Bytes.{Bytes, block}
+use Rattle.model.specs.Bytes.{Bytes}
 use Rattle.model.specs.Card.{sameName}
-use Rattle.model.specs.Layout.{mark, pairWords, masterBlock}
 use Rattle.model.specs.Journal.{journal, journals, nameOf, blocksOf, namesOf}
 use Rattle.model.specs.Shrink.{Closed, Within}
 use Rattle.model.specs.Valid.{isIn, isMet, namesMet, validSet, blocksHeld}
@@ -21,35 +20,17 @@ use Rattle.model.specs.Recovery.{shapeOn, tailOn, committedOn, validOn}
 use Rattle.model.specs.declared.Tail.{Tail}
 use Rattle.model.specs.declared.Name.{Name}
 use Rattle.model.specs.declared.Committed.{Committed}
-use Rattle.model.proofs.Lists.{cases, and-both, and-left, and-right, or-left, or-right, or-cases, all-mem, mem-all, any-mem, mem-any, mem-flatMap, flatMap-mem, mem-below, below-mem}
+use Rattle.model.proofs.Lists.{and-both, and-left, and-right, or-left, or-right, or-cases, all-mem, mem-all, any-mem, mem-any, mem-flatMap, flatMap-mem, mem-below, below-mem}
 use Rattle.model.proofs.Select.{mem-select, select-mem}
 use Rattle.model.proofs.Shrink.{Monotone, shrink-closed, shrink-within, shrink-largest, named-monotone}
 use Rattle.model.proofs.Valid.{sameName-true, sameName-refl, valid-within, valid-largest, valid-names}
 use Rattle.crash.specs.Book.{isCommitted, isRetired, Book}
 use Rattle.crash.specs.Ledger.{Ledger, unretired, metIn, validIn, blocksIn}
 use Rattle.crash.proofs.Relation.{Fine, JournalStands, DiskStands}
-use Rattle.crash.proofs.Stages.{clash, closed-present, committed-rank}
-use Rattle.crash.proofs.Master.{shape-read, tail-read}
-use Rattle.crash.proofs.Records.{readList, IsRead, readList-has, readList-is, journal-read, few-records}
-
--- two tests that hold together are the same
-pub same-test : {a b : Bool} → (a ≡ true → b ≡ true) → (b ≡ true → a ≡ true) → a ≡ b
-same-test {a} {b} f g = cases a (λ h. h ∙ sym (f h)) (λ h. cases b (λ k. clash (g k) h) (λ k. h ∙ sym k))
-
-pub any-name : (n : Name) (ts : List Name) → any (sameName n) ts ≡ true → List·Memᴰ n ts
-any-name n ts h = let r = any-mem (sameName n) ts h in Memᴰ·cast (sameName-true n (r .0) (r .2)) (r .1)
-
-pub name-any : (n : Name) (ts : List Name) → List·Memᴰ n ts → any (sameName n) ts ≡ true
-name-any n ts m = mem-any (sameName n) m (sameName-refl n)
-
-select-same-test : (p q : ℕ → Bool) → ((b : ℕ) → p b ≡ q b) → (bs : List ℕ) → select p bs ≡ select q bs
-unfolding select
-select-same-test p q e [] = refl
-select-same-test p q e (b ∷ bs) = rw (e b, select-same-test p q e bs)
-
-map-same : (g h : ℕ → Tail) (cs : List ℕ) → ((c : ℕ) → List·Memᴰ c cs → g c ≡ h c) → map g cs ≡ map h cs
-map-same g h [] e = refl
-map-same g h (c ∷ cs) e = ap₂ _∷_ (e c (List·Memᴰ·head refl)) (map-same g h cs (λ x m. e x (List·Memᴰ·tail m)))
+use Rattle.crash.proofs.LedgerStages.{closed-present, committed-rank}
+use Rattle.crash.proofs.ReadMaster.{shape-read, tail-read, master-same}
+use Rattle.crash.proofs.ReadRecords.{readList, IsRead, readList-has, readList-is, journal-read, few-records}
+use Rattle.crash.proofs.Tests.{clash, same-test, any-in, in-any, nameEquality}
 
 -- ---- the ledger's valid set
 abbrev belowOldest : Book → Name → Bool
@@ -76,7 +57,7 @@ module _ {l : Ledger} {d : Bytes} {tailAt : ℕ → Tail} (f : Fine l) (z : Disk
 
   module _ (most : ℕ → ℕ) (enough : (c : ℕ) → c < l .shape .cores → l .book .uncommitted c - l .book .oldest c ≤ most c) where
     -- ---- all journals
-    pub journals-listed : (e : Committed) → List·Memᴰ e (journals (l .shape) d tailAt most)
+    journals-listed : (e : Committed) → List·Memᴰ e (journals (l .shape) d tailAt most)
         → (e .core < l .shape .cores) × List·Memᴰ e (readList l (e .core) (tailAt (e .core)))
     unfolding journals
     journals-listed e m =
@@ -97,13 +78,13 @@ module _ {l : Ledger} {d : Bytes} {tailAt : ℕ → Tail} (f : Fine l) (z : Disk
     journals-are e m = let r = journals-listed e m in readList-is f z (e .core) (r .0) e (r .1)
 
     -- ---- they are the ledger's committed unretired transactions
-    pub read-unretired : (e : Committed) → List·Memᴰ e (journals (l .shape) d tailAt most) → List·Memᴰ (nameOf e) (unretired (l .book))
+    read-unretired : (e : Committed) → List·Memᴰ e (journals (l .shape) d tailAt most) → List·Memᴰ (nameOf e) (unretired (l .book))
     unfolding unretired
     read-unretired e m =
         let u = journals-are e m .unretired in
         mem-select _ (l .book .opened) (nameOf e) (f .known (nameOf e) (closed-present _ (u .is-closed))) (and-both (u .is-committed) (ap not (u .not-retired)))
 
-    pub unretired-read : (t : Name) → List·Memᴰ t (unretired (l .book)) → (e : Committed) × List·Memᴰ e (journals (l .shape) d tailAt most) × (nameOf e ≡ t)
+    unretired-read : (t : Name) → List·Memᴰ t (unretired (l .book)) → (e : Committed) × List·Memᴰ e (journals (l .shape) d tailAt most) × (nameOf e ≡ t)
     unfolding unretired
     unretired-read t m =
         let g = (l .book .entry t) .stage in
@@ -137,11 +118,11 @@ module _ {l : Ledger} {d : Bytes} {tailAt : ℕ → Tail} (f : Fine l) (z : Disk
         let listed : List·Memᴰ n (namesOf (l .shape) d (r .0)) = rw (x .names, r .2) j in
         elim (valid-names (l .shape) d tailAt es (r .0) (r .1) n listed) [
           | inl b ↦ or-left (any (sameName n) ts) (sym (below-tail t n j) ∙ b)
-          | inr u ↦ or-right (belowOldest k n) (name-any n ts (Memᴰ·cast (u .2) (Memᴰ·map nameOf (u .1))))
+          | inr u ↦ or-right (belowOldest k n) (in-any nameEquality (Memᴰ·cast (u .2) (Memᴰ·map nameOf (u .1))))
         ]) in
         shrink-largest (metIn k) (metIn-monotone k) (unretired k) ts within closed (nameOf e) (Memᴰ·map nameOf m)
 
-    pub name-valid : (e : Committed) → List·Memᴰ e (journals (l .shape) d tailAt most) → List·Memᴰ (nameOf e) (validIn (l .book))
+    name-valid : (e : Committed) → List·Memᴰ e (journals (l .shape) d tailAt most) → List·Memᴰ (nameOf e) (validIn (l .book))
         → List·Memᴰ e (validSet (l .shape) d tailAt (journals (l .shape) d tailAt most))
     unfolding namesMet isMet isIn
     name-valid e m v =
@@ -156,24 +137,13 @@ module _ {l : Ledger} {d : Bytes} {tailAt : ℕ → Tail} (f : Fine l) (z : Disk
         mem-all (isMet tailAt ss) (namesOf (l .shape) d x)
         (λ n j.
         let listed : List·Memᴰ n ((k .entry (nameOf x)) .names) = rw (y .names) at j in
-        elim (valid-met k (nameOf x) n (any-name (nameOf x) (validIn k) (r .1)) listed) [
+        elim (valid-met k (nameOf x) n (any-in nameEquality (nameOf x) (validIn k) (r .1)) listed) [
           | inl b ↦ or-left (isIn ss n) (below-tail (nameOf x) n listed ∙ b)
           | inr u ↦ or-right (ltb (n .number) ((tailAt (n .core)) .number))
-              (let w = unretired-read n (valid-unretired k n (any-name n (validIn k) u)) in
+              (let w = unretired-read n (valid-unretired k n (any-in nameEquality n (validIn k) u)) in
               mem-any (λ (g : Committed). sameName n (nameOf g)) (mem-select test es (w .0) (w .1) (rw (w .2) u)) (rw (w .2) (sameName-refl n)))
         ]) in
-        valid-largest (l .shape) d tailAt es ss (λ x i. select-mem test es x i .0) closed e (mem-select test es e m (name-any (nameOf e) (validIn k) v))
-
-    -- the valid set is the records of the ledger's valid transactions
-    pub valid-listed : (e : Committed) → List·Memᴰ e (validSet (l .shape) d tailAt (journals (l .shape) d tailAt most))
-        → (e .core < l .shape .cores) × List·Memᴰ e (readList l (e .core) (tailAt (e .core))) × List·Memᴰ (nameOf e) (validIn (l .book))
-    valid-listed e m =
-        let r = journals-listed e (valid-within (l .shape) d tailAt (journals (l .shape) d tailAt most) e m) in
-        (r .0, r .1, valid-name e m)
-
-    pub listed-valid : (e : Committed) → e .core < l .shape .cores → List·Memᴰ e (readList l (e .core) (tailAt (e .core)))
-        → List·Memᴰ (nameOf e) (validIn (l .book)) → List·Memᴰ e (validSet (l .shape) d tailAt (journals (l .shape) d tailAt most))
-    listed-valid e h m v = name-valid e (listed-journals e h m) v
+        valid-largest (l .shape) d tailAt es ss (λ x i. select-mem test es x i .0) closed e (mem-select test es e m (in-any nameEquality v))
 
     -- a valid transaction of the ledger is read, as a valid one
     pub valid-read : (t : Name) → List·Memᴰ t (validIn (l .book))
@@ -191,19 +161,19 @@ module _ {l : Ledger} {d : Bytes} {tailAt : ℕ → Tail} (f : Fine l) (z : Disk
         let vs = validSet (l .shape) d tailAt (journals (l .shape) d tailAt most) in
         same-test
         (λ h. let r = any-mem (λ (e : Committed). sameName n (nameOf e)) vs h in
-        name-any n (validIn (l .book)) (Memᴰ·cast (sameName-true n (nameOf (r .0)) (r .2)) (valid-name (r .0) (r .1))))
-        (λ h. let r = valid-read n (any-name n (validIn (l .book)) h) in
+        in-any nameEquality (Memᴰ·cast (sameName-true n (nameOf (r .0)) (r .2)) (valid-name (r .0) (r .1))))
+        (λ h. let r = valid-read n (any-in nameEquality n (validIn (l .book)) h) in
         mem-any (λ (e : Committed). sameName n (nameOf e)) (r .1) (rw (r .2) (sameName-refl n)))
 
     -- ---- the home blocks held in it
-    pub blocks-same : blocksHeld (l .shape) d (validSet (l .shape) d tailAt (journals (l .shape) d tailAt most)) ≡ blocksIn (l .shape .blocks) (l .book)
+    blocks-same : blocksHeld (l .shape) d (validSet (l .shape) d tailAt (journals (l .shape) d tailAt most)) ≡ blocksIn (l .shape .blocks) (l .book)
     unfolding blocksHeld blocksIn
     blocks-same =
         let vs = validSet (l .shape) d tailAt (journals (l .shape) d tailAt most) in
         let k = l .book in
         let holds : ℕ → Name → Bool = λ b t. any (eqb b) ((k .entry t) .blocks) in
-        select-same-test (λ (b : ℕ). any (eqb b) (flatMap (blocksOf (l .shape) d) vs)) (λ (b : ℕ). any (holds b) (validIn k))
-        (λ b.
+        ap (λ (p : ℕ → Bool). select p (below (l .shape .blocks)))
+        (fun-ext (λ b.
         same-test
         (λ h.
         let x = any-mem (eqb b) (flatMap (blocksOf (l .shape) d) vs) h in
@@ -213,21 +183,16 @@ module _ {l : Ledger} {d : Bytes} {tailAt : ℕ → Tail} (f : Fine l) (z : Disk
         let t = any-mem (holds b) (validIn k) h in
         let x = any-mem (eqb b) ((k .entry (t .0)) .blocks) (t .2) in
         let r = valid-read (t .0) (t .1) in
-        mem-any (eqb b) (flatMap-mem (blocksOf (l .shape) d) (r .1) (rw (valid-are (r .0) (r .1) .blocks, r .2) (x .1))) (x .2)))
-        (below (l .shape .blocks))
+        mem-any (eqb b) (flatMap-mem (blocksOf (l .shape) d) (r .1) (rw (valid-are (r .0) (r .1) .blocks, r .2) (x .1))) (x .2))))
 
 -- ---- as RECOVER reads: from the master's own shape and tails
 module _ {l : Ledger} {d : Bytes} {tailAt : ℕ → Tail} (f : Fine l) (z : DiskStands l d tailAt) where
   pub own-tails : DiskStands l d (tailOn d)
-  unfolding masterBlock
   own-tails =
       record {
         size = z .size;
         bytes = z .bytes;
-        master =
-            z .master
-            ∙ ap (λ (ts : List Tail). block (mark ∷ 4 ∷ 0 ∷ l .shape .cores ∷ l .shape .blocks ∷ l .shape .journal ∷ pairWords (λ (t : Tail). t .number) (λ (t : Tail). t .position) ts))
-            (map-same tailAt (tailOn d) (below (l .shape .cores)) (λ c m. sym (tail-read f z c (mem-below (l .shape .cores) m))));
+        master = z .master ∙ master-same (l .shape) tailAt (tailOn d) (λ c h. sym (tail-read f z c h));
         journals = λ c h. subst (JournalStands l d c) (sym (tail-read f z c h)) (z .journals c h);
       }
 

@@ -6,12 +6,12 @@ use native.Mathlib.Omega.{arith}
 use native.Mathlib.Nat.{sub-self}
 use mathlib.Core.Path.{_≡_, refl, sym, ap, _∙_}
 use mathlib.Core.Bool.{false, false≢true}
-use mathlib.Core.List.{List, [], _∷_, flatMap, List·Memᴰ}
+use mathlib.Core.List.{List, [], flatMap, List·Memᴰ}
 use lib.ListN.{length, getD, length-map, length-replicate, getD-replicate, List·getD-map}
 use Rattle.model.specs.Lists.{below}
-use Rattle.model.specs.Bytes.{block, blockAt}
+use Rattle.model.specs.Bytes.{blockAt}
 use Rattle.model.specs.Card.{newTail, freshCore, freshCard, noHolder, tailOf, coreOf, holderOf}
-use Rattle.model.specs.Layout.{mark, pairWords, masterBlock, isCommit}
+use Rattle.model.specs.Layout.{masterBlock, isCommit}
 use Rattle.model.specs.Journal.{journalAt}
 use Rattle.model.specs.Command.{World}
 use Rattle.model.specs.declared.Phase.the-variants.{Up as PhaseUp}
@@ -19,25 +19,12 @@ use Rattle.model.specs.declared.Shape.{Shape}
 use Rattle.model.specs.declared.Tail.{Tail}
 use Rattle.model.specs.declared.Card.{Card}
 use Rattle.model.proofs.Limits.{InRange}
-use Rattle.model.proofs.Words.{each-block}
 use Rattle.crash.specs.Book.{Write, emptyBook, holderIn}
 use Rattle.crash.specs.Ledger.{freshLedger, recordBlocks}
 use Rattle.crash.specs.Claims.{IsBytes}
 use Rattle.crash.proofs.Relation.{WriteFits, contents, JournalStands, DiskStands, CoreUp, Up}
-use Rattle.crash.proofs.FineSteps.{fine-fresh}
-use Rattle.crash.proofs.Blocks.{each-isBytes}
-use Rattle.crash.proofs.Frames.{map-below}
-
--- a master block has the tails of its cores alone, and is bytes
-pub master-same : (s : Shape) (f g : ℕ → Tail) → ((c : ℕ) → c < s .cores → f c ≡ g c) → masterBlock s f ≡ masterBlock s g
-unfolding masterBlock
-master-same s f g h =
-    ap (λ (ts : List Tail). block (mark ∷ 4 ∷ 0 ∷ s .cores ∷ s .blocks ∷ s .journal ∷ pairWords (λ (t : Tail). t .number) (λ (t : Tail). t .position) ts))
-    (map-below f g (s .cores) h)
-
-pub master-bytes : (s : Shape) (tailAt : ℕ → Tail) → IsBytes (masterBlock s tailAt)
-unfolding masterBlock
-master-bytes s tailAt = each-isBytes _ (each-block _)
+use Rattle.crash.proofs.LedgerSteps.{fine-fresh}
+use Rattle.crash.proofs.ReadMaster.{master-same}
 
 -- the journals hold nothing
 module _ (s : Shape) (saved : List Write) (first : ℕ → ℕ) (c : ℕ) where
