@@ -5,7 +5,7 @@ use Prim.Native.Nat.{ℕ, zero, suc, _+_, _-_, _≤_, min}
 use native.Mathlib.Omega.{arith}
 use mathlib.Core.Path.{_≡_, refl}
 use mathlib.Core.List.{List, [], _∷_, _++_}
-use mathlib.Core.Bool.{true, false}
+use mathlib.Core.Bool.{true, false, cond}
 use lib.ListN.{getD}
 use lib.Dec.{eqb}
 use borrow.Author.Tests.{eqb-true, ne-eqb}
@@ -15,12 +15,12 @@ use Rattle.model.specs.Card.{isDown}
 use Rattle.model.specs.Layout.{maxNumber}
 use Rattle.model.specs.declared.Phase.{Phase}
 use Rattle.model.specs.declared.Shape.{Shape}
-use Rattle.crash.specs.Book.{Book, emptyBook, keptWrites, image, blank}
+use Rattle.crash.specs.Book.{Book, emptyBook, keptWrites, image, blank, hasRunning}
 use Rattle.crash.specs.Service.{Service, emptyService, noted, cutService, fed}
 use Rattle.crash.specs.Ledger.{Ledger, freshLedger, blankLedger, withBook, closeLedger, cutLedger, recoverLedger, entered}
 use Rattle.crash.specs.Claims.{downLedger}
 use Rattle.model.proofs.Lists.{cases}
-use Rattle.crash.proofs.Rename.{Renamed, SameWrites, empty-renamed, close-renamed, noted-renamed, same-image, kept-saved}
+use Rattle.crash.proofs.Rename.{Renamed, SameWrites, empty-renamed, close-renamed, noted-renamed, same-image, kept-saved, running-renamed}
 use Rattle.crash.proofs.Tests.{clash}
 
 -- a blank card is as one just come up, with nothing written
@@ -34,21 +34,21 @@ pub record Suits (k : ℕ) (p : Phase) : Type 0 where
   pub after-cut : k ≡ 7 → isDown p ≡ true
 
 -- ---- the starts
-fresh-agrees : (s : Shape) → Agrees emptyService (freshLedger s [] (λ (c : ℕ). 1))
+fresh-agrees : (n : ℕ) (s : Shape) → Agrees (emptyService n) (freshLedger s [] (λ (c : ℕ). 1))
 unfolding emptyService freshLedger
-fresh-agrees s = not-down (λ c. 0) refl (empty-renamed (λ c. 0) (λ c. 1) (λ c. 1) (λ c. refl)) refl
+fresh-agrees n s = not-down (λ c. 0) refl (empty-renamed (λ c. 0) (λ c. 1) (λ c. 1) (λ c. refl)) refl
 
-pub blank-agrees : Agrees emptyService blankLedger
+pub blank-agrees : (n : ℕ) → Agrees (emptyService n) blankLedger
 unfolding emptyService blankLedger
-blank-agrees = not-down (λ c. 0) refl (empty-renamed (λ c. 0) (λ c. 1) (λ c. 1) (λ c. refl)) refl
+blank-agrees n = not-down (λ c. 0) refl (empty-renamed (λ c. 0) (λ c. 1) (λ c. 1) (λ c. refl)) refl
 
 empty-kept : (n : ℕ → ℕ) → keptWrites (emptyBook n) ≡ []
 unfolding keptWrites select emptyBook
 empty-kept n = refl
 
-pub down-agrees : (s : Shape) → Agrees emptyService (downLedger s)
+pub down-agrees : (n : ℕ) (s : Shape) → Agrees (emptyService n) (downLedger s)
 unfolding emptyService downLedger cutLedger freshLedger
-down-agrees s = down refl refl (rw (empty-kept (λ (c : ℕ). 1)) refl)
+down-agrees n s = down refl refl (rw (empty-kept (λ (c : ℕ). 1)) refl)
 
 -- ---- the commands
 noted-other : (k : ℕ) (a : Bytes) (b : Book) → (2 ≤ k → k ≤ 5 → ⊥) → noted k a b ≡ b
@@ -76,13 +76,17 @@ module _ (v : Service) (l : Ledger) where
   recover-agrees d (down p e s) (b ∷ bs) = down refl e s
 
   close-agrees : (a : Bytes) → isDown (l .phase) ≡ false → Agrees v l
-      → Agrees (record { saved = v .saved; book = noted 3 a (v .book) }) (closeLedger (getD a 0 0) l)
+      → Agrees (record { blocks = v .blocks; saved = v .saved; book = noted 3 a (v .book) }) (cond (hasRunning (l .book) (getD a 0 0)) (closeLedger (getD a 0 0) l) l)
   unfolding closeLedger noted
-  close-agrees a d (not-down shift p r s) = not-down shift p (close-renamed r (getD a 0 0)) s
+  close-agrees a d (not-down shift p r s) =
+      let c = getD a 0 0 in
+      cases (hasRunning (v .book) c)
+      (λ e. rw (running-renamed r c, e) (not-down shift p (close-renamed r c) s))
+      (λ e. rw (running-renamed r c, e) (not-down shift p r s))
   close-agrees a d (down p e s) = clash p d
 
   noted-agrees : (k : ℕ) (a : Bytes) → (2 ≤ k → k ≤ 5 → isDown (l .phase) ≡ false) → Agrees v l
-      → Agrees (record { saved = v .saved; book = noted k a (v .book) }) (withBook l (noted k a (l .book)))
+      → Agrees (record { blocks = v .blocks; saved = v .saved; book = noted k a (v .book) }) (withBook l (noted k a (l .book)))
   noted-agrees k a h (not-down shift p r s) = not-down shift p (noted-renamed r k a) s
   noted-agrees k a h (down p e s) =
       let other : (2 ≤ k → k ≤ 5 → ⊥) = λ x y. clash p (h x y) in
@@ -92,7 +96,7 @@ module _ (v : Service) (l : Ledger) where
   carried-agrees : (k : ℕ) (a : Bytes) → Suits k (l .phase) → Agrees v l → Agrees (fed k a 0 v) (entered k a 0 l)
   unfolding fed entered
   carried-agrees k a h g =
-      cases (eqb k 1) (λ e. rw (eqb-true k 1 e) (fresh-agrees _))
+      cases (eqb k 1) (λ e. rw (eqb-true k 1 e) (fresh-agrees _ _))
       (λ n₁. cases (eqb k 3) (λ e. rw (eqb-true k 3 e) (close-agrees a (h .before-cut (omega (arith, eqb-true k 3 e)) (omega (arith, eqb-true k 3 e))) g))
       (λ n₃. cases (eqb k 6) (λ e. rw (eqb-true k 6 e) (cut-agrees g))
       (λ n₆. cases (eqb k 7) (λ e. rw (eqb-true k 7 e, noted-other 7 a (v .book) (λ x y. omega arith)) (recover-agrees (h .after-cut (eqb-true k 7 e)) g (l .left)))

@@ -35,7 +35,7 @@ served v (k ∷ ks) = served (fed (k .byte) (k .operands) 0 v) ks
 
 -- who wrote what the book has kept
 abbrev keptBy : List Command → List Name
-keptBy ks = map (λ (w : Write). w .writer) ((served emptyService ks) .saved)
+keptBy ks = map (λ (w : Write). w .writer) ((served (emptyService 1) ks) .saved)
 
 unfoldable pub books : Unit {0}
 unfolding computes emptyBook change raise begin holderIn meets ruled holderAfter note wrote close store checkpoint committedIn namesIn kept keptWrites image blank emptyService noted cutService fed
@@ -57,10 +57,10 @@ unfolding books
 both-kept = refl
 
 -- After the one home store of two checkpoints core 0's transaction is not retired yet, and the next writer names it.
-pub home-store-retires-none : ((served emptyService (write 0 0 1 ∷ commits 0 ++ of-core 5 0 ∷ write 1 4 2 ∷ [])) .book .entry (newName 1 1)) .names ≡ newName 0 1 ∷ []
+pub home-store-retires-none : ((served (emptyService 1) (write 0 0 1 ∷ commits 0 ++ of-core 5 0 ∷ write 1 4 2 ∷ [])) .book .entry (newName 1 1)) .names ≡ newName 0 1 ∷ []
 unfolding books
 home-store-retires-none = refl
 
-pub master-store-retires : ((served emptyService (write 0 0 1 ∷ commits 0 ++ of-core 5 0 ∷ of-core 5 0 ∷ write 1 4 2 ∷ [])) .book .entry (newName 1 1)) .names ≡ []
+pub master-store-retires : ((served (emptyService 1) (write 0 0 1 ∷ commits 0 ++ of-core 5 0 ∷ of-core 5 0 ∷ write 1 4 2 ∷ [])) .book .entry (newName 1 1)) .names ≡ []
 unfolding books
 master-store-retires = refl

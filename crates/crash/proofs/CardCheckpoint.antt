@@ -12,7 +12,7 @@ use mathlib.Core.List.{List, [], _++_, flatMap, append-assoc}
 use mathlib.Core.Option.{Option, none, some}
 use lib.ListN.{length, take, getD, length-append, length-map, length-set, List·getD-map}
 use lib.Seq.{getD-append-add, getD-set-same, getD-set-other}
-use borrow.Author.Tests.{lt-ltb, le-ltb}
+use borrow.Author.Tests.{lt-ltb, le-ltb, eq-eqb, ne-eqb}
 use Rattle.model.specs.Lists.{below}
 use Rattle.model.specs.Bytes.{Bytes, blockAt, store as storeBlock}
 use Rattle.model.specs.Shape.{homeBlock, journalBlock}
@@ -33,8 +33,8 @@ use Rattle.model.proofs.Encoding.{length-master}
 use Rattle.model.proofs.Journal.{home-apart, journal-wrap}
 use Rattle.model.proofs.Valid.{sameName-refl}
 use Rattle.crash.specs.Book.{Stage, committed, retired, isClosed, isRetired, counted, Entry, Write, Book, raise, holderIn, checkpoint}
-use Rattle.crash.specs.Ledger.{Ledger, withBook, imageNow, recordBlocks}
-use Rattle.crash.proofs.Relation.{IsBlock, Fine, recordOf, contents, JournalStands, DiskStands, CoreUp, holderAs, Up}
+use Rattle.crash.specs.Ledger.{Ledger, withBook, imageNow, recordBlocks, recordOf, tailsPast, checkpointStored}
+use Rattle.crash.proofs.Relation.{IsBlock, Fine, contents, JournalStands, DiskStands, CoreUp, holderAs, Up}
 use Rattle.crash.proofs.LedgerStages.{closed-present}
 use Rattle.crash.proofs.ReadRecords.{readRecord, IsRead, length-record}
 use Rattle.crash.proofs.BookEntries.{same-or-not, sameName-false, other-number, other-core, raise-at, raise-other, records-cons}
@@ -43,7 +43,7 @@ use Rattle.crash.proofs.BlockBytes.{bytes-store}
 use Rattle.crash.proofs.CardFrames.{core-set, core-other, record-same, contents-same}
 use Rattle.crash.proofs.ReadCheckpoint.{oldest-of, oldest-is}
 use Rattle.crash.proofs.Tests.{clash}
-use Rattle.crash.proofs.ReadMaster.{shape-up, master-bytes}
+use Rattle.crash.proofs.ReadMaster.{shape-up, tail-read, master-bytes, master-same}
 
 -- ---- the ledger with one stage and the oldest numbers changed
 module _ (l : Ledger) (t : Name) (g : Stage) (o : ℕ → ℕ) where
@@ -435,6 +435,27 @@ module _ {l : Ledger} {w : World} (u : Up l w) (c : ℕ) (in-range : c < l .shap
         | no none-left ↦ (let all : x .homed ≡ length ((l .book .entry t) .blocks) = omega (arith, within) in
             let k = checkpoint-retires c (x .homed) (l .book) stage-now all in
             rw (k, master-done all) (master-up all (rw k at fine)))
+      ]
+
+  -- the store in the ledger's words
+  module _ (all-home : x .homed ≡ length ((l .book .entry t) .blocks)) where
+    tails-past : (a : ℕ) → a < l .shape .cores → tailOf (card₂ all-home) a ≡ tailsPast c l (w .disk) a
+    unfolding tailsPast
+    tails-past a h =
+        elim (ℕ-discrete a c) [
+          | yes q ↦ rw (q, eq-eqb c c refl, tail-read (u .fine) (u .disk) c in-range) (own-tail all-home)
+          | no ne ↦ rw (ne-eqb a c ne, tail-read (u .fine) (u .disk) a h) (other-tail all-home a ne)
+        ]
+
+  pub checkpointed-bytes : ((checkpointed c w) .world .disk ≡ checkpointStored c l (w .disk)) × ((checkpointed c w) .stores ≡ 1)
+  unfolding checkpointStored
+  checkpointed-bytes =
+      let bs = (l .book .entry t) .blocks in
+      elim (decLt (x .homed) (length bs)) [
+        | yes more ↦ rw (home-done more, ap counted stage-now, lt-ltb (x .homed) (length bs) more) (refl, refl)
+        | no none-left ↦ (let all : x .homed ≡ length bs = omega (arith, within) in
+            rw (master-done all, ap counted stage-now, le-ltb (x .homed) (length bs) (omega arith))
+            (ap (storeBlock (w .disk) 0) (master-same (l .shape) (tailOf (card₂ all)) (tailsPast c l (w .disk)) (tails-past all)), refl))
       ]
 
   -- the disk, and the home blocks, by the ledger's count of checkpoints

@@ -21,9 +21,9 @@ use Rattle.model.proofs.Lists.{cases, mem-below, each-replicate}
 use Rattle.model.proofs.Select.{select-mem, select-same}
 use Rattle.model.proofs.Words.{IsByte}
 use Rattle.crash.specs.Book.{Book}
-use Rattle.crash.specs.Ledger.{Ledger, blocksIn, cutLedger}
+use Rattle.crash.specs.Ledger.{Ledger, blocksIn, cutLedger, heldOf, recordOf}
 use Rattle.crash.specs.Claims.{IsBytes}
-use Rattle.crash.proofs.Relation.{Fine, heldOf, recordOf, contents, JournalStands, DiskStands, Up, target, Newest, DownBy}
+use Rattle.crash.proofs.Relation.{Fine, contents, JournalStands, DiskStands, Up, target, Newest, DownBy}
 use Rattle.crash.proofs.Tests.{clash, any-in, in-any, blockEquality}
 use Rattle.crash.proofs.LedgerSteps.{fine-cut, phased}
 use Rattle.crash.proofs.BlockBytes.{each-isBytes}

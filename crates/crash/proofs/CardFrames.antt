@@ -21,10 +21,10 @@ use Rattle.model.specs.declared.Core.{Core}
 use Rattle.model.specs.declared.Card.{Card}
 use Rattle.model.proofs.Lists.{flatMap-below}
 use Rattle.crash.specs.Book.{Stage, absent, running, isRunning, isClosed, counted, Entry}
-use Rattle.crash.specs.Ledger.{Ledger, recordBlocks}
+use Rattle.crash.specs.Ledger.{Ledger, recordBlocks, heldOf, recordOf}
 use Rattle.crash.proofs.LedgerStages.{closed-present}
 use Rattle.crash.proofs.BookEntries.{records-same}
-use Rattle.crash.proofs.Relation.{Fine, heldOf, recordOf, contents, JournalStands, CoreUp, Matches}
+use Rattle.crash.proofs.Relation.{Fine, contents, JournalStands, CoreUp, Matches}
 
 -- ---- one core of the card replaced
 pub core-set : (x : Card) (c : ℕ) (k : Core) → c < length (x .cores) → coreOf (withCore x c k) c ≡ k

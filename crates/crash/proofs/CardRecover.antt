@@ -28,8 +28,7 @@ use Rattle.model.proofs.Store.{length-store, block-stored, block-other}
 use Rattle.model.proofs.Encoding.{length-master}
 use Rattle.model.proofs.Journal.{home-apart}
 use Rattle.crash.specs.Book.{keptWrites, blank}
-use Rattle.crash.specs.Ledger.{Ledger, blocksIn, recoverLedger}
-use Rattle.crash.specs.Claims.{recoverStore}
+use Rattle.crash.specs.Ledger.{Ledger, blocksIn, recoverLedger, recoverStored}
 use Rattle.crash.proofs.Relation.{IsBlock, Fine, DiskStands, Up, target, DownBy}
 use Rattle.crash.proofs.ReadMaster.{shape-read, master-same, master-bytes}
 use Rattle.crash.proofs.ReadRecords.{length-readList, few-records, journal-read}
@@ -239,13 +238,13 @@ module _ {l : Ledger} {w : World} (v : DownBy l w) where
         fresh-up (v .fine .range) recovered-comes-up (keptWrites (l .book) ++ l .saved) (kept-fits l (v .fine)) (λ c h. (omega arith, omega arith))
 
   -- ---- the store that the ledger says, and when the card comes up
-  pub recover-stores : (recovered w) .world .disk ≡ recoverStore l (l .left) (w .disk)
-  unfolding recoverStore target
-  recover-stores = go (l .left) refl
+  pub recovered-bytes : ((recovered w) .world .disk ≡ recoverStored (l .left) l (w .disk)) × ((recovered w) .stores ≡ 1)
+  unfolding recoverStored target
+  recovered-bytes = go (l .left) refl
     where
-      go : (bs : List ℕ) → l .left ≡ bs → (recovered w) .world .disk ≡ recoverStore l bs (w .disk)
-      go [] e = ap (λ (o : Outcome). o .world .disk) (master-outcome e)
-      go (b ∷ bs) e = ap (λ (o : Outcome). o .world .disk) (home-outcome e)
+      go : (bs : List ℕ) → l .left ≡ bs → ((recovered w) .world .disk ≡ recoverStored bs l (w .disk)) × ((recovered w) .stores ≡ 1)
+      go [] e = (ap (λ (o : Outcome). o .world .disk) (master-outcome e), ap (λ (o : Outcome). o .stores) (master-outcome e))
+      go (b ∷ bs) e = (ap (λ (o : Outcome). o .world .disk) (home-outcome e), ap (λ (o : Outcome). o .stores) (home-outcome e))
 
   pub recover-up : isUp ((recovered w) .world .card .phase) ≡ eqb (length (l .left)) 0
   recover-up = go (l .left) refl

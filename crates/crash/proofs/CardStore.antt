@@ -26,28 +26,28 @@ use Rattle.model.proofs.Lists.{cases, flatMap-append, map-below, flatMap-below}
 use Rattle.model.proofs.Store.{length-store, block-stored, block-other}
 use Rattle.model.proofs.Words.{each-block}
 use Rattle.model.proofs.Encoding.{length-descriptor, length-commit, length-escaped, descriptor-head, commit-head, head-other, no-commit, escaped-head}
-use Rattle.model.proofs.Journal.{journal-low, home-apart, cores-apart, journal-apart, length-recordBlocks, recordBlocks-each}
+use Rattle.model.proofs.Journal.{journal-low, home-apart, cores-apart, journal-apart, length-recordBlocks, recordBlocks-each, recordBlocks as storedBlocks}
 use Rattle.crash.specs.Book.{closed, committed, isClosed, counted, Entry, Book, raise, staged, store}
-use Rattle.crash.specs.Ledger.{Ledger, withBook, imageNow, recordBlocks}
-use Rattle.crash.proofs.Relation.{IsBlock, Fine, heldOf, recordOf, contents, JournalStands, DiskStands, CoreUp, holderAs, Up}
+use Rattle.crash.specs.Ledger.{Ledger, withBook, imageNow, recordBlocks, heldOf, recordOf, recordStored}
+use Rattle.crash.proofs.Relation.{IsBlock, Fine, contents, JournalStands, DiskStands, CoreUp, holderAs, Up}
 use Rattle.crash.proofs.ReadRecords.{record-sound, length-record, records-flat, length-records, stored-closed}
 use Rattle.crash.proofs.BookEntries.{other-number, other-core, change-at, raise-at, raise-other, records-snoc}
 use Rattle.crash.proofs.BookSteps.{Restages, restaged, restages-records, storedStage, store-restages, store-more, store-last, store-holder}
 use Rattle.crash.proofs.BlockBytes.{bytes-store, each-isBytes, escaped-bytes}
 use Rattle.crash.proofs.CardFrames.{SameClosed, core-set, core-other, record-same, none-stored, journal-stays, core-stays}
-use Rattle.crash.proofs.ReadMaster.{shape-up}
+use Rattle.crash.proofs.ReadMaster.{shape-up, tail-read}
 
 -- ---- the blocks of a record, one by one
 module _ {l : Ledger} (f : Fine l) (t : Name) (h : isClosed ((l .book .entry t) .stage) ≡ true) where
   record-size : length (recordOf l t) ≡ length (l .images t) + 2
-  unfolding recordOf
+  unfolding recordOf storedBlocks
   record-size = length-recordBlocks (t .number) (heldOf l t) (l .stamp t) ((l .book .entry t) .names) (l .images t)
 
   record-each : (P : ℕ → Bytes → Type 0) → P 0 (descriptorBlock (t .number) (heldOf l t))
       → ((i : ℕ) → i < length (l .images t) → P (suc i) (escaped (getD (l .images t) i [])))
       → P (suc (length (l .images t))) (commitBlock (t .number) (l .stamp t) ((l .book .entry t) .names))
       → (i : ℕ) → i < length (recordOf l t) → P i (getD (recordOf l t) i [])
-  unfolding recordOf
+  unfolding recordOf storedBlocks
   record-each P a b c i g =
       recordBlocks-each (t .number) (heldOf l t) (l .stamp t) ((l .book .entry t) .names) (l .images t) P a b c i
       (omega (arith, length-recordBlocks (t .number) (heldOf l t) (l .stamp t) ((l .book .entry t) .names) (l .images t)))
@@ -268,6 +268,11 @@ module _ {l : Ledger} {w : World} (u : Up l w) (c : ℕ) (in-range : c < l .shap
       let p = (tailOf (w .card) c) .position in
       let e : p + x .used + x .stored ≡ p + length (contents l c) = omega (arith, length-contents) in
       rw (shape-up u, next-block, e) refl
+
+  -- in the ledger's words: after the records that stand from the tail
+  pub stored-bytes : (stored c w) .world .disk ≡ recordStored c l (w .disk)
+  unfolding stored nextPosition recordStored
+  stored-bytes = rw (shape-up u, next-block, tail-read (u .fine) (u .disk) c in-range, u .cores c in-range .used, ap counted stage-now) refl
 
   is-block : IsBlock b
   is-block = record-blocks (u .fine) t closed-now (x .stored) (omega (arith, size, within))

@@ -25,7 +25,7 @@ comesUp p = eqb (p .byte) 7 && eqb (p .outcome .answer) 0 && eqb (readNumber 0 (
 
 -- the first eight bytes of home block 3 wherever the card comes up
 abbrev blockThree : Bytes → List Bytes
-blockThree t = map (λ (p : Point). part 384 8 (homeArea (p .outcome .world))) (select comesUp (run step t blankWorld))
+blockThree t = map (λ (p : Point). part 384 8 (homeArea 4 (p .outcome .world))) (select comesUp (run step t blankWorld))
 
 -- P1 up to the last STORE but one, and that STORE
 abbrev before : Bytes
@@ -57,7 +57,7 @@ fedAll v (p ∷ ps) = fedAll (fedPoint p v) ps
 abbrev counts : Service → List ℕ
 counts v = length (committedIn (v .book)) ∷ length (kept (v .book)) ∷ []
 
-pub committed-not-kept : counts (fedAll emptyService (run step before blankWorld)) ≡ 1 ∷ 0 ∷ []
+pub committed-not-kept : counts (fedAll (emptyService 0) (run step before blankWorld)) ≡ 1 ∷ 0 ∷ []
 unfolding books fedPoint
 committed-not-kept = refl
 

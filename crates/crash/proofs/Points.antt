@@ -4,12 +4,12 @@
 use Prim.Native.Nat.{ℕ, zero, suc, _+_, _-_, _*_, min, _≤_, _<_}
 use native.Mathlib.Omega.{arith}
 use mathlib.Core.Path.{_≡_, refl, sym, ap, _∙_, subst}
-use mathlib.Core.Bool.{Bool, true, false, not}
+use mathlib.Core.Bool.{Bool, true, false, not, cond}
 use mathlib.Core.List.{List, [], _∷_, _++_, flatMap, append-nil}
-use lib.ListN.{length, take, drop, length-take, length-drop}
+use lib.ListN.{length, getD, take, drop, length-take, length-drop}
 use lib.Seq.{take-add, drop-drop}
 use lib.Dec.{ltb, eqb}
-use borrow.Author.Tests.{lt-ltb, le-ltb, ltb-true, ltb-false, not-false}
+use borrow.Author.Tests.{eqb-true, ne-eqb, lt-ltb, le-ltb, ltb-true, ltb-false, not-false}
 use Rattle.model.specs.Lists.{below}
 use Rattle.model.specs.Bytes.{Bytes, part, blockAt}
 use Rattle.model.specs.Shape.{between, inRange, homeBlock}
@@ -23,11 +23,11 @@ use Rattle.model.specs.declared.Phase.the-variants.{Blank, Up, Down}
 use Rattle.model.proofs.Lists.{cases, flatMap-append, flatMap-below}
 use Rattle.model.proofs.Command.{unless-done, unless-refused, refusedWith, refusal-passed}
 use Rattle.model.proofs.Tape.{pointAt, Runs, at-end, one-more, run-runs}
-use Rattle.crash.specs.Book.{keptWrites, image, blank}
-use Rattle.crash.specs.Service.{Service, bookArea}
-use Rattle.crash.specs.Ledger.{Ledger, freshLedger, blankLedger, recoverLedger, entered, writeRefusals, closeRefusals, storeRefusals, checkpointRefusals, refusalsOf}
+use Rattle.crash.specs.Book.{keptWrites, image, blank, hasRunning}
+use Rattle.crash.specs.Service.{Service, fed, emptyService, cutService, bookArea}
+use Rattle.crash.specs.Ledger.{Ledger, freshLedger, blankLedger, closeLedger, cutLedger, recoverLedger, entered, diskAfter, storeCount, writeRefusals, closeRefusals, storeRefusals, checkpointRefusals, refusalsOf}
 use Rattle.crash.proofs.Agreement.{Agrees, Suits, blank-agrees, down-agrees, fed-agrees, area-same}
-use Rattle.crash.specs.Claims.{IsBytes, answerOf, JournalsRead, recoverStore, PointKept, LedgerKept, ComesUp, AreaKept, homeArea, fedPoint, blankStart, downStart, downLedger, Claim, Demands}
+use Rattle.crash.specs.Claims.{IsBytes, answerOf, JournalsRead, PointKept, LedgerKept, ComesUp, AreaKept, homeArea, fedPoint, blankStart, downStart, downLedger, Claim, Demands}
 use Rattle.crash.proofs.BlockBytes.{bytes-take, bytes-drop}
 use Rattle.crash.proofs.Tests.{clash}
 
@@ -47,12 +47,12 @@ module _ (t : Bytes) (at : ℕ) (on-tape : at < length t) where
       (λ h. rw h (sym (lt-ltb _ n (omega (arith, l, ltb-true (length t) (at + 1 + n) h)))))
       (λ h. rw h (sym (le-ltb _ n (omega (arith, l, ltb-false (length t) (at + 1 + n) h)))))
 
--- bytes of a part of bytes
 -- ---- what each command keeps of a relation of ledger and world
 pub record Kept (At : Ledger → World → Type 0) (l : Ledger) (w : World) (k : ℕ) (a : Bytes) : Type 0 where
   pub answer : (step k a w) .answer ≡ refusal (refusalsOf k a l)
   pub next : At (entered k a ((step k a w) .answer) l) ((step k a w) .world)
-  pub stores : k ≡ 7 → (step k a w) .answer ≡ 0 → (step k a w) .world .disk ≡ recoverStore l (l .left) (w .disk)
+  pub disk : (step k a w) .world .disk ≡ cond (eqb ((step k a w) .answer) 0) (diskAfter k a l (w .disk)) (w .disk)
+  pub stores : (step k a w) .stores ≡ cond (eqb ((step k a w) .answer) 0) (storeCount k) 0
   pub comes-up : k ≡ 7 → (step k a w) .answer ≡ 0 → isUp ((step k a w) .world .card .phase) ≡ eqb (length (l .left)) 0
   -- the last RECOVER leaves the home area that the kept writes give
   pub home : k ≡ 7 → (step k a w) .answer ≡ 0 → l .left ≡ [] → (b : ℕ) → b < l .shape .blocks
@@ -63,7 +63,6 @@ pub record Relates (At : Ledger → World → Type 0) : Type 0 where
   pub phase : (l : Ledger) (w : World) → At l w → w .card .phase ≡ l .phase
   pub journals : (l : Ledger) (w : World) → At l w → isBlank (w .card .phase) ≡ false → JournalsRead l (w .disk)
   pub keeps : (l : Ledger) (w : World) → At l w → (k : ℕ) (a : Bytes) → between 1 k 7 ≡ true → length a ≡ operandLength k → IsBytes a → Kept At l w k a
-  pub shape : (l : Ledger) (w : World) → At l w → isUp (w .card .phase) ≡ true → shapeOf (w .card) ≡ l .shape
 
 module _ (At : Ledger → World → Type 0) (r : Relates At) where
   -- a point and the relation after it
@@ -94,7 +93,9 @@ module _ (At : Ledger → World → Type 0) (r : Relates At) where
                 answer = i ∙ sym e;
                 phase = r .phase l w here;
                 journals = r .journals l w here;
-                recovers = λ s z. absurd (zero-suc (sym z ∙ i));
+                disk = rw (i, ne-eqb (suc (suc m)) 0 (omega arith)) (ap (λ (x : World). x .disk) u);
+                stores = rw (i, ne-eqb (suc (suc m)) 0 (omega arith)) (ap (λ (x : Outcome). x .stores) o);
+                comes-up = λ s z. absurd (zero-suc (sym z ∙ i));
               };
           next = rw (i, u) (unfold entered in here);
           home = λ s z. absurd (zero-suc (sym z ∙ i));
@@ -116,11 +117,9 @@ module _ (At : Ledger → World → Type 0) (r : Relates At) where
                 answer = ap (λ (x : Outcome). x .answer) o ∙ g .answer ∙ sym (rw (known, whole));
                 phase = r .phase l w here;
                 journals = r .journals l w here;
-                recovers =
-                    λ s z. record {
-                      stores = ap (λ (x : Outcome). x .world .disk) o ∙ g .stores s (sym (ap (λ (x : Outcome). x .answer) o) ∙ z);
-                      comes-up = ap (λ (x : Outcome). isUp (x .world .card .phase)) o ∙ g .comes-up s (sym (ap (λ (x : Outcome). x .answer) o) ∙ z);
-                    };
+                disk = subst (λ (x : Outcome). x .world .disk ≡ cond (eqb (x .answer) 0) (diskAfter k a l (w .disk)) (w .disk)) (sym o) (g .disk);
+                stores = subst (λ (x : Outcome). x .stores ≡ cond (eqb (x .answer) 0) (storeCount k) 0) (sym o) (g .stores);
+                comes-up = λ s z. ap (λ (x : Outcome). isUp (x .world .card .phase)) o ∙ g .comes-up s (sym (ap (λ (x : Outcome). x .answer) o) ∙ z);
               };
           next = subst (λ (x : Outcome). At (entered k a (x .answer) l) (x .world)) (sym o) (g .next);
           home = λ s z f b q. ap (λ (x : Outcome). blockAt (x .world .disk) (homeBlock b)) o ∙ g .home s (sym (ap (λ (x : Outcome). x .answer) o) ∙ z) f b q;
@@ -139,11 +138,11 @@ module _ (At : Ledger → World → Type 0) (r : Relates At) where
         (λ y. reaches (unless-done _ w (step k a w) (rw (z, u, x, e, y))) x y))
 
   -- Demands 1 and 2 and the course of recovery, at every point of a run.
-  ledger-kept : (t : Bytes) → IsBytes t → {at n : ℕ} {l : Ledger} {w : World} {ps : List Point} → At l w → Runs step t at n w ps → LedgerKept l w ps
+  ledger-kept : (t : Bytes) → IsBytes t → {at n : ℕ} {l : Ledger} {w : World} {ps : List Point} → At l w → Runs step t at n w ps → LedgerKept n l w ps
   ledger-kept t b {l = l} {w = w} here (at-end h) = (r .phase l w here, r .journals l w here)
   ledger-kept t b {at} {n} {l} {w} here (one-more h e rest) =
       let g : Goes l _ = subst (Goes l) (sym e) (goes t b at n h l w here) in
-      (g .kept, ledger-kept t b (g .next) rest)
+      (g .kept, ap (λ (p : Point). p .stores) e ∙ ap (λ (p : Point). n + p .outcome .stores) (sym e), ledger-kept t b (g .next) rest)
 
 -- ---- the home area by its blocks
 area-blocks : (d : Bytes) (n : ℕ) → part 128 (128 * n) d ≡ flatMap (λ (b : ℕ). blockAt d (homeBlock b)) (below n)
@@ -190,6 +189,22 @@ module _ (l : Ledger) where
       record { before-cut = λ a b. four-suits (p .operands) (p .byte) a b y; after-cut = λ e. recover-suits (p .operands) (p .byte) e y }
 
 -- ---- demand 3
+-- service book and ledger count the same home blocks
+recover-shape : (l : Ledger) (bs : List ℕ) → (recoverLedger bs l) .shape .blocks ≡ l .shape .blocks
+unfolding recoverLedger freshLedger
+recover-shape l [] = refl
+recover-shape l (b ∷ bs) = refl
+
+fed-blocks : (k : ℕ) (a : Bytes) (n : ℕ) (v : Service) (l : Ledger) → v .blocks ≡ l .shape .blocks → (fed k a n v) .blocks ≡ (entered k a n l) .shape .blocks
+unfolding fed entered emptyService cutService freshLedger cutLedger closeLedger
+fed-blocks k a (suc n) v l e = e
+fed-blocks k a zero v l e =
+    cases (eqb k 1) (λ h. rw (eqb-true k 1 h) refl)
+    (λ n₁. cases (eqb k 3) (λ h. rw (eqb-true k 3 h) (cases (hasRunning (l .book) (getD a 0 0)) (λ r. rw r e) (λ r. rw r e)))
+    (λ n₃. cases (eqb k 6) (λ h. rw (eqb-true k 6 h) e)
+    (λ n₆. cases (eqb k 7) (λ h. rw (eqb-true k 7 h) (e ∙ sym (recover-shape l (l .left))))
+    (λ n₇. rw (n₁, n₃, n₆, n₇) e))))
+
 module _ (At : Ledger → World → Type 0) (r : Relates At) where
   -- a card that is down is read with 22
   down-reads : (l : Ledger) (w : World) → At l w → isDown (w .card .phase) ≡ true → readNumber 0 w ≡ 22
@@ -226,27 +241,28 @@ module _ (At : Ledger → World → Type 0) (r : Relates At) where
         let d : isDown (p .outcome .world .card .phase) ≡ true = ap isDown (r .phase _ _ n) in
         absurd (c .is-up (down-reads _ _ n d))
 
-    area-at : homeArea (p .outcome .world) ≡ bookArea (fedPoint p v) ((shapeOf (p .outcome .world .card)) .blocks)
-    unfolding homeArea bookArea recoverLedger freshLedger
-    area-at =
+    area-at : v .blocks ≡ l .shape .blocks → homeArea (v .blocks) (p .outcome .world) ≡ bookArea (fedPoint p v)
+    unfolding homeArea bookArea recoverLedger freshLedger fedPoint
+    area-at same =
         let e = none-left (l .left) refl in
-        let n : At (recoverLedger [] l) (p .outcome .world) = rw e at next-after in
         let s : Agrees (fedPoint p v) (recoverLedger [] l) = rw e at agrees-after in
-        let u : isUp (p .outcome .world .card .phase) ≡ true = ap isUp (r .phase _ _ n) in
-        let z : shapeOf (p .outcome .world .card) ≡ l .shape = r .shape _ _ n u in
-        area-blocks (p .outcome .world .disk) ((shapeOf (p .outcome .world .card)) .blocks)
-        ∙ rw z
-        (flatMap-below (λ (b : ℕ). blockAt (p .outcome .world .disk) (homeBlock b)) (image blank ((fedPoint p v) .saved)) (l .shape .blocks)
-        (λ b h. g .home (c .is-recover) (c .is-done) e b h ∙ sym (area-same (fedPoint p v) (recoverLedger [] l) refl s b)))
+        let after : (fedPoint p v) .blocks ≡ l .shape .blocks = fed-blocks (p .byte) (p .operands) (p .outcome .answer) v l same ∙ ap (λ (x : Ledger). x .shape .blocks) after-is ∙ recover-shape l (l .left) in
+        ap (λ (n : ℕ). part 128 (128 * n) (p .outcome .world .disk)) same
+        ∙ area-blocks (p .outcome .world .disk) (l .shape .blocks)
+        ∙ flatMap-below (λ (b : ℕ). blockAt (p .outcome .world .disk) (homeBlock b)) (image blank ((fedPoint p v) .saved)) (l .shape .blocks)
+        (λ b h. g .home (c .is-recover) (c .is-done) e b h ∙ sym (area-same (fedPoint p v) (recoverLedger [] l) refl s b))
+        ∙ ap (λ (n : ℕ). flatMap (image blank ((fedPoint p v) .saved)) (below n)) (sym after)
 
   -- At every point of a run where the card comes up, the home area is the book's area.
-  area-kept : (t : Bytes) → IsBytes t → {at n : ℕ} {v : Service} {l : Ledger} {w : World} {ps : List Point} → At l w → Agrees v l → Runs step t at n w ps → AreaKept v ps
+  area-kept : (t : Bytes) → IsBytes t → {at n : ℕ} {v : Service} {l : Ledger} {w : World} {ps : List Point} → At l w → Agrees v l → v .blocks ≡ l .shape .blocks
+      → Runs step t at n w ps → AreaKept v ps
   unfolding fedPoint
-  area-kept t b here agrees (at-end h) = tt
-  area-kept t b {at} {n} {v} {l} {w} here agrees (one-more {p = p} h e rest) =
+  area-kept t b here agrees same (at-end h) = tt
+  area-kept t b {at} {n} {v} {l} {w} here agrees same (one-more {p = p} h e rest) =
       let g : Goes At r l p = subst (Goes At r l) (sym e) (goes At r t b at n h l w here) in (
-        area-at v l p g agrees,
-        area-kept t b (g .next) (fed-agrees (p .byte) (p .operands) (p .outcome .answer) v l (λ z. suits l p (g .kept .answer) z) agrees) rest,
+        λ c. area-at v l p g agrees c same,
+        area-kept t b (g .next) (fed-agrees (p .byte) (p .operands) (p .outcome .answer) v l (λ z. suits l p (g .kept .answer) z) agrees)
+        (fed-blocks (p .byte) (p .operands) (p .outcome .answer) v l same) rest,
       )
 
 -- ---- from both starts
@@ -254,9 +270,10 @@ module _ (At : Ledger → World → Type 0) (r : Relates At)
     (from-blank : (d m : Bytes) → IsBytes d → IsBytes m → length d ≡ 32896 → length m ≡ 16384 → At blankLedger (blankStart d m))
     (from-down : (s : Shape) (m : Bytes) → inRange (s .cores) (s .blocks) (s .journal) ≡ true → IsBytes m → length m ≡ 16384 → At (downLedger s) (downStart s m)) where
   pub claimed : Claim step
+  unfolding emptyService blankLedger downLedger cutLedger freshLedger
   claimed = (
-    λ t d m bt bd bm ld lm. area-kept At r t bt (from-blank d m bd bm ld lm) blank-agrees (run-runs step t (blankStart d m)),
-    λ t m s h bt bm lm. area-kept At r t bt (from-down s m h bm lm) (down-agrees s) (run-runs step t (downStart s m)),
+    λ t d m bt bd bm ld lm. area-kept At r t bt (from-blank d m bd bm ld lm) (blank-agrees 0) refl (run-runs step t (blankStart d m)),
+    λ t m s h bt bm lm. area-kept At r t bt (from-down s m h bm lm) (down-agrees (s .blocks) s) refl (run-runs step t (downStart s m)),
   )
 
   pub demanded : Demands step

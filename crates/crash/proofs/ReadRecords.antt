@@ -27,11 +27,11 @@ use Rattle.model.specs.declared.Found.the-variants.{Whole}
 use Rattle.model.proofs.Lists.{cases, and-both, all-mem, mem-all, getD-mem, mem-getD, flatMap-append, length-below, getD-map-below, Each, getD-each, mem-each}
 use Rattle.model.proofs.Words.{IsByte, IsWord}
 use Rattle.model.proofs.Encoding.{Sound}
-use Rattle.model.proofs.Journal.{IsBlock, Images, Stands, asRead, journal-wrap, record-read, held-read, names-read, image-read, records-miss, records-hit, miss-commit, record-stands, length-recordBlocks}
+use Rattle.model.proofs.Journal.{IsBlock, Images, Stands, asRead, journal-wrap, record-read, held-read, names-read, image-read, records-miss, records-hit, miss-commit, record-stands, length-recordBlocks, recordBlocks as storedBlocks}
 use Rattle.crash.specs.Book.{isClosed, Book}
-use Rattle.crash.specs.Ledger.{Ledger, recordBlocks, storedOf, storedSince}
+use Rattle.crash.specs.Ledger.{Ledger, recordBlocks, storedOf, storedSince, heldOf, recordOf}
 use Rattle.crash.specs.Claims.{readAs, JournalsRead}
-use Rattle.crash.proofs.Relation.{Limits, sumNext, Fine, heldOf, recordOf, contents, DiskStands}
+use Rattle.crash.proofs.Relation.{Limits, sumNext, Fine, contents, DiskStands}
 use Rattle.crash.proofs.LedgerStages.{closed-present, Unretired, stored-unretired}
 use Rattle.crash.proofs.ReadMaster.{shape-read, tail-read}
 
@@ -164,7 +164,7 @@ module _ {l : Ledger} (f : Fine l) (t : Name) (h : isClosed ((l .book .entry t) 
       }
 
   pub length-record : length (recordOf l t) ≡ length ((l .book .entry t) .blocks) + 2
-  unfolding recordOf
+  unfolding recordOf storedBlocks
   length-record =
       length-recordBlocks (t .number) (heldOf l t) (l .stamp t) ((l .book .entry t) .names) (l .images t) ∙ ap (λ (n : ℕ). n + 2) (f .frozen t h .count)
 
@@ -241,7 +241,7 @@ module _ {l : Ledger} (f : Fine l) (d : Bytes) (c : ℕ) where
       let size = length-record f t h in
       let e = length-held l t in
       let stand = stand-left (l .shape) d c p (recordOf l t) (recordsOf l c (suc i) n) (z .1) in
-      record-stands (f .frozen t h .count ∙ sym e) (unfold recordOf in (λ q g. stand q (omega arith)))
+      record-stands (f .frozen t h .count ∙ sym e) (unfold recordOf storedBlocks in (λ q g. stand q (omega arith)))
 
   rest-stands : (i p n : ℕ) → Standing i p (suc n) → Standing (suc i) ((p + (length ((l .book .entry (newName c i)) .blocks) + 2)) % l .shape .journal) n
   unfolding recordsOf

@@ -26,7 +26,7 @@ use Rattle.model.specs.declared.Core.{Core}
 use Rattle.model.specs.declared.Holder.{Holder}
 use Rattle.model.proofs.Limits.{InRange}
 use Rattle.crash.specs.Book.{absent, running, closed, committed, retired, isRunning, isClosed, counted, Entry, Write, Book, holderIn, keptWrites, image, blank}
-use Rattle.crash.specs.Ledger.{Ledger, imageNow, validIn, blocksIn, recordBlocks}
+use Rattle.crash.specs.Ledger.{recordOf, Ledger, imageNow, validIn, blocksIn, recordBlocks}
 use Rattle.crash.specs.Claims.{IsBytes}
 use Rattle.model.proofs.Journal.{recordBlocks as storedBlocks}
 
@@ -97,15 +97,6 @@ pub record Fine (l : Ledger) : Type 0 where
   pub saved : (w : Write) → List·Memᴰ w (l .saved) → WriteFits (l .shape) w
 
 -- ---- the disk holds what the ledger says
--- a transaction's blocks with their flags, and the blocks of its record, in the order stored
-unfoldable pub heldOf : Ledger → Name → List Held
-heldOf l t =
-    let bs = (l .book .entry t) .blocks in
-    map (λ (i : ℕ). newHeld (getD bs i 0) (flagOf (getD (l .images t) i []))) (below (length bs))
-
-unfoldable pub recordOf : Ledger → Name → List Bytes
-recordOf l t = storedBlocks (t .number) (heldOf l t) (l .stamp t) ((l .book .entry t) .names) (l .images t)
-
 -- core c's journal from its tail: the records stored whole, then what is stored of the closed one
 unfoldable pub contents : Ledger → ℕ → List Bytes
 contents l c =

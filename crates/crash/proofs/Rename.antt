@@ -9,15 +9,15 @@ use mathlib.Core.List.{List, [], _∷_, _++_, map, map-map, map-append}
 use mathlib.Core.Option.{Option, none, some}
 use mathlib.Core.Bool.{Bool, true, false, cond}
 use lib.ListN.{length, getD, length-map}
-use lib.Dec.{eqb, leb}
-use borrow.Author.Tests.{eqb-true, eqb-false, eq-eqb, ne-eqb}
+use lib.Dec.{eqb, leb, ltb}
+use borrow.Author.Tests.{eqb-true, eqb-false, eq-eqb, ne-eqb, lt-ltb, le-ltb, ltb-true, ltb-false}
 use Rattle.model.specs.Lists.{all, any, select}
 use Rattle.model.specs.Bytes.{Bytes, number, part}
 use Rattle.model.specs.Card.{newName, sameName}
 use Rattle.model.specs.Shrink.{strike, shrinkIn, shrink}
 use Rattle.model.specs.declared.Name.{Name}
 use Rattle.model.proofs.Lists.{cases}
-use Rattle.crash.specs.Book.{running, closed, committed, retired, isRunning, isClosed, isCommitted, isRetired, counted, Entry, Write, Book, emptyBook, change, raise, staged, taking, naming, begin, holderIn, Meeting, no-holder, own, running-holder, closed-holder, meets, ruled, holderAfter, note, wrote, close, store, checkpoint, committedIn, namesIn, kept, keptWrites, image}
+use Rattle.crash.specs.Book.{running, closed, committed, retired, isRunning, isClosed, isCommitted, isRetired, counted, Entry, Write, Book, emptyBook, change, raise, staged, taking, naming, begin, holderIn, Meeting, no-holder, own, running-holder, closed-holder, meets, ruled, holderAfter, note, wrote, close, store, checkpoint, committedIn, namesIn, kept, keptWrites, image, hasRunning, hasClosed, hasCommitted}
 use Rattle.crash.specs.Service.{noted}
 
 -- ---- a test under a function
@@ -260,12 +260,27 @@ module _ {shift : ℕ → ℕ} {k k′ : Book} (r : Renamed shift k k′) where
         next = r .next;
       }
 
+  -- both books have such a transaction, or neither
+  pub running-renamed : (c : ℕ) → hasRunning k′ c ≡ hasRunning k c
+  running-renamed c = rw (renamed-number shift c (k .next c) (k′ .next c) (r .next c), r .entry (newName c (k .next c))) refl
+
+  less-renamed : (n x y x′ y′ : ℕ) → x′ ≡ x + n → y′ ≡ y + n → ltb x′ y′ ≡ ltb x y
+  less-renamed n x y x′ y′ p q =
+      cases (ltb x y)
+      (λ h. rw h (lt-ltb x′ y′ (omega (arith, ltb-true x y h))))
+      (λ h. rw h (le-ltb x′ y′ (omega (arith, ltb-false x y h))))
+
+  guard-renamed : {p p′ : Bool} {x x′ : Book} → p′ ≡ p → Renamed shift x x′ → Renamed shift (cond p x k) (cond p′ x′ k′)
+  guard-renamed {p} e h = rw e (cond-renamed p h r)
+
   pub noted-renamed : (n : ℕ) (a : Bytes) → Renamed shift (noted n a k) (noted n a k′)
   unfolding noted
   noted-renamed n a =
       let c = getD a 0 0 in
       cond-renamed (eqb n 2) (wrote-renamed c (number 0 (part 1 2 a)) (getD a 3 0) (part 4 4 a))
-      (cond-renamed (eqb n 3) (close-renamed c) (cond-renamed (eqb n 4) (store-renamed c) (cond-renamed (eqb n 5) (checkpoint-renamed c) r)))
+      (cond-renamed (eqb n 3) (guard-renamed (running-renamed c) (close-renamed c))
+      (cond-renamed (eqb n 4) (guard-renamed (less-renamed (shift c) _ _ _ _ (r .uncommitted c) (r .next c)) (store-renamed c))
+      (cond-renamed (eqb n 5) (guard-renamed (less-renamed (shift c) _ _ _ _ (r .oldest c) (r .uncommitted c)) (checkpoint-renamed c)) r)))
 
 -- ---- what a cut keeps
 -- writes that are the same but for the names of transactions

@@ -11,7 +11,7 @@ use mathlib.Core.Bool.{Bool, true, false, So, cond, not, _&&_, _||_}
 use mathlib.Core.List.{List, [], _∷_, List·Memᴰ, _++_, List·Memᴰ·not-nil}
 use lib.ListN.{length, getD, drop, length-take, length-drop}
 use lib.Dec.{eqb, ltb}
-use borrow.Author.Tests.{eqb-true, eqb-false, ltb-true, ltb-false, leb-false, not-false}
+use borrow.Author.Tests.{ne-eqb, eqb-true, eqb-false, ltb-true, ltb-false, leb-false, not-false}
 use Rattle.model.specs.Lists.{any}
 use Rattle.model.specs.Bytes.{Bytes, blockAt, zeroMemory, number, part}
 use Rattle.model.specs.Shape.{between, homeBlock, inRange}
@@ -30,7 +30,7 @@ use Rattle.model.specs.declared.Phase.the-variants.{Blank}
 use Rattle.model.proofs.Lists.{cases, and-left, getD-mem}
 use Rattle.model.specs.Format.{formatted}
 use Rattle.crash.proofs.CardFormat.{format-home, format-up, down-start}
-use Rattle.crash.proofs.CardRecover.{recover-home, recovered-home, recover-master, recover-stores, recover-up}
+use Rattle.crash.proofs.CardRecover.{recover-home, recovered-home, recover-master, recovered-bytes, recover-up}
 use Rattle.crash.proofs.PhaseAnswers.{down-answers, blank-answers, up-answers}
 use Rattle.crash.specs.Service.{noted}
 use Rattle.model.specs.Layout.{maxNumber}
@@ -39,9 +39,9 @@ use Rattle.crash.proofs.CardWrite.{write-up}
 use Rattle.crash.proofs.LedgerWrite.{fine-wrote}
 use Rattle.crash.proofs.CardAnswers.{write-answers, close-answers, store-answers, checkpoint-answers}
 use Rattle.crash.proofs.ReadRecords.{journals-read}
-use Rattle.crash.specs.Book.{Book, Write, absent, running, committed, kept, image, blank, isClosed, holderIn, store, checkpoint, keptWrites, isRunning, wrote, meets}
-use Rattle.crash.specs.Ledger.{Ledger, freshLedger, blankLedger, cutLedger, entered, refusalsOf, withBook, closeLedger, validIn, sharesLowerIn, recoverLedger, formatRefusals, writeRefusals, closeRefusals, storeRefusals, checkpointRefusals, notUpFor, namesCount, holderNames, recordBlocks}
-use Rattle.crash.specs.Claims.{recoverStore, IsBytes, JournalsRead, Claim, Demands}
+use Rattle.crash.specs.Book.{hasRunning, Book, Write, absent, running, committed, kept, image, blank, isClosed, holderIn, store, checkpoint, keptWrites, isRunning, wrote, meets}
+use Rattle.crash.specs.Ledger.{Ledger, freshLedger, blankLedger, cutLedger, entered, diskAfter, storeCount, refusalsOf, withBook, closeLedger, validIn, sharesLowerIn, recoverLedger, formatRefusals, writeRefusals, closeRefusals, storeRefusals, checkpointRefusals, notUpFor, namesCount, holderNames, recordBlocks}
+use Rattle.crash.specs.Claims.{IsBytes, JournalsRead, Claim, Demands}
 use Rattle.crash.proofs.Points.{Kept, Relates, claimed, demanded}
 use Rattle.crash.proofs.Tests.{clash, any-in, in-any, nameEquality, blockEquality}
 use Rattle.crash.proofs.Largest.{memberOf, RetiredBelow, valid-is-kept}
@@ -53,9 +53,9 @@ use Rattle.crash.proofs.Relation.{Fine, Up, DownBy, target}
 use Rattle.crash.proofs.LedgerSteps.{fine-close, fine-store, fine-checkpoint, below-oldest}
 use Rattle.crash.proofs.CardCut.{cut-up, cut-down, right-length}
 use Rattle.crash.proofs.Given.{held-newest, home-target}
-use Rattle.crash.proofs.CardStore.{store-up, store-homes}
+use Rattle.crash.proofs.CardStore.{store-up, store-homes, stored-bytes}
 use Rattle.crash.proofs.CardClose.{close-up}
-use Rattle.crash.proofs.CardCheckpoint.{checkpoint-up, home-stored, home-others, homes-stay}
+use Rattle.crash.proofs.CardCheckpoint.{checkpoint-up, checkpointed-bytes, home-stored, home-others, homes-stay}
 use Rattle.crash.proofs.ReadMaster.{shape-up}
 use Rattle.crash.proofs.BlockBytes.{bytes-take, bytes-drop}
 use Rattle.crash.proofs.LedgerStages.{running-is}
@@ -187,13 +187,16 @@ data At (l : Ledger) (w : World) : Type 0 where
 -- ---- one command: refused it changes nothing; carried out, `Done` says what must be shown
 record Done (l : Ledger) (w : World) (k : ℕ) (a : Bytes) : Type 0 where
   pub next : At (entered k a 0 l) ((rowOf k a w) .done .world)
-  pub stores : k ≡ 7 → (rowOf k a w) .done .world .disk ≡ recoverStore l (l .left) (w .disk)
+  pub disk : (rowOf k a w) .done .world .disk ≡ diskAfter k a l (w .disk)
+  pub stores : (rowOf k a w) .done .stores ≡ storeCount k
   pub comes-up : k ≡ 7 → isUp ((rowOf k a w) .done .world .card .phase) ≡ eqb (length (l .left)) 0
   pub home : k ≡ 7 → l .left ≡ [] → (b : ℕ) → b < l .shape .blocks → blockAt ((rowOf k a w) .done .world .disk) (homeBlock b) ≡ target l b
 
 -- of a command other than RECOVER
-plain : {l : Ledger} {w : World} {k : ℕ} {a : Bytes} → k ≢ 7 → At (entered k a 0 l) ((rowOf k a w) .done .world) → Done l w k a
-plain n h = record { next = h; stores = λ e. absurd (n e); comes-up = λ e. absurd (n e); home = λ e. absurd (n e) }
+plain : {l : Ledger} {w : World} {k : ℕ} {a : Bytes} → k ≢ 7
+    → (rowOf k a w) .done .world .disk ≡ diskAfter k a l (w .disk) → (rowOf k a w) .done .stores ≡ storeCount k
+    → At (entered k a 0 l) ((rowOf k a w) .done .world) → Done l w k a
+plain n d s h = record { next = h; disk = d; stores = s; comes-up = λ e. absurd (n e); home = λ e. absurd (n e) }
 
 module _ {l : Ledger} {w : World} (here : At l w) (k : ℕ) (a : Bytes) where
   refused-keeps : (n : ℕ) → (step k a w) .answer ≡ suc n → (step k a w) .answer ≡ refusal (refusalsOf k a l) → Kept At l w k a
@@ -203,7 +206,8 @@ module _ {l : Ledger} {w : World} (here : At l w) (k : ℕ) (a : Bytes) where
       record {
         answer = h;
         next = rw (e, u) (unfold entered in here);
-        stores = λ s z. absurd (omega arith);
+        disk = rw (e, ne-eqb (suc n) 0 (omega arith)) (ap (λ (x : World). x .disk) u);
+        stores = rw (e, ne-eqb (suc n) 0 (omega arith)) (ap (λ (o : Outcome). o .stores) o);
         comes-up = λ s z. absurd (omega arith);
         home = λ s z. absurd (omega arith);
       }
@@ -216,7 +220,8 @@ module _ {l : Ledger} {w : World} (here : At l w) (k : ℕ) (a : Bytes) where
       record {
         answer = h;
         next = rw (e, u) (d .next);
-        stores = λ s z. rw u (d .stores s);
+        disk = rw e (ap (λ (x : World). x .disk) u ∙ d .disk);
+        stores = rw e (ap (λ (o : Outcome). o .stores) o ∙ d .stores);
         comes-up = λ s z. rw u (d .comes-up s);
         home = λ s z f b q. rw u (d .home s f b q);
       }
@@ -251,14 +256,14 @@ module _ {l : Ledger} {w : World} (b : BlankAt l w) (a : Bytes) where
   not-done ts h = clash (rw (b .ledger) refl) (refusal-passed (isBlank (l .phase)) 20 ts (omega arith) h .0)
 
   format-done : refusal (refusalsOf 1 a l) ≡ 0 → Done l w 1 a
-  unfolding refusalsOf formatRefusals refusal rowOf entered image blankLedger
+  unfolding refusalsOf formatRefusals refusal rowOf entered image blankLedger diskAfter storeCount formatted
   format-done h =
       let s : Shape = record { cores = getD a 0 0; blocks = getD a 1 0; journal = getD a 2 0 } in
       let ok : inRange (s .cores) (s .blocks) (s .journal) ≡ true =
       cases (inRange (s .cores) (s .blocks) (s .journal)) (λ e. e)
       (λ e. absurd (let p : isBlank (l .phase) ≡ true = rw (b .ledger) refl in let z : 4 ≡ 0 = rw (p, e) at h in omega arith)) in
       let r = range-test s ok in
-      plain (omega arith) (at-up (fresh-at s [] (λ (c : ℕ). 1) ((formatted s) .world) (format-up s r) (format-home s r)))
+      plain (omega arith) refl refl (at-up (fresh-at s [] (λ (c : ℕ). 1) ((formatted s) .world) (format-up s r) (format-home s r)))
 
   blank-keeps : (k : ℕ) → between 1 k 7 ≡ true → Kept At l w k a
   unfolding refusalsOf writeRefusals closeRefusals storeRefusals checkpointRefusals
@@ -278,8 +283,8 @@ module _ {l : Ledger} {w : World} (d : DownBy l w) (a : Bytes) where
   refused-22 ts h = clash (ap isDown (d .ledger)) (refusal-passed _ 22 ts (omega arith) (refusal-passed _ 20 _ (omega arith) h .1) .0)
 
   cut-again : Done l w 6 a
-  unfolding rowOf entered
-  cut-again = plain (omega arith) (at-down (cut-down d))
+  unfolding rowOf entered diskAfter storeCount
+  cut-again = plain (omega arith) refl refl (at-down (cut-down d))
 
   recover-next : (left : List ℕ) → l .left ≡ left → At (recoverLedger (l .left) l) ((recovered w) .world)
   unfolding target
@@ -290,11 +295,12 @@ module _ {l : Ledger} {w : World} (d : DownBy l w) (a : Bytes) where
   recover-next (b ∷ left) e = subst (λ (left : List ℕ). At (recoverLedger left l) ((recovered w) .world)) (sym e) (at-down (recover-home d e))
 
   recover-again : Done l w 7 a
-  unfolding rowOf entered
+  unfolding rowOf entered diskAfter storeCount
   recover-again =
       record {
         next = recover-next (l .left) refl;
-        stores = λ _. recover-stores d;
+        disk = recovered-bytes d .0;
+        stores = recovered-bytes d .1;
         comes-up = λ _. recover-up d;
         home = λ _ e b h. recovered-home d e b h;
       }
@@ -324,27 +330,32 @@ module _ {l : Ledger} {w : World} (u : UpAt l w) (a : Bytes) where
       (leb-false (l .shape .cores) core (z .1 .1 .0), z .1 .1 .1)
 
   close-done : refusal (refusalsOf 3 a l) ≡ 0 → Done l w 3 a
-  unfolding refusalsOf closeRefusals rowOf entered
+  unfolding refusalsOf closeRefusals rowOf entered diskAfter storeCount closed
   close-done h =
       let z = in-range-of _ (omega arith, (omega arith, tt)) h in
-      let runs : (l .book .entry (newName core (l .book .next core))) .stage ≡ running = running-is _ (not-false _ (z .1 .0)) in
-      plain (omega arith) (at-up (close-at u core (z .0) runs (omega (arith, ltb-false (l .book .uncommitted core) (l .book .next core) (z .1 .1 .0), u .up .fine .ranks core (z .0) .mid))))
+      let has-running : hasRunning (l .book) core ≡ true = not-false _ (z .1 .0) in
+      let free : l .book .uncommitted core ≡ l .book .next core =
+      omega (arith, ltb-false (l .book .uncommitted core) (l .book .next core) (z .1 .1 .0), u .up .fine .ranks core (z .0) .mid) in
+      plain (omega arith) refl refl (rw has-running (at-up (close-at u core (z .0) (running-is _ has-running) free)))
 
   store-done : refusal (refusalsOf 4 a l) ≡ 0 → Done l w 4 a
-  unfolding refusalsOf storeRefusals rowOf entered noted
+  unfolding refusalsOf storeRefusals rowOf entered noted diskAfter storeCount stored
   store-done h =
       let z = in-range-of _ (omega arith, tt) h in
-      plain (omega arith) (at-up (store-at u core (z .0) (ltb-true _ _ (not-false _ (z .1 .0)))))
+      let busy = not-false _ (z .1 .0) in
+      plain (omega arith) (stored-bytes (u .up) core (z .0) (ltb-true _ _ busy)) refl (rw busy (at-up (store-at u core (z .0) (ltb-true _ _ busy))))
 
   checkpoint-done : refusal (refusalsOf 5 a l) ≡ 0 → Done l w 5 a
-  unfolding refusalsOf checkpointRefusals rowOf entered noted
+  unfolding refusalsOf checkpointRefusals rowOf entered noted diskAfter storeCount
   checkpoint-done h =
       let z = in-range-of _ (omega arith, (omega arith, (omega arith, tt))) h in
-      plain (omega arith) (at-up (checkpoint-at u core (z .0) (ltb-true _ _ (not-false _ (z .1 .0))) (not-false _ (z .1 .1 .0)) (z .1 .1 .1 .0)))
+      let some-committed = not-false _ (z .1 .0) in
+      let b = checkpointed-bytes (u .up) core (z .0) (ltb-true _ _ some-committed) in
+      plain (omega arith) (b .0) (b .1) (rw some-committed (at-up (checkpoint-at u core (z .0) (ltb-true _ _ some-committed) (not-false _ (z .1 .1 .0)) (z .1 .1 .1 .0))))
 
   cut-up-done : Done l w 6 a
-  unfolding rowOf entered
-  cut-up-done = plain (omega arith) (at-down (cut-at u))
+  unfolding rowOf entered diskAfter storeCount
+  cut-up-done = plain (omega arith) refl refl (at-down (cut-at u))
 
   -- WRITE, with operands of eight bytes
   module _ (size : length a ≡ 8) (bytes : IsBytes a) where
@@ -389,11 +400,11 @@ module _ {l : Ledger} {w : World} (u : UpAt l w) (a : Bytes) where
         }
 
     write-done : refusal (refusalsOf 2 a l) ≡ 0 → Done l w 2 a
-    unfolding refusalsOf writeRefusals rowOf entered noted
+    unfolding refusalsOf writeRefusals rowOf entered noted diskAfter storeCount written
     write-done h =
         let z = in-range-of _ (omega arith, (omega arith, (omega arith, (omega arith, (omega arith, (omega arith, tt)))))) h in
         let y = z .1 in
-        plain (omega arith)
+        plain (omega arith) refl refl
         (at-up (write-at (z .0) (leb-false (l .shape .blocks) b (y .0)) (ltb-false 124 o (y .1 .0)) (y .1 .1 .0) (y .1 .1 .1 .0) (y .1 .1 .1 .1 .0) (y .1 .1 .1 .1 .1 .0)))
 
   up-answer : (k : ℕ) → between 1 k 7 ≡ true → (step k a w) .answer ≡ refusal (refusalsOf k a l)
@@ -435,7 +446,6 @@ relates =
       phase = phase;
       journals = journals;
       keeps = keeps;
-      shape = shape;
     }
   where
     sizes : (l : Ledger) (w : World) → At l w → wrongLength w ≡ false
@@ -457,11 +467,6 @@ relates =
     keeps l w (at-blank b) k a known size bytes = blank-keeps b a k known
     keeps l w (at-up u) k a known size bytes = up-keeps u a k known size bytes
     keeps l w (at-down d) k a known size bytes = down-keeps d a k known
-
-    shape : (l : Ledger) (w : World) → At l w → isUp (w .card .phase) ≡ true → shapeOf (w .card) ≡ l .shape
-    shape l w (at-blank b) h = clash h (ap isUp (blank-phase b))
-    shape l w (at-up u) h = shape-up (u .up)
-    shape l w (at-down d) h = clash h (ap isUp (d .phase))
 
 -- Demand 3: whenever recovery brings the card up, the home area is the blank one with the kept writes, in issue order.
 pub claim : Claim step
