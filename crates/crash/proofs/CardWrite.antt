@@ -31,9 +31,9 @@ use Rattle.crash.proofs.BlockBytes.{block-written, block-unwritten, byt
 use Rattle.crash.proofs.BookEntries.{other-core, meets-met, meets-running, metHolder}
 use Rattle.crash.proofs.BookSteps.{meeting, wrote-numbers, wrote-running, wrote-stage, wrote-blocks-other, wrote-other, wrote-holder, wrote-holder-other, wrote-image, wrote-image-other}
 use Rattle.crash.proofs.CardFrames.{SameClosed, core-set, core-other, none-stored, journal-stays, core-stays}
-use Rattle.crash.proofs.CardRules.{running-next, writer-name, Met, met-none, met-own, met-running, met-closed, rule-met, writer-after, holder-after}
+use Rattle.crash.proofs.CardRules.{writer-name, Met, met-none, met-own, met-running, met-closed, rule-met, writer-after, holder-after}
 use Rattle.crash.proofs.Tests.{clash}
-use Rattle.crash.proofs.LedgerStages.{running-present, present-open}
+use Rattle.crash.proofs.LedgerStages.{running-present, present-open, running-next}
 
 -- ---- the card afterwards
 -- what WRITE leaves of a card

@@ -6,11 +6,10 @@ use native.Mathlib.Omega.{arith}
 use native.Mathlib.Decide.{decLt, ℕ-discrete}
 use mathlib.Core.Path.{_≡_, refl, sym, ap, _∙_, subst}
 use mathlib.Core.Logic.{_⊎_, inl, inr, _≢_}
-use mathlib.Core.Bool.{true, false}
+use mathlib.Core.Bool.{true}
 use mathlib.Core.List.{List, [], _∷_, _++_, map, List·Memᴰ, List·Memᴰ·head, List·Memᴰ·tail, List·Memᴰ·not-nil, List·Memᴰ·append-cases, Memᴰ·of-map}
 use lib.ListN.{length, length-map, length-replicate}
-use lib.Dec.{ltb, eqb}
-use borrow.Author.Tests.{lt-ltb, le-ltb}
+use lib.Dec.{eqb}
 use Rattle.model.specs.Lists.{all}
 use Rattle.model.specs.Bytes.{Bytes, replaced}
 use Rattle.model.specs.Card.{newName}
@@ -23,7 +22,7 @@ use Rattle.model.proofs.Limits.{InRange}
 use Rattle.model.proofs.Lists.{cases, getD-mem}
 use Rattle.model.proofs.Select.{select-mem}
 use Rattle.model.proofs.Store.{length-replaced}
-use Rattle.crash.specs.Book.{Stage, absent, running, closed, committed, retired, isClosed, isRetired, Entry, Write, Book, emptyBook, raise, close, store, checkpoint, keptWrites, image, blank}
+use Rattle.crash.specs.Book.{Stage, absent, running, closed, committed, retired, isClosed, Entry, Write, Book, emptyBook, raise, close, store, checkpoint, keptWrites, image, blank}
 use Rattle.crash.specs.Ledger.{Ledger, freshLedger, withBook, imageNow, closeLedger, cutLedger, recoverLedger, blocksIn}
 use Rattle.crash.specs.Claims.{IsBytes}
 use Rattle.crash.proofs.Relation.{IsBlock, Limits, WriteFits, Frozen, Ranks, sumNext, Fine}
@@ -511,31 +510,3 @@ module _ (l : Ledger) (f : Fine l) (c : ℕ) (hc : c < l .shape .cores) where
       (λ n was more. fine-advanced (k .oldest c) (committed (suc n)) (k .oldest) (k .uncommitted) (ap isClosed was) refl (λ a ne. (refl, refl)) (ranks-homed k c r n due more))
       (λ n was last. fine-advanced (k .oldest c) retired (raise c (k .oldest)) (k .uncommitted) (ap isClosed was) refl
       (λ a ne. (raise-other c (k .oldest) a ne, refl)) (ranks-retired k c r n due))
-
--- ---- an open transaction lies below its core's oldest number exactly if it is retired
-pub below-oldest : (l : Ledger) → Fine l → (t : Name) → (l .book .entry t) .stage ≢ absent → ltb (t .number) (l .book .oldest (t .core)) ≡ isRetired ((l .book .entry t) .stage)
-below-oldest l f t h =
-    let k = l .book in
-    let c = t .core in
-    let i = t .number in
-    let hc : c < l .shape .cores = f .limits t h .core in
-    let r = f .ranks c hc in
-    elim (decLt i (k .oldest c)) [
-      | yes lt ↦ lt-ltb i (k .oldest c) lt ∙ elim (r .old i lt) [ inl e ↦ absurd (h e) | inr e ↦ sym (ap isRetired e) ]
-      | no ge ↦ (let least : k .oldest c ≤ i = omega arith in
-          let is : isRetired ((k .entry t) .stage) ≡ false
-          = elim (decLt i (k .uncommitted c)) [
-            | yes lt ↦ elim (ℕ-discrete (k .oldest c) i) [
-              | yes e ↦ (let s = r .first (omega arith) in ap isRetired (ap (λ (j : ℕ). (k .entry (newName c j)) .stage) (sym e) ∙ s .1))
-              | no ne ↦ ap isRetired (r .done i (omega arith) lt)
-            ]
-            | no gu ↦ elim (decLt i (k .next c)) [
-              | yes ln ↦ (let s = r .storing (omega arith) in let e : k .uncommitted c ≡ i = omega arith in ap isRetired (ap (λ (j : ℕ). (k .entry (newName c j)) .stage) (sym e) ∙ s .1))
-              | no gn ↦ elim (ℕ-discrete (k .next c) i) [
-                | yes e ↦ elim (rw e at (r .current)) [ inl a ↦ absurd (h a) | inr a ↦ ap isRetired a ]
-                | no ne ↦ absurd (h (r .rest i (omega arith)))
-              ]
-            ]
-          ] in
-          le-ltb i (k .oldest c) least ∙ sym is)
-    ]
