@@ -436,7 +436,10 @@ module _ {l : Ledger} {w : World} (u : Up l w) (c : ℕ) (in-range : c < l .shap
       home-stored = rw (home-store, ← homed-now) (low-stored (u .fine) (u .disk) (homeBlock (b more-now)) (omega (arith, home-low more-now)) (image more-now) (image-block more-now))
 
       pub home-others : (a : ℕ) → a ≢ getD ((l .book .entry t) .blocks) m 0 → blockAt ((checkpointed c w) .world .disk) (homeBlock a) ≡ blockAt (w .disk) (homeBlock a)
-      home-others a ne = rw (home-store, ← homed-now) (low-other (u .fine) (u .disk) (homeBlock (b more-now)) (omega (arith, home-low more-now)) (image more-now) (image-block more-now) (homeBlock a) (λ q. ne (rw (← homed-now) (omega arith))))
+      home-others a ne =
+          rw (home-store, ← homed-now)
+          (low-other (u .fine) (u .disk) (homeBlock (b more-now)) (omega (arith, home-low more-now)) (image more-now) (image-block more-now) (homeBlock a)
+          (λ q. ne (rw (← homed-now) (omega arith))))
 
     module _ (all : m ≡ length ((l .book .entry t) .blocks)) where
       pub homes-stay : (a : ℕ) → blockAt ((checkpointed c w) .world .disk) (homeBlock a) ≡ blockAt (w .disk) (homeBlock a)

@@ -81,7 +81,8 @@ module _ (c : ℕ) (eight : c < 8) where
       let z = length-image m b n in
       let f = fits m i n (omega arith) in
       rw (add-zero i)
-      (copied-other bs (suc i) (store m (copyBlock c i) (blockAt m (b % 64))) (length-store m (copyBlock c i) (blockAt m (b % 64)) f z ∙ n) (omega arith) (copyBlock c i) (λ j a e. copies-apart i j (omega arith))
+      (copied-other bs (suc i) (store m (copyBlock c i) (blockAt m (b % 64))) (length-store m (copyBlock c i) (blockAt m (b % 64)) f z ∙ n) (omega arith) (copyBlock c i)
+      (λ j a e. copies-apart i j (omega arith))
       ∙ block-stored m (copyBlock c i) (blockAt m (b % 64)) f z)
   copied-in (b ∷ bs) i m n h (suc j) g =
       let z = length-image m b n in
@@ -157,7 +158,9 @@ module _ {l : Ledger} {w : World} (u : Up l w) (c : ℕ) (in-range : c < l .shap
   same-contents : contents l₂ c ≡ contents l c
   same-contents =
       contents-same l l₂ c (new-numbers .0 c) (new-numbers .1 c)
-      (λ i h. let o = new-other (newName c i) (other-number c (omega arith)) in record-same l l₂ (newName c i) (ap (λ (e : Entry). e .blocks) (o .0)) (ap (λ (e : Entry). e .names) (o .0)) (o .2) (o .1))
+      (λ i h.
+      let o = new-other (newName c i) (other-number c (omega arith)) in
+      record-same l l₂ (newName c i) (ap (λ (e : Entry). e .blocks) (o .0)) (ap (λ (e : Entry). e .names) (o .0)) (o .2) (o .1))
       (rw (free, new-entry, runs) refl)
 
   own-journal : JournalStands l₂ (w .disk) c (tailOf (w .card) c)
@@ -261,7 +264,15 @@ module _ {l : Ledger} {w : World} (u : Up l w) (c : ℕ) (in-range : c < l .shap
         idle = λ _. refl;
         closing =
             rw (new-numbers .1 c, new-next, free, new-entry)
-            (λ _. record { live = matches .live; blocks = matches .blocks; count = matches .count; names = matches .names; named = matches .named; block-room = matches .block-room; name-room = matches .name-room });
+            (λ _. record {
+              live = matches .live;
+              blocks = matches .blocks;
+              count = matches .count;
+              names = matches .names;
+              named = matches .named;
+              block-room = matches .block-room;
+              name-room = matches .name-room;
+            });
         stored = rw (new-numbers .1 c, new-next, free, new-entry, close-stamp l c) (λ _. (refl, stamp));
         copies = rw (new-numbers .1 c, new-next, free, new-entry) (λ _. copied-image);
         none-closing = rw (new-numbers .1 c, new-next) (λ h. absurd (omega arith));

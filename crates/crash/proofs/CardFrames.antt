@@ -57,7 +57,8 @@ unfolding contents
 contents-same l l₂ c o u f g =
     rw (o, u, g)
     (ap (λ (x : List Bytes). x ++ take (counted ((l .book .entry (newName c (l .book .uncommitted c))) .stage)) (recordOf l (newName c (l .book .uncommitted c))))
-    (flatMap-below (λ (i : ℕ). recordOf l₂ (newName c (l .book .oldest c + i))) (λ (i : ℕ). recordOf l (newName c (l .book .oldest c + i))) (l .book .uncommitted c - l .book .oldest c) (λ i h. f (l .book .oldest c + i) (omega arith))))
+    (flatMap-below (λ (i : ℕ). recordOf l₂ (newName c (l .book .oldest c + i))) (λ (i : ℕ). recordOf l (newName c (l .book .oldest c + i)))
+    (l .book .uncommitted c - l .book .oldest c) (λ i h. f (l .book .oldest c + i) (omega arith))))
 
 -- ---- a core whose closed transactions stay
 pub record SameClosed (l l₂ : Ledger) (c : ℕ) : Type 0 where

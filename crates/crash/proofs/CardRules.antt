@@ -182,7 +182,8 @@ module _ {l : Ledger} {w : World} (u : Up l w) where
               (λ k.
               let r = present-open ((l .book .entry n) .stage) (opens n e) k in
               let x : n .number ≡ l .book .next (n .core) = running-next (u .fine .ranks (n .core) core) (n .number) (ap isRunning r) in
-              met-running n m r (ap (newName (n .core)) x) (λ y. ne (ap₂ newName y (x ∙ ap (l .book .next) y))) (rw (e, sameName-false n t ne, k) refl) (rw (q, writer-name, sameName-false n t ne, runs-in n core, r) refl)))
+              met-running n m r (ap (newName (n .core)) x) (λ y. ne (ap₂ newName y (x ∙ ap (l .book .next) y))) (rw (e, sameName-false n t ne, k) refl)
+              (rw (q, writer-name, sameName-false n t ne, runs-in n core, r) refl)))
 
       -- what the rules make of the writer's transaction, and of a running holder's
       module _ (o : ℕ) (v : Bytes) where

@@ -120,15 +120,20 @@ module _ (x : Card) where
         let k = withRunning (coreOf x i) (withName ((coreOf x i) .running) (writerName x c)) in
         let y = withCore x i k in
         cases (takesBlock (ruleFor x c b))
-        (λ h. cases (isNamedBack (ruleFor x c b)) (λ e. rw (h, e) (core-other y c (withRunning (coreOf y c) (writerAfter x c b)) a ne ∙ core-other x i k a (apart e))) (λ e. rw (h, e) (core-other x c (withRunning (coreOf x c) (writerAfter x c b)) a ne)))
-        (λ h. cases (isNamedBack (ruleFor x c b)) (λ e. rw (h, e) (core-other y c (withRunning (coreOf y c) (writerAfter x c b)) a ne ∙ core-other x i k a (apart e))) (λ e. rw (h, e) (core-other x c (withRunning (coreOf x c) (writerAfter x c b)) a ne)))
+        (λ h. cases (isNamedBack (ruleFor x c b))
+        (λ e. rw (h, e) (core-other y c (withRunning (coreOf y c) (writerAfter x c b)) a ne ∙ core-other x i k a (apart e)))
+        (λ e. rw (h, e) (core-other x c (withRunning (coreOf x c) (writerAfter x c b)) a ne)))
+        (λ h. cases (isNamedBack (ruleFor x c b))
+        (λ e. rw (h, e) (core-other y c (withRunning (coreOf y c) (writerAfter x c b)) a ne ∙ core-other x i k a (apart e)))
+        (λ e. rw (h, e) (core-other x c (withRunning (coreOf x c) (writerAfter x c b)) a ne)))
 
 -- ---- WRITE
 module _ {l : Ledger} {w : World} (u : Up l w) (c : ℕ) (in-range : c < l .shape .cores) (b : ℕ) (low : b < l .shape .blocks) (o : ℕ) (inside : o ≤ 124)
     (v : Bytes) (four : length v ≡ 4) (bytes : IsBytes v)
     (opens : (n : Name) → holderIn (l .book) b (l .book .writes) ≡ some n → (l .book .entry n) .stage ≢ absent)
     (home : holderIn (l .book) b (l .book .writes) ≡ none → blockAt (w .disk) (homeBlock b) ≡ imageNow l b)
-    (reserve : recordBlocks (l .book) c (l .book .oldest c) (l .book .next c - l .book .oldest c) + 2 + length (((wrote c b o v (l .book)) .entry (newName c (l .book .next c))) .blocks) ≤ l .shape .journal)
+    (reserve : recordBlocks (l .book) c (l .book .oldest c) (l .book .next c - l .book .oldest c) + 2
+    + length (((wrote c b o v (l .book)) .entry (newName c (l .book .next c))) .blocks) ≤ l .shape .journal)
     (fine : Fine (withBook l (wrote c b o v (l .book)))) where
   abbrev t : Name
   t = newName c (l .book .next c)

@@ -1,7 +1,7 @@
 -- CLOSE, STORE and CHECKPOINT keep the ledger in order, and so do FORMAT, CUT and RECOVER: each of the first three gives
 -- one transaction its next stage and raises the number that counts those past it, so the stages of a core stay ranked by
 -- number; the others leave the transactions as they are, or have none.
-use Prim.Native.Nat.{ℕ, zero, suc, _+_, _≤_, _<_, min}
+use Prim.Native.Nat.{ℕ, zero, suc, _+_, _≤_, _<_}
 use native.Mathlib.Omega.{arith}
 use native.Mathlib.Decide.{decLt, ℕ-discrete}
 use mathlib.Core.Path.{_≡_, refl, sym, ap, _∙_, subst}
@@ -13,7 +13,6 @@ use lib.Dec.{eqb}
 use Rattle.model.specs.Lists.{all}
 use Rattle.model.specs.Bytes.{Bytes, replaced}
 use Rattle.model.specs.Card.{newName}
-use Rattle.model.specs.Layout.{maxNumber}
 use Rattle.model.specs.declared.Phase.{Phase}
 use Rattle.model.specs.declared.Phase.the-variants.{Down}
 use Rattle.model.specs.declared.Shape.{Shape}
@@ -133,12 +132,6 @@ pub kept-fits : (l : Ledger) → Fine l → (w : Write) → List·Memᴰ w (kept
 unfolding keptWrites
 kept-fits l f w m =
     elim (List·Memᴰ·append-cases (keptWrites (l .book)) m) [ inl p ↦ f .writes w (select-mem _ (l .book .writes) w p .0) | inr p ↦ f .saved w p ]
-
-pub fine-recovered : (l : Ledger) → Fine l → Fine (recoverLedger [] l)
-unfolding recoverLedger
-fine-recovered l f =
-    fine-fresh (l .shape) (keptWrites (l .book) ++ l .saved) (λ (c : ℕ). min (l .book .uncommitted c + 1) (suc maxNumber)) (f .range) (kept-fits l f)
-    (λ c h. (omega arith, omega arith))
 
 -- a core whose numbers, stages and blocks stay, but for the one to open
 module _ (k k′ : Book) (c : ℕ) (r : Ranks k c) (o : k′ .oldest c ≡ k .oldest c) (u : k′ .uncommitted c ≡ k .uncommitted c) (n : k′ .next c ≡ k .next c)
