@@ -39,7 +39,7 @@ use Rattle.crash.proofs.BookEntries.{same-or-not, sameName-false, other
 use Rattle.crash.proofs.BookSteps.{Restages, restaged, restages, restages-records, restages-holder, retired-none, retired-other, checkpoint-home, checkpoint-retires}
 use Rattle.crash.proofs.CardFrames.{core-set, core-other, record-same, contents-same, low-stored, low-other, low-journal, low-size, low-bytes, home-stands}
 use Rattle.crash.proofs.ReadCheckpoint.{oldest-of, oldest-is}
-use Rattle.crash.proofs.Tests.{clash}
+use Rattle.crash.proofs.Tests.{clash, impossible}
 use Rattle.crash.proofs.ReadMaster.{shape-up, master-block}
 
 -- ---- the ledger with one stage and the oldest numbers changed
@@ -114,7 +114,7 @@ released-holder : {k k₂ : Book} {t : Name} → Restages k k₂ t retired → (
 released-holder {k} {k₂} {t} r b ws = go (holderIn k b ws) refl
   where
     go : (h : Option Name) → holderIn k b ws ≡ h → releasedFrom t (holderAs h) ≡ holderAs (holderIn k₂ b ws)
-    go none e = rw (retired-other r b ws (λ q. let z : _≡_ {A = ℕ} 0 1 = cc in omega arith), e)
+    go none e = rw (retired-other r b ws (λ q. impossible cc), e)
     go (some v) e =
         same-or-not v t
         (λ q. rw (q, sameName-refl t, retired-none r b ws (e ∙ ap some q)))

@@ -36,6 +36,7 @@ use Rattle.crash.proofs.LedgerSteps.{image-block, blank-block, fine-hom
 use Rattle.crash.proofs.CardCut.{stands-phased, target-phased, newest-phased, held-low}
 use Rattle.crash.proofs.CardFresh.{ComeUp, fresh-up}
 use Rattle.crash.proofs.CardFrames.{low-stored, low-other, low-journal, low-size, low-bytes, home-stands}
+use Rattle.crash.proofs.Tests.{impossible}
 
 -- ---- ascending lists: those left after the first are those above it
 abbrev Ascending : List ℕ → Type 0
@@ -63,7 +64,7 @@ ascending-select p (x ∷ xs) a =
 
 select-after : (r b : ℕ) (bs xs : List ℕ) → Ascending xs → select (leb r) xs ≡ b ∷ bs → bs ≡ select (leb (b + 1)) xs
 unfolding select
-select-after r b bs [] a e = let z : _≡_ {A = ℕ} 0 1 = cc in absurd (omega arith)
+select-after r b bs [] a e = impossible cc
 select-after r b bs (x ∷ xs) a e =
     cases (leb r x)
     (λ h.

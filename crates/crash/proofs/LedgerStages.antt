@@ -9,10 +9,11 @@ use mathlib.Core.Logic.{_⊎_, inl, inr, _≢_}
 use mathlib.Core.Bool.{true, false}
 use Rattle.model.specs.Card.{newName}
 use Rattle.crash.specs.Book.{Stage, absent, running, closed, committed, retired, isRunning, isClosed, isCommitted, isRetired, Book}
-use Rattle.crash.proofs.Tests.{clash}
+use Rattle.crash.proofs.Tests.{clash, impossible}
 use Rattle.crash.proofs.Relation.{Ranks}
 use borrow.Author.Tests.{lt-ltb, le-ltb}
 use lib.Dec.{ltb}
+use Rattle.crash.proofs.BookEntries.{by-stage}
 
 pub closed-present : (g : Stage) → isClosed g ≡ true → g ≢ absent
 closed-present g h e = clash h (ap isClosed e)
@@ -21,25 +22,14 @@ pub running-present : (g : Stage) → g ≡ running → g ≢ absent
 running-present g p q = clash (ap isRunning p) (ap isRunning q)
 
 pub running-is : (g : Stage) → isRunning g ≡ true → g ≡ running
-running-is absent h = clash h refl
-running-is running h = refl
-running-is (closed n) h = clash h refl
-running-is (committed n) h = clash h refl
-running-is retired h = clash h refl
+running-is = by-stage (λ g. isRunning g ≡ true → g ≡ running) impossible (λ h. refl) (λ n. impossible) (λ n. impossible) impossible
 
 pub present-open : (g : Stage) → g ≢ absent → isClosed g ≡ false → g ≡ running
-present-open absent ne h = absurd (ne refl)
-present-open running ne h = refl
-present-open (closed n) ne h = clash refl h
-present-open (committed n) ne h = clash refl h
-present-open retired ne h = clash refl h
+present-open =
+    by-stage (λ g. g ≢ absent → isClosed g ≡ false → g ≡ running) (λ ne h. absurd (ne refl)) (λ ne h. refl) (λ n ne. clash refl) (λ n ne. clash refl) (λ ne. clash refl)
 
 pub closed-idle : (g : Stage) → isClosed g ≡ true → isRunning g ≡ false
-closed-idle absent h = refl
-closed-idle running h = clash h refl
-closed-idle (closed n) h = refl
-closed-idle (committed n) h = refl
-closed-idle retired h = refl
+closed-idle = by-stage (λ g. isClosed g ≡ true → isRunning g ≡ false) (λ h. refl) impossible (λ n h. refl) (λ n h. refl) (λ h. refl)
 
 -- committed and not retired
 pub record Unretired (g : Stage) : Type 0 where

@@ -29,6 +29,7 @@ use Rattle.crash.proofs.BookEntries.{nextName, uncommittedName, oldestN
 use Rattle.crash.proofs.BookSteps.{Restages, restaged, restages, restages-keep, close-stamp, close-images, close-stamp-other, close-images-other, store-more, store-last, checkpoint-home, checkpoint-retires}
 use Rattle.crash.proofs.LedgerStages.{closed-present, running-present}
 use Rattle.crash.proofs.BlockBytes.{bytes-replaced}
+use Rattle.crash.proofs.Tests.{impossible}
 
 -- ---- current images are blocks of bytes
 replaced-block : (o : ℕ) (x v : Bytes) → o ≤ 124 → length v ≡ 4 → IsBytes v → IsBlock x → IsBlock (replaced o 4 x v)
@@ -82,8 +83,8 @@ fine-fresh s saved first r fits firsts =
       limits = λ t h. absurd (h refl);
       unopened = λ t h. (refl, refl);
       named = λ t u m. absurd (List·Memᴰ·not-nil m);
-      frozen = λ t h. absurd (let z : _≡_ {A = ℕ} 0 1 = cc in omega arith);
-      stamps = λ t u h. absurd (let z : _≡_ {A = ℕ} 0 1 = cc in omega arith);
+      frozen = λ t h. impossible cc;
+      stamps = λ t u h. impossible cc;
       closes = omega arith;
       opened = λ t m. absurd (List·Memᴰ·not-nil m);
       known = λ t h. absurd (h refl);
