@@ -5,7 +5,7 @@ use Prim.Native.Nat.{ℕ, zero, suc, _+_, _≤_, _<_}
 use native.Mathlib.Omega.{arith}
 use mathlib.Core.Path.{_≡_, refl, sym, ap, _∙_, subst}
 use mathlib.Core.Logic.{_⊎_, inl, inr, _≢_}
-use mathlib.Core.Bool.{Bool, true, false, cond, true≢false}
+use mathlib.Core.Bool.{Bool, true, false, cond}
 use mathlib.Core.List.{List, [], _∷_, _++_, List·Memᴰ, List·Memᴰ·append-cases, List·Memᴰ·eq-of-singleton}
 use mathlib.Core.Option.{Option, none, some}
 use lib.ListN.{length}
@@ -18,7 +18,7 @@ use Rattle.model.proofs.Lists.{cases}
 use Rattle.model.proofs.Valid.{sameName-true, sameName-refl}
 use Rattle.crash.specs.Book.{isClosed, isRetired, Entry, Write, Book, change, raise, taking, naming, holderIn, Meeting, no-holder, own, running-holder, closed-holder, meets, ruled, Stage, absent, running, closed, committed, retired}
 use Rattle.crash.specs.Ledger.{recordBlocks}
-use Rattle.crash.proofs.Tests.{impossible}
+use Rattle.crash.proofs.Tests.{impossible, clash}
 
 -- ---- names
 -- core c's running transaction, or the next to open; its first uncommitted one; its oldest unretired one
@@ -35,7 +35,7 @@ pub same-or-not : {A : Type 0} (u t : Name) → (u ≡ t → A) → (u ≢ t →
 same-or-not u t f g =
     cases (sameName u t)
     (λ h. f (sameName-true u t h))
-    (λ h. g (λ e. true≢false (sym (rw e (sameName-refl t)) ∙ h)))
+    (λ h. g (λ e. clash (rw e (sameName-refl t)) h))
 
 pub sameName-false : (u t : Name) → u ≢ t → sameName u t ≡ false
 sameName-false u t ne = cases (sameName u t) (λ h. absurd (ne (sameName-true u t h))) (λ h. h)

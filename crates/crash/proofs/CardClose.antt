@@ -32,6 +32,7 @@ use Rattle.crash.proofs.BlockBytes.{bytes-store, bytes-blockAt}
 use Rattle.crash.proofs.CardFrames.{SameClosed, record-same, contents-same, none-stored, journal-stays, core-stays}
 use Rattle.crash.proofs.Tests.{clash}
 use Rattle.crash.proofs.LedgerStages.{running-present}
+use Rattle.model.proofs.Sizes.{length-copied}
 
 -- ---- copies
 module _ (c : ℕ) (eight : c < 8) where
@@ -41,12 +42,6 @@ module _ (c : ℕ) (eight : c < 8) where
 
   length-image : (m : Bytes) (b : ℕ) → length m ≡ 16384 → length (blockAt m (b % 64)) ≡ 128
   length-image m b n = length-blockAt 128 m n (b % 64) (omega arith)
-
-  length-copied : (bs : List ℕ) (i : ℕ) (m : Bytes) → length m ≡ 16384 → i + length bs ≤ 8 → length (copied c i bs m) ≡ 16384
-  unfolding copied
-  length-copied [] i m n h = n
-  length-copied (b ∷ bs) i m n h =
-      length-copied bs (suc i) (store m (copyBlock c i) (blockAt m (b % 64))) (length-store m (copyBlock c i) (blockAt m (b % 64)) (fits m i n (omega arith)) (length-image m b n) ∙ n) (omega arith)
 
   bytes-copied : (bs : List ℕ) (i : ℕ) (m : Bytes) → IsBytes m → IsBytes (copied c i bs m)
   unfolding copied
@@ -300,7 +295,7 @@ module _ {l : Ledger} {w : World} (u : Up l w) (c : ℕ) (in-range : c < l .shap
         ledger = u .ledger;
         shape = u .shape;
         closes = omega (arith, u .closes, low-closes);
-        memory = length-copied c eight (taken (x .running)) 0 (w .memory) (u .memory) (omega (arith, few));
+        memory = length-copied c 0 (taken (x .running)) (w .memory) eight (omega (arith, few)) (u .memory);
         memory-bytes = bytes-copied c eight (taken (x .running)) 0 (w .memory) (u .memory-bytes);
         eight-tails = u .eight-tails;
         eight-cores = length-set (w .card .cores) c _ ∙ u .eight-cores;
