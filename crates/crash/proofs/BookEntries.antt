@@ -5,7 +5,7 @@ use Prim.Native.Nat.{ℕ, zero, suc, _+_, _≤_, _<_}
 use native.Mathlib.Omega.{arith}
 use mathlib.Core.Path.{_≡_, refl, sym, ap, _∙_, subst}
 use mathlib.Core.Logic.{_⊎_, inl, inr, _≢_}
-use mathlib.Core.Bool.{Bool, true, false, cond, true≢false}
+use mathlib.Core.Bool.{Bool, true, false, cond}
 use mathlib.Core.List.{List, [], _∷_, _++_, List·Memᴰ, List·Memᴰ·append-cases, List·Memᴰ·eq-of-singleton}
 use mathlib.Core.Option.{Option, none, some}
 use lib.ListN.{length}
@@ -16,8 +16,9 @@ use Rattle.model.specs.Card.{newName, sameName}
 use Rattle.model.specs.declared.Name.{Name}
 use Rattle.model.proofs.Lists.{cases}
 use Rattle.model.proofs.Valid.{sameName-true, sameName-refl}
-use Rattle.crash.specs.Book.{isClosed, isRetired, Entry, Write, Book, change, raise, taking, naming, holderIn, Meeting, no-holder, own, running-holder, closed-holder, meets, ruled}
+use Rattle.crash.specs.Book.{isClosed, isRetired, Entry, Write, Book, change, raise, taking, naming, holderIn, Meeting, no-holder, own, running-holder, closed-holder, meets, ruled, Stage, absent, running, closed, committed, retired}
 use Rattle.crash.specs.Ledger.{recordBlocks}
+use Rattle.crash.proofs.Tests.{impossible, clash}
 
 -- ---- names
 -- core c's running transaction, or the next to open; its first uncommitted one; its oldest unretired one
@@ -34,7 +35,7 @@ pub same-or-not : {A : Type 0} (u t : Name) → (u ≡ t → A) → (u ≢ t →
 same-or-not u t f g =
     cases (sameName u t)
     (λ h. f (sameName-true u t h))
-    (λ h. g (λ e. true≢false (sym (rw e (sameName-refl t)) ∙ h)))
+    (λ h. g (λ e. clash (rw e (sameName-refl t)) h))
 
 pub sameName-false : (u t : Name) → u ≢ t → sameName u t ≡ false
 sameName-false u t ne = cases (sameName u t) (λ h. absurd (ne (sameName-true u t h))) (λ h. h)
@@ -44,6 +45,13 @@ other-number c ne e = ne (ap (λ (n : Name). n .number) e)
 
 pub other-core : {a c : ℕ} (i j : ℕ) → a ≢ c → newName a i ≢ newName c j
 other-core i j ne e = ne (ap (λ (n : Name). n .core) e)
+
+pub by-stage : (P : Stage → Type 0) → P absent → P running → ((n : ℕ) → P (closed n)) → ((n : ℕ) → P (committed n)) → P retired → (g : Stage) → P g
+by-stage P a b c d e absent = a
+by-stage P a b c d e running = b
+by-stage P a b c d e (closed n) = c n
+by-stage P a b c d e (committed n) = d n
+by-stage P a b c d e retired = e
 
 -- ---- one entry changed
 module _ (t : Name) (g : Entry → Entry) (entry : Name → Entry) where
@@ -90,22 +98,22 @@ takes (closed-holder u) = true
 module _ (k : Book) (t : Name) where
   pub meets-met : (h : Option Name) (u : Name) → metHolder (meets k t h) ≡ some u → (h ≡ some u) × (u ≢ t)
   unfolding meets
-  meets-met none u e = absurd (let z : _≡_ {A = ℕ} 0 1 = cc in omega arith)
+  meets-met none u e = impossible cc
   meets-met (some x) u e =
       same-or-not x t
-      (λ q. absurd (let p : metHolder (meets k t (some x)) ≡ none = rw (q, sameName-refl t) in let z : _≡_ {A = ℕ} 0 1 = cc in omega arith))
+      (λ q. let p : metHolder (meets k t (some x)) ≡ none = rw (q, sameName-refl t) in impossible cc)
       (λ ne. let p : metHolder (meets k t (some x)) ≡ some x
       = rw (sameName-false x t ne) (cases (isClosed ((k .entry x) .stage)) (λ c. rw c) (λ c. rw c)) in
       let q : x ≡ u = cc in (ap some q, λ r. ne (q ∙ r)))
 
   pub meets-running : (h : Option Name) (u : Name) → meets k t h ≡ running-holder u → isClosed ((k .entry u) .stage) ≡ false
   unfolding meets
-  meets-running none u e = absurd (let z : _≡_ {A = ℕ} 0 1 = cc in omega arith)
+  meets-running none u e = impossible cc
   meets-running (some x) u e =
       cases (sameName x t)
-      (λ s. absurd (let p : meets k t (some x) ≡ own = rw s in let z : _≡_ {A = ℕ} 0 1 = cc in omega arith))
+      (λ s. let p : meets k t (some x) ≡ own = rw s in impossible cc)
       (λ s. cases (isClosed ((k .entry x) .stage))
-      (λ c. absurd (let p : meets k t (some x) ≡ closed-holder x = rw (s, c) in let z : _≡_ {A = ℕ} 0 1 = cc in omega arith))
+      (λ c. let p : meets k t (some x) ≡ closed-holder x = rw (s, c) in impossible cc)
       (λ c. let p : meets k t (some x) ≡ running-holder x = rw (s, c) in let q : x ≡ u = cc in rw q at c))
 
   pub meets-own : meets k t (some t) ≡ own
@@ -118,10 +126,10 @@ module _ (k : Book) (t : Name) where
   meets-same k′ same (some u) = rw (same u)
 
 pub running-or-not : {A : Type 0} (m : Meeting) (u : Name) → (m ≡ running-holder u → A) → (m ≢ running-holder u → A) → A
-running-or-not no-holder u f g = g (λ e. let z : _≡_ {A = ℕ} 0 1 = cc in omega arith)
-running-or-not own u f g = g (λ e. let z : _≡_ {A = ℕ} 0 1 = cc in omega arith)
+running-or-not no-holder u f g = g (λ e. impossible cc)
+running-or-not own u f g = g (λ e. impossible cc)
 running-or-not (running-holder x) u f g = same-or-not x u (λ e. f (ap running-holder e)) (λ ne. g (λ e. ne (cc)))
-running-or-not (closed-holder x) u f g = g (λ e. let z : _≡_ {A = ℕ} 0 1 = cc in omega arith)
+running-or-not (closed-holder x) u f g = g (λ e. impossible cc)
 
 naming-mem : (n x : Name) (e : Entry) → List·Memᴰ x ((naming n e) .names) → List·Memᴰ x (e .names) ⊎ (x ≡ n)
 naming-mem n x e m =
@@ -196,11 +204,11 @@ holder-same k k′ same b (w ∷ ws) = rw (same (w .holder), holder-same k k′ 
 
 pub holder-live : (k : Book) (b : ℕ) (ws : List Write) (u : Name) → holderIn k b ws ≡ some u → isRetired ((k .entry u) .stage) ≡ false
 unfolding holderIn
-holder-live k b [] u e = absurd (let z : _≡_ {A = ℕ} 0 1 = cc in omega arith)
+holder-live k b [] u e = impossible cc
 holder-live k b (w ∷ ws) u e =
     cases (eqb b (w .block))
     (λ h. cases (isRetired ((k .entry (w .holder)) .stage))
-    (λ r. absurd (let p : holderIn k b (w ∷ ws) ≡ none = rw (h, r) in let z : _≡_ {A = ℕ} 0 1 = cc in omega arith))
+    (λ r. let p : holderIn k b (w ∷ ws) ≡ none = rw (h, r) in impossible cc)
     (λ r. let p : holderIn k b (w ∷ ws) ≡ some (w .holder) = rw (h, r) in let q : w .holder ≡ u = cc in rw q at r))
     (λ h. holder-live k b ws u (rw h at e))
 

@@ -19,6 +19,7 @@ use Rattle.model.proofs.Valid.{sameName-refl}
 use Rattle.crash.specs.Book.{Stage, absent, running, closed, committed, retired, isRunning, isClosed, isRetired, counted, Entry, Write, Book, change, raise, staged, begin, holderIn, Meeting, no-holder, own, running-holder, closed-holder, meets, ruled, holderAfter, note, wrote, close, store, checkpoint, image}
 use Rattle.crash.specs.Ledger.{Ledger, withBook, imageNow, closeLedger, recordBlocks}
 use Rattle.crash.proofs.BookEntries.{nextName, uncommittedName, oldestName, same-or-not, sameName-false, change-at, change-other, change-by, metHolder, meets-met, meets-same, ruled-other, ruled-stage, ruled-blocks-other, holder-same, holder-live, records-same}
+use Rattle.crash.proofs.Tests.{impossible}
 
 -- ---- one transaction gets another stage
 pub record Restages (k k′ : Book) (t : Name) (g : Stage) : Type 0 where
@@ -59,11 +60,11 @@ module _ {k k′ : Book} {t : Name} {g : Stage} (r : Restages k k′ t g) where
 module _ {k k′ : Book} {t : Name} (r : Restages k k′ t retired) (b : ℕ) where
   pub retired-none : (ws : List Write) → holderIn k b ws ≡ some t → holderIn k′ b ws ≡ none
   unfolding holderIn
-  retired-none [] h = absurd (let z : _≡_ {A = ℕ} 0 1 = cc in omega arith)
+  retired-none [] h = impossible cc
   retired-none (w ∷ ws) h =
       cases (eqb b (w .block))
       (λ e. cases (isRetired ((k .entry (w .holder)) .stage))
-      (λ p. absurd (let q : holderIn k b (w ∷ ws) ≡ none = rw (e, p) in let z : _≡_ {A = ℕ} 0 1 = cc in omega arith))
+      (λ p. let q : holderIn k b (w ∷ ws) ≡ none = rw (e, p) in impossible cc)
       (λ p. let q : holderIn k b (w ∷ ws) ≡ some (w .holder) = rw (e, p) in let s : w .holder ≡ t = cc in rw (e, s, r .stage)))
       (λ e. rw e (retired-none ws (rw e at h)))
 

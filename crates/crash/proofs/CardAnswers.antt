@@ -74,7 +74,8 @@ module _ {l : Ledger} {w : World} (u : Up l w) where
         elim (decLt n (l .book .next c)) [
           | yes lt ↦ (let e : l .book .next c - o ≡ suc (n - o) = omega (arith, r .low, r .high) in
               let a : o + (n - o) ≡ n = omega (arith, r .low) in
-              let s : recordBlocks (l .book) c o (suc (n - o)) ≡ recordBlocks (l .book) c o (n - o) + (length ((l .book .entry (newName c n)) .blocks) + 2) = rw a at (records-snoc (l .book) c o (n - o)) in
+              let s : recordBlocks (l .book) c o (suc (n - o)) ≡ recordBlocks (l .book) c o (n - o) + (length ((l .book .entry (newName c n)) .blocks) + 2) =
+              rw a at (records-snoc (l .book) c o (n - o)) in
               rw (e, s, y .closing lt .live, y .closing lt .blocks, y .used) refl)
           | no ge ↦ (let e : l .book .next c ≡ n = omega (arith, r .mid) in
               rw (y .none-closing (sym e), y .used, e) (omega arith))
@@ -153,7 +154,9 @@ module _ {l : Ledger} {w : World} (u : Up l w) (c : ℕ) (in-range : c < l .shap
         | met-own _ _ e r ↦ rw (r, e, entry-own (l .book) c current b o v e, short) refl
         | met-running n h runs is _ e r ↦ (let y = holder-matches u c in-range b low opens o v n h runs is in
             let z = u .fine .limits n (running-present _ runs) in
-            rw (r, e, h .name, writer-name u c in-range, entry-running (l .book) c current b o v n (h .other) e, entry-holder (l .book) c current b o v n (h .other) e, names-pass m n (few-before .1), names-pass y t (z .short)) refl)
+            let own = entry-running (l .book) c current b o v n (h .other) e in
+            let back = entry-holder (l .book) c current b o v n (h .other) e in
+            rw (r, e, h .name, writer-name u c in-range, own, back, names-pass m n (few-before .1), names-pass y t (z .short)) refl)
         | met-closed n h _ e r ↦ rw (r, e, h .name, entry-closed (l .book) c current b o v n (h .other) e, names-pass m n (few-before .1)) refl
       ]
 

@@ -1,7 +1,7 @@
 -- CHECKPOINT keeps card and ledger in agreement: the card's oldest record is that of the ledger's oldest committed one.
 -- A home store puts its next image into its home block and touches nothing else; the master store moves the tail past its
 -- record, so the journal holds the same without that record, and its blocks have no holder any more.
-use Prim.Native.Nat.{ℕ, suc, _+_, _-_, _*_, _%_, _≤_, _<_}
+use Prim.Native.Nat.{ℕ, suc, _+_, _-_, _%_, _≤_, _<_}
 use native.Mathlib.Omega.{arith}
 use native.Mathlib.Nat.{mod-lt}
 use native.Mathlib.Decide.{decLt, ℕ-discrete}
@@ -15,7 +15,7 @@ use lib.Seq.{getD-append-add, getD-set-same, getD-set-other}
 use borrow.Author.Tests.{lt-ltb, le-ltb, eq-eqb, ne-eqb}
 use Rattle.model.specs.Lists.{below}
 use Rattle.model.specs.Bytes.{Bytes, blockAt, store as storeBlock}
-use Rattle.model.specs.Shape.{homeBlock, journalBlock}
+use Rattle.model.specs.Shape.{homeBlock}
 use Rattle.model.specs.Card.{newName, newTail, sameName, noHolder, freshCore, shapeOf, tailOf, coreOf, holderOf, withCore}
 use Rattle.model.specs.Layout.{masterBlock}
 use Rattle.model.specs.Journal.{journalAt}
@@ -28,9 +28,7 @@ use Rattle.model.specs.declared.Holder.{Holder}
 use Rattle.model.specs.declared.Card.{Card}
 use Rattle.model.specs.declared.Committed.{Committed}
 use Rattle.model.proofs.Lists.{cases, getD-mem, flatMap-below, flatMap-first}
-use Rattle.model.proofs.Store.{length-store, block-stored, block-other}
-use Rattle.model.proofs.Encoding.{length-master}
-use Rattle.model.proofs.Journal.{home-apart, journal-wrap}
+use Rattle.model.proofs.Journal.{journal-wrap}
 use Rattle.model.proofs.Valid.{sameName-refl}
 use Rattle.crash.specs.Book.{Stage, committed, retired, isClosed, isRetired, counted, Entry, Write, Book, raise, holderIn, checkpoint}
 use Rattle.crash.specs.Ledger.{Ledger, withBook, imageNow, recordBlocks, recordOf, tailsPast, checkpointStored}
@@ -39,11 +37,10 @@ use Rattle.crash.proofs.LedgerStages.{closed-present}
 use Rattle.crash.proofs.ReadRecords.{readRecord, IsRead, length-record}
 use Rattle.crash.proofs.BookEntries.{same-or-not, sameName-false, other-number, other-core, raise-at, raise-other, records-cons}
 use Rattle.crash.proofs.BookSteps.{Restages, restaged, restages, restages-records, restages-holder, retired-none, retired-other, checkpoint-home, checkpoint-retires}
-use Rattle.crash.proofs.BlockBytes.{bytes-store}
-use Rattle.crash.proofs.CardFrames.{core-set, core-other, record-same, contents-same}
+use Rattle.crash.proofs.CardFrames.{core-set, core-other, record-same, contents-same, low-stored, low-other, low-journal, low-size, low-bytes, home-stands}
 use Rattle.crash.proofs.ReadCheckpoint.{oldest-of, oldest-is}
-use Rattle.crash.proofs.Tests.{clash}
-use Rattle.crash.proofs.ReadMaster.{shape-up, tail-read, master-bytes, master-same}
+use Rattle.crash.proofs.Tests.{clash, impossible}
+use Rattle.crash.proofs.ReadMaster.{shape-up, tail-read, master-block, master-same}
 
 -- ---- the ledger with one stage and the oldest numbers changed
 module _ (l : Ledger) (t : Name) (g : Stage) (o : ℕ → ℕ) where
@@ -117,7 +114,7 @@ released-holder : {k k₂ : Book} {t : Name} → Restages k k₂ t retired → (
 released-holder {k} {k₂} {t} r b ws = go (holderIn k b ws) refl
   where
     go : (h : Option Name) → holderIn k b ws ≡ h → releasedFrom t (holderAs h) ≡ holderAs (holderIn k₂ b ws)
-    go none e = rw (retired-other r b ws (λ q. let z : _≡_ {A = ℕ} 0 1 = cc in omega arith), e)
+    go none e = rw (retired-other r b ws (λ q. impossible cc), e)
     go (some v) e =
         same-or-not v t
         (λ q. rw (q, sameName-refl t, retired-none r b ws (e ∙ ap some q)))
@@ -191,26 +188,20 @@ module _ {l : Ledger} {w : World} (u : Up l w) (c : ℕ) (in-range : c < l .shap
     image-block : IsBlock image
     image-block = let z = u .fine .frozen t closed-now in z .images (x .homed) (omega (arith, z .count))
 
-    home-fits : 128 * homeBlock b + 128 ≤ length (w .disk)
-    home-fits = omega (arith, home-low, u .disk .size, u .fine .range .few-blocks)
-
-    home-elsewhere : (k : ℕ) → k ≢ homeBlock b → blockAt (storeBlock (w .disk) (homeBlock b) image) k ≡ blockAt (w .disk) k
-    home-elsewhere = block-other (w .disk) (homeBlock b) image home-fits (image-block .size)
-
     abbrev l₂ : Ledger
     l₂ = advanced l t (committed (suc (x .homed))) (l .book .oldest)
 
     home-disk : DiskStands l₂ (storeBlock (w .disk) (homeBlock b) image) (tailOf (w .card))
-    unfolding journalAt
     home-disk =
+        let d = storeBlock (w .disk) (homeBlock b) image in
+        let z = home-stands (u .fine) (u .disk) b home-low image image-block in
         record {
-          size = length-store (w .disk) (homeBlock b) image home-fits (image-block .size) ∙ u .disk .size;
-          bytes = bytes-store (w .disk) (homeBlock b) image (u .disk .bytes) (image-block .bytes);
-          master = home-elsewhere 0 (omega arith) ∙ u .disk .master;
+          size = z .size;
+          bytes = z .bytes;
+          master = z .master;
           journals =
               λ a h.
-              journal-kept l t (committed (suc (x .homed))) (l .book .oldest) a (not-closing a) (not-current a) (w .disk) (storeBlock (w .disk) (homeBlock b) image) (tailOf (w .card) a)
-              (λ q. home-elsewhere (journalBlock (l .shape) a q) (λ z. home-apart (l .shape) a q (homeBlock b) (omega (arith, home-low)) (sym z))) refl (u .disk .journals a h);
+              journal-kept l t (committed (suc (x .homed))) (l .book .oldest) a (not-closing a) (not-current a) d d (tailOf (w .card) a) (λ q. refl) refl (z .journals a h);
         }
 
     home-core : (a : ℕ) → a < l .shape .cores → CoreUp l₂ (w .memory) a (coreOf (withCore (w .card) c homedCore) a)
@@ -303,22 +294,14 @@ module _ {l : Ledger} {w : World} (u : Up l w) (c : ℕ) (in-range : c < l .shap
     unfolding holderOf retiredCard released
     holder-after b = List·getD-map (releasedFrom t) (w .card .holders) b noHolder
 
-    -- the store
-    master-fits : 128 * 0 + 128 ≤ length (w .disk)
-    master-fits = omega (arith, u .disk .size)
-
     abbrev block₂ : Bytes
     block₂ = masterBlock (l .shape) (tailOf card₂)
 
-    master-size : length block₂ ≡ 128
-    master-size = length-master (u .fine .range) (tailOf card₂)
-
-    master-elsewhere : (k : ℕ) → k ≢ 0 → blockAt (storeBlock (w .disk) 0 block₂) k ≡ blockAt (w .disk) k
-    master-elsewhere = block-other (w .disk) 0 block₂ master-fits master-size
+    is-master : IsBlock block₂
+    is-master = master-block (u .fine .range) (tailOf card₂)
 
     journals-stay : (a q : ℕ) → journalAt (l .shape) (storeBlock (w .disk) 0 block₂) a q ≡ journalAt (l .shape) (w .disk) a q
-    unfolding journalAt
-    journals-stay a q = master-elsewhere (journalBlock (l .shape) a q) (λ z. home-apart (l .shape) a q 0 (omega arith) (sym z))
+    journals-stay = low-journal (u .fine) (u .disk) 0 (omega arith) block₂ is-master
 
     -- the journal without its first record
     contents-past : contents l c ≡ recordOf l t ++ contents l₃ c
@@ -370,9 +353,9 @@ module _ {l : Ledger} {w : World} (u : Up l w) (c : ℕ) (in-range : c < l .shap
     master-disk : DiskStands l₃ (storeBlock (w .disk) 0 block₂) (tailOf card₂)
     master-disk =
         record {
-          size = length-store (w .disk) 0 block₂ master-fits master-size ∙ u .disk .size;
-          bytes = bytes-store (w .disk) 0 block₂ (u .disk .bytes) (master-bytes (l .shape) (tailOf card₂));
-          master = block-stored (w .disk) 0 block₂ master-fits master-size;
+          size = low-size (u .fine) (u .disk) 0 (omega arith) block₂ is-master;
+          bytes = low-bytes (u .fine) (u .disk) 0 (omega arith) block₂ is-master;
+          master = low-stored (u .fine) (u .disk) 0 (omega arith) block₂ is-master;
           journals =
               λ a h.
               elim (ℕ-discrete a c) [
@@ -471,11 +454,14 @@ module _ {l : Ledger} {w : World} (u : Up l w) (c : ℕ) (in-range : c < l .shap
       home-store = rw (← homed-now) (ap (λ (z : Outcome). z .world .disk) (home-done more-now))
 
       pub home-stored : blockAt ((checkpointed c w) .world .disk) (homeBlock (getD ((l .book .entry t) .blocks) m 0)) ≡ getD (l .images t) m []
-      home-stored = rw (home-store, ← homed-now) (block-stored (w .disk) (homeBlock (b more-now)) (image more-now) (home-fits more-now) (image-block more-now .size))
+      home-stored = rw (home-store, ← homed-now) (low-stored (u .fine) (u .disk) (homeBlock (b more-now)) (omega (arith, home-low more-now)) (image more-now) (image-block more-now))
 
       pub home-others : (a : ℕ) → a ≢ getD ((l .book .entry t) .blocks) m 0 → blockAt ((checkpointed c w) .world .disk) (homeBlock a) ≡ blockAt (w .disk) (homeBlock a)
-      home-others a ne = rw (home-store, ← homed-now) (home-elsewhere more-now (homeBlock a) (λ q. ne (rw (← homed-now) (omega arith))))
+      home-others a ne =
+          rw (home-store, ← homed-now)
+          (low-other (u .fine) (u .disk) (homeBlock (b more-now)) (omega (arith, home-low more-now)) (image more-now) (image-block more-now) (homeBlock a)
+          (λ q. ne (rw (← homed-now) (omega arith))))
 
     module _ (all : m ≡ length ((l .book .entry t) .blocks)) where
       pub homes-stay : (a : ℕ) → blockAt ((checkpointed c w) .world .disk) (homeBlock a) ≡ blockAt (w .disk) (homeBlock a)
-      homes-stay a = rw (master-done (homed-now ∙ all)) (master-elsewhere (homed-now ∙ all) (homeBlock a) (omega arith))
+      homes-stay a = rw (master-done (homed-now ∙ all)) (low-other (u .fine) (u .disk) 0 (omega arith) (block₂ (homed-now ∙ all)) (is-master (homed-now ∙ all)) (homeBlock a) (omega arith))

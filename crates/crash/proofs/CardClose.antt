@@ -32,6 +32,7 @@ use Rattle.crash.proofs.BlockBytes.{bytes-store, bytes-blockAt}
 use Rattle.crash.proofs.CardFrames.{SameClosed, record-same, contents-same, none-stored, journal-stays, core-stays}
 use Rattle.crash.proofs.Tests.{clash}
 use Rattle.crash.proofs.LedgerStages.{running-present}
+use Rattle.model.proofs.Sizes.{length-copied}
 
 -- ---- copies
 module _ (c : ℕ) (eight : c < 8) where
@@ -41,12 +42,6 @@ module _ (c : ℕ) (eight : c < 8) where
 
   length-image : (m : Bytes) (b : ℕ) → length m ≡ 16384 → length (blockAt m (b % 64)) ≡ 128
   length-image m b n = length-blockAt 128 m n (b % 64) (omega arith)
-
-  length-copied : (bs : List ℕ) (i : ℕ) (m : Bytes) → length m ≡ 16384 → i + length bs ≤ 8 → length (copied c i bs m) ≡ 16384
-  unfolding copied
-  length-copied [] i m n h = n
-  length-copied (b ∷ bs) i m n h =
-      length-copied bs (suc i) (store m (copyBlock c i) (blockAt m (b % 64))) (length-store m (copyBlock c i) (blockAt m (b % 64)) (fits m i n (omega arith)) (length-image m b n) ∙ n) (omega arith)
 
   bytes-copied : (bs : List ℕ) (i : ℕ) (m : Bytes) → IsBytes m → IsBytes (copied c i bs m)
   unfolding copied
@@ -81,7 +76,8 @@ module _ (c : ℕ) (eight : c < 8) where
       let z = length-image m b n in
       let f = fits m i n (omega arith) in
       rw (add-zero i)
-      (copied-other bs (suc i) (store m (copyBlock c i) (blockAt m (b % 64))) (length-store m (copyBlock c i) (blockAt m (b % 64)) f z ∙ n) (omega arith) (copyBlock c i) (λ j a e. copies-apart i j (omega arith))
+      (copied-other bs (suc i) (store m (copyBlock c i) (blockAt m (b % 64))) (length-store m (copyBlock c i) (blockAt m (b % 64)) f z ∙ n) (omega arith) (copyBlock c i)
+      (λ j a e. copies-apart i j (omega arith))
       ∙ block-stored m (copyBlock c i) (blockAt m (b % 64)) f z)
   copied-in (b ∷ bs) i m n h (suc j) g =
       let z = length-image m b n in
@@ -157,7 +153,9 @@ module _ {l : Ledger} {w : World} (u : Up l w) (c : ℕ) (in-range : c < l .shap
   same-contents : contents l₂ c ≡ contents l c
   same-contents =
       contents-same l l₂ c (new-numbers .0 c) (new-numbers .1 c)
-      (λ i h. let o = new-other (newName c i) (other-number c (omega arith)) in record-same l l₂ (newName c i) (ap (λ (e : Entry). e .blocks) (o .0)) (ap (λ (e : Entry). e .names) (o .0)) (o .2) (o .1))
+      (λ i h.
+      let o = new-other (newName c i) (other-number c (omega arith)) in
+      record-same l l₂ (newName c i) (ap (λ (e : Entry). e .blocks) (o .0)) (ap (λ (e : Entry). e .names) (o .0)) (o .2) (o .1))
       (rw (free, new-entry, runs) refl)
 
   own-journal : JournalStands l₂ (w .disk) c (tailOf (w .card) c)
@@ -261,7 +259,15 @@ module _ {l : Ledger} {w : World} (u : Up l w) (c : ℕ) (in-range : c < l .shap
         idle = λ _. refl;
         closing =
             rw (new-numbers .1 c, new-next, free, new-entry)
-            (λ _. record { live = matches .live; blocks = matches .blocks; count = matches .count; names = matches .names; named = matches .named; block-room = matches .block-room; name-room = matches .name-room });
+            (λ _. record {
+              live = matches .live;
+              blocks = matches .blocks;
+              count = matches .count;
+              names = matches .names;
+              named = matches .named;
+              block-room = matches .block-room;
+              name-room = matches .name-room;
+            });
         stored = rw (new-numbers .1 c, new-next, free, new-entry, close-stamp l c) (λ _. (refl, stamp));
         copies = rw (new-numbers .1 c, new-next, free, new-entry) (λ _. copied-image);
         none-closing = rw (new-numbers .1 c, new-next) (λ h. absurd (omega arith));
@@ -289,7 +295,7 @@ module _ {l : Ledger} {w : World} (u : Up l w) (c : ℕ) (in-range : c < l .shap
         ledger = u .ledger;
         shape = u .shape;
         closes = omega (arith, u .closes, low-closes);
-        memory = length-copied c eight (taken (x .running)) 0 (w .memory) (u .memory) (omega (arith, few));
+        memory = length-copied c 0 (taken (x .running)) (w .memory) eight (omega (arith, few)) (u .memory);
         memory-bytes = bytes-copied c eight (taken (x .running)) 0 (w .memory) (u .memory-bytes);
         eight-tails = u .eight-tails;
         eight-cores = length-set (w .card .cores) c _ ∙ u .eight-cores;

@@ -22,17 +22,17 @@ use Rattle.model.specs.declared.Tail.{Tail}
 use Rattle.model.proofs.Limits.{InRange, range-test}
 use Rattle.model.proofs.Select.{select-mem}
 use Rattle.model.proofs.Store.{length-store, block-stored, block-other}
-use Rattle.model.proofs.Encoding.{length-master, no-commit}
+use Rattle.model.proofs.Encoding.{no-commit}
 use Rattle.model.proofs.Journal.{journal-low, home-apart}
 use Rattle.crash.specs.Book.{Write, emptyBook, keptWrites, image, blank}
 use Rattle.crash.specs.Ledger.{freshLedger, unretired, validIn, blocksIn}
 use Rattle.crash.specs.Claims.{IsBytes, downStart, downLedger}
-use Rattle.crash.proofs.Relation.{Up, target, DownBy}
+use Rattle.crash.proofs.Relation.{Up, target, DownBy, IsBlock}
 use Rattle.crash.proofs.Tests.{clash}
 use Rattle.crash.proofs.BlockBytes.{bytes-store}
 use Rattle.crash.proofs.CardCut.{zero-bytes, Gives, down-over}
 use Rattle.crash.proofs.CardFresh.{ComeUp, fresh-up}
-use Rattle.crash.proofs.ReadMaster.{master-bytes}
+use Rattle.crash.proofs.ReadMaster.{master-block}
 
 -- ---- blocks of zeros
 abbrev zeros : ℕ → Bytes
@@ -63,14 +63,14 @@ module _ (s : Shape) (r : InRange s) where
   unfolding zeroDisk
   zero-fits = rw (length-replicate {A = ℕ} 32896 0) (omega arith)
 
-  master-size : length (masterBlock s formatTail) ≡ 128
-  master-size = length-master r formatTail
+  is-master : IsBlock (masterBlock s formatTail)
+  is-master = master-block r formatTail
 
   -- every block but the master is zero
   format-block : (k : ℕ) → k ≢ 0 → k < 257 → blockAt newDisk k ≡ zeros 128
   unfolding formatted
   format-block k ne h =
-      block-other zeroDisk 0 (masterBlock s formatTail) zero-fits master-size k ne
+      block-other zeroDisk 0 (masterBlock s formatTail) zero-fits (is-master .size) k ne
       ∙ (unfold zeroDisk in zero-block 32896 k (128 * (256 - k)) (omega arith))
 
   pub format-home : (b : ℕ) → b < s .blocks → blockAt newDisk (homeBlock b) ≡ blank b
@@ -86,9 +86,9 @@ module _ (s : Shape) (r : InRange s) where
         tail = λ c h. getD-replicate 8 c (newTail 1 0) (newTail 0 0) (omega (arith, r .few-cores));
         memory = unfold formatted zeroMemory in length-replicate {A = ℕ} 16384 0;
         memory-bytes = unfold formatted zeroMemory in zero-bytes 16384;
-        size = unfold formatted in (length-store zeroDisk 0 (masterBlock s formatTail) zero-fits master-size ∙ (unfold zeroDisk in length-replicate {A = ℕ} 32896 0));
-        bytes = unfold formatted in bytes-store zeroDisk 0 (masterBlock s formatTail) (unfold zeroDisk in zero-bytes 32896) (master-bytes s formatTail);
-        master = unfold formatted in block-stored zeroDisk 0 (masterBlock s formatTail) zero-fits master-size;
+        size = unfold formatted in (length-store zeroDisk 0 (masterBlock s formatTail) zero-fits (is-master .size) ∙ (unfold zeroDisk in length-replicate {A = ℕ} 32896 0));
+        bytes = unfold formatted in bytes-store zeroDisk 0 (masterBlock s formatTail) (unfold zeroDisk in zero-bytes 32896) (is-master .bytes);
+        master = unfold formatted in block-stored zeroDisk 0 (masterBlock s formatTail) zero-fits (is-master .size);
         clear =
             λ c h i q k.
             let z : journalAt s newDisk c q ≡ zeros 128 =

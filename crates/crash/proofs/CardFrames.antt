@@ -1,16 +1,16 @@
--- What a command leaves alone: the journal of a core and the core itself, where its closed transactions stay.
--- Both are read through the core's own entries, numbers, stamps and images alone, and nothing of the running one is
--- stored; so they stay in agreement with the ledger.
-use Prim.Native.Nat.{ℕ, _+_, _-_, _≤_, _<_}
+-- What a command leaves alone: the journal of a core and the core itself, where its closed transactions stay, since both
+-- are read through the core's own entries, numbers, stamps and images alone, and nothing of the running one is stored.
+-- A store of the master or of a home block leaves every journal.
+use Prim.Native.Nat.{ℕ, _+_, _-_, _≤_, _<_, _*_}
 use native.Mathlib.Omega.{arith}
 use native.Mathlib.Decide.{ℕ-discrete}
-use mathlib.Core.Path.{_≡_, refl, ap, _∙_}
+use mathlib.Core.Path.{_≡_, refl, ap, _∙_, sym}
 use mathlib.Core.Logic.{_⊎_, inl, inr, _≢_}
 use mathlib.Core.Bool.{true, false}
 use mathlib.Core.List.{List, _++_}
 use lib.ListN.{length, take}
 use lib.Seq.{getD-set-same, getD-set-other}
-use Rattle.model.specs.Bytes.{Bytes, blockAt}
+use Rattle.model.specs.Bytes.{Bytes, blockAt, store}
 use Rattle.model.specs.Card.{newName, freshCore, coreOf, withCore, withRunning}
 use Rattle.model.specs.Journal.{journalAt}
 use Rattle.model.specs.Commit.{copyBlock}
@@ -24,7 +24,13 @@ use Rattle.crash.specs.Book.{Stage, absent, running, isRunning, isClosed
 use Rattle.crash.specs.Ledger.{Ledger, recordBlocks, heldOf, recordOf}
 use Rattle.crash.proofs.LedgerStages.{closed-present}
 use Rattle.crash.proofs.BookEntries.{records-same}
-use Rattle.crash.proofs.Relation.{Fine, contents, JournalStands, CoreUp, Matches}
+use Rattle.crash.proofs.Relation.{Fine, contents, JournalStands, CoreUp, Matches, IsBlock, DiskStands}
+use Rattle.model.proofs.Store.{length-store, block-stored, block-other}
+use Rattle.model.proofs.Journal.{home-apart}
+use Rattle.model.specs.Shape.{homeBlock, journalBlock}
+use Rattle.model.specs.Layout.{isCommit}
+use Rattle.crash.specs.Claims.{IsBytes}
+use Rattle.crash.proofs.BlockBytes.{bytes-store}
 
 -- ---- one core of the card replaced
 pub core-set : (x : Card) (c : ℕ) (k : Core) → c < length (x .cores) → coreOf (withCore x c k) c ≡ k
@@ -51,7 +57,8 @@ unfolding contents
 contents-same l l₂ c o u f g =
     rw (o, u, g)
     (ap (λ (x : List Bytes). x ++ take (counted ((l .book .entry (newName c (l .book .uncommitted c))) .stage)) (recordOf l (newName c (l .book .uncommitted c))))
-    (flatMap-below (λ (i : ℕ). recordOf l₂ (newName c (l .book .oldest c + i))) (λ (i : ℕ). recordOf l (newName c (l .book .oldest c + i))) (l .book .uncommitted c - l .book .oldest c) (λ i h. f (l .book .oldest c + i) (omega arith))))
+    (flatMap-below (λ (i : ℕ). recordOf l₂ (newName c (l .book .oldest c + i))) (λ (i : ℕ). recordOf l (newName c (l .book .oldest c + i)))
+    (l .book .uncommitted c - l .book .oldest c) (λ i h. f (l .book .oldest c + i) (omega arith))))
 
 -- ---- a core whose closed transactions stay
 pub record SameClosed (l l₂ : Ledger) (c : ℕ) : Type 0 where
@@ -134,3 +141,47 @@ module _ (l : Ledger) (fine : Fine l) (c : ℕ) (in-range : c < l .shape .cores)
         few h =
             let s = fine .ranks c in-range .storing h in
             fine .limits (newName c (l .book .uncommitted c)) (closed-present _ (ap isClosed (s .1))) .few
+
+-- ---- a store below the journals, of the master or of a home block
+module _ {l : Ledger} {d : Bytes} {tailAt : ℕ → Tail} (f : Fine l) (z : DiskStands l d tailAt) (k : ℕ) (low : k ≤ l .shape .blocks) (x : Bytes) (block : IsBlock x) where
+  low-fits : 128 * k + 128 ≤ length d
+  low-fits = rw (z .size) (omega (arith, f .range .few-blocks))
+
+  pub low-stored : blockAt (store d k x) k ≡ x
+  low-stored = block-stored d k x low-fits (block .size)
+
+  pub low-other : (j : ℕ) → j ≢ k → blockAt (store d k x) j ≡ blockAt d j
+  low-other = block-other d k x low-fits (block .size)
+
+  pub low-journal : (c q : ℕ) → journalAt (l .shape) (store d k x) c q ≡ journalAt (l .shape) d c q
+  unfolding journalAt
+  low-journal c q = low-other (journalBlock (l .shape) c q) (λ e. home-apart (l .shape) c q k low (sym e))
+
+  pub low-size : length (store d k x) ≡ 32896
+  low-size = length-store d k x low-fits (block .size) ∙ z .size
+
+  pub low-bytes : IsBytes (store d k x)
+  low-bytes = bytes-store d k x (z .bytes) (block .bytes)
+
+-- a home store leaves the master and the journals
+pub home-stands : {l : Ledger} {d : Bytes} {tailAt : ℕ → Tail} → Fine l → DiskStands l d tailAt → (b : ℕ) → b < l .shape .blocks → (x : Bytes) → IsBlock x
+    → DiskStands l (store d (homeBlock b) x) tailAt
+home-stands {l} {tailAt = tailAt} f z b h x block =
+    let low : homeBlock b ≤ l .shape .blocks = omega arith in
+    let at = low-journal f z (homeBlock b) low x block in
+    record {
+      size = low-size f z (homeBlock b) low x block;
+      bytes = low-bytes f z (homeBlock b) low x block;
+      master = low-other f z (homeBlock b) low x block 0 (omega arith) ∙ z .master;
+      journals =
+          λ c g.
+          let j = z .journals c g in
+          record {
+            number = j .number;
+            position = j .position;
+            stands = λ q k. at c ((tailAt c) .position + q) ∙ j .stands q k;
+            clear = λ i q k. ap (isCommit (l .shape) i) (at c q) ∙ j .clear i q k;
+            room = j .room;
+            reserved = j .reserved;
+          };
+    }

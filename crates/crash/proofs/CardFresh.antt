@@ -5,7 +5,7 @@ use Prim.Native.Nat.{ℕ, _-_, _≤_, _<_}
 use native.Mathlib.Omega.{arith}
 use native.Mathlib.Nat.{sub-self}
 use mathlib.Core.Path.{_≡_, refl, sym, ap, _∙_}
-use mathlib.Core.Bool.{false, false≢true}
+use mathlib.Core.Bool.{false}
 use mathlib.Core.List.{List, [], flatMap, List·Memᴰ}
 use lib.ListN.{length, getD, length-map, length-replicate, getD-replicate, List·getD-map}
 use Rattle.model.specs.Lists.{below}
@@ -25,6 +25,7 @@ use Rattle.crash.specs.Claims.{IsBytes}
 use Rattle.crash.proofs.Relation.{WriteFits, contents, JournalStands, DiskStands, CoreUp, Up}
 use Rattle.crash.proofs.LedgerSteps.{fine-fresh}
 use Rattle.crash.proofs.ReadMaster.{master-same}
+use Rattle.crash.proofs.Tests.{impossible}
 
 -- the journals hold nothing
 module _ (s : Shape) (saved : List Write) (first : ℕ → ℕ) (c : ℕ) where
@@ -76,7 +77,7 @@ module _ {s : Shape} {first : ℕ → ℕ} {w : World} (r : InRange s) (u : Come
           stands = rw (fresh-contents s saved first c) (λ q k. absurd (omega arith));
           clear = unfold emptyBook in λ i q k. u .clear c h i q k;
           room = unfold emptyBook in omega (arith, fresh-records s saved first c);
-          reserved = unfold emptyBook in λ k. absurd (false≢true k);
+          reserved = unfold emptyBook in λ k. impossible k;
         }
 
     fresh-stands : DiskStands (freshLedger s saved first) (w .disk) (tailOf (w .card))
@@ -96,7 +97,7 @@ module _ {s : Shape} {first : ℕ → ℕ} {w : World} (r : InRange s) (u : Come
         (record {
           next = refl;
           used = sym (fresh-records s saved first c);
-          runs = λ k. absurd (false≢true k);
+          runs = λ k. impossible k;
           idle = λ k. refl;
           closing = λ k. absurd (omega arith);
           stored = λ k. absurd (omega arith);
@@ -123,5 +124,5 @@ module _ {s : Shape} {first : ℕ → ℕ} {w : World} (r : InRange s) (u : Come
           disk = fresh-stands;
           cores = fresh-core-up;
           holders = fresh-holder;
-          images = λ b h k. absurd (false≢true (rw (fresh-holder b h) at k));
+          images = λ b h k. impossible (rw (fresh-holder b h) at k);
         }

@@ -1,7 +1,7 @@
 -- RECOVER on a card that is down by the ledger is carried out, and its store is the one that the ledger says. A home store
 -- changes neither journals nor master, so the rest of recovery stays as it was. With no block left the home area is the
 -- target, and the master store empties all journals: no commit has an uncommitted number, so a fresh card has come up.
-use Prim.Native.Nat.{ℕ, zero, suc, _+_, _*_, _-_, _≤_, _<_, min}
+use Prim.Native.Nat.{ℕ, zero, suc, _+_, _-_, _≤_, _<_, min}
 use native.Mathlib.Omega.{arith}
 use native.Mathlib.Decide.{ℕ-discrete}
 use mathlib.Core.Path.{_≡_, refl, sym, ap, _∙_, subst}
@@ -12,8 +12,8 @@ use lib.ListN.{length, length-map}
 use lib.Dec.{leb, eqb}
 use borrow.Author.Tests.{le-leb, lt-leb, leb-true, leb-false, lt-ltb, ne-eqb}
 use Rattle.model.specs.Lists.{below, any, select}
-use Rattle.model.specs.Bytes.{Bytes, blockAt, store}
-use Rattle.model.specs.Shape.{homeBlock, journalBlock}
+use Rattle.model.specs.Bytes.{blockAt, store}
+use Rattle.model.specs.Shape.{homeBlock}
 use Rattle.model.specs.Card.{isUp, newTail, freshCard}
 use Rattle.model.specs.Layout.{maxNumber, masterBlock, isCommit}
 use Rattle.model.specs.Journal.{journal, journalAt}
@@ -24,20 +24,18 @@ use Rattle.model.specs.declared.Shape.{Shape}
 use Rattle.model.specs.declared.Tail.{Tail}
 use Rattle.model.proofs.Lists.{cases, mem-below, length-below, getD-map-below}
 use Rattle.model.proofs.Select.{select-mem, select-same}
-use Rattle.model.proofs.Store.{length-store, block-stored, block-other}
-use Rattle.model.proofs.Encoding.{length-master}
-use Rattle.model.proofs.Journal.{home-apart}
 use Rattle.crash.specs.Book.{keptWrites, blank}
 use Rattle.crash.specs.Ledger.{Ledger, blocksIn, recoverLedger, recoverStored}
-use Rattle.crash.proofs.Relation.{IsBlock, Fine, DiskStands, Up, target, DownBy}
-use Rattle.crash.proofs.ReadMaster.{shape-read, master-same, master-bytes}
+use Rattle.crash.proofs.Relation.{IsBlock, Fine, Up, target, DownBy}
+use Rattle.crash.proofs.ReadMaster.{shape-read, master-same, master-block}
 use Rattle.crash.proofs.ReadRecords.{length-readList, few-records, journal-read}
 use Rattle.crash.proofs.ReadValid.{own-tails, blocks-on}
 use Rattle.crash.proofs.ReadNewest.{newest-image}
 use Rattle.crash.proofs.LedgerSteps.{image-block, blank-block, fine-home, phased, kept-fits}
-use Rattle.crash.proofs.BlockBytes.{bytes-store}
 use Rattle.crash.proofs.CardCut.{stands-phased, target-phased, newest-phased, held-low}
 use Rattle.crash.proofs.CardFresh.{ComeUp, fresh-up}
+use Rattle.crash.proofs.CardFrames.{low-stored, low-other, low-journal, low-size, low-bytes, home-stands}
+use Rattle.crash.proofs.Tests.{impossible}
 
 -- ---- ascending lists: those left after the first are those above it
 abbrev Ascending : List ℕ → Type 0
@@ -65,7 +63,7 @@ ascending-select p (x ∷ xs) a =
 
 select-after : (r b : ℕ) (bs xs : List ℕ) → Ascending xs → select (leb r) xs ≡ b ∷ bs → bs ≡ select (leb (b + 1)) xs
 unfolding select
-select-after r b bs [] a e = let z : _≡_ {A = ℕ} 0 1 = cc in absurd (omega arith)
+select-after r b bs [] a e = impossible cc
 select-after r b bs (x ∷ xs) a e =
     cases (leb r x)
     (λ h.
@@ -90,37 +88,6 @@ target-block : (l : Ledger) → Fine l → (b : ℕ) → IsBlock (target l b)
 unfolding target
 target-block l f b =
     image-block (l .shape) blank b (blank-block b) (keptWrites (l .book) ++ l .saved) (kept-fits l f)
-
--- ---- a home store leaves master and journals
-module _ {l : Ledger} {d : Bytes} {tailAt : ℕ → Tail} (f : Fine l) (z : DiskStands l d tailAt) (b : ℕ) (low : b < l .shape .blocks) (x : Bytes) (block : IsBlock x) where
-  home-fits : 128 * homeBlock b + 128 ≤ length d
-  home-fits = rw (z .size) (omega (arith, f .range .few-blocks))
-
-  home-other : (k : ℕ) → k ≢ homeBlock b → blockAt (store d (homeBlock b) x) k ≡ blockAt d k
-  home-other = block-other d (homeBlock b) x home-fits (block .size)
-
-  home-journal : (c q : ℕ) → journalAt (l .shape) (store d (homeBlock b) x) c q ≡ journalAt (l .shape) d c q
-  unfolding journalAt
-  home-journal c q = home-other (journalBlock (l .shape) c q) (λ e. home-apart (l .shape) c q (homeBlock b) (omega arith) (sym e))
-
-  home-stands : DiskStands l (store d (homeBlock b) x) tailAt
-  home-stands =
-      record {
-        size = length-store d (homeBlock b) x home-fits (block .size) ∙ z .size;
-        bytes = bytes-store d (homeBlock b) x (z .bytes) (block .bytes);
-        master = home-other 0 (omega arith) ∙ z .master;
-        journals =
-            λ c h.
-            let j = z .journals c h in
-            record {
-              number = j .number;
-              position = j .position;
-              stands = λ q k. home-journal c ((tailAt c) .position + q) ∙ j .stands q k;
-              clear = λ i q k. ap (isCommit (l .shape) i) (home-journal c q) ∙ j .clear i q k;
-              room = j .room;
-              reserved = j .reserved;
-            };
-      }
 
 -- ---- RECOVER
 module _ {l : Ledger} {w : World} (v : DownBy l w) where
@@ -162,8 +129,8 @@ module _ {l : Ledger} {w : World} (v : DownBy l w) where
               λ j h a.
               elim (ℕ-discrete j b) [
                 | yes q ↦ subst (λ (k : ℕ). blockAt (store (w .disk) (homeBlock b) x) (homeBlock k) ≡ target (phased PhaseDown bs l) k) (sym q)
-                    (block-stored (w .disk) (homeBlock b) x (home-fits (v .fine) (v .disk) b first-low x i) (i .size) ∙ sym (target-phased PhaseDown bs l b))
-                | no ne ↦ home-other (v .fine) (v .disk) b first-low x i (homeBlock j) (λ q. ne (omega arith))
+                    (low-stored (v .fine) (v .disk) (homeBlock b) (omega (arith, first-low)) x i ∙ sym (target-phased PhaseDown bs l b))
+                | no ne ↦ low-other (v .fine) (v .disk) (homeBlock b) (omega (arith, first-low)) x i (homeBlock j) (λ q. ne (omega arith))
                     ∙ v .at-home j h (rw e (unfold any in rw (ne-eqb j b ne) a))
                     ∙ sym (target-phased PhaseDown bs l j)
               ];
@@ -187,11 +154,8 @@ module _ {l : Ledger} {w : World} (v : DownBy l w) where
       let e : l .book .oldest c + (l .book .uncommitted c - l .book .oldest c + 1) ≡ l .book .uncommitted c + 1 = omega (arith, v .fine .ranks c h .low) in
       rw (shape-read (v .fine) (v .disk), lt-ltb c (l .shape .cores) h, k, own .journals c h .number, e)
 
-  master-fits : 128 * 0 + 128 ≤ length (w .disk)
-  master-fits = rw (v .disk .size) (omega arith)
-
-  master-size : length (masterBlock (l .shape) firstTail) ≡ 128
-  master-size = length-master (v .fine .range) firstTail
+  is-master : IsBlock (masterBlock (l .shape) firstTail)
+  is-master = master-block (v .fine .range) firstTail
 
   module _ (e : l .left ≡ []) where
     master-outcome : recovered w ≡ storing w (broughtUp (w .disk)) 0 (masterBlock (l .shape) firstTail)
@@ -202,18 +166,17 @@ module _ {l : Ledger} {w : World} (v : DownBy l w) where
         (ap (λ (s : Shape). masterBlock s (emptiedTail (w .disk))) (shape-read (v .fine) (v .disk)) ∙ master-same (l .shape) (emptiedTail (w .disk)) firstTail emptied)
 
     master-other : (k : ℕ) → k ≢ 0 → blockAt ((recovered w) .world .disk) k ≡ blockAt (w .disk) k
-    master-other k ne = rw master-outcome (block-other (w .disk) 0 (masterBlock (l .shape) firstTail) master-fits master-size k ne)
+    master-other k ne = rw master-outcome (low-other (v .fine) (v .disk) 0 (omega arith) (masterBlock (l .shape) firstTail) is-master k ne)
 
     -- the home area is the one that the kept writes give
     pub recovered-home : (b : ℕ) → b < l .shape .blocks → blockAt ((recovered w) .world .disk) (homeBlock b) ≡ target l b
     recovered-home b h = master-other (homeBlock b) (λ q. omega arith) ∙ v .at-home b h (rw e (unfold any in refl))
 
     recovered-clear : (c : ℕ) → c < l .shape .cores → (i q : ℕ) → firstNumber c ≤ i → isCommit (l .shape) i (journalAt (l .shape) ((recovered w) .world .disk) c q) ≡ false
-    unfolding journalAt
     recovered-clear c h i q k =
         let r = v .fine .ranks c h in
-        ap (isCommit (l .shape) i) (master-other (journalBlock (l .shape) c q) (λ z. home-apart (l .shape) c q 0 (omega arith) (sym z)))
-        ∙ v .disk .journals c h .clear i q (omega (arith, r .mid, r .top))
+        rw (master-outcome, low-journal (v .fine) (v .disk) 0 (omega arith) (masterBlock (l .shape) firstTail) is-master c q)
+        (v .disk .journals c h .clear i q (omega (arith, r .mid, r .top)))
 
     recovered-comes-up : ComeUp (l .shape) firstNumber ((recovered w) .world)
     recovered-comes-up =
@@ -226,9 +189,9 @@ module _ {l : Ledger} {w : World} (v : DownBy l w) where
           tail = λ c h. getD-map-below (emptiedTail (w .disk)) 8 c (newTail 0 0) (omega (arith, v .fine .range .few-cores)) ∙ emptied c h;
           memory = rw o (v .memory);
           memory-bytes = rw o (v .memory-bytes);
-          size = rw o (length-store (w .disk) 0 m master-fits master-size ∙ v .disk .size);
-          bytes = rw o (bytes-store (w .disk) 0 m (v .disk .bytes) (master-bytes (l .shape) firstTail));
-          master = rw o (block-stored (w .disk) 0 m master-fits master-size);
+          size = rw o (low-size (v .fine) (v .disk) 0 (omega arith) m is-master);
+          bytes = rw o (low-bytes (v .fine) (v .disk) 0 (omega arith) m is-master);
+          master = rw o (low-stored (v .fine) (v .disk) 0 (omega arith) m is-master);
           clear = recovered-clear;
         }
 

@@ -4,8 +4,8 @@
 use Prim.Native.Nat.{ℕ, _≤_, _<_}
 use native.Mathlib.Omega.{arith}
 use native.Mathlib.Numerals.{add-one}
-use native.Mathlib.Decide.{decLt, ℕ-discrete}
-use mathlib.Core.Path.{_≡_, refl, ap, ap₂, _∙_, sym, subst}
+use native.Mathlib.Decide.{ℕ-discrete}
+use mathlib.Core.Path.{_≡_, refl, ap, ap₂, _∙_, sym}
 use mathlib.Core.Logic.{_⊎_, inl, inr, _≢_}
 use mathlib.Core.Bool.{true, false, and-false, and-true}
 use mathlib.Core.List.{List, [], _∷_, _++_}
@@ -25,11 +25,10 @@ use Rattle.model.proofs.Lists.{cases}
 use Rattle.model.proofs.Valid.{sameName-refl}
 use Rattle.crash.specs.Book.{absent, running, isRunning, isClosed, Entry, Book, staged, taking, naming, begin, holderIn, Meeting, no-holder, own, running-holder, closed-holder, meets, ruled, change, wrote}
 use Rattle.crash.specs.Ledger.{Ledger}
-use Rattle.crash.proofs.Relation.{Ranks, Matches, holderAs, Up}
-use Rattle.crash.proofs.LedgerStages.{committed-stage, present-open, closed-idle}
+use Rattle.crash.proofs.Relation.{Matches, holderAs, Up}
+use Rattle.crash.proofs.LedgerStages.{present-open, closed-idle, running-next}
 use Rattle.crash.proofs.BookEntries.{same-or-not, sameName-false, change-at, change-other}
 use Rattle.crash.proofs.BookSteps.{begun, meeting, begun-other, wrote-entry}
-use Rattle.crash.proofs.Tests.{clash}
 
 -- ---- a transaction of the card and its entry
 matches-block : {t : Transaction} {e : Entry} → Matches t e → (b : ℕ) → length (e .blocks) < 8 → Matches (withBlock t b) (taking b e)
@@ -114,29 +113,6 @@ more-names : (n : Name) (e : Entry) → length ((naming n e) .names) ≤ 12 → 
 more-names n e h q = let g : length (e .names ++ (n ∷ [])) ≤ 12 = rw q at h in omega (arith, length-append (e .names) (n ∷ []))
 
 -- ---- running ones
--- only the current one runs
-pub running-next : {k : Book} {a : ℕ} → Ranks k a → (i : ℕ) → isRunning ((k .entry (newName a i)) .stage) ≡ true → i ≡ k .next a
-running-next {k} {a} r i h =
-    elim (decLt i (k .next a)) [
-      | yes lt ↦ clash h (past lt)
-      | no ge ↦ elim (ℕ-discrete i (k .next a)) [
-        | yes e ↦ e
-        | no ne ↦ clash h (ap isRunning (r .rest i (omega arith)))
-      ]
-    ]
-  where
-    past : i < k .next a → isRunning ((k .entry (newName a i)) .stage) ≡ false
-    past lt =
-        elim (decLt i (k .oldest a)) [
-          | yes o ↦ elim (r .old i o) [ inl e ↦ ap isRunning e | inr e ↦ ap isRunning e ]
-          | no o ↦ elim (decLt i (k .uncommitted a)) [
-            | yes q ↦ ap isRunning (committed-stage r i (omega arith) q .1)
-            | no q ↦ (let s = r .storing (omega arith) in
-                let e : k .uncommitted a ≡ i = omega (arith, r .high) in
-                subst (λ (j : ℕ). isRunning ((k .entry (newName a j)) .stage) ≡ false) e (ap isRunning (s .1)))
-          ]
-        ]
-
 module _ {l : Ledger} {w : World} (u : Up l w) where
   -- a core's transaction runs in the card where it does in the ledger
   pub live-runs : (a : ℕ) → a < l .shape .cores → (coreOf (w .card) a) .running .live ≡ isRunning ((l .book .entry (newName a (l .book .next a))) .stage)
@@ -206,7 +182,8 @@ module _ {l : Ledger} {w : World} (u : Up l w) where
               (λ k.
               let r = present-open ((l .book .entry n) .stage) (opens n e) k in
               let x : n .number ≡ l .book .next (n .core) = running-next (u .fine .ranks (n .core) core) (n .number) (ap isRunning r) in
-              met-running n m r (ap (newName (n .core)) x) (λ y. ne (ap₂ newName y (x ∙ ap (l .book .next) y))) (rw (e, sameName-false n t ne, k) refl) (rw (q, writer-name, sameName-false n t ne, runs-in n core, r) refl)))
+              met-running n m r (ap (newName (n .core)) x) (λ y. ne (ap₂ newName y (x ∙ ap (l .book .next) y))) (rw (e, sameName-false n t ne, k) refl)
+              (rw (q, writer-name, sameName-false n t ne, runs-in n core, r) refl)))
 
       -- what the rules make of the writer's transaction, and of a running holder's
       module _ (o : ℕ) (v : Bytes) where

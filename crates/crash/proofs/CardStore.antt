@@ -297,7 +297,8 @@ module _ {l : Ledger} {w : World} (u : Up l w) (c : ℕ) (in-range : c < l .shap
             rw grown
             (λ q h.
             elim (decLt q n) [
-              | yes lt ↦ elsewhere (journalBlock (l .shape) c (p + q)) (journal-apart (l .shape) c p q n (omega (arith, length-contents, room, within)) (omega (arith, length-contents, room, within)) (omega arith))
+              | yes lt ↦ elsewhere (journalBlock (l .shape) c (p + q))
+                  (journal-apart (l .shape) c p q n (omega (arith, length-contents, room, within)) (omega (arith, length-contents, room, within)) (omega arith))
                   ∙ j .stands q lt ∙ sym (List·getD-append (contents l c) (b ∷ []) [] q lt)
               | no ge ↦ (let e : n ≡ q = omega (arith, length-append (contents l c) (b ∷ [])) in
                   subst (λ (i : ℕ). blockAt d₂ (journalBlock (l .shape) c (p + i)) ≡ getD (contents l c ++ (b ∷ [])) i []) e
@@ -354,7 +355,9 @@ module _ {l : Ledger} {w : World} (u : Up l w) (c : ℕ) (in-range : c < l .shap
         used = rw (same-numbers .0 c, v, restages-records new c (l .book .oldest c) (n - o)) (y .used);
         runs = rw (same-numbers .1 c, running-stays) (y .runs);
         idle = rw (same-numbers .1 c, running-stays) (y .idle);
-        closing = rw (same-numbers .1 c, v, e) (λ _. record { live = m .live; blocks = m .blocks; count = m .count; names = m .names; named = m .named; block-room = m .block-room; name-room = m .name-room });
+        closing =
+            rw (same-numbers .1 c, v, e)
+            (λ _. record { live = m .live; blocks = m .blocks; count = m .count; names = m .names; named = m .named; block-room = m .block-room; name-room = m .name-room });
         stored = rw (same-numbers .1 c, v, e) (λ _. (ap closed (omega arith), y .stored busy .1));
         copies = rw (same-numbers .1 c, v, e) (y .copies);
         none-closing = rw (same-numbers .1 c, v) (y .none-closing);

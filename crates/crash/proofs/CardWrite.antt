@@ -31,9 +31,9 @@ use Rattle.crash.proofs.BlockBytes.{block-written, block-unwritten, byt
 use Rattle.crash.proofs.BookEntries.{other-core, meets-met, meets-running, metHolder}
 use Rattle.crash.proofs.BookSteps.{meeting, wrote-numbers, wrote-running, wrote-stage, wrote-blocks-other, wrote-other, wrote-holder, wrote-holder-other, wrote-image, wrote-image-other}
 use Rattle.crash.proofs.CardFrames.{SameClosed, core-set, core-other, none-stored, journal-stays, core-stays}
-use Rattle.crash.proofs.CardRules.{running-next, writer-name, Met, met-none, met-own, met-running, met-closed, rule-met, writer-after, holder-after}
-use Rattle.crash.proofs.Tests.{clash}
-use Rattle.crash.proofs.LedgerStages.{running-present, present-open}
+use Rattle.crash.proofs.CardRules.{writer-name, Met, met-none, met-own, met-running, met-closed, rule-met, writer-after, holder-after}
+use Rattle.crash.proofs.Tests.{clash, impossible}
+use Rattle.crash.proofs.LedgerStages.{running-present, present-open, running-next}
 
 -- ---- the card afterwards
 -- what WRITE leaves of a card
@@ -60,75 +60,76 @@ module _ (x : Card) where
   kept-holder y b n h = record { phase = h .phase; shape = h .shape; closes = h .closes; tails = h .tails; cores = h .cores; holders = length-set (y .holders) b _ ∙ h .holders }
 
   module _ (c b : ℕ) where
+    -- the core of the block's holder, and the card after a running holder has named the writer
+    abbrev holderCore : ℕ
+    holderCore = ((holderOf x b) .name) .core
+
+    abbrev namedCore : ℕ → Core
+    namedCore a = withRunning (coreOf x a) (withName ((coreOf x a) .running) (writerName x c))
+
+    abbrev namedBack : Card
+    namedBack = cond (isNamedBack (ruleFor x c b)) (withCore x holderCore (namedCore holderCore)) x
+
+    abbrev writerCore : Core
+    writerCore = withRunning (coreOf namedBack c) (writerAfter x c b)
+
+    named-kept : Kept x namedBack
+    named-kept = kept-cond (isNamedBack (ruleFor x c b)) (kept-core x holderCore _ kept-same) kept-same
+
     written-kept : Kept x (writtenCard x c b)
     unfolding writtenCard
     written-kept =
-        let r = ruleFor x c b in
-        let a = ((holderOf x b) .name) .core in
-        let x₁ = cond (isNamedBack r) (withCore x a (withRunning (coreOf x a) (withName ((coreOf x a) .running) (writerName x c)))) x in
-        let k₁ : Kept x x₁ = kept-cond (isNamedBack r) (kept-core x a _ kept-same) kept-same in
-        let x₂ = withCore x₁ c (withRunning (coreOf x₁ c) (writerAfter x c b)) in
-        let k₂ : Kept x x₂ = kept-core x₁ c _ k₁ in
-        kept-cond (takesBlock r) (kept-holder x₂ b (writerName x c) k₂) k₂
+        let k = kept-core namedBack c writerCore named-kept in
+        kept-cond (takesBlock (ruleFor x c b)) (kept-holder (withCore namedBack c writerCore) b (writerName x c) k) k
 
     -- holders
-    written-taken : takesBlock (ruleFor x c b) ≡ true → b < length (x .holders) → holderOf (writtenCard x c b) b ≡ record { held = true; name = writerName x c }
+    written-holders : (j : ℕ) → holderOf (writtenCard x c b) j ≡ holderOf (cond (takesBlock (ruleFor x c b)) (withHolder x b (writerName x c)) x) j
     unfolding writtenCard holderOf
-    written-taken h n =
-        cases (isNamedBack (ruleFor x c b)) (λ e. rw (h, e) (getD-set-same (x .holders) b _ noHolder n)) (λ e. rw (h, e) (getD-set-same (x .holders) b _ noHolder n))
-
-    written-other : (j : ℕ) → j ≢ b → holderOf (writtenCard x c b) j ≡ holderOf x j
-    unfolding writtenCard holderOf
-    written-other j ne =
+    written-holders j =
         cases (takesBlock (ruleFor x c b))
-        (λ h. cases (isNamedBack (ruleFor x c b)) (λ e. rw (h, e) (getD-set-other (x .holders) b j _ noHolder ne)) (λ e. rw (h, e) (getD-set-other (x .holders) b j _ noHolder ne)))
+        (λ h. cases (isNamedBack (ruleFor x c b)) (λ e. rw (h, e) refl) (λ e. rw (h, e) refl))
         (λ h. cases (isNamedBack (ruleFor x c b)) (λ e. rw (h, e) refl) (λ e. rw (h, e) refl))
 
-    written-left : takesBlock (ruleFor x c b) ≡ false → holderOf (writtenCard x c b) b ≡ holderOf x b
-    unfolding writtenCard holderOf
-    written-left h = cases (isNamedBack (ruleFor x c b)) (λ e. rw (h, e) refl) (λ e. rw (h, e) refl)
+    written-taken : takesBlock (ruleFor x c b) ≡ true → b < length (x .holders) → holderOf (writtenCard x c b) b ≡ record { held = true; name = writerName x c }
+    written-taken h n = written-holders b ∙ rw h (unfold holderOf in getD-set-same (x .holders) b _ noHolder n)
 
-    -- cores: the writer's
+    written-other : (j : ℕ) → j ≢ b → holderOf (writtenCard x c b) j ≡ holderOf x j
+    written-other j ne =
+        written-holders j
+        ∙ cases (takesBlock (ruleFor x c b)) (λ h. rw h (unfold holderOf in getD-set-other (x .holders) b j _ noHolder ne)) (λ h. rw h refl)
+
+    written-left : takesBlock (ruleFor x c b) ≡ false → holderOf (writtenCard x c b) b ≡ holderOf x b
+    written-left h = written-holders b ∙ rw h refl
+
+    -- cores: the writer's, a running holder's, another's
+    written-cores : (a : ℕ) → coreOf (writtenCard x c b) a ≡ coreOf (withCore namedBack c writerCore) a
+    unfolding writtenCard coreOf
+    written-cores a = cases (takesBlock (ruleFor x c b)) (λ h. rw h refl) (λ h. rw h refl)
+
+    named-other : (a : ℕ) → (isNamedBack (ruleFor x c b) ≡ true → a ≢ holderCore) → coreOf namedBack a ≡ coreOf x a
+    named-other a apart = cases (isNamedBack (ruleFor x c b)) (λ e. rw e (core-other x holderCore (namedCore holderCore) a (apart e))) (λ e. rw e refl)
+
     written-writer : c < length (x .cores) → (isNamedBack (ruleFor x c b) ≡ true → ((holderOf x b) .name) .core ≢ c)
         → coreOf (writtenCard x c b) c ≡ withRunning (coreOf x c) (writerAfter x c b)
-    unfolding writtenCard coreOf
     written-writer n apart =
-        let a = ((holderOf x b) .name) .core in
-        let y = withCore x a (withRunning (coreOf x a) (withName ((coreOf x a) .running) (writerName x c))) in
-        let named : isNamedBack (ruleFor x c b) ≡ true → coreOf (withCore y c (withRunning (coreOf y c) (writerAfter x c b))) c ≡ withRunning (coreOf x c) (writerAfter x c b) =
-        λ e. core-set y c (withRunning (coreOf y c) (writerAfter x c b)) (omega (arith, length-set (x .cores) a (withRunning (coreOf x a) (withName ((coreOf x a) .running) (writerName x c)))))
-        ∙ ap (λ (k : Core). withRunning k (writerAfter x c b)) (core-other x a (withRunning (coreOf x a) (withName ((coreOf x a) .running) (writerName x c))) c (λ q. apart e (sym q))) in
-        cases (takesBlock (ruleFor x c b))
-        (λ h. cases (isNamedBack (ruleFor x c b)) (λ e. rw (h, e) (named e)) (λ e. rw (h, e) (core-set x c (withRunning (coreOf x c) (writerAfter x c b)) n)))
-        (λ h. cases (isNamedBack (ruleFor x c b)) (λ e. rw (h, e) (named e)) (λ e. rw (h, e) (core-set x c (withRunning (coreOf x c) (writerAfter x c b)) n)))
+        written-cores c
+        ∙ core-set namedBack c writerCore (omega (arith, named-kept .cores))
+        ∙ ap (λ (k : Core). withRunning k (writerAfter x c b)) (named-other c (λ e q. apart e (sym q)))
 
-    -- a running holder's
     written-holder : (a : ℕ) → ((holderOf x b) .name) .core ≡ a → a < length (x .cores) → isNamedBack (ruleFor x c b) ≡ true → a ≢ c
-        → coreOf (writtenCard x c b) a ≡ withRunning (coreOf x a) (withName ((coreOf x a) .running) (writerName x c))
-    unfolding writtenCard coreOf
-    written-holder a q n e ne =
-        let k = withRunning (coreOf x a) (withName ((coreOf x a) .running) (writerName x c)) in
-        let y = withCore x a k in
-        let z = withRunning (coreOf y c) (writerAfter x c b) in
-        cases (takesBlock (ruleFor x c b)) (λ h. rw (h, e, q) (core-other y c z a ne ∙ core-set x a k n)) (λ h. rw (h, e, q) (core-other y c z a ne ∙ core-set x a k n))
+        → coreOf (writtenCard x c b) a ≡ namedCore a
+    written-holder a q n e ne = written-cores a ∙ core-other namedBack c writerCore a ne ∙ rw (e, q) (core-set x a (namedCore a) n)
 
-    -- another's
     written-core : (a : ℕ) → a ≢ c → (isNamedBack (ruleFor x c b) ≡ true → a ≢ ((holderOf x b) .name) .core) → coreOf (writtenCard x c b) a ≡ coreOf x a
-    unfolding writtenCard coreOf
-    written-core a ne apart =
-        let i = ((holderOf x b) .name) .core in
-        let k = withRunning (coreOf x i) (withName ((coreOf x i) .running) (writerName x c)) in
-        let y = withCore x i k in
-        cases (takesBlock (ruleFor x c b))
-        (λ h. cases (isNamedBack (ruleFor x c b)) (λ e. rw (h, e) (core-other y c (withRunning (coreOf y c) (writerAfter x c b)) a ne ∙ core-other x i k a (apart e))) (λ e. rw (h, e) (core-other x c (withRunning (coreOf x c) (writerAfter x c b)) a ne)))
-        (λ h. cases (isNamedBack (ruleFor x c b)) (λ e. rw (h, e) (core-other y c (withRunning (coreOf y c) (writerAfter x c b)) a ne ∙ core-other x i k a (apart e))) (λ e. rw (h, e) (core-other x c (withRunning (coreOf x c) (writerAfter x c b)) a ne)))
+    written-core a ne apart = written-cores a ∙ core-other namedBack c writerCore a ne ∙ named-other a apart
 
 -- ---- WRITE
 module _ {l : Ledger} {w : World} (u : Up l w) (c : ℕ) (in-range : c < l .shape .cores) (b : ℕ) (low : b < l .shape .blocks) (o : ℕ) (inside : o ≤ 124)
     (v : Bytes) (four : length v ≡ 4) (bytes : IsBytes v)
     (opens : (n : Name) → holderIn (l .book) b (l .book .writes) ≡ some n → (l .book .entry n) .stage ≢ absent)
     (home : holderIn (l .book) b (l .book .writes) ≡ none → blockAt (w .disk) (homeBlock b) ≡ imageNow l b)
-    (reserve : recordBlocks (l .book) c (l .book .oldest c) (l .book .next c - l .book .oldest c) + 2 + length (((wrote c b o v (l .book)) .entry (newName c (l .book .next c))) .blocks) ≤ l .shape .journal)
+    (reserve : recordBlocks (l .book) c (l .book .oldest c) (l .book .next c - l .book .oldest c) + 2
+    + length (((wrote c b o v (l .book)) .entry (newName c (l .book .next c))) .blocks) ≤ l .shape .journal)
     (fine : Fine (withBook l (wrote c b o v (l .book)))) where
   abbrev t : Name
   t = newName c (l .book .next c)
@@ -276,11 +277,11 @@ module _ {l : Ledger} {w : World} (u : Up l w) (c : ℕ) (in-range : c < l .shap
             ])
         | no ne ↦ elim met [
           | met-none _ m r ↦ other-core-up a h ne (λ q. clash q (rw r refl))
-              (λ q. let y : _≡_ {A = ℕ} 0 1 = cc in omega arith)
+              (λ q. impossible cc)
           | met-own _ _ m r ↦ other-core-up a h ne (λ q. clash q (rw r refl))
-              (λ q. let y : _≡_ {A = ℕ} 0 1 = cc in omega arith)
+              (λ q. impossible cc)
           | met-closed n g _ m r ↦ other-core-up a h ne (λ q. clash q (rw r refl))
-              (λ q. let y : _≡_ {A = ℕ} 0 1 = cc in omega arith)
+              (λ q. impossible cc)
           | met-running n g runs is apart m r ↦ elim (ℕ-discrete a (n .core)) [
             | yes e ↦ (let back : isNamedBack (ruleFor x c b) ≡ true = rw r refl in
                 let size : n .core < length (x .cores) = omega (arith, u .eight-cores, u .fine .range .few-cores, g .core) in

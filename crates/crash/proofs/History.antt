@@ -9,7 +9,7 @@ use mathlib.Core.Option.{Option, none, some}
 use Prim.Native.Nat.{ℕ, _≤_, _<_}
 use native.Mathlib.Omega.{arith}
 use Rattle.model.proofs.Lists.{cases}
-use Rattle.crash.proofs.Tests.{clash, false-of, same-test, Equality}
+use Rattle.crash.proofs.Tests.{clash, false-of, same-test, Equality, impossible}
 
 -- ---- a history
 -- a write of the block: its transaction, the one that holds the block after it, and what it makes of the image
@@ -56,7 +56,7 @@ module _ {Txn Image : Type 0} where
       (λ a. let b : q (x .holder) ≡ false = false-of _ (λ b. clash (sub _ b) a) in rw b (upto-none p q sub es (rw a at at)))
 
   upto-holder : (p : Txn → Bool) (es : List (Event Txn Image)) {e : Event Txn Image} {r : List (Event Txn Image)} → upto p es ≡ e ∷ r → So (p (e .holder))
-  upto-holder p [] {e} {r} at = let z : true ≡ false = cc in clash refl z
+  upto-holder p [] {e} {r} at = impossible cc
   upto-holder p (x ∷ es) {e} {r} at =
       cases (p (x .holder))
       (λ a. let same : x ∷ es ≡ e ∷ r = rw a at at in cc)

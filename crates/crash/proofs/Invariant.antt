@@ -20,6 +20,7 @@ use Rattle.crash.proofs.Tests.{clash}
 use Rattle.crash.proofs.History.{Event, value, upto, Took, Status, Sound, Chain, Good}
 use Rattle.crash.proofs.Steps.{Extends, extend}
 use Rattle.crash.proofs.Largest.{largest-mono, memberOf, stageOf, listsName, kept-largest}
+use Rattle.crash.proofs.BookEntries.{by-stage}
 
 -- ---- the histories of a list of writes
 abbrev pub eventOf : Write → Event Name Bytes
@@ -82,32 +83,17 @@ isOpened (committed m) = true
 isOpened retired = true
 
 pub closed-opened : (g : Stage) → So (isClosed g) → So (isOpened g)
-closed-opened absent h = h
-closed-opened running h = refl
-closed-opened (closed n) h = refl
-closed-opened (committed m) h = refl
-closed-opened retired h = refl
+closed-opened = by-stage (λ g. So (isClosed g) → So (isOpened g)) (λ h. h) (λ h. refl) (λ n h. refl) (λ n h. refl) (λ h. refl)
 
 pub committed-closed : (g : Stage) → So (isCommitted g) → So (isClosed g)
-committed-closed absent h = h
-committed-closed running h = h
-committed-closed (closed n) h = refl
-committed-closed (committed m) h = refl
-committed-closed retired h = refl
+committed-closed = by-stage (λ g. So (isCommitted g) → So (isClosed g)) (λ h. h) (λ h. h) (λ n h. refl) (λ n h. refl) (λ h. refl)
 
 pub retired-closed : (g : Stage) → So (isRetired g) → So (isClosed g)
-retired-closed absent h = h
-retired-closed running h = h
-retired-closed (closed n) h = refl
-retired-closed (committed m) h = refl
-retired-closed retired h = refl
+retired-closed = by-stage (λ g. So (isRetired g) → So (isClosed g)) (λ h. h) (λ h. h) (λ n h. refl) (λ n h. refl) (λ h. refl)
 
 pub open-not-homed : (b : ℕ) (bs : List ℕ) (g : Stage) → isClosed g ≡ false → homedBy b bs g ≡ false
-open-not-homed b bs absent h = refl
-open-not-homed b bs running h = refl
-open-not-homed b bs (closed n) h = refl
-open-not-homed b bs (committed m) h = clash refl h
-open-not-homed b bs retired h = clash refl h
+open-not-homed b bs =
+    by-stage (λ g. isClosed g ≡ false → homedBy b bs g ≡ false) (λ h. refl) (λ h. refl) (λ n h. refl) (λ n h. clash refl h) (λ h. clash refl h)
 
 -- ---- the invariant
 abbrev pub Known : Book → Type 0

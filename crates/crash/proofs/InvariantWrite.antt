@@ -2,7 +2,7 @@
 -- The block's holder after the write has not closed. It is the holder before it, and it and the writer name each other;
 -- or it is the writer, and the holder before it is retired, or closed and then named by the writer.
 use mathlib.Core.Path.{_≡_, refl, sym, _∙_, ap}
-use mathlib.Core.Bool.{Bool, true, false, So, cond, _||_, or-false}
+use mathlib.Core.Bool.{Bool, false, So, cond, _||_, or-false}
 use mathlib.Core.Logic.{_⊎_, inl, inr, ⊎-elim, ⊎-map, _≢_}
 use mathlib.Core.List.{List, [], _∷_, _++_}
 use mathlib.Core.Option.{Option, none, some}
@@ -17,7 +17,7 @@ use Rattle.model.proofs.Lists.{cases, or-cases, or-left, or-right, any-append}
 use Rattle.model.proofs.Valid.{sameName-refl}
 use Rattle.crash.specs.Book.{absent, running, isClosed, isRetired, Entry, Write, Book, change, taking, naming, holderIn, Meeting, no-holder, own, running-holder, closed-holder, meets, ruled, holderAfter, note, wrote, kept}
 use Rattle.crash.specs.Ledger.{Ledger, withBook, imageNow}
-use Rattle.crash.proofs.Tests.{clash, false-of, blockEquality}
+use Rattle.crash.proofs.Tests.{clash, false-of, blockEquality, impossible}
 use Rattle.crash.proofs.History.{Event, value, Took, Status, Link, Next, Chain, Good, older}
 use Rattle.crash.proofs.Steps.{write}
 use Rattle.crash.proofs.Largest.{memberOf, stageOf}
@@ -160,7 +160,7 @@ next-by s h t [] f = tt
 next-by s h t (e ∷ es) f = f (e .holder) refl
 
 took-last : (es : List (Event Name Bytes)) (u : Name) → lastHolder es ≡ some u → Took u es
-took-last [] u q = let z : false ≡ true = cc in clash z refl
+took-last [] u q = impossible cc
 took-last (e ∷ es) u q = let p : e .holder ≡ u = cc in inl p
 
 abbrev unlessRetired : Book → Option Name → Option Name
@@ -184,7 +184,7 @@ unfolding meets
 meets-ruled l t b = rw (holder-last (l .book) b (l .book .writes)) (by-last (lastHolder (historyOf l b)) refl)
   where
     by-last : (o : Option Name) → lastHolder (historyOf l b) ≡ o → Ruled l t b (meets (l .book) t (unlessRetired (l .book) o))
-    by-last none q = λ u p. let z : false ≡ true = cc in clash z refl
+    by-last none q = λ u p. impossible cc
     by-last (some u) q =
         cases (isRetired (stageOf (l .book) u))
         (λ h. rw h (λ w p. let same : u ≡ w = cc in rw same at h))
@@ -326,10 +326,10 @@ module _ {home : ℕ → Bytes} {l : Ledger} (v : Inv home l) (b : ℕ) where
   holder-took u h = v .taken b u (by-last (lastHolder (historyOf l b)) refl (rw (holder-last (l .book) b (l .book .writes)) at h))
     where
       by-last : (o : Option Name) → lastHolder (historyOf l b) ≡ o → unlessRetired (l .book) o ≡ some u → Took u (historyOf l b)
-      by-last none q h = let z : false ≡ true = cc in clash z refl
+      by-last none q h = impossible cc
       by-last (some w) q h =
           cases (isRetired (stageOf (l .book) w))
-          (λ r. let e : none ≡ some u = rw r at h in let z : false ≡ true = cc in clash z refl)
+          (λ r. let e : none ≡ some u = rw r at h in impossible cc)
           (λ r. let e : some w ≡ some u = rw r at h in took-last (historyOf l b) u (q ∙ e))
 
   -- whoever took the block and has not closed is the last holder
@@ -351,7 +351,7 @@ module _ {home : ℕ → Bytes} {l : Ledger} (v : Inv home l) (b : ℕ) where
   current (e ∷ es) g h =
       cases (isRetired (stageOf (l .book) (e .holder)))
       (λ r. rw (g .chain .0 .stored r) at (g .at-home))
-      (λ r. let e : some (e .holder) ≡ none = rw r at h in let z : true ≡ false = cc in clash refl z)
+      (λ r. let e : some (e .holder) ≡ none = rw r at h in impossible cc)
 
   -- where there is no holder, the home image has all writes
   pub home-current : holderIn (l .book) b (l .book .writes) ≡ none → home b ≡ imageNow l b

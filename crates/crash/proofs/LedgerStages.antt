@@ -9,9 +9,11 @@ use mathlib.Core.Logic.{_⊎_, inl, inr, _≢_}
 use mathlib.Core.Bool.{true, false}
 use Rattle.model.specs.Card.{newName}
 use Rattle.crash.specs.Book.{Stage, absent, running, closed, committed, retired, isRunning, isClosed, isCommitted, isRetired, Book}
-use Rattle.crash.proofs.Tests.{clash}
-use Rattle.crash.proofs.Invariant.{committed-closed}
+use Rattle.crash.proofs.Tests.{clash, impossible}
 use Rattle.crash.proofs.Relation.{Ranks}
+use borrow.Author.Tests.{lt-ltb, le-ltb}
+use lib.Dec.{ltb}
+use Rattle.crash.proofs.BookEntries.{by-stage}
 
 pub closed-present : (g : Stage) → isClosed g ≡ true → g ≢ absent
 closed-present g h e = clash h (ap isClosed e)
@@ -20,25 +22,14 @@ pub running-present : (g : Stage) → g ≡ running → g ≢ absent
 running-present g p q = clash (ap isRunning p) (ap isRunning q)
 
 pub running-is : (g : Stage) → isRunning g ≡ true → g ≡ running
-running-is absent h = clash h refl
-running-is running h = refl
-running-is (closed n) h = clash h refl
-running-is (committed n) h = clash h refl
-running-is retired h = clash h refl
+running-is = by-stage (λ g. isRunning g ≡ true → g ≡ running) impossible (λ h. refl) (λ n. impossible) (λ n. impossible) impossible
 
 pub present-open : (g : Stage) → g ≢ absent → isClosed g ≡ false → g ≡ running
-present-open absent ne h = absurd (ne refl)
-present-open running ne h = refl
-present-open (closed n) ne h = clash refl h
-present-open (committed n) ne h = clash refl h
-present-open retired ne h = clash refl h
+present-open =
+    by-stage (λ g. g ≢ absent → isClosed g ≡ false → g ≡ running) (λ ne h. absurd (ne refl)) (λ ne h. refl) (λ n ne. clash refl) (λ n ne. clash refl) (λ ne. clash refl)
 
 pub closed-idle : (g : Stage) → isClosed g ≡ true → isRunning g ≡ false
-closed-idle absent h = refl
-closed-idle running h = clash h refl
-closed-idle (closed n) h = refl
-closed-idle (committed n) h = refl
-closed-idle retired h = refl
+closed-idle = by-stage (λ g. isClosed g ≡ true → isRunning g ≡ false) (λ h. refl) impossible (λ n h. refl) (λ n h. refl) (λ h. refl)
 
 -- committed and not retired
 pub record Unretired (g : Stage) : Type 0 where
@@ -47,7 +38,7 @@ pub record Unretired (g : Stage) : Type 0 where
   pub not-retired : isRetired g ≡ false
 
 module _ {k : Book} {c : ℕ} (r : Ranks k c) (i : ℕ) where
-  pub committed-stage : k .oldest c ≤ i → i < k .uncommitted c → (n : ℕ) × ((k .entry (newName c i)) .stage ≡ committed n)
+  committed-stage : k .oldest c ≤ i → i < k .uncommitted c → (n : ℕ) × ((k .entry (newName c i)) .stage ≡ committed n)
   committed-stage a b =
       elim (ℕ-discrete (k .oldest c) i) [
         | yes e ↦ (let x = r .first (omega arith) in (x .0, subst (λ (j : ℕ). (k .entry (newName c j)) .stage ≡ committed (x .0)) e (x .1)))
@@ -59,35 +50,66 @@ module _ {k : Book} {c : ℕ} (r : Ranks k c) (i : ℕ) where
       let x = committed-stage a b in
       record { is-committed = ap isCommitted (x .1); is-closed = ap isClosed (x .1); not-retired = ap isRetired (x .1) }
 
-  -- an unretired closed one is stored whole, or the one that is being stored
-  pub unretired-rank : isClosed ((k .entry (newName c i)) .stage) ≡ true → isRetired ((k .entry (newName c i)) .stage) ≡ false
-      → ((k .oldest c ≤ i) × (i < k .uncommitted c)) ⊎ ((i ≡ k .uncommitted c) × (i < k .next c))
-  unretired-rank h g =
+  abbrev stage : Stage
+  stage = (k .entry (newName c i)) .stage
+
+  -- where a number stands, with its stage
+  by-rank : {A : Type 0} → (i < k .oldest c → (stage ≡ absent) ⊎ (stage ≡ retired) → A)
+      → (k .oldest c ≤ i → i < k .uncommitted c → (n : ℕ) → stage ≡ committed n → A) → (i ≡ k .uncommitted c → i < k .next c → (n : ℕ) → stage ≡ closed n → A)
+      → (i ≡ k .next c → (stage ≡ absent) ⊎ (stage ≡ running) → A) → (stage ≡ absent → A) → A
+  by-rank old stored storing current rest =
       elim (decLt i (k .oldest c)) [
-        | yes a ↦ elim (r .old i a) [ inl e ↦ clash h (ap isClosed e) | inr e ↦ clash (ap isRetired e) g ]
-        | no a ↦ elim (decLt i (k .uncommitted c)) [
-          | yes b ↦ inl (omega arith, b)
-          | no b ↦ elim (decLt i (k .next c)) [
-            | yes m ↦ inr (omega (arith, r .high), m)
-            | no m ↦ elim (ℕ-discrete (k .next c) i) [
-              | yes e ↦ elim (r .current) [
-                | inl z ↦ clash h (ap (λ (j : ℕ). isClosed ((k .entry (newName c j)) .stage)) (sym e) ∙ ap isClosed z)
-                | inr z ↦ clash h (ap (λ (j : ℕ). isClosed ((k .entry (newName c j)) .stage)) (sym e) ∙ ap isClosed z)
-              ]
-              | no e ↦ clash h (ap isClosed (r .rest i (omega arith)))
-            ]
+        | yes o ↦ old o (r .old i o)
+        | no o ↦ elim (decLt i (k .uncommitted c)) [
+          | yes u ↦ (let x = committed-stage (omega arith) u in stored (omega arith) u (x .0) (x .1))
+          | no u ↦ elim (decLt i (k .next c)) [
+            | yes n ↦ (let x = r .storing (omega arith) in
+                let e : i ≡ k .uncommitted c = omega (arith, r .high) in
+                storing e n (x .0) (ap (λ (j : ℕ). (k .entry (newName c j)) .stage) e ∙ x .1))
+            | no n ↦ elim (ℕ-discrete i (k .next c)) [ yes e ↦ current e (rw e (r .current)) | no ne ↦ rest (r .rest i (omega arith)) ]
           ]
         ]
       ]
 
-  pub committed-rank : isCommitted ((k .entry (newName c i)) .stage) ≡ true → isRetired ((k .entry (newName c i)) .stage) ≡ false
-      → (k .oldest c ≤ i) × (i < k .uncommitted c)
+  -- an unretired closed one is stored whole, or the one that is being stored
+  pub unretired-rank : isClosed stage ≡ true → isRetired stage ≡ false
+      → ((k .oldest c ≤ i) × (i < k .uncommitted c)) ⊎ ((i ≡ k .uncommitted c) × (i < k .next c))
+  unretired-rank h g =
+      by-rank
+      (λ _ o. elim o [ inl e ↦ clash h (ap isClosed e) | inr e ↦ clash (ap isRetired e) g ])
+      (λ a b _ _. inl (a, b))
+      (λ a b _ _. inr (a, b))
+      (λ _ o. elim o [ inl e ↦ clash h (ap isClosed e) | inr e ↦ clash h (ap isClosed e) ])
+      (λ e. clash h (ap isClosed e))
+
+  pub committed-rank : isCommitted stage ≡ true → isRetired stage ≡ false → (k .oldest c ≤ i) × (i < k .uncommitted c)
   committed-rank h g =
-      elim (unretired-rank (committed-closed ((k .entry (newName c i)) .stage) h) g) [
-        | inl b ↦ b
-        | inr b ↦ (let x = r .storing (omega arith) in
-            clash h (ap (λ (j : ℕ). isCommitted ((k .entry (newName c j)) .stage)) (b .0) ∙ ap isCommitted (x .1)))
-      ]
+      by-rank
+      (λ _ o. elim o [ inl e ↦ clash h (ap isCommitted e) | inr e ↦ clash (ap isRetired e) g ])
+      (λ a b _ _. (a, b))
+      (λ _ _ _ e. clash h (ap isCommitted e))
+      (λ _ o. elim o [ inl e ↦ clash h (ap isCommitted e) | inr e ↦ clash h (ap isCommitted e) ])
+      (λ e. clash h (ap isCommitted e))
+
+  -- only the current one runs
+  pub running-next : isRunning stage ≡ true → i ≡ k .next c
+  running-next h =
+      by-rank
+      (λ _ o. elim o [ inl e ↦ clash h (ap isRunning e) | inr e ↦ clash h (ap isRunning e) ])
+      (λ _ _ _ e. clash h (ap isRunning e))
+      (λ _ _ _ e. clash h (ap isRunning e))
+      (λ e _. e)
+      (λ e. clash h (ap isRunning e))
+
+  -- an open one lies below the oldest number exactly if it is retired
+  pub below-oldest : stage ≢ absent → ltb i (k .oldest c) ≡ isRetired stage
+  below-oldest h =
+      by-rank
+      (λ lt o. elim o [ inl e ↦ absurd (h e) | inr e ↦ lt-ltb i (k .oldest c) lt ∙ sym (ap isRetired e) ])
+      (λ ge _ _ e. le-ltb i (k .oldest c) ge ∙ sym (ap isRetired e))
+      (λ q _ _ e. le-ltb i (k .oldest c) (omega (arith, r .low)) ∙ sym (ap isRetired e))
+      (λ q o. elim o [ inl e ↦ absurd (h e) | inr e ↦ le-ltb i (k .oldest c) (omega (arith, r .low, r .mid)) ∙ sym (ap isRetired e) ])
+      (λ e. absurd (h e))
 
 -- the one that is being stored
 pub closing-stage : {k : Book} {c : ℕ} → Ranks k c → k .uncommitted c < k .next c

@@ -1,20 +1,18 @@
 -- CLOSE, STORE and CHECKPOINT keep the ledger in order, and so do FORMAT, CUT and RECOVER: each of the first three gives
 -- one transaction its next stage and raises the number that counts those past it, so the stages of a core stay ranked by
 -- number; the others leave the transactions as they are, or have none.
-use Prim.Native.Nat.{ℕ, zero, suc, _+_, _≤_, _<_, min}
+use Prim.Native.Nat.{ℕ, zero, suc, _+_, _≤_, _<_}
 use native.Mathlib.Omega.{arith}
 use native.Mathlib.Decide.{decLt, ℕ-discrete}
 use mathlib.Core.Path.{_≡_, refl, sym, ap, _∙_, subst}
 use mathlib.Core.Logic.{_⊎_, inl, inr, _≢_}
-use mathlib.Core.Bool.{true, false}
+use mathlib.Core.Bool.{true}
 use mathlib.Core.List.{List, [], _∷_, _++_, map, List·Memᴰ, List·Memᴰ·head, List·Memᴰ·tail, List·Memᴰ·not-nil, List·Memᴰ·append-cases, Memᴰ·of-map}
 use lib.ListN.{length, length-map, length-replicate}
-use lib.Dec.{ltb, eqb}
-use borrow.Author.Tests.{lt-ltb, le-ltb}
+use lib.Dec.{eqb}
 use Rattle.model.specs.Lists.{all}
 use Rattle.model.specs.Bytes.{Bytes, replaced}
 use Rattle.model.specs.Card.{newName}
-use Rattle.model.specs.Layout.{maxNumber}
 use Rattle.model.specs.declared.Phase.{Phase}
 use Rattle.model.specs.declared.Phase.the-variants.{Down}
 use Rattle.model.specs.declared.Shape.{Shape}
@@ -23,7 +21,7 @@ use Rattle.model.proofs.Limits.{InRange}
 use Rattle.model.proofs.Lists.{cases, getD-mem}
 use Rattle.model.proofs.Select.{select-mem}
 use Rattle.model.proofs.Store.{length-replaced}
-use Rattle.crash.specs.Book.{Stage, absent, running, closed, committed, retired, isClosed, isRetired, Entry, Write, Book, emptyBook, raise, close, store, checkpoint, keptWrites, image, blank}
+use Rattle.crash.specs.Book.{Stage, absent, running, closed, committed, retired, isClosed, Entry, Write, Book, emptyBook, raise, close, store, checkpoint, keptWrites, image, blank}
 use Rattle.crash.specs.Ledger.{Ledger, freshLedger, withBook, imageNow, closeLedger, cutLedger, recoverLedger, blocksIn}
 use Rattle.crash.specs.Claims.{IsBytes}
 use Rattle.crash.proofs.Relation.{IsBlock, Limits, WriteFits, Frozen, Ranks, sumNext, Fine}
@@ -31,6 +29,7 @@ use Rattle.crash.proofs.BookEntries.{nextName, uncommittedName, oldestN
 use Rattle.crash.proofs.BookSteps.{Restages, restaged, restages, restages-keep, close-stamp, close-images, close-stamp-other, close-images-other, store-more, store-last, checkpoint-home, checkpoint-retires}
 use Rattle.crash.proofs.LedgerStages.{closed-present, running-present}
 use Rattle.crash.proofs.BlockBytes.{bytes-replaced}
+use Rattle.crash.proofs.Tests.{impossible}
 
 -- ---- current images are blocks of bytes
 replaced-block : (o : ℕ) (x v : Bytes) → o ≤ 124 → length v ≡ 4 → IsBytes v → IsBlock x → IsBlock (replaced o 4 x v)
@@ -84,8 +83,8 @@ fine-fresh s saved first r fits firsts =
       limits = λ t h. absurd (h refl);
       unopened = λ t h. (refl, refl);
       named = λ t u m. absurd (List·Memᴰ·not-nil m);
-      frozen = λ t h. absurd (let z : _≡_ {A = ℕ} 0 1 = cc in omega arith);
-      stamps = λ t u h. absurd (let z : _≡_ {A = ℕ} 0 1 = cc in omega arith);
+      frozen = λ t h. impossible cc;
+      stamps = λ t u h. impossible cc;
       closes = omega arith;
       opened = λ t m. absurd (List·Memᴰ·not-nil m);
       known = λ t h. absurd (h refl);
@@ -134,12 +133,6 @@ pub kept-fits : (l : Ledger) → Fine l → (w : Write) → List·Memᴰ w (kept
 unfolding keptWrites
 kept-fits l f w m =
     elim (List·Memᴰ·append-cases (keptWrites (l .book)) m) [ inl p ↦ f .writes w (select-mem _ (l .book .writes) w p .0) | inr p ↦ f .saved w p ]
-
-pub fine-recovered : (l : Ledger) → Fine l → Fine (recoverLedger [] l)
-unfolding recoverLedger
-fine-recovered l f =
-    fine-fresh (l .shape) (keptWrites (l .book) ++ l .saved) (λ (c : ℕ). min (l .book .uncommitted c + 1) (suc maxNumber)) (f .range) (kept-fits l f)
-    (λ c h. (omega arith, omega arith))
 
 -- a core whose numbers, stages and blocks stay, but for the one to open
 module _ (k k′ : Book) (c : ℕ) (r : Ranks k c) (o : k′ .oldest c ≡ k .oldest c) (u : k′ .uncommitted c ≡ k .uncommitted c) (n : k′ .next c ≡ k .next c)
@@ -511,31 +504,3 @@ module _ (l : Ledger) (f : Fine l) (c : ℕ) (hc : c < l .shape .cores) where
       (λ n was more. fine-advanced (k .oldest c) (committed (suc n)) (k .oldest) (k .uncommitted) (ap isClosed was) refl (λ a ne. (refl, refl)) (ranks-homed k c r n due more))
       (λ n was last. fine-advanced (k .oldest c) retired (raise c (k .oldest)) (k .uncommitted) (ap isClosed was) refl
       (λ a ne. (raise-other c (k .oldest) a ne, refl)) (ranks-retired k c r n due))
-
--- ---- an open transaction lies below its core's oldest number exactly if it is retired
-pub below-oldest : (l : Ledger) → Fine l → (t : Name) → (l .book .entry t) .stage ≢ absent → ltb (t .number) (l .book .oldest (t .core)) ≡ isRetired ((l .book .entry t) .stage)
-below-oldest l f t h =
-    let k = l .book in
-    let c = t .core in
-    let i = t .number in
-    let hc : c < l .shape .cores = f .limits t h .core in
-    let r = f .ranks c hc in
-    elim (decLt i (k .oldest c)) [
-      | yes lt ↦ lt-ltb i (k .oldest c) lt ∙ elim (r .old i lt) [ inl e ↦ absurd (h e) | inr e ↦ sym (ap isRetired e) ]
-      | no ge ↦ (let least : k .oldest c ≤ i = omega arith in
-          let is : isRetired ((k .entry t) .stage) ≡ false
-          = elim (decLt i (k .uncommitted c)) [
-            | yes lt ↦ elim (ℕ-discrete (k .oldest c) i) [
-              | yes e ↦ (let s = r .first (omega arith) in ap isRetired (ap (λ (j : ℕ). (k .entry (newName c j)) .stage) (sym e) ∙ s .1))
-              | no ne ↦ ap isRetired (r .done i (omega arith) lt)
-            ]
-            | no gu ↦ elim (decLt i (k .next c)) [
-              | yes ln ↦ (let s = r .storing (omega arith) in let e : k .uncommitted c ≡ i = omega arith in ap isRetired (ap (λ (j : ℕ). (k .entry (newName c j)) .stage) (sym e) ∙ s .1))
-              | no gn ↦ elim (ℕ-discrete (k .next c) i) [
-                | yes e ↦ elim (rw e at (r .current)) [ inl a ↦ absurd (h a) | inr a ↦ ap isRetired a ]
-                | no ne ↦ absurd (h (r .rest i (omega arith)))
-              ]
-            ]
-          ] in
-          le-ltb i (k .oldest c) least ∙ sym is)
-    ]

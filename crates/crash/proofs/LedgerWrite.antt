@@ -26,7 +26,7 @@ use Rattle.crash.proofs.BookEntries.{nextName, same-or-not, change-at, 
 use Rattle.crash.proofs.BookSteps.{begun, begun-by, begun-fields, begun-same, begun-other, begun-running, begun-holder, begun-meets}
 use Rattle.crash.proofs.LedgerSteps.{ranks-kept, limits-same, same-frozen, sum-same}
 use Rattle.crash.proofs.LedgerStages.{running-present}
-use Rattle.crash.proofs.Tests.{clash}
+use Rattle.crash.proofs.Tests.{clash, impossible}
 
 -- ---- one block more
 snoc-distinct : (xs : List ℕ) (b : ℕ) → ((i j : ℕ) → i < length xs → j < length xs → getD xs i 0 ≡ getD xs j 0 → i ≡ j) → (List·Memᴰ b xs → ⊥)
@@ -78,8 +78,7 @@ module _ (l : Ledger) (f : Fine l) (t : Name) (last : t .number ≡ l .book .nex
   not-taken h p =
       let e : m ≡ own = ap (meets (l .book) t) (holds t b run p) ∙ meets-own (l .book) t in
       let q : takes m ≡ false = ap takes e in
-      let z : _≡_ {A = ℕ} 0 1 = cc in
-      omega arith
+      impossible cc
 
   module _ (short : length ((after t) .names) ≤ 12) (holder-short : (u : Name) → m ≡ running-holder u → length ((after u) .names) ≤ 12)
       (few : length ((after t) .blocks) ≤ 8) where

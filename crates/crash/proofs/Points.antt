@@ -108,7 +108,9 @@ module _ (At : Ledger → World → Type 0) (r : Relates At) where
     reaches : p .outcome ≡ step k a w → not (between 1 k 7) ≡ false → ltb (length a) (operandLength k) ≡ false → Goes l p
     unfolding answerOf refusal
     reaches o known whole =
-        let size : length a ≡ operandLength k = unfold operandsAt part in omega (arith, ltb-false (length (operandsAt t at)) (operandLength (commandByte t at)) whole, length-take (operandLength k) (drop (at + 1) t)) in
+        let size : length a ≡ operandLength k =
+        unfold operandsAt part in
+        omega (arith, ltb-false (length (operandsAt t at)) (operandLength (commandByte t at)) whole, length-take (operandLength k) (drop (at + 1) t)) in
         let b : IsBytes a = unfold operandsAt part in bytes-take (operandLength k) (drop (at + 1) t) (bytes-drop (at + 1) t bytes) in
         let g : Kept At l w k a = r .keeps l w here k a (not-false _ known) size b in
         record {
@@ -262,7 +264,7 @@ module _ (At : Ledger → World → Type 0) (r : Relates At) where
       let g : Goes At r l p = subst (Goes At r l) (sym e) (goes At r t b at n h l w here) in (
         λ c. area-at v l p g agrees c same,
         area-kept t b (g .next) (fed-agrees (p .byte) (p .operands) (p .outcome .answer) v l (λ z. suits l p (g .kept .answer) z) agrees)
-        (fed-blocks (p .byte) (p .operands) (p .outcome .answer) v l same) rest,
+            (fed-blocks (p .byte) (p .operands) (p .outcome .answer) v l same) rest,
       )
 
 -- ---- from both starts

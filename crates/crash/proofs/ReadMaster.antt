@@ -1,6 +1,6 @@
 -- The master of a disk that holds what the ledger says is read as the ledger's shape and the tails given, since both are
 -- within their limits; so no RECOVER over such a disk meets 8. The card's own shape is read as it is.
--- A master block has the tails of its cores alone, and is bytes.
+-- A master block has the tails of its cores alone, and is a block of bytes.
 use Prim.Native.Nat.{ℕ, suc, _<_}
 use native.Mathlib.Omega.{arith}
 use mathlib.Core.Path.{_≡_, ap, _∙_}
@@ -11,18 +11,17 @@ use Rattle.model.specs.Shape.{between, clamped}
 use Rattle.model.specs.Layout.{maxNumber, isTail, isMaster, shapeIn, tailIn, mark, pairWords, masterBlock}
 use Rattle.model.specs.Recovery.{shapeOn, tailOn}
 use Rattle.model.specs.declared.Tail.{Tail}
-use Rattle.model.proofs.Encoding.{master-shape, master-tail, master-read}
+use Rattle.model.proofs.Encoding.{master-shape, master-tail, master-read, length-master}
 use Rattle.crash.specs.Ledger.{Ledger}
-use Rattle.crash.proofs.Relation.{Fine, DiskStands, Up}
+use Rattle.crash.proofs.Relation.{Fine, DiskStands, Up, IsBlock}
 use Rattle.model.specs.Card.{shapeOf}
 use Rattle.model.specs.Command.{World}
 use Rattle.model.specs.declared.Shape.{Shape}
 use mathlib.Core.List.{List, _∷_}
 use Rattle.model.proofs.Lists.{map-below}
-use Rattle.model.proofs.Limits.{clamped-same}
+use Rattle.model.proofs.Limits.{clamped-same, InRange}
 use Rattle.model.proofs.Words.{each-block}
 use Rattle.crash.proofs.BlockBytes.{each-isBytes}
-use Rattle.crash.specs.Claims.{IsBytes}
 
 module _ {l : Ledger} {d : Bytes} {tailAt : ℕ → Tail} (f : Fine l) (z : DiskStands l d tailAt) where
   tail-fits : (c : ℕ) → c < l .shape .cores → isTail (l .shape) (tailAt c) ≡ true
@@ -52,13 +51,13 @@ pub shape-up : {l : Ledger} {w : World} → Up l w → shapeOf (w .card) ≡ l .
 unfolding shapeOf
 shape-up {l} u = ap clamped (u .shape) ∙ clamped-same (l .shape) (u .fine .range)
 
--- a master block has the tails of its cores alone, and is bytes
+-- a master block has the tails of its cores alone, and is a block of bytes
 pub master-same : (s : Shape) (f g : ℕ → Tail) → ((c : ℕ) → c < s .cores → f c ≡ g c) → masterBlock s f ≡ masterBlock s g
 unfolding masterBlock
 master-same s f g h =
     ap (λ (ts : List Tail). block (mark ∷ 4 ∷ 0 ∷ s .cores ∷ s .blocks ∷ s .journal ∷ pairWords (λ (t : Tail). t .number) (λ (t : Tail). t .position) ts))
     (map-below f g (s .cores) h)
 
-pub master-bytes : (s : Shape) (tailAt : ℕ → Tail) → IsBytes (masterBlock s tailAt)
+pub master-block : {s : Shape} → InRange s → (tailAt : ℕ → Tail) → IsBlock (masterBlock s tailAt)
 unfolding masterBlock
-master-bytes s tailAt = each-isBytes _ (each-block _)
+master-block r tailAt = record { size = length-master r tailAt; bytes = each-isBytes _ (each-block _) }

@@ -217,7 +217,9 @@ module _ {shift : ℕ → ℕ} {k k′ : Book} (r : Renamed shift k k′) where
   close-renamed c =
       record {
         opened = r .opened;
-        entry = rw (renamed-number shift c (k .next c) (k′ .next c) (r .next c)) (change-renamed shift (newName c (k .next c)) (staged (closed 0)) (staged (closed 0)) (λ e. refl) (k .entry) (k′ .entry) (r .entry));
+        entry =
+            rw (renamed-number shift c (k .next c) (k′ .next c) (r .next c))
+            (change-renamed shift (newName c (k .next c)) (staged (closed 0)) (staged (closed 0)) (λ e. refl) (k .entry) (k′ .entry) (r .entry));
         writes = r .writes;
         oldest = r .oldest;
         uncommitted = r .uncommitted;

@@ -16,6 +16,9 @@ use Rattle.model.proofs.Valid.{sameName-true, sameName-refl}
 pub clash {ℓ} : {A : Type ℓ} {b : Bool} → b ≡ true → b ≡ false → A
 clash p q = absurd (true≢false (sym p ∙ q))
 
+pub impossible : {A : Type 0} → false ≡ true → A
+impossible h = clash h refl
+
 pub false-of : (b : Bool) → (So b → ⊥) → b ≡ false
 false-of true f = absurd (f refl)
 false-of false f = refl

@@ -50,7 +50,7 @@ use Rattle.crash.proofs.InvariantSteps.{inv-fresh, inv-close, inv-store
 use Rattle.crash.proofs.InvariantWrite.{home-current, open-holds, holder-took, inv-wrote}
 use Rattle.crash.proofs.ClosedImages.{Imaged, image-of-closed, imaged-fresh, imaged-close, imaged-store, imaged-retire, imaged-home-store, imaged-wrote}
 use Rattle.crash.proofs.Relation.{Fine, Up, DownBy, target}
-use Rattle.crash.proofs.LedgerSteps.{fine-close, fine-store, fine-checkpoint, below-oldest}
+use Rattle.crash.proofs.LedgerSteps.{fine-close, fine-store, fine-checkpoint}
 use Rattle.crash.proofs.CardCut.{cut-up, cut-down, right-length}
 use Rattle.crash.proofs.Given.{held-newest, home-target}
 use Rattle.crash.proofs.CardStore.{store-up, store-homes, stored-bytes}
@@ -58,7 +58,7 @@ use Rattle.crash.proofs.CardClose.{close-up}
 use Rattle.crash.proofs.CardCheckpoint.{checkpoint-up, checkpointed-bytes, home-stored, home-others, homes-stay}
 use Rattle.crash.proofs.ReadMaster.{shape-up}
 use Rattle.crash.proofs.BlockBytes.{bytes-take, bytes-drop}
-use Rattle.crash.proofs.LedgerStages.{running-is}
+use Rattle.crash.proofs.LedgerStages.{running-is, below-oldest}
 use Rattle.model.specs.declared.Phase.{Phase}
 
 -- ---- a card that is up: the bytes and the histories of the blocks agree with the ledger
@@ -71,7 +71,9 @@ record UpAt (l : Ledger) (w : World) : Type 0 where
 
 -- names below a core's oldest number are those of retired transactions
 numbered : (l : Ledger) → Fine l → RetiredBelow (l .book)
-numbered l f t u h n = below-oldest l f u (f .named t u (any-in nameEquality u _ n))
+numbered l f t u h n =
+    let named = f .named t u (any-in nameEquality u _ n) in
+    below-oldest (f .ranks (u .core) (f .limits u named .core)) (u .number) named
 
 module _ {l : Ledger} {w : World} (u : UpAt l w) where
   abbrev k : Book

@@ -45,7 +45,7 @@ unfolding formatted zeroDisk
 formatted-disk s l = length-store (replicate 32896 0) 0 _ (rw length-replicate (omega arith)) (length-master l _) ∙ length-replicate {A = ℕ} 32896 0
 
 -- ---- memory
-length-copied : (c i : ℕ) (bs : List ℕ) (m : Bytes) → c < 8 → i + length bs ≤ 8 → length m ≡ 16384 → length (copied c i bs m) ≡ 16384
+pub length-copied : (c i : ℕ) (bs : List ℕ) (m : Bytes) → c < 8 → i + length bs ≤ 8 → length m ≡ 16384 → length (copied c i bs m) ≡ 16384
 unfolding copied copyBlock
 length-copied c i [] m h j n = n
 length-copied c i (b ∷ bs) m h j n =
