@@ -12,7 +12,7 @@ use mathlib.Core.List.{List, [], _∷_, List·Memᴰ, _++_, List·Memᴰ·not-ni
 use lib.ListN.{length, getD, drop, length-take, length-drop}
 use lib.Dec.{eqb, ltb}
 use borrow.Author.Tests.{ne-eqb, eqb-true, eqb-false, ltb-true, ltb-false, leb-false, not-false}
-use Rattle.model.specs.Lists.{any}
+use Rattle.model.specs.Lists.{below, any}
 use Rattle.model.specs.Bytes.{Bytes, blockAt, zeroMemory, number, part}
 use Rattle.model.specs.Shape.{between, homeBlock, inRange}
 use Rattle.model.specs.Card.{newName, sameName, blankCard, isBlank, isUp, isDown, shapeOf, downCard, emptyCard, freshCard}
@@ -39,8 +39,8 @@ use Rattle.crash.proofs.CardWrite.{write-up}
 use Rattle.crash.proofs.LedgerWrite.{fine-wrote}
 use Rattle.crash.proofs.CardAnswers.{write-answers, close-answers, store-answers, checkpoint-answers}
 use Rattle.crash.proofs.ReadRecords.{journals-read}
-use Rattle.crash.specs.Book.{hasRunning, Book, Write, absent, running, committed, kept, image, blank, isClosed, holderIn, store, checkpoint, keptWrites, isRunning, wrote, meets}
-use Rattle.crash.specs.Ledger.{Ledger, freshLedger, blankLedger, cutLedger, entered, diskAfter, storeCount, refusalsOf, withBook, closeLedger, validIn, sharesLowerIn, recoverLedger, formatRefusals, writeRefusals, closeRefusals, storeRefusals, checkpointRefusals, notUpFor, namesCount, holderNames, recordBlocks}
+use Rattle.crash.specs.Book.{emptyBook, hasRunning, Book, Write, absent, running, committed, kept, image, blank, isClosed, holderIn, store, checkpoint, keptWrites, isRunning, wrote, meets}
+use Rattle.crash.specs.Ledger.{Ledger, freshLedger, blankLedger, cutLedger, entered, storedSince, diskAfter, storeCount, refusalsOf, withBook, closeLedger, validIn, sharesLowerIn, recoverLedger, formatRefusals, writeRefusals, closeRefusals, storeRefusals, checkpointRefusals, notUpFor, namesCount, holderNames, recordBlocks}
 use Rattle.crash.specs.Claims.{IsBytes, JournalsRead, Claim, Demands}
 use Rattle.crash.proofs.Points.{Kept, Relates, claimed, demanded}
 use Rattle.crash.proofs.Tests.{clash, any-in, in-any, nameEquality, blockEquality}
@@ -477,3 +477,9 @@ claim = claimed At relates (λ d m bd bm ld lm. at-blank (record { card = refl; 
 -- Demands 1 and 2 of the ledger, and the course of recovery.
 pub demands : Demands step
 demands = demanded At relates (λ d m bd bm ld lm. at-blank (record { card = refl; ledger = refl; disk = ld; memory = lm })) (λ s m h bm lm. at-down (down-start s m h bm lm))
+
+-- 'A transaction uncommitted at a cut never commits': a card that has come up reads no transaction in any journal, and
+-- by `demands` none ever but those opened since. A later bearer of its number is another one.
+pub none-left-over : (s : Shape) (saved : List Write) (first : ℕ → ℕ) (c : ℕ) → storedSince (freshLedger s saved first) c ≡ []
+unfolding storedSince freshLedger emptyBook below
+none-left-over s saved first c = let e : first c - first c ≡ 0 = omega arith in rw e refl
