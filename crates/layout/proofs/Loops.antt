@@ -32,9 +32,13 @@ pub every-none : (p : ℕ → Bool) → every 0 p ≡ true
 unfolding every below all
 every-none p = refl
 
-pub every-step : (p : ℕ → Bool) (n : ℕ) → every (suc n) p ≡ (every n p && (p n && true))
+and-end : (b : Bool) → (b && true) ≡ b
+and-end true = refl
+and-end false = refl
+
+pub every-step : (p : ℕ → Bool) (n : ℕ) → every (suc n) p ≡ (every n p && p n)
 unfolding every below all
-every-step p n = all-append p (below n) (n ∷ [])
+every-step p n = all-append p (below n) (n ∷ []) ∙ ap (λ (b : Bool). every n p && b) (and-end (p n))
 
 pub every-more : (p : ℕ → Bool) (i : ℕ) → every i p ≡ true → p i ≡ true → every (i + 1) p ≡ true
 every-more p i h q = rw (add-one, every-step, h, q)
@@ -63,9 +67,13 @@ pub some-none : (p : ℕ → Bool) → some 0 p ≡ false
 unfolding some below any
 some-none p = refl
 
-pub some-step : (p : ℕ → Bool) (n : ℕ) → some (suc n) p ≡ (some n p || (p n || false))
+or-end : (b : Bool) → (b || false) ≡ b
+or-end true = refl
+or-end false = refl
+
+pub some-step : (p : ℕ → Bool) (n : ℕ) → some (suc n) p ≡ (some n p || p n)
 unfolding some below any
-some-step p n = any-append p (below n) (n ∷ [])
+some-step p n = any-append p (below n) (n ∷ []) ∙ ap (λ (b : Bool). some n p || b) (or-end (p n))
 
 pub some-more : (p : ℕ → Bool) (i : ℕ) → some i p ≡ false → p i ≡ false → some (i + 1) p ≡ false
 some-more p i h q = rw (add-one, some-step, h, q)

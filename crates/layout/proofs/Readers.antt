@@ -21,7 +21,7 @@ use Rattle.model.proofs.Encoding.{tail-limits}
 use Rattle.layout.specs.Loops.{every}
 use Rattle.layout.specs.Tails.{tailOrNone}
 use Rattle.layout.specs.Distinct.{heldAt, isOther, isNew}
-use Rattle.layout.proofs.Loops.{every-map, every-step, every-no, every-more, every-yes}
+use Rattle.layout.proofs.Loops.{every-none, every-map, every-step, every-no, every-more, every-yes}
 use Rattle.layout.proofs.Tests.{fails, and-last, and-holds, and-here, and-before}
 
 -- ---- descriptor
@@ -44,9 +44,16 @@ distinct-step (y ∷ ys) x =
     ∙ shuffle (all (λ (g : Held). not (eqb (y .block) (g .block))) ys) (not (eqb (y .block) (x .block))) (distinct ys) (all (unlike x) ys)
 
 distinct-every : (b : Bytes) (n : ℕ) → distinct (heldIn b n) ≡ every n (isNew b)
-unfolding heldIn pairsIn isNew
-distinct-every b zero = refl
-distinct-every b (suc n) = ?
+unfolding heldIn pairsIn isNew isOther unlike
+distinct-every b zero = none
+  where
+    none : distinct (heldIn b 0) ≡ every 0 (isNew b)
+    none = (unfold distinct below in refl) ∙ sym (every-none (isNew b))
+distinct-every b (suc n) =
+    ap distinct (unfold below in map-append (pairAt newHeld b 16) (below n) (n ∷ []))
+    ∙ distinct-step (heldIn b n) (heldAt b n)
+    ∙ ap₂ _&&_ (distinct-every b n) (sym (every-map (unlike (heldAt b n)) (pairAt newHeld b 16) n))
+    ∙ sym (every-step (isNew b) n)
 
 -- a descriptor's test, from what the calls answered for its count of blocks
 module _ (s : Shape) (b : Bytes) (n : ℕ) (r : Bool) (l : n ≡ blockCount b) where

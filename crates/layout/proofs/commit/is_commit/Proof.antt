@@ -1,3 +1,6 @@
+use Rattle.model.specs.Layout.{isCommit}
+use Rattle.layout.proofs.Tests.{tests}
+use Rattle.layout.proofs.Readers.{listable-same}
 use borrow.Author.Needs.{needs}
 use Rattle.layout.proofs.commit.is_commit.Statement.{statement}
 use Rattle.layout.proofs.commit.is_commit.Tie as tie
@@ -14,7 +17,8 @@ has-head-requires c κs = search needs
 
 -- src/commit.rt:123:9
 returns : tie.Need-returns
-returns c = ?
+unfolding isCommit
+returns c = search (needs, tests, listable-same)
 
 -- src/commit.rt:125:8
 stamp-in-requires : tie.Need-stamp-in-requires
@@ -22,7 +26,8 @@ stamp-in-requires c κs = search needs
 
 -- src/commit.rt:126:9
 returns-2 : tie.Need-returns-2
-returns-2 c = ?
+unfolding isCommit
+returns-2 c = search (needs, tests, listable-same)
 
 -- src/commit.rt:128:9
 name-count-requires : tie.Need-name-count-requires
@@ -30,7 +35,8 @@ name-count-requires c κs = search needs
 
 -- src/commit.rt:130:9
 returns-3 : tie.Need-returns-3
-returns-3 c = ?
+unfolding isCommit
+returns-3 c = search (needs, tests, listable-same)
 
 -- src/commit.rt:132:28
 cast-are-listable : tie.Need-cast-are-listable
@@ -42,7 +48,8 @@ are-listable-requires c κs = search needs
 
 -- src/commit.rt:118:1
 returns-4 : tie.Need-returns-4
-returns-4 c = ?
+unfolding isCommit
+returns-4 c = search (needs, tests, listable-same)
 
 pub is-commit-spec : {M : Type 1} → statement M
 is-commit-spec =

@@ -1,3 +1,5 @@
+use Rattle.layout.proofs.Blocks.{block-part}
+use mathlib.Core.Path.{_∙_}
 use borrow.Author.Needs.{needs}
 use Rattle.layout.proofs.data.load_block.Statement.{statement}
 use Rattle.layout.proofs.data.load_block.Tie as tie
@@ -35,7 +37,7 @@ copy-block-requires c κs = search needs
 
 -- src/data.rt:26:1
 returns : tie.Need-returns
-returns c = ?
+returns c = c .before .copy-block .ensures ∙ block-part _ _
 
 pub load-block-spec : {M : Type 1} → statement M
 load-block-spec =

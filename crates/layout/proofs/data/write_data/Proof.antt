@@ -1,3 +1,4 @@
+use mathlib.Core.Path.{_∙_}
 use borrow.Author.Needs.{needs}
 use Rattle.layout.proofs.data.write_data.Statement.{statement}
 use Rattle.layout.proofs.data.write_data.Tie as tie
@@ -20,7 +21,7 @@ same-length c = search needs
 
 -- src/data.rt:85:1
 returns : tie.Need-returns
-returns c = ?
+returns c = c .before .before .write-image .ensures ∙ c .before .before .before .before .escape .ensures
 
 pub write-data-spec : {M : Type 1} → statement M
 write-data-spec = tie.close (tie.spec escape-requires write-image-requires same-length returns)

@@ -1,3 +1,4 @@
+use mathlib.Core.Path.{_∙_}
 use borrow.Author.Needs.{needs}
 use Rattle.layout.proofs.master.read_shape.Statement.{statement}
 use Rattle.layout.proofs.master.read_shape.Tie as tie

@@ -1,3 +1,4 @@
+use Rattle.layout.proofs.Readers.{tail-none, tail-some, tail-small}
 use borrow.Author.Needs.{needs}
 use Rattle.layout.proofs.master.read_tail.Statement.{statement}
 use Rattle.layout.proofs.master.read_tail.Tie as tie
@@ -15,7 +16,7 @@ cast-if1 c = search needs
 
 -- src/master.rt:126:9
 returns : tie.Need-returns
-returns c = ?
+returns c = search (needs, tail-none)
 
 -- src/master.rt:131:39
 mul-get-word : tie.Need-mul-get-word
@@ -47,11 +48,11 @@ get-word-requires-3 c κs = search needs
 
 -- src/master.rt:135:19
 cast-t11 : tie.Need-cast-t11
-cast-t11 c = ?
+cast-t11 c = search (needs, tail-small)
 
 -- src/master.rt:121:1
 returns-2 : tie.Need-returns-2
-returns-2 c = ?
+returns-2 c = search (needs, tail-some)
 
 pub read-tail-spec : {M : Type 1} → statement M
 read-tail-spec =

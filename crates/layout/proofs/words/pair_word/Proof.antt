@@ -1,3 +1,4 @@
+use borrow.Author.Needs.{needs}
 use Rattle.layout.proofs.Pairs.{pair-first, pair-second}
 use Rattle.layout.proofs.words.pair_word.Statement.{statement}
 use Rattle.layout.proofs.words.pair_word.Tie as tie
