@@ -106,3 +106,6 @@ module _ (image r : Bytes) (x : ℕ) (e : x ≡ be4 image 0) where
   pub escaped-no : (x ≡ mark → ⊥) → image ≡ escaped image
   unfolding escaped
   escaped-no h = rw (ne-eqb (be4 image 0) mark (λ z. h (e ∙ z)))
+
+pub data-written : (image e b : Bytes) → b ≡ e → e ≡ escaped image → b ≡ escaped image
+data-written image e b p q = p ∙ q

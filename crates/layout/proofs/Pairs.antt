@@ -9,13 +9,14 @@ use lib.Seq.{getD-append-add, getD-take}
 use lib.Dec.{eqb}
 use borrow.Author.Tests.{eq-eqb, ne-eqb}
 use Rattle.model.specs.Lists.{below}
+use Rattle.model.specs.Shape.{clamped}
 use Rattle.model.specs.Card.{newTail, newName}
 use Rattle.model.specs.Layout.{mark, pairWords, Held, newHeld}
 use Rattle.model.specs.declared.Shape.{Shape}
 use Rattle.model.specs.declared.Tail.{Tail}
 use Rattle.model.specs.declared.Name.{Name}
 use Rattle.model.proofs.Lists.{length-below, getD-map-below}
-use Rattle.model.proofs.Limits.{InRange}
+use Rattle.model.proofs.Limits.{InRange, clamped-range}
 use Rattle.layout.specs.Words.{pairWord, masterWords, heldOf, descriptorWords, commitWords}
 
 -- the length of an array of structs, as its type gives it
@@ -70,9 +71,14 @@ length-tails : (s : Shape) (ts : List Tail) → length (tails s ts) ≡ s .cores
 unfolding tails
 length-tails s ts = length-map (below (s .cores)) (λ (c : ℕ). getD ts c (newTail 0 0)) ∙ length-below (s .cores)
 
-pub length-master : (s : Shape) (ts : List Tail) → s .cores ≤ 8 → length (masterWords s ts) ≤ 32
+pub length-master : (s : Shape) (ts : List Tail) → length (masterWords (clamped s) ts) ≤ 32
 unfolding masterWords tails
-length-master s ts h = omega (arith, length-pairs (λ (t : Tail). t .number) (λ (t : Tail). t .position) (tails s ts), length-tails s ts)
+length-master s ts =
+    let n = clamped s in
+    omega (arith, length-pairs (λ (t : Tail). t .number) (λ (t : Tail). t .position) (tails n ts), length-tails n ts, (clamped-range s) .few-cores)
+
+pub few-cores : (s near : Shape) (c : ℕ) → near ≡ clamped s → c < near .cores → c < 8
+few-cores s near c e h = omega (arith, (clamped-range s) .few-cores, ap (λ (z : Shape). z .cores) e)
 
 -- the shape that the code has is s
 module _ (s near : Shape) (e : near ≡ s) (ts : List Tail) (i : ℕ) where
@@ -104,9 +110,11 @@ length-heldOf : (n : ℕ) (bs fs : List ℕ) → length (heldOf n bs fs) ≡ n
 unfolding heldOf
 length-heldOf n bs fs = length-map (below n) (λ (i : ℕ). newHeld (getD bs i 0) (getD fs i 0)) ∙ length-below n
 
-pub length-descriptor : (k n : ℕ) (bs fs : List ℕ) → n ≤ 8 → length (descriptorWords k n bs fs) ≤ 32
+pub length-descriptor : (k count : ℕ) (bs fs : List ℕ) → length (descriptorWords k (min count 8) bs fs) ≤ 32
 unfolding descriptorWords
-length-descriptor k n bs fs h = omega (arith, length-pairs (λ (h : Held). h .block) (λ (h : Held). h .flag) (heldOf n bs fs), length-heldOf n bs fs)
+length-descriptor k count bs fs =
+    let n = min count 8 in
+    omega (arith, length-pairs (λ (h : Held). h .block) (λ (h : Held). h .flag) (heldOf n bs fs), length-heldOf n bs fs)
 
 -- the count that the code has is n
 module _ (k n m : ℕ) (e : m ≡ n) (bs fs : List ℕ) (i : ℕ) where

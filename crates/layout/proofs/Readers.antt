@@ -43,16 +43,24 @@ distinct-step (y ∷ ys) x =
     ap₂ _&&_ (all-append (λ (g : Held). not (eqb (y .block) (g .block))) ys (x ∷ [])) (distinct-step ys x)
     ∙ shuffle (all (λ (g : Held). not (eqb (y .block) (g .block))) ys) (not (eqb (y .block) (x .block))) (distinct ys) (all (unlike x) ys)
 
-distinct-every : (b : Bytes) (n : ℕ) → distinct (heldIn b n) ≡ every n (isNew b)
+distinct-none : (b : Bytes) → true ≡ distinct (heldIn b 0)
+unfolding distinct heldIn pairsIn below
+distinct-none b = refl
+
+held-step : (b : Bytes) (n : ℕ) → heldIn b (suc n) ≡ heldIn b n ++ (heldAt b n ∷ [])
+unfolding heldIn pairsIn below
+held-step b n = map-append (pairAt newHeld b 16) (below n) (n ∷ [])
+
+new-all : (b : Bytes) (n : ℕ) → isNew b n ≡ all (unlike (heldAt b n)) (heldIn b n)
 unfolding heldIn pairsIn isNew isOther unlike
-distinct-every b zero = none
-  where
-    none : distinct (heldIn b 0) ≡ every 0 (isNew b)
-    none = (unfold distinct below in refl) ∙ sym (every-none (isNew b))
+new-all b n = every-map (unlike (heldAt b n)) (pairAt newHeld b 16) n
+
+distinct-every : (b : Bytes) (n : ℕ) → distinct (heldIn b n) ≡ every n (isNew b)
+distinct-every b zero = sym (distinct-none b) ∙ sym (every-none (isNew b))
 distinct-every b (suc n) =
-    ap distinct (unfold below in map-append (pairAt newHeld b 16) (below n) (n ∷ []))
+    ap distinct (held-step b n)
     ∙ distinct-step (heldIn b n) (heldAt b n)
-    ∙ ap₂ _&&_ (distinct-every b n) (sym (every-map (unlike (heldAt b n)) (pairAt newHeld b 16) n))
+    ∙ ap₂ _&&_ (distinct-every b n) (sym (new-all b n))
     ∙ sym (every-step (isNew b) n)
 
 -- a descriptor's test, from what the calls answered for its count of blocks
@@ -94,6 +102,9 @@ unfolding stampIn
 stamp-is b x y e q = rw (e, q)
 
 -- ---- master
+pub shape-read : (m : Bytes) (r : Checked) (c b j : ℕ) → r ≡ checked c b j → c ≡ be4 m 12 → b ≡ be4 m 16 → j ≡ be4 m 20 → r ≡ checked (be4 m 12) (be4 m 16) (be4 m 20)
+shape-read m r c b j e p q h = e ∙ rw (p, q, h)
+
 no-shape : (t : Bool) (s : Shape) → cond t (Fits s) OutOfRange ≡ OutOfRange → t ≡ false
 no-shape true s e = let z : _≡_ {A = ℕ} 0 1 = cc in absurd (omega arith)
 no-shape false s e = refl

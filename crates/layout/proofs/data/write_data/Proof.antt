@@ -1,3 +1,4 @@
+use Rattle.layout.proofs.Blocks.{data-written}
 use mathlib.Core.Path.{_∙_}
 use borrow.Author.Needs.{needs}
 use Rattle.layout.proofs.data.write_data.Statement.{statement}
@@ -21,7 +22,7 @@ same-length c = search needs
 
 -- src/data.rt:85:1
 returns : tie.Need-returns
-returns c = c .before .before .write-image .ensures ∙ c .before .before .before .before .escape .ensures
+returns c = search (needs, data-written)
 
 pub write-data-spec : {M : Type 1} → statement M
 write-data-spec = tie.close (tie.spec escape-requires write-image-requires same-length returns)

@@ -1,3 +1,6 @@
+use Rattle.model.specs.Layout.{isDescriptor}
+use Rattle.layout.proofs.Tests.{tests}
+use Rattle.layout.proofs.Readers.{held-no, held-yes, new-same}
 use borrow.Author.Needs.{needs}
 use Rattle.layout.proofs.descriptor.is_descriptor.Statement.{statement}
 use Rattle.layout.proofs.descriptor.is_descriptor.Tie as tie
@@ -14,11 +17,13 @@ has-head-requires c κs = search needs
 
 -- src/descriptor.rt:143:9
 returns : tie.Need-returns
-returns c = ?
+unfolding isDescriptor
+returns c = search (needs, tests, held-no, held-yes, new-same)
 
 -- src/descriptor.rt:146:9
 returns-2 : tie.Need-returns-2
-returns-2 c = ?
+unfolding isDescriptor
+returns-2 c = search (needs, tests, held-no, held-yes, new-same)
 
 -- src/descriptor.rt:148:9
 block-count-requires : tie.Need-block-count-requires
@@ -26,7 +31,8 @@ block-count-requires c κs = search needs
 
 -- src/descriptor.rt:150:9
 returns-3 : tie.Need-returns-3
-returns-3 c = ?
+unfolding isDescriptor
+returns-3 c = search (needs, tests, held-no, held-yes, new-same)
 
 -- src/descriptor.rt:152:28
 cast-are-held : tie.Need-cast-are-held
@@ -38,7 +44,8 @@ are-held-requires c κs = search needs
 
 -- src/descriptor.rt:153:9
 returns-4 : tie.Need-returns-4
-returns-4 c = ?
+unfolding isDescriptor
+returns-4 c = search (needs, tests, held-no, held-yes, new-same)
 
 -- src/descriptor.rt:155:20
 cast-are-new : tie.Need-cast-are-new
@@ -50,7 +57,8 @@ are-new-requires c κs = search needs
 
 -- src/descriptor.rt:138:1
 returns-5 : tie.Need-returns-5
-returns-5 c = ?
+unfolding isDescriptor
+returns-5 c = search (needs, tests, held-no, held-yes, new-same)
 
 pub is-descriptor-spec : {M : Type 1} → statement M
 is-descriptor-spec =

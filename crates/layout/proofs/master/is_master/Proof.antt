@@ -1,3 +1,6 @@
+use Rattle.model.specs.Layout.{isMaster}
+use Rattle.layout.proofs.Tests.{tests}
+use Rattle.layout.proofs.Readers.{master-no, master-few, master-yes}
 use borrow.Author.Needs.{needs}
 use Rattle.layout.proofs.master.is_master.Statement.{statement}
 use Rattle.layout.proofs.master.is_master.Tie as tie
@@ -13,7 +16,8 @@ get-word-requires c κs = search needs
 
 -- src/master.rt:108:9
 returns : tie.Need-returns
-returns c = ?
+unfolding isMaster
+returns c = search (needs, tests)
 
 -- src/master.rt:110:8
 get-word-requires-2 : tie.Need-get-word-requires-2
@@ -21,7 +25,8 @@ get-word-requires-2 c κs = search needs
 
 -- src/master.rt:111:9
 returns-2 : tie.Need-returns-2
-returns-2 c = ?
+unfolding isMaster
+returns-2 c = search (needs, tests)
 
 -- src/master.rt:113:9
 read-shape-requires : tie.Need-read-shape-requires
@@ -37,7 +42,7 @@ enum-told c = search needs
 
 -- src/master.rt:115:9
 returns-3 : tie.Need-returns-3
-returns-3 c = ?
+returns-3 c = search (needs, master-no)
 
 -- src/master.rt:117:25
 cast-are-tails : tie.Need-cast-are-tails
@@ -45,11 +50,11 @@ cast-are-tails c = search needs
 
 -- src/master.rt:117:5
 are-tails-requires : tie.Need-are-tails-requires
-are-tails-requires c κs = ?
+are-tails-requires c κs = (search needs, search (needs, master-few))
 
 -- src/master.rt:103:1
 returns-4 : tie.Need-returns-4
-returns-4 c = ?
+returns-4 c = search (needs, master-yes)
 
 pub is-master-spec : {M : Type 1} → statement M
 is-master-spec =

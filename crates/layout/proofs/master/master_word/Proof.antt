@@ -1,3 +1,4 @@
+use Rattle.layout.proofs.Pairs.{few-cores}
 use Rattle.layout.proofs.Pairs.{master-head, master-rest, master-pair}
 use borrow.Author.Needs.{needs}
 use Rattle.layout.proofs.master.master_word.Statement.{statement}
@@ -49,7 +50,7 @@ mul-t c = search needs
 
 -- src/master.rt:45:13
 array-copy-out-t : tie.Need-array-copy-out-t
-array-copy-out-t c = ?
+array-copy-out-t c = search (needs, few-cores)
 
 -- src/master.rt:46:5
 tail-word-requires : tie.Need-tail-word-requires

@@ -1,3 +1,4 @@
+use Rattle.layout.proofs.Readers.{shape-read}
 use mathlib.Core.Path.{_∙_}
 use borrow.Author.Needs.{needs}
 use Rattle.layout.proofs.master.read_shape.Statement.{statement}
@@ -25,7 +26,7 @@ new-requires c κs = search needs
 
 -- src/master.rt:63:1
 returns : tie.Need-returns
-returns c = ?
+returns c = search (needs, shape-read)
 
 pub read-shape-spec : {M : Type 1} → statement M
 read-shape-spec =

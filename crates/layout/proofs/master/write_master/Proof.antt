@@ -5,7 +5,6 @@ use Rattle.layout.proofs.Pairs.{length-master}
 use Rattle.layout.specs.Words.{masterWords}
 use Rattle.model.specs.Shape.{clamped}
 use Rattle.model.specs.Layout.{masterBlock}
-use Rattle.model.proofs.Limits.{clamped-range}
 use Rattle.layout.proofs.master.write_master.Statement.{statement}
 use Rattle.layout.proofs.master.write_master.Tie as tie
 use Rattle.layout.proofs.master.write_master.Reads as reads
@@ -21,7 +20,7 @@ abbrev μ-loop : tie.MeasureT-loop
 
 -- src/master.rt:55:5
 loop-holds : tie.Need-loop-holds Inv-loop μ-loop
-loop-holds c = search (needs, written-none, length-master, clamped-range)
+loop-holds c = search (needs, written-none, length-master)
 
 -- src/master.rt:56:13
 master-word-requires : tie.Need-master-word-requires Inv-loop μ-loop
