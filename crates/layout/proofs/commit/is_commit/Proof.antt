@@ -18,7 +18,7 @@ has-head-requires c κs = search needs
 -- src/commit.rt:123:9
 returns : tie.Need-returns
 unfolding isCommit
-returns c = search (needs, tests, listable-same)
+returns c = search (needs, tests)
 
 -- src/commit.rt:125:8
 stamp-in-requires : tie.Need-stamp-in-requires
@@ -27,7 +27,7 @@ stamp-in-requires c κs = search needs
 -- src/commit.rt:126:9
 returns-2 : tie.Need-returns-2
 unfolding isCommit
-returns-2 c = search (needs, tests, listable-same)
+returns-2 c = search (needs, tests)
 
 -- src/commit.rt:128:9
 name-count-requires : tie.Need-name-count-requires
@@ -36,7 +36,7 @@ name-count-requires c κs = search needs
 -- src/commit.rt:130:9
 returns-3 : tie.Need-returns-3
 unfolding isCommit
-returns-3 c = search (needs, tests, listable-same)
+returns-3 c = search (needs, tests)
 
 -- src/commit.rt:132:28
 cast-are-listable : tie.Need-cast-are-listable

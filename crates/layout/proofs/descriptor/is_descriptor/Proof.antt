@@ -18,12 +18,12 @@ has-head-requires c κs = search needs
 -- src/descriptor.rt:143:9
 returns : tie.Need-returns
 unfolding isDescriptor
-returns c = search (needs, tests, held-no, held-yes, new-same)
+returns c = search (needs, tests)
 
 -- src/descriptor.rt:146:9
 returns-2 : tie.Need-returns-2
 unfolding isDescriptor
-returns-2 c = search (needs, tests, held-no, held-yes, new-same)
+returns-2 c = search (needs, tests)
 
 -- src/descriptor.rt:148:9
 block-count-requires : tie.Need-block-count-requires
@@ -32,7 +32,7 @@ block-count-requires c κs = search needs
 -- src/descriptor.rt:150:9
 returns-3 : tie.Need-returns-3
 unfolding isDescriptor
-returns-3 c = search (needs, tests, held-no, held-yes, new-same)
+returns-3 c = search (needs, tests)
 
 -- src/descriptor.rt:152:28
 cast-are-held : tie.Need-cast-are-held
@@ -45,7 +45,7 @@ are-held-requires c κs = search needs
 -- src/descriptor.rt:153:9
 returns-4 : tie.Need-returns-4
 unfolding isDescriptor
-returns-4 c = search (needs, tests, held-no, held-yes, new-same)
+returns-4 c = search (needs, tests, held-no)
 
 -- src/descriptor.rt:155:20
 cast-are-new : tie.Need-cast-are-new
@@ -58,7 +58,7 @@ are-new-requires c κs = search needs
 -- src/descriptor.rt:138:1
 returns-5 : tie.Need-returns-5
 unfolding isDescriptor
-returns-5 c = search (needs, tests, held-no, held-yes, new-same)
+returns-5 c = search (needs, tests, held-yes, new-same)
 
 pub is-descriptor-spec : {M : Type 1} → statement M
 is-descriptor-spec =
