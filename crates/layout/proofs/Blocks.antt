@@ -4,7 +4,7 @@ use native.Mathlib.Omega.{arith}
 use native.Mathlib.Numerals.{add-one}
 use mathlib.Core.Path.{_≡_, refl, ap, _∙_, sym}
 use mathlib.Core.List.{List, [], _∷_, _++_, append-assoc, flatMap}
-use lib.ListN.{length, take, drop, set, getD, replicate, length-set, length-append, length-take, length-drop, replicate-append-replicate}
+use lib.ListN.{length, take, drop, set, getD, replicate, length-set, length-append, length-take, replicate-append-replicate}
 use lib.Seq.{take-suc-set, take-suc, take-all, take-at, drop-drop, sets, sets-eq}
 use borrow.Author.Tests.{eq-eqb, ne-eqb}
 use Rattle.model.specs.Layout.{mark, escaped}
@@ -89,9 +89,12 @@ pub written-all : (ws : List ℕ) (b : Bytes) (i : ℕ) → Written ws b i → 3
 written-all ws b i w h = begun-all (block ws) b (4 * i) (w .begun) (omega arith)
 
 -- ---- a part lent
+pub lent-size : (k : ℕ) → 128 * k + 128 - 128 * k ≡ 128
+lent-size k = omega arith
+
 pub block-part : (d : Bytes) (k : ℕ) → take (128 * k + 128 - 128 * k) (drop (128 * k) d) ≡ blockAt d k
 unfolding blockAt part
-block-part d k = let e : 128 * k + 128 - 128 * k ≡ 128 = omega arith in rw e
+block-part d k = rw (lent-size k)
 
 -- ---- images: the first word replaced, and escaped
 pub first-put : (s b r : Bytes) → r ≡ replaced 0 4 s b → r ≡ b ++ drop 4 s
