@@ -1,0 +1,3 @@
+-- Laws that the proofs of the commands cite.
+pub mod Parts
+pub mod Refusals
