@@ -1,3 +1,5 @@
 -- Laws that the proofs of the commands cite.
 pub mod Parts
 pub mod Refusals
+pub mod CutLaws
+pub mod ReadLaws

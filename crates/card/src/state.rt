@@ -1,8 +1,10 @@
 // What the commands share: their answer, parts of the card read and replaced, and the refusals that come first.
 // Reading past the end of an array gives the empty value and replacing there changes nothing, so no caller owes an index.
 ghost use mathlib.Core.Path.{_≡_};
+ghost use mathlib.Core.Bool.{cond};
 ghost use mathlib.Core.List.{[]};
-ghost use lib.ListN.{length};
+ghost use lib.Dec.{leb};
+ghost use lib.ListN.{length, replicate};
 ghost use Rattle.model.specs.Card.{sameName, taken, listed, lists, shapeOf, tailOf, coreOf, holderOf, withCore};
 ghost use Rattle.model.specs.Command.{refusal, wrongLength, notUp};
 ghost use Rattle.card.specs.Answer.{world};
@@ -149,5 +151,38 @@ pub fn state_refusal(card: Card, disk: &[u8], memory: &[u8]) -> u8
         Phase::Blank => 20,
         Phase::Up => 0,
         Phase::Down => 22,
+    }
+}
+
+// Refusal 5, a core that the disk's shape has not.
+pub fn core_refusal(card: Card, c: u8) -> u8
+    ensures { λ r. ⌜ r ≡ cond (leb ((shapeOf card) .cores) c) 5 0 ⌝ }
+{
+    let s = shape_of(card);
+    if s.cores <= c {
+        return 5;
+    }
+    0
+}
+
+// Refusal 6, a block that the disk's shape has not.
+pub fn block_refusal(card: Card, b: u16) -> u8
+    ensures { λ r. ⌜ r ≡ cond (leb ((shapeOf card) .blocks) b) 6 0 ⌝ }
+{
+    let s = shape_of(card);
+    if s.blocks as u16 <= b {
+        return 6;
+    }
+    0
+}
+
+// Every byte zeroed.
+pub fn zero_all(s: &mut [u8])
+    ensures { λ r. ⌜ now (s .exit) ≡ replicate (length (now (s .entry))) 0 ⌝ }
+{
+    let mut i = 0;
+    while i < s.len() {
+        s[i] = 0;
+        i += 1;
     }
 }
