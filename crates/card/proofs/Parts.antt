@@ -5,7 +5,7 @@ use native.Mathlib.Numerals.{add-one}
 use mathlib.Core.Path.{_≡_, refl, sym, ap, _∙_}
 use mathlib.Core.Bool.{Bool, true, false, _||_}
 use mathlib.Core.List.{List, [], _∷_, _++_, map, append-nil}
-use lib.ListN.{length, take, drop, replicate, getD, set, length-map, length-take, List·getD-eq-default}
+use lib.ListN.{length, take, drop, replicate, getD, set, length-map, length-take, List·getD-eq-default, drop-of-length-le}
 use lib.Seq.{drop-length, set-out, take-all, take-suc, getD-take}
 use borrow.Author.Fill.{fill-none, fill-more}
 use borrow.Author.Needs.{needs}
@@ -82,6 +82,29 @@ zeroed-more i d h = fill-more i 0 d h
 pub zeroed-all : (s : List ℕ) (i : ℕ) (d : List ℕ) → s ≡ zeroed i d → i ≤ length d → length d ≤ i → s ≡ replicate (length d) 0
 unfolding zeroed
 zeroed-all s i d e h k = let q : i ≡ length d = omega arith in e ∙ rw (q, drop-length, append-nil)
+
+-- ---- an array filled from another, element by element
+module _ {A B : Type 0} (f : A → B) where
+  -- the first i elements made, the others as they were
+  unfoldable pub filled : ℕ → List A → List B → List B
+  filled i l ks = map f (take i l) ++ drop i ks
+
+  pub filled-none : (l : List A) (ks : List B) → ks ≡ filled 0 l ks
+  unfolding filled
+  filled-none l ks = refl
+
+  pub filled-more : (i : ℕ) (l : List A) (ks : List B) (d : A) → i < length l → length ks ≡ length l → set (filled i l ks) i (f (getD l i d)) ≡ filled (i + 1) l ks
+  unfolding filled
+  filled-more i [] ks d h e = absurd (omega arith)
+  filled-more i (x ∷ l) [] d h e = absurd (omega arith)
+  filled-more zero (x ∷ l) (k ∷ ks) d h e = refl
+  filled-more (suc i) (x ∷ l) (k ∷ ks) d h e =
+      let q : suc i + 1 ≡ suc (i + 1) = omega arith in
+      rw q (ap {B = List B} (λ r. f x ∷ r) (filled-more i l ks d (omega arith) (omega arith)))
+
+  pub filled-all : (i : ℕ) (l : List A) (ks : List B) → length ks ≡ length l → length l ≤ i → filled i l ks ≡ map f l
+  unfolding filled
+  filled-all i l ks e h = rw (take-all i l h, drop-of-length-le ks (let g : length ks ≤ i = omega arith in g), append-nil)
 
 -- ---- the card's arrays, which have their lengths
 module _ (x : Card) (i : ℕ) where

@@ -2,11 +2,12 @@
 // Reading past the end of an array gives the empty value and replacing there changes nothing, so no caller owes an index.
 ghost use mathlib.Core.Path.{_≡_};
 ghost use mathlib.Core.Bool.{cond};
-ghost use mathlib.Core.List.{[]};
+ghost use mathlib.Core.List.{[], map};
 ghost use lib.Dec.{leb};
 ghost use lib.ListN.{length, replicate};
-ghost use Rattle.model.specs.Card.{sameName, taken, listed, lists, shapeOf, tailOf, coreOf, holderOf, withCore};
+ghost use Rattle.model.specs.Card.{sameName, taken, freshCore, freshCard, listed, lists, shapeOf, tailOf, coreOf, holderOf, withCore};
 ghost use Rattle.model.specs.Command.{refusal, wrongLength, notUp};
+ghost use Rattle.model.specs.declared.Phase.the-variants.{Up};
 ghost use Rattle.card.specs.Answer.{world};
 use model::Card;
 use model::Core;
@@ -80,6 +81,40 @@ pub fn holder_at(card: Card, b: u8) -> Holder
     Holder {
         held: false,
         name: Name { core: 0, number: 0 },
+    }
+}
+
+// Every core with an empty journal that begins at its tail.
+fn fresh_cores(tails: [Tail; 8]) -> [Core; 8]
+    ensures { λ r. ⌜ r ≡ map (λ (t : Tail). freshCore (t .number)) tails ⌝ }
+{
+    let none = model::fresh_core(0);
+    let mut cores = [none; 8];
+    let mut i = 0;
+    while i < 8 {
+        let t = tails[i];
+        cores[i] = model::fresh_core(t.number);
+        i += 1;
+    }
+    cores
+}
+
+// A card that has just come up: empty journals that begin at these tails, no holder, no close counted.
+pub fn up_card(s: Shape, tails: [Tail; 8]) -> Card
+    ensures { λ r. ⌜ r ≡ freshCard Up s tails ⌝ }
+{
+    let cores = fresh_cores(tails);
+    Card {
+        phase: Phase::Up,
+        shape: s,
+        closes: 0,
+        recovered: 0,
+        tails,
+        cores,
+        holders: [Holder {
+            held: false,
+            name: Name { core: 0, number: 0 },
+        }; 64],
     }
 }
 
