@@ -8,7 +8,6 @@ ghost use Rattle.model.specs.Card.{isBlank};
 ghost use Rattle.model.specs.Command.{refusal, wrongLength};
 ghost use Rattle.model.specs.Format.{formatted, format};
 ghost use Rattle.card.specs.Answer.{world, outcomeOf};
-
 use crate::state::Answer;
 use crate::state::up_card;
 use crate::state::wrong_length;

@@ -1,6 +1,6 @@
-use Rattle.card.proofs.FormatLaws.{not-blank, out-of-range, disk-length, memory-length, fits-same, format-done}
 -- `card::format::format` meets its contract: refused, out of range, or carried out.
 use borrow.Author.Needs.{needs}
+use Rattle.card.proofs.FormatLaws.{not-blank, out-of-range, disk-length, memory-length, fits-same, format-done}
 use Rattle.card.proofs.format.format.Statement.{statement}
 use Rattle.card.proofs.format.format.Tie as tie
 

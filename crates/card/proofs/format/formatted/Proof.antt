@@ -1,7 +1,7 @@
 -- `card::format::formatted` meets its contract: both slices zeroed, the master in block 0.
+use borrow.Author.Needs.{needs}
 use Rattle.card.proofs.FormatLaws.{format-left}
 use Rattle.card.proofs.Parts.{facts}
-use borrow.Author.Needs.{needs}
 use Rattle.card.proofs.format.formatted.Statement.{statement}
 use Rattle.card.proofs.format.formatted.Tie as tie
 
