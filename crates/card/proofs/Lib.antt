@@ -1,0 +1,6 @@
+-- Laws that the proofs of the commands cite.
+pub mod Parts
+pub mod Refusals
+pub mod CutLaws
+pub mod ReadLaws
+pub mod FormatLaws

@@ -1,0 +1,2 @@
+-- What the contracts of the commands say beyond crate `model`.
+pub mod Answer

@@ -1,0 +1,46 @@
+// CUT: memory is lost and the card is down. What was stored stands on the disk.
+ghost use mathlib.Core.Path.{_≡_};
+ghost use Rattle.model.specs.Command.{refusal};
+ghost use Rattle.model.specs.Recovery.{cutConditions, cut};
+ghost use Rattle.card.specs.Answer.{world, outcomeOf};
+use crate::state::Answer;
+use crate::state::wrong_length;
+use crate::state::zero_all;
+use model::Card;
+use model::Phase;
+
+// A card that is down is cut like one that is up.
+fn cut_refusal(card: Card, disk: &[u8], memory: &[u8]) -> u8
+    ensures { λ r. ⌜ r ≡ refusal (cutConditions (world card (now (disk .entry)) (now (memory .entry)))) ⌝ }
+{
+    if wrong_length(disk, memory) {
+        return 1;
+    }
+    let p = card.phase;
+    match p {
+        Phase::Blank => 20,
+        Phase::Up => 0,
+        Phase::Down => 0,
+    }
+}
+
+// CUT.
+pub fn cut(card: Card, disk: &[u8], memory: &mut [u8]) -> Answer
+    ensures { λ r. ⌜ outcomeOf r (now (disk .entry)) (now (memory .exit)) ≡ cut (world card (now (disk .entry)) (now (memory .entry))) ⌝ }
+{
+    let n = cut_refusal(card, disk, memory);
+    if n != 0 {
+        return Answer {
+            number: n,
+            stores: 0,
+            card,
+        };
+    }
+    zero_all(memory);
+    let down = Card::down();
+    Answer {
+        number: 0,
+        stores: 0,
+        card: down,
+    }
+}
