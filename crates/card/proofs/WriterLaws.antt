@@ -63,13 +63,13 @@ module _ (x : Card) (c b : ℕ) (h : Holder) (e : h ≡ holderOf x b) where
     unfolding ruleFor
     rule-own z = rw (← e, p, ← q, ← s, z)
 
-    pub rule-running : (r : Bool) → r ≡ isRunning x (h .name) → g ≡ false → r ≡ true → Running ≡ ruleFor x c b
+    pub rule-closed : (r : Bool) → r ≡ isRunning x (h .name) → g ≡ false → not r ≡ true → Closed ≡ ruleFor x c b
     unfolding ruleFor
-    rule-running r u z v = rw (← e, p, ← q, ← s, z, ← u, v)
+    rule-closed r u z v = rw (← e, p, ← q, ← s, z, ← u, not-true r v)
 
-    pub rule-closed : (r : Bool) → r ≡ isRunning x (h .name) → g ≡ false → r ≡ false → Closed ≡ ruleFor x c b
+    pub rule-running : (r : Bool) → r ≡ isRunning x (h .name) → g ≡ false → not r ≡ false → Running ≡ ruleFor x c b
     unfolding ruleFor
-    rule-closed r u z v = rw (← e, p, ← q, ← s, z, ← u, v)
+    rule-running r u z v = rw (← e, p, ← q, ← s, z, ← u, not-false r v)
 
 -- ---- names: 24
 module _ (t : Transaction) (n : Name) (g : Bool) (e : g ≡ lists t n) where

@@ -86,10 +86,10 @@ fn rule_for(card: Card, c: u8, b: u8) -> Rule
     if same_name(n, own) {
         return Rule::Own;
     }
-    if is_running(card, n) {
-        return Rule::Running;
+    if !is_running(card, n) {
+        return Rule::Closed;
     }
-    Rule::Closed
+    Rule::Running
 }
 
 // Whether the writer takes the block.
@@ -313,15 +313,15 @@ fn write_refusal(card: Card, c: u8, b: u16, o: u8, disk: &[u8], memory: &[u8]) -
 }
 
 // The name added to the list, where it does not stand in it.
-fn with_name(mut t: Transaction, n: Name) -> Transaction
-    requires { ⌜ passesTwelve t n ≡ false ⌝ }
-    ensures { λ r. ⌜ r ≡ withName t n ⌝ }
+fn with_name(mut t: Transaction, name: Name) -> Transaction
+    requires { ⌜ passesTwelve t name ≡ false ⌝ }
+    ensures { λ r. ⌜ r ≡ withName t name ⌝ }
 {
-    if lists_name(t, n) {
+    if lists_name(t, name) {
         return t;
     }
     let i = t.named as usize;
-    t.names[i] = n;
+    t.names[i] = name;
     t.named += 1;
     t
 }

@@ -4,9 +4,6 @@ use borrow.Author.Needs.{needs}
 use Rattle.card.proofs.transaction.is_running.Statement.{statement}
 use Rattle.card.proofs.transaction.is_running.Tie as tie
 
-core-at-requires : tie.Need-core-at-requires
-core-at-requires c κs = search needs
-
 returns : tie.Need-returns
 returns c = search (needs, runs)
 
@@ -14,4 +11,4 @@ returns-2 : tie.Need-returns-2
 returns-2 c = search (needs, runs-not)
 
 pub is-running-spec : {M : Type 1} → statement M
-is-running-spec = tie.close (tie.spec core-at-requires returns returns-2)
+is-running-spec = tie.close (tie.spec (λ c κs. search needs) returns returns-2)

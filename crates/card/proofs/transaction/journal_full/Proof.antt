@@ -5,21 +5,6 @@ use borrow.Author.Needs.{needs}
 use Rattle.card.proofs.transaction.journal_full.Statement.{statement}
 use Rattle.card.proofs.transaction.journal_full.Tie as tie
 
-core-at-requires : tie.Need-core-at-requires
-core-at-requires c κs = search needs
-
-closed-blocks-requires : tie.Need-closed-blocks-requires
-closed-blocks-requires c κs = search needs
-
-size-after-requires : tie.Need-size-after-requires
-size-after-requires c κs = search needs
-
-shape-of-requires : tie.Need-shape-of-requires
-shape-of-requires c κs = search needs
-
-cast-j : tie.Need-cast-j
-cast-j c = search needs
-
 add-result : tie.Need-add-result
 add-result c = omega (arith, c .before .before .size-after .ensures .1, c .before .before .before .closed-blocks .ensures .1)
 
@@ -27,13 +12,4 @@ returns : tie.Need-returns
 returns c = journal-test _ _ _ _ _ _ _ (c .before .before .before .before .core-at .ensures) (c .before .before .before .closed-blocks .ensures .0) (c .before .before .size-after .ensures .0) (c .before .shape-of .ensures)
 
 pub journal-full-spec : {M : Type 1} → statement M
-journal-full-spec =
-    tie.close
-    (tie.spec
-    core-at-requires
-    closed-blocks-requires
-    size-after-requires
-    shape-of-requires
-    cast-j
-    add-result
-    returns)
+journal-full-spec = tie.close (tie.spec (λ c κs. search needs) (λ c κs. search needs) (λ c κs. search needs) (λ c κs. search needs) (λ c. search needs) add-result returns)

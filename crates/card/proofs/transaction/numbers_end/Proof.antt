@@ -4,9 +4,6 @@ use borrow.Author.Needs.{needs}
 use Rattle.card.proofs.transaction.numbers_end.Statement.{statement}
 use Rattle.card.proofs.transaction.numbers_end.Tie as tie
 
-core-at-requires : tie.Need-core-at-requires
-core-at-requires c κs = search needs
-
 returns : tie.Need-returns
 returns c = search (needs, number-kept)
 
@@ -14,4 +11,4 @@ returns-2 : tie.Need-returns-2
 returns-2 c = search (needs, number-opens)
 
 pub numbers-end-spec : {M : Type 1} → statement M
-numbers-end-spec = tie.close (tie.spec core-at-requires returns returns-2)
+numbers-end-spec = tie.close (tie.spec (λ c κs. search needs) returns returns-2)

@@ -3,11 +3,8 @@ use borrow.Author.Needs.{needs}
 use Rattle.card.proofs.transaction.opened.Statement.{statement}
 use Rattle.card.proofs.transaction.opened.Tie as tie
 
-no-transaction-requires : tie.Need-no-transaction-requires
-no-transaction-requires c κs = search needs
-
 returns : tie.Need-returns
 returns c = rw (c .no-transaction .ensures)
 
 pub opened-spec : {M : Type 1} → statement M
-opened-spec = tie.close (tie.spec no-transaction-requires returns)
+opened-spec = tie.close (tie.spec (λ c κs. search needs) returns)

@@ -4,9 +4,6 @@ use borrow.Author.Needs.{needs}
 use Rattle.card.proofs.transaction.passes_twelve.Statement.{statement}
 use Rattle.card.proofs.transaction.passes_twelve.Tie as tie
 
-lists-name-requires : tie.Need-lists-name-requires
-lists-name-requires c κs = search needs
-
 returns : tie.Need-returns
 returns c = search (needs, passes-not)
 
@@ -14,4 +11,4 @@ returns-2 : tie.Need-returns-2
 returns-2 c = search (needs, passes-full)
 
 pub passes-twelve-spec : {M : Type 1} → statement M
-passes-twelve-spec = tie.close (tie.spec lists-name-requires returns returns-2)
+passes-twelve-spec = tie.close (tie.spec (λ c κs. search needs) returns returns-2)

@@ -6,9 +6,6 @@ use borrow.Author.Needs.{needs}
 use Rattle.card.proofs.transaction.record_size.Statement.{statement}
 use Rattle.card.proofs.transaction.record_size.Tie as tie
 
-block-count-requires : tie.Need-block-count-requires
-block-count-requires c κs = search needs
-
 add-result : tie.Need-add-result
 add-result c = omega (arith, (record-small _ (search facts) _ (c .block-count .ensures)) .1)
 
@@ -16,4 +13,4 @@ returns : tie.Need-returns
 returns c = record-small _ (search facts) _ (c .block-count .ensures)
 
 pub record-size-spec : {M : Type 1} → statement M
-record-size-spec = tie.close (tie.spec block-count-requires add-result returns)
+record-size-spec = tie.close (tie.spec (λ c κs. search needs) add-result returns)

@@ -6,23 +6,8 @@ use borrow.Author.Needs.{needs}
 use Rattle.card.proofs.transaction.size_after.Statement.{statement}
 use Rattle.card.proofs.transaction.size_after.Tie as tie
 
-writer-requires : tie.Need-writer-requires
-writer-requires c κs = search needs
-
-record-size-requires : tie.Need-record-size-requires
-record-size-requires c κs = search needs
-
-rule-for-requires : tie.Need-rule-for-requires
-rule-for-requires c κs = search needs
-
-takes-block-requires : tie.Need-takes-block-requires
-takes-block-requires c κs = search needs
-
 returns : tie.Need-returns
 returns c = (size-kept _ _ _ _ (c .before .before .rule-for .ensures) _ (c .before .takes-block .ensures) _ (c .before .before .before .before .writer .ensures) _ (c .before .before .before .record-size .ensures .0) (search facts) (c .if1 .taken), omega (arith, c .before .before .before .record-size .ensures .1))
-
-add-result : tie.Need-add-result
-add-result c = search needs
 
 returns-2 : tie.Need-returns-2
 returns-2 c = (size-grown _ _ _ _ (c .before .before .before .rule-for .ensures) _ (c .before .before .takes-block .ensures) _ (c .before .before .before .before .before .writer .ensures) _ (c .before .before .before .before .record-size .ensures .0) (search facts) (c .before .if1 .left) (c .if2 .taken), omega (arith, c .before .before .before .before .record-size .ensures .1))
@@ -31,14 +16,4 @@ returns-3 : tie.Need-returns-3
 returns-3 c = (size-full _ _ _ _ (c .before .before .before .rule-for .ensures) _ (c .before .before .takes-block .ensures) _ (c .before .before .before .before .before .writer .ensures) _ (c .before .before .before .before .record-size .ensures .0) (search facts) (c .before .if1 .left) (c .if2 .left), omega (arith, c .before .before .before .before .record-size .ensures .1))
 
 pub size-after-spec : {M : Type 1} → statement M
-size-after-spec =
-    tie.close
-    (tie.spec
-    writer-requires
-    record-size-requires
-    rule-for-requires
-    takes-block-requires
-    returns
-    add-result
-    returns-2
-    returns-3)
+size-after-spec = tie.close (tie.spec (λ c κs. search needs) (λ c κs. search needs) (λ c κs. search needs) (λ c κs. search needs) returns (λ c. search needs) returns-2 returns-3)

@@ -6,20 +6,11 @@ use borrow.Author.Needs.{needs}
 use Rattle.card.proofs.transaction.with_name.Statement.{statement}
 use Rattle.card.proofs.transaction.with_name.Tie as tie
 
-lists-name-requires : tie.Need-lists-name-requires
-lists-name-requires c κs = search needs
-
 returns : tie.Need-returns
 returns c = search (needs, name-stands)
 
-cast-i : tie.Need-cast-i
-cast-i c = search needs
-
-mul-n : tie.Need-mul-n
-mul-n c = search needs
-
-element-set-from-n : tie.Need-element-set-from-n
-element-set-from-n c = search (needs, name-room)
+element-set-from-name : tie.Need-element-set-from-name
+element-set-from-name c = search (needs, name-room)
 
 add-t : tie.Need-add-t
 add-t c = let h : _ < 12 = name-room _ _ _ (c .before .lists-name .ensures) (c .before .before .pre) (c .if1 .left) in omega arith
@@ -28,6 +19,4 @@ returns-2 : tie.Need-returns-2
 returns-2 c = search (needs, name-added)
 
 pub with-name-spec : {M : Type 1} → statement M
-with-name-spec =
-    tie.close
-    (tie.spec lists-name-requires returns cast-i mul-n element-set-from-n add-t returns-2)
+with-name-spec = tie.close (tie.spec (λ c κs. search needs) returns (λ c. search needs) (λ c. search needs) element-set-from-name add-t returns-2)

@@ -4,14 +4,8 @@ use borrow.Author.Needs.{needs}
 use Rattle.card.proofs.transaction.with_running.Statement.{statement}
 use Rattle.card.proofs.transaction.with_running.Tie as tie
 
-core-at-requires : tie.Need-core-at-requires
-core-at-requires c κs = search needs
-
-with-core-requires : tie.Need-with-core-requires
-with-core-requires c κs = search needs
-
 returns : tie.Need-returns
 returns c = c .with-core .ensures ∙ rw (c .before .core-at .ensures)
 
 pub with-running-spec : {M : Type 1} → statement M
-with-running-spec = tie.close (tie.spec core-at-requires with-core-requires returns)
+with-running-spec = tie.close (tie.spec (λ c κs. search needs) (λ c κs. search needs) returns)

@@ -5,12 +5,6 @@ use borrow.Author.Needs.{needs}
 use Rattle.card.proofs.transaction.write.Statement.{statement}
 use Rattle.card.proofs.transaction.write.Tie as tie
 
-write-refusal-requires : tie.Need-write-refusal-requires
-write-refusal-requires c κs = search needs
-
-same-length : tie.Need-same-length
-same-length c = search needs
-
 returns : tie.Need-returns
 returns c = write-refused _ _ _ _ _ _ _ (c .before .write-refusal .ensures) _ (c .if1 .taken)
 
@@ -23,21 +17,8 @@ write-memory-requires c κs = search (needs, write-within)
 written-card-requires : tie.Need-written-card-requires
 written-card-requires c κs = search (needs, write-room)
 
-same-length-2 : tie.Need-same-length-2
-same-length-2 c = search needs
-
 returns-2 : tie.Need-returns-2
 returns-2 c = search (needs, write-done)
 
 pub write-spec : {M : Type 1} → statement M
-write-spec =
-    tie.close
-    (tie.spec
-    write-refusal-requires
-    same-length
-    returns
-    cast-b
-    write-memory-requires
-    written-card-requires
-    same-length-2
-    returns-2)
+write-spec = tie.close (tie.spec (λ c κs. search needs) (λ c. search needs) returns cast-b write-memory-requires written-card-requires (λ c. search needs) returns-2)

@@ -7,14 +7,8 @@ use borrow.Author.Needs.{needs}
 use Rattle.card.proofs.transaction.write_refusal.Statement.{statement}
 use Rattle.card.proofs.transaction.write_refusal.Tie as tie
 
-state-refusal-requires : tie.Need-state-refusal-requires
-state-refusal-requires c κs = search needs
-
 returns : tie.Need-returns
 returns c = first-hit _ _ _ (c .before .state-refusal .ensures) (c .if1 .taken) ∙ write-stages _ _ _ _ _ _
-
-operand-refusal-requires : tie.Need-operand-refusal-requires
-operand-refusal-requires c κs = search needs
 
 returns-2 : tie.Need-returns-2
 returns-2 c = first-pass _ _ _ _ (c .before .before .before .state-refusal .ensures) (c .before .before .if1 .left) (first-hit _ _ _ (c .before .operand-refusal .ensures) (c .if2 .taken)) ∙ write-stages _ _ _ _ _ _
@@ -22,20 +16,8 @@ returns-2 c = first-pass _ _ _ _ (c .before .before .before .state-refusal .ensu
 cast-room-refusal : tie.Need-cast-room-refusal
 cast-room-refusal c = omega (arith, operand-clear _ _ (c .before .before .before .before .before .before .args .b) (c .before .before .before .before .before .before .args .o) _ (c .before .operand-refusal .ensures) (c .if2 .left))
 
-room-refusal-requires : tie.Need-room-refusal-requires
-room-refusal-requires c κs = search needs
-
 returns-3 : tie.Need-returns-3
 returns-3 c = first-pass _ _ _ _ (c .before .before .before .before .state-refusal .ensures) (c .before .before .before .if1 .left) (first-pass _ _ _ _ (c .before .before .operand-refusal .ensures) (c .before .if2 .left) (c .room-refusal .ensures)) ∙ write-stages _ _ _ _ _ _
 
 pub write-refusal-spec : {M : Type 1} → statement M
-write-refusal-spec =
-    tie.close
-    (tie.spec
-    state-refusal-requires
-    returns
-    operand-refusal-requires
-    returns-2
-    cast-room-refusal
-    room-refusal-requires
-    returns-3)
+write-refusal-spec = tie.close (tie.spec (λ c κs. search needs) returns (λ c κs. search needs) returns-2 cast-room-refusal (λ c κs. search needs) returns-3)

@@ -4,17 +4,11 @@ use borrow.Author.Needs.{needs}
 use Rattle.card.proofs.transaction.writer.Statement.{statement}
 use Rattle.card.proofs.transaction.writer.Tie as tie
 
-core-at-requires : tie.Need-core-at-requires
-core-at-requires c κs = search needs
-
 returns : tie.Need-returns
 returns c = search (needs, writer-running)
-
-opened-requires : tie.Need-opened-requires
-opened-requires c κs = search needs
 
 returns-2 : tie.Need-returns-2
 returns-2 c = search (needs, writer-opened)
 
 pub writer-spec : {M : Type 1} → statement M
-writer-spec = tie.close (tie.spec core-at-requires returns opened-requires returns-2)
+writer-spec = tie.close (tie.spec (λ c κs. search needs) returns (λ c κs. search needs) returns-2)

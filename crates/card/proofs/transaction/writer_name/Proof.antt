@@ -4,11 +4,8 @@ use borrow.Author.Needs.{needs}
 use Rattle.card.proofs.transaction.writer_name.Statement.{statement}
 use Rattle.card.proofs.transaction.writer_name.Tie as tie
 
-core-at-requires : tie.Need-core-at-requires
-core-at-requires c κs = search needs
-
 returns : tie.Need-returns
 returns c = search (needs, writer-named)
 
 pub writer-name-spec : {M : Type 1} → statement M
-writer-name-spec = tie.close (tie.spec core-at-requires returns)
+writer-name-spec = tie.close (tie.spec (λ c κs. search needs) returns)
