@@ -2,5 +2,6 @@
 // its definition in crate `model`, for all inputs.
 pub mod state; // the answer of a command, parts of the card, refusals that many commands share
 pub mod format; // FORMAT
+pub mod transaction; // WRITE
 pub mod recovery; // CUT
 pub mod reading; // a block as its readers see it
