@@ -10,17 +10,13 @@ use Rattle.model.specs.Recovery.{cutConditions, cut}
 use Rattle.model.specs.declared.Card.{Card}
 use Rattle.model.proofs.OneStore.{right-lengths}
 use Rattle.card.specs.Answer.{world}
+use Rattle.card.proofs.Parts.{zero-memory}
 use Rattle.card.proofs.Refusals.{was-done, none-held}
 
 module _ (x : Card) (d m : Bytes) (n : ℕ) (e : n ≡ refusal (cutConditions (world x d m))) (h : n ≡ 0) where
-  pub zeroed-memory : replicate (length m) 0 ≡ zeroMemory
-  unfolding cutConditions zeroMemory
-  zeroed-memory =
-      let c = none-held (cutConditions (world x d m)) (world x d m) (unstored (world x d m) downCard zeroMemory) n e h (omega arith, (omega arith, tt)) in
-      rw (right-lengths (world x d m) (c .0) .1)
-
   pub cut-done : (y : Card) → y ≡ downCard → (z : Bytes) → z ≡ replicate (length m) 0 → unstored (world x d m) y z ≡ cut (world x d m)
-  unfolding cut
+  unfolding cut cutConditions
   cut-done y p z q =
+      let c = none-held (cutConditions (world x d m)) (world x d m) (unstored (world x d m) downCard zeroMemory) n e h (omega arith, (omega arith, tt)) in
       was-done (cutConditions (world x d m)) (world x d m) (unstored (world x d m) downCard zeroMemory) n e h (unstored (world x d m) y z)
-      (rw (p, q, zeroed-memory))
+      (rw (p, q, zero-memory m (right-lengths (world x d m) (c .0) .1)))

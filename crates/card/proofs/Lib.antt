@@ -3,3 +3,4 @@ pub mod Parts
 pub mod Refusals
 pub mod CutLaws
 pub mod ReadLaws
+pub mod FormatLaws

@@ -11,6 +11,7 @@ use borrow.Author.Fill.{fill-none, fill-more}
 use borrow.Author.Needs.{needs}
 use borrow.Author.Tests.{le-leb, lt-leb, lt-ltb, le-ltb, eq-eqb, ne-eqb, not-true, not-false}
 use Rattle.model.specs.Lists.{any}
+use Rattle.model.specs.Bytes.{zeroMemory}
 use Rattle.model.specs.Card.{newTail, sameName, taken, listed, lists, freshCore, noHolder, tailOf, coreOf, holderOf, withCore}
 use Rattle.model.specs.declared.Tail.{Tail}
 use Rattle.model.specs.declared.Name.{Name}
@@ -82,6 +83,11 @@ zeroed-more i d h = fill-more i 0 d h
 pub zeroed-all : (s : List ℕ) (i : ℕ) (d : List ℕ) → s ≡ zeroed i d → i ≤ length d → length d ≤ i → s ≡ replicate (length d) 0
 unfolding zeroed
 zeroed-all s i d e h k = let q : i ≡ length d = omega arith in e ∙ rw (q, drop-length, append-nil)
+
+-- memory of its length, zeroed
+pub zero-memory : (m : List ℕ) → length m ≡ 16384 → replicate (length m) 0 ≡ zeroMemory
+unfolding zeroMemory
+zero-memory m h = ap (λ (n : ℕ). replicate n 0) h
 
 -- ---- an array filled from another, element by element
 module _ {A B : Type 0} (f : A → B) where

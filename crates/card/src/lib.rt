@@ -1,5 +1,6 @@
 // The commands of the revision D card, one module for each stage of a transaction's life. Each meets one equation with
 // its definition in crate `model`, for all inputs.
 pub mod state; // the answer of a command, parts of the card, refusals that many commands share
+pub mod format; // FORMAT
 pub mod recovery; // CUT
 pub mod reading; // a block as its readers see it

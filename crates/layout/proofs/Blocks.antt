@@ -69,9 +69,9 @@ begun-word ws b c i x few w e q h =
       whole = w .whole;
       size = ap length e ∙ length-replaced (4 * i) 4 b (bytes 4 x) (omega (arith, w .size)) (length-bytes 4 x) ∙ w .size;
       same =
-        rw (e, n, ← (append-assoc (take (4 * i) b) (bytes 4 x) (drop 4 (drop (4 * i) b))))
-        (take-at (take (4 * i) b ++ bytes 4 x) (drop 4 (drop (4 * i) b)) (4 * i + 4) len
-        ∙ rw (w .same, q) (sym (take-word ws (128 - length (words ws)) i fits)));
+          rw (e, n, ← (append-assoc (take (4 * i) b) (bytes 4 x) (drop 4 (drop (4 * i) b))))
+          (take-at (take (4 * i) b ++ bytes 4 x) (drop 4 (drop (4 * i) b)) (4 * i + 4) len
+          ∙ rw (w .same, q) (sym (take-word ws (128 - length (words ws)) i fits)));
     }
 
 -- ---- b has the first i words of the block of those given

@@ -105,6 +105,12 @@ stamp-is b x y e q = rw (e, q)
 pub shape-read : (m : Bytes) (r : Checked) (c b j : ℕ) → r ≡ checked c b j → c ≡ be4 m 12 → b ≡ be4 m 16 → j ≡ be4 m 20 → r ≡ checked (be4 m 12) (be4 m 16) (be4 m 20)
 shape-read m r c b j e p q h = e ∙ rw (p, q, h)
 
+isMarked : Bytes → Bool
+isMarked m = eqb (be4 m 0) mark && eqb (be4 m 4) 4
+
+allTails : Bytes → Bool
+allTails m = let s = shapeIn m in all (λ (c : ℕ). isTail s (tailIn m c)) (below (s .cores))
+
 no-shape : (t : Bool) (s : Shape) → cond t (Fits s) OutOfRange ≡ OutOfRange → t ≡ false
 no-shape true s e = let z : _≡_ {A = ℕ} 0 1 = cc in absurd (omega arith)
 no-shape false s e = refl
@@ -115,8 +121,11 @@ a-shape false s z e = let y : _≡_ {A = ℕ} 0 1 = cc in absurd (omega arith)
 
 module _ (m : Bytes) (f : Checked) (e : f ≡ checked (be4 m 12) (be4 m 16) (be4 m 20)) where
   pub master-no : f ≡ OutOfRange → false ≡ isMaster m
-  unfolding isMaster checked shapeIn
-  master-no h = fails _ (and-before _ _ (and-here _ _ (no-shape _ _ (sym e ∙ h))))
+  unfolding isMaster checked shapeIn isMarked allTails
+  master-no h =
+      let t = inRange (be4 m 12) (be4 m 16) (be4 m 20) in
+      let n : t ≡ false = no-shape t (shapeIn m) (sym e ∙ h) in
+      fails (isMaster m) (and-before (isMarked m && t) (allTails m) (and-here (isMarked m) t n))
 
   module _ (s : Shape) (h : f ≡ Fits s) where
     in-range : (inRange (be4 m 12) (be4 m 16) (be4 m 20) ≡ true) × (shapeIn m ≡ s)
@@ -147,11 +156,12 @@ module _ (m : Bytes) (c x : ℕ) (e : x ≡ be4 m 12) where
 
     -- a master's positions are below J, so each fits a byte
     pub tail-small : isMaster m ≡ true → p < 256
-    unfolding isMaster shapeIn tailIn pairAt
+    unfolding isMaster shapeIn tailIn pairAt isMarked allTails
     tail-small t =
         let s = shapeIn m in
-        let a : inRange (s .cores) (s .blocks) (s .journal) ≡ true = and-right _ _ (and-left _ _ t) in
-        let l : all (λ (c : ℕ). isTail s (tailIn m c)) (below (s .cores)) ≡ true = and-right _ _ t in
+        let u = inRange (s .cores) (s .blocks) (s .journal) in
+        let a : u ≡ true = and-right (isMarked m) u (and-left (isMarked m && u) (allTails m) t) in
+        let l : allTails m ≡ true = and-right (isMarked m && u) (allTails m) t in
         let i : isTail s (tailIn m c) ≡ true = all-mem (λ (c : ℕ). isTail s (tailIn m c)) (below (s .cores)) l (below-mem (s .cores) c (omega arith)) in
         let r : InRange s = range-test s a in
         omega (arith, r .short, tail-limits s (tailIn m c) i .2)

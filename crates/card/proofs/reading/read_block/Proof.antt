@@ -1,8 +1,8 @@
 -- `card::reading::read_block` meets its contract: once the number is 0, the lengths and the block are right.
-use Rattle.card.proofs.ReadLaws.{Readable, readable, read-none, read-memory, read-disk}
 use native.Mathlib.Omega.{arith}
 use mathlib.Core.Path.{refl}
 use borrow.Author.Needs.{needs}
+use Rattle.card.proofs.ReadLaws.{Readable, readable, read-none, read-memory, read-disk}
 use Rattle.card.proofs.reading.read_block.Statement.{statement}
 use Rattle.card.proofs.reading.read_block.Tie as tie
 

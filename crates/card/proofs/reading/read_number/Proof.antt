@@ -1,8 +1,8 @@
 -- `card::reading::read_number` meets its contract: the state, then the block.
-use Rattle.card.proofs.ReadLaws.{read-stages}
-use Rattle.card.proofs.Refusals.{first-hit, first-pass}
 use mathlib.Core.Path.{_∙_}
 use borrow.Author.Needs.{needs}
+use Rattle.card.proofs.ReadLaws.{read-stages}
+use Rattle.card.proofs.Refusals.{first-hit, first-pass}
 use Rattle.card.proofs.reading.read_number.Statement.{statement}
 use Rattle.card.proofs.reading.read_number.Tie as tie
 

@@ -1,8 +1,8 @@
 -- `card::recovery::cut` meets its contract: refused, or memory zeroed and the card down.
+use borrow.Author.Needs.{needs}
+use Rattle.model.specs.Recovery.{cut}
 use Rattle.card.proofs.CutLaws.{cut-done}
 use Rattle.card.proofs.Refusals.{was-refused}
-use Rattle.model.specs.Recovery.{cut}
-use borrow.Author.Needs.{needs}
 use Rattle.card.proofs.recovery.cut.Statement.{statement}
 use Rattle.card.proofs.recovery.cut.Tie as tie
 

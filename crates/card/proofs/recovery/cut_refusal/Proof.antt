@@ -1,7 +1,7 @@
 -- `card::recovery::cut_refusal` meets its contract: the length, then the phase.
+use borrow.Author.Needs.{needs}
 use Rattle.model.specs.Recovery.{cutConditions}
 use Rattle.model.specs.Command.{refusal}
-use borrow.Author.Needs.{needs}
 use Rattle.card.proofs.recovery.cut_refusal.Statement.{statement}
 use Rattle.card.proofs.recovery.cut_refusal.Tie as tie
 

@@ -1,6 +1,6 @@
-use Rattle.card.proofs.Parts.{facts, took-all, took-some}
 -- `card::state::block_count` meets its contract: the array has 8 elements.
 use borrow.Author.Needs.{needs}
+use Rattle.card.proofs.Parts.{facts, took-all, took-some}
 use Rattle.card.proofs.state.block_count.Statement.{statement}
 use Rattle.card.proofs.state.block_count.Tie as tie
 

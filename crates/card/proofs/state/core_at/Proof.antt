@@ -1,6 +1,6 @@
-use Rattle.card.proofs.Parts.{facts, core-in, core-past}
 -- `card::state::core_at` meets its contract: below 8 the element, otherwise the fresh core.
 use borrow.Author.Needs.{needs}
+use Rattle.card.proofs.Parts.{facts, core-in, core-past}
 use Rattle.card.proofs.state.core_at.Statement.{statement}
 use Rattle.card.proofs.state.core_at.Tie as tie
 

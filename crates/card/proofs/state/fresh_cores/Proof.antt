@@ -1,12 +1,12 @@
 -- `card::state::fresh_cores` meets its contract. Invariant: the first i cores are made from their tails.
-use Rattle.card.proofs.Parts.{facts, filled, filled-none, filled-more, filled-all}
+use Prim.Native.Nat.{_-_, _≤_}
+use native.Mathlib.Omega.{arith}
+use mathlib.Core.Path.{_≡_, sym, _∙_}
+use lib.ListN.{length, length-set}
+use borrow.Author.Needs.{needs}
 use Rattle.model.specs.declared.Tail.{Tail}
 use Rattle.model.specs.Card.{freshCore}
-use borrow.Author.Needs.{needs}
-use lib.ListN.{length, length-set}
-use mathlib.Core.Path.{_≡_, sym, _∙_}
-use native.Mathlib.Omega.{arith}
-use Prim.Native.Nat.{_-_, _≤_}
+use Rattle.card.proofs.Parts.{facts, filled, filled-none, filled-more, filled-all}
 use Rattle.card.proofs.state.fresh_cores.Statement.{statement}
 use Rattle.card.proofs.state.fresh_cores.Tie as tie
 

@@ -1,6 +1,6 @@
-use Rattle.card.proofs.Parts.{facts, holder-in, holder-past}
 -- `card::state::holder_at` meets its contract: below 64 the element, otherwise no holder.
 use borrow.Author.Needs.{needs}
+use Rattle.card.proofs.Parts.{facts, holder-in, holder-past}
 use Rattle.card.proofs.state.holder_at.Statement.{statement}
 use Rattle.card.proofs.state.holder_at.Tie as tie
 

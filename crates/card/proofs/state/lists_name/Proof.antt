@@ -1,13 +1,13 @@
-use Rattle.card.proofs.Parts.{facts, few-listed, none-listed, name-hit, name-missed, all-missed}
 -- `card::state::lists_name` meets its contract. Invariant: none of the first i names is the one sought.
-use Rattle.model.specs.Card.{sameName, listed, lists}
-use Rattle.model.specs.Lists.{any}
-use borrow.Author.Needs.{needs}
-use native.Mathlib.Omega.{arith}
-use lib.ListN.{length, take}
-use mathlib.Core.Bool.{false}
-use mathlib.Core.Path.{_≡_, sym, _∙_}
 use Prim.Native.Nat.{_-_, _≤_}
+use native.Mathlib.Omega.{arith}
+use mathlib.Core.Bool.{false}
+use mathlib.Core.Path.{_≡_}
+use lib.ListN.{length, take}
+use borrow.Author.Needs.{needs}
+use Rattle.model.specs.Card.{sameName, listed}
+use Rattle.model.specs.Lists.{any}
+use Rattle.card.proofs.Parts.{facts, few-listed, none-listed, name-hit, name-missed, all-missed}
 use Rattle.card.proofs.state.lists_name.Statement.{statement}
 use Rattle.card.proofs.state.lists_name.Tie as tie
 

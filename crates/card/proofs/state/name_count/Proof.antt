@@ -1,6 +1,6 @@
-use Rattle.card.proofs.Parts.{facts, named-all, named-some}
 -- `card::state::name_count` meets its contract: the array has 12 elements.
 use borrow.Author.Needs.{needs}
+use Rattle.card.proofs.Parts.{facts, named-all, named-some}
 use Rattle.card.proofs.state.name_count.Statement.{statement}
 use Rattle.card.proofs.state.name_count.Tie as tie
 

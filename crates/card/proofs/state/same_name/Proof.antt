@@ -1,5 +1,5 @@
-use borrow.Author.Needs.{needs}
 -- `card::state::same_name` meets its contract: the two tests in turn.
+use borrow.Author.Needs.{needs}
 use Rattle.model.specs.Card.{sameName}
 use Rattle.card.proofs.Parts.{tests}
 use Rattle.card.proofs.state.same_name.Statement.{statement}

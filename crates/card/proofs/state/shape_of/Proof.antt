@@ -1,6 +1,6 @@
 -- `card::state::shape_of` meets its contract.
-use Rattle.model.specs.Card.{shapeOf}
 use borrow.Author.Needs.{needs}
+use Rattle.model.specs.Card.{shapeOf}
 use Rattle.card.proofs.state.shape_of.Statement.{statement}
 use Rattle.card.proofs.state.shape_of.Tie as tie
 

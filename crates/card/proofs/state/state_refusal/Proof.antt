@@ -1,6 +1,6 @@
 -- `card::state::state_refusal` meets its contract: the length, then the phase.
-use Rattle.model.specs.Command.{refusal}
 use borrow.Author.Needs.{needs}
+use Rattle.model.specs.Command.{refusal}
 use Rattle.card.proofs.state.state_refusal.Statement.{statement}
 use Rattle.card.proofs.state.state_refusal.Tie as tie
 

@@ -1,6 +1,6 @@
-use Rattle.card.proofs.Parts.{facts, tail-in, tail-past}
 -- `card::state::tail_at` meets its contract: below 8 the element, otherwise the empty tail.
 use borrow.Author.Needs.{needs}
+use Rattle.card.proofs.Parts.{facts, tail-in, tail-past}
 use Rattle.card.proofs.state.tail_at.Statement.{statement}
 use Rattle.card.proofs.state.tail_at.Tie as tie
 

@@ -1,6 +1,6 @@
 -- `card::state::up_card` meets its contract.
-use Rattle.model.specs.Card.{freshCard}
 use borrow.Author.Needs.{needs}
+use Rattle.model.specs.Card.{freshCard}
 use Rattle.card.proofs.state.up_card.Statement.{statement}
 use Rattle.card.proofs.state.up_card.Tie as tie
 

@@ -1,6 +1,6 @@
-use Rattle.card.proofs.Parts.{facts, core-kept}
 -- `card::state::with_core` meets its contract: past the end nothing changes.
 use borrow.Author.Needs.{needs}
+use Rattle.card.proofs.Parts.{facts, core-kept}
 use Rattle.card.proofs.state.with_core.Statement.{statement}
 use Rattle.card.proofs.state.with_core.Tie as tie
 

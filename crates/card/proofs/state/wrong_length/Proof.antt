@@ -1,7 +1,7 @@
 -- `card::state::wrong_length` meets its contract: the two lengths in turn.
+use borrow.Author.Needs.{needs}
 use Rattle.model.specs.Command.{wrongLength}
 use Rattle.card.proofs.Parts.{tests}
-use borrow.Author.Needs.{needs}
 use Rattle.card.proofs.state.wrong_length.Statement.{statement}
 use Rattle.card.proofs.state.wrong_length.Tie as tie
 

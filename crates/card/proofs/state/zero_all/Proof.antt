@@ -1,9 +1,9 @@
 -- `card::state::zero_all` meets its contract. Invariant: the first i bytes are zero, the others as they were.
-use Rattle.card.proofs.Parts.{zeroed, zeroed-none, zeroed-more, zeroed-all}
-use lib.ListN.{length, length-set}
-use mathlib.Core.Path.{_≡_, refl, _∙_}
-use native.Mathlib.Omega.{arith}
 use Prim.Native.Nat.{_-_, _≤_}
+use native.Mathlib.Omega.{arith}
+use mathlib.Core.Path.{_≡_, refl}
+use lib.ListN.{length, length-set}
+use Rattle.card.proofs.Parts.{zeroed, zeroed-none, zeroed-more, zeroed-all}
 use Rattle.card.proofs.state.zero_all.Statement.{statement}
 use Rattle.card.proofs.state.zero_all.Tie as tie
 

@@ -1,0 +1,121 @@
+-- FORMAT: its refusals in two stages, and what the code leaves where it is carried out.
+use Prim.Native.Nat.{ℕ, zero, suc, _<_}
+use native.Mathlib.Omega.{arith}
+use mathlib.Core.Path.{_≡_, refl, sym, ap, _∙_, subst}
+use mathlib.Core.Bool.{Bool, true, false, cond, not}
+use mathlib.Core.List.{List, [], _∷_, _++_, map, map-append}
+use lib.ListN.{length, getD, drop, replicate, getD-replicate}
+use Rattle.model.specs.Lists.{below}
+use Rattle.model.specs.Bytes.{Bytes, replaced, store, zeroDisk, zeroMemory}
+use Rattle.model.specs.Shape.{inRange, checked, checkedAnswer, clamped}
+use Rattle.model.specs.Card.{isBlank, newTail, freshCard}
+use Rattle.model.specs.Layout.{masterBlock}
+use Rattle.model.specs.Command.{World, Outcome, refusal, wrongLength}
+use Rattle.model.specs.Format.{formatConditions, formatted, format}
+use Rattle.model.specs.declared.Card.{Card}
+use Rattle.model.specs.declared.Tail.{Tail}
+use Rattle.model.specs.declared.Shape.{Shape}
+use Rattle.model.specs.declared.Checked.{Checked}
+use Rattle.model.specs.declared.Checked.the-variants.{Fits, OutOfRange}
+use Rattle.model.specs.declared.Phase.the-variants.{Up}
+use Rattle.model.proofs.Lists.{cases}
+use Rattle.model.proofs.Limits.{InRange, range-test, clamped-range, clamped-same}
+use Rattle.model.proofs.Command.{Clear, refusedWith, refusal-clear}
+use Rattle.model.proofs.OneStore.{right-lengths}
+use Rattle.card.specs.Answer.{world, firstOf}
+use Rattle.card.proofs.Parts.{zero-memory}
+use Rattle.card.proofs.Refusals.{first-hit, first-pass, refusal-joined, was-refused, was-done}
+
+-- ---- the two stages
+-- what comes before the operands
+abbrev pub notBlank : World → List (Bool × ℕ)
+notBlank w = (wrongLength w, 1) ∷ (not (isBlank (w .card .phase)), 21) ∷ []
+
+-- the shape that the constructor made, and its number
+made-known : (c b j : ℕ) → refusal ((not (inRange c b j), 4) ∷ []) ≡ checkedAnswer (checked c b j)
+unfolding refusal checked checkedAnswer
+made-known c b j = cases (inRange c b j) (λ h. rw h) (λ h. rw h)
+
+format-stages : (c b j : ℕ) (w : World) → firstOf (refusal (notBlank w)) (checkedAnswer (checked c b j)) ≡ refusal (formatConditions c b j w)
+unfolding formatConditions
+format-stages c b j w =
+    sym (refusal-joined (notBlank w) ((not (inRange c b j), 4) ∷ []) (omega arith, (omega arith, tt)) ∙ rw (made-known c b j))
+
+module _ (c b j : ℕ) (x : Card) (d m : Bytes) (n : ℕ) (e : n ≡ refusal (notBlank (world x d m))) where
+  pub not-blank : (n ≡ 0 → ⊥) → refusedWith n (world x d m) ≡ format c b j (world x d m)
+  unfolding format
+  not-blank h = was-refused (formatConditions c b j (world x d m)) _ _ n (first-hit n _ _ e h ∙ format-stages c b j (world x d m)) h
+
+  pub out-of-range : n ≡ 0 → (made : Checked) → made ≡ checked c b j → made ≡ OutOfRange → refusedWith 4 (world x d m) ≡ format c b j (world x d m)
+  unfolding format checkedAnswer
+  out-of-range h made q o =
+      was-refused (formatConditions c b j (world x d m)) _ _ 4 (first-pass n 4 _ _ e h (rw (← q, o)) ∙ format-stages c b j (world x d m)) (omega arith)
+
+-- then the slices have their lengths
+module _ (x : Card) (d m : Bytes) (n : ℕ) (e : n ≡ refusal (notBlank (world x d m))) (h : n ≡ 0) where
+  lengths : (length d ≡ 32896) × (length m ≡ 16384)
+  lengths = right-lengths (world x d m) (refusal-clear (notBlank (world x d m)) (omega arith, (omega arith, tt)) (sym e ∙ h) .0)
+
+  pub disk-length : length d ≡ 32896
+  disk-length = lengths .0
+
+  pub memory-length : length m ≡ 16384
+  memory-length = lengths .1
+
+-- ---- the master
+-- equal on the cores of the shape
+map-below-same : {A : Type 0} (f g : ℕ → A) (n : ℕ) → ((i : ℕ) → i < n → f i ≡ g i) → map f (below n) ≡ map g (below n)
+unfolding below
+map-below-same f g zero h = refl
+map-below-same f g (suc n) h =
+    rw (map-append f (below n) (n ∷ []), map-append g (below n) (n ∷ []), map-below-same f g n (λ i l. h i (omega arith)), h n (omega arith))
+
+pub master-same : (s : Shape) (f g : ℕ → Tail) → ((i : ℕ) → i < s .cores → f i ≡ g i) → masterBlock s f ≡ masterBlock s g
+unfolding masterBlock
+master-same s f g h = rw (map-below-same f g (s .cores) h)
+
+-- what the constructor made is the shape asked for, within its limits
+fits-range : (c b j : ℕ) (s : Shape) → Fits s ≡ checked c b j → InRange s × (s ≡ record { cores = c; blocks = b; journal = j })
+unfolding checked
+fits-range c b j s e =
+    cases (inRange c b j)
+    (λ h. let q : s ≡ record { cores = c; blocks = b; journal = j } = (let r : Fits s ≡ Fits (record { cores = c; blocks = b; journal = j }) = rw h at e in cc) in
+    (subst InRange (sym q) (range-test (record { cores = c; blocks = b; journal = j }) h), q))
+    (λ h. let r : Fits s ≡ OutOfRange = rw h at e in let z : _≡_ {A = ℕ} 0 1 = cc in absurd (omega arith))
+
+-- the constructor's shape is read as it is
+pub fits-same : (c b j : ℕ) (made : Checked) → made ≡ checked c b j → (s : Shape) → made ≡ Fits s → clamped s ≡ s
+fits-same c b j made e s f = clamped-same s (fits-range c b j s (sym f ∙ e) .0)
+
+-- eight tails at number 1 and position 0
+abbrev pub firstTails : List Tail
+firstTails = replicate 8 (newTail 1 0)
+
+first-tail : (i : ℕ) → i < 8 → getD firstTails i (newTail 0 0) ≡ newTail 1 0
+first-tail i h = getD-replicate 8 i (newTail 1 0) (newTail 0 0) h
+
+first-master : (s : Shape) → clamped s ≡ s → masterBlock (clamped s) (λ (c : ℕ). getD firstTails c (newTail 0 0)) ≡ masterBlock s (λ (c : ℕ). newTail 1 0)
+first-master s e =
+    let r : InRange s = subst InRange e (clamped-range s) in
+    rw e (master-same s _ (λ (c : ℕ). newTail 1 0) (λ i h. first-tail i (omega arith)))
+
+zero-disk : (d : Bytes) → length d ≡ 32896 → replicate (length d) 0 ≡ zeroDisk
+unfolding zeroDisk
+zero-disk d h = ap (λ (n : ℕ). replicate n 0) h
+
+-- what the code leaves: both slices zeroed, the master in block 0
+pub format-left : (s : Shape) → clamped s ≡ s
+    → (d m : Bytes) → length d ≡ 32896 → length m ≡ 16384
+    → (d′ m′ b : Bytes) → d′ ≡ replicate (length d) 0 → m′ ≡ replicate (length m) 0 → b ≡ masterBlock (clamped s) (λ (c : ℕ). getD firstTails c (newTail 0 0))
+    → (x : Card) → x ≡ freshCard Up s firstTails
+    → record { answer = 0; world = world x (b ++ drop 128 d′) m′; stores = 0 } ≡ formatted s
+unfolding formatted store replaced
+format-left s e d m dl ml d′ m′ b p q r x y = rw (p, q, r, y, zero-disk d dl, zero-memory m ml, first-master s e)
+
+-- carried out
+pub format-done : (c b j : ℕ) (x : Card) (d m : Bytes) (n : ℕ) → n ≡ refusal (notBlank (world x d m)) → n ≡ 0
+    → (made : Checked) → made ≡ checked c b j → (s : Shape) → made ≡ Fits s → (o : Outcome) → o ≡ formatted s → o ≡ format c b j (world x d m)
+unfolding format checkedAnswer
+format-done c b j x d m n e h made q s f o r =
+    was-done (formatConditions c b j (world x d m)) _ _ 0 (first-pass n 0 _ _ e h (rw (← q, f)) ∙ format-stages c b j (world x d m)) refl o
+    (r ∙ ap formatted (fits-range c b j s (sym f ∙ q) .1))

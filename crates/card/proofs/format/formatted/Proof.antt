@@ -1,0 +1,51 @@
+-- `card::format::formatted` meets its contract: both slices zeroed, the master in block 0.
+use borrow.Author.Needs.{needs}
+use Rattle.card.proofs.FormatLaws.{format-left}
+use Rattle.card.proofs.Parts.{facts}
+use Rattle.card.proofs.format.formatted.Statement.{statement}
+use Rattle.card.proofs.format.formatted.Tie as tie
+
+zero-all-requires : tie.Need-zero-all-requires
+zero-all-requires c κs = search needs
+
+zero-all-requires-2 : tie.Need-zero-all-requires-2
+zero-all-requires-2 c κs = search needs
+
+sub-write-master : tie.Need-sub-write-master
+sub-write-master c = search needs
+
+part-write-master-start : tie.Need-part-write-master-start
+part-write-master-start c = search needs
+
+part-write-master-end : tie.Need-part-write-master-end
+part-write-master-end c = search needs
+
+write-master-requires : tie.Need-write-master-requires
+write-master-requires c κs = search needs
+
+up-card-requires : tie.Need-up-card-requires
+up-card-requires c κs = search needs
+
+same-length : tie.Need-same-length
+same-length c = search needs
+
+same-length-2 : tie.Need-same-length-2
+same-length-2 c = search needs
+
+returns : tie.Need-returns
+returns c = search (facts, format-left)
+
+pub formatted-spec : {M : Type 1} → statement M
+formatted-spec =
+    tie.close
+    (tie.spec
+    zero-all-requires
+    zero-all-requires-2
+    sub-write-master
+    part-write-master-start
+    part-write-master-end
+    write-master-requires
+    up-card-requires
+    same-length
+    same-length-2
+    returns)
