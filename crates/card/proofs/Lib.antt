@@ -4,3 +4,6 @@ pub mod Refusals
 pub mod CutLaws
 pub mod ReadLaws
 pub mod FormatLaws
+pub mod EntryLaws
+pub mod CloseLaws
+pub mod StoreLaws
