@@ -90,12 +90,15 @@ same-held t c m fs e n =
     let b : getD fs i 0 ≡ copyFlag c m i = ap (λ (l : List ℕ). getD l i 0) e ∙ getD-map-below (copyFlag c m) 8 i 0 (omega arith) in
     rw (a, b)))
 
+pub first-written : (t : Transaction) (num c : ℕ) (m : Bytes) (fs : List ℕ) → fs ≡ map (copyFlag c m) (below 8)
+    → (b : Bytes) → b ≡ descriptorBlock num (map (λ (i : ℕ). newHeld (getD (t .blocks) i 0) (getD fs i 0)) (below (min (t .count) 8)))
+    → length (t .blocks) ≡ 8 → b ≡ descriptorBlock num (heldCopies c (taken t) m)
+first-written t num c m fs e b q n = q ∙ ap (descriptorBlock num) (same-held t c m fs e n)
+
 module _ (c : ℕ) (k : Core) (m : Bytes) (num : ℕ) (p : num ≡ closedNumber k) where
-  pub next-descriptor : length (k .closed .blocks) ≡ 8 → (fs : List ℕ) → fs ≡ map (copyFlag c m) (below 8)
-      → (b : Bytes) → b ≡ descriptorBlock num (map (λ (i : ℕ). newHeld (getD (k .closed .blocks) i 0) (getD fs i 0)) (below (min (k .closed .count) 8)))
-      → k .stored ≡ 0 → b ≡ nextStored c k m
+  pub next-descriptor : (b : Bytes) → b ≡ descriptorBlock num (heldCopies c (taken (k .closed)) m) → k .stored ≡ 0 → b ≡ nextStored c k m
   unfolding nextStored
-  next-descriptor n fs e b q z = q ∙ rw (same-held (k .closed) c m fs e n, p, z)
+  next-descriptor b q z = q ∙ rw (p, z)
 
   pub next-data : (image : Bytes) → image ≡ blockAt m (copyBlock c (k .stored - 1)) → (b : Bytes) → b ≡ escaped image
       → (n : ℕ) → n ≡ length (taken (k .closed)) → (k .stored ≡ 0 → ⊥) → k .stored ≤ n → b ≡ nextStored c k m

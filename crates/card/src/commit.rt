@@ -1,14 +1,14 @@
 // CLOSE and STORE: a transaction is frozen, then stored block by block until it is committed.
 ghost use mathlib.Core.Path.{_≡_};
 ghost use mathlib.Core.List.{[], _∷_, map};
-ghost use Prim.Native.Nat.{ℕ, _<_, _%_};
+ghost use Prim.Native.Nat.{ℕ, _≤_, _<_, _%_};
 ghost use lib.ListN.{length};
 ghost use Rattle.model.specs.Lists.{below};
 ghost use Rattle.model.specs.Bytes.{blockAt, store as storeBlock};
 ghost use Rattle.model.specs.Card.{taken};
-ghost use Rattle.model.specs.Layout.{flagOf};
+ghost use Rattle.model.specs.Layout.{descriptorBlock, flagOf};
 ghost use Rattle.model.specs.Command.{refusal, notUp, noCore};
-ghost use Rattle.model.specs.Commit.{copyBlock, copied, closeConditions, closedCard, close, closedNumber, nextStored, nextPosition, coreStored, storeConditions, storeNext};
+ghost use Rattle.model.specs.Commit.{copyBlock, copied, closeConditions, closedCard, close, heldCopies, closedNumber, nextStored, nextPosition, coreStored, storeConditions, storeNext};
 ghost use Rattle.card.specs.Answer.{world, outcomeOf};
 use crate::state::block_count;
 use crate::state::core_at;
@@ -72,12 +72,19 @@ fn copy_image(memory: &mut [u8], c: u8, i: usize, b: u8)
     layout::write_image(&mut memory[start..end], image);
 }
 
+// How many blocks a transaction took, with the bound that callers of a core's transactions need.
+fn taken_count(t: Transaction) -> usize
+    ensures { λ r. ⌜ (r ≡ length (taken t)) × (r ≤ 8) ⌝ }
+{
+    block_count(t)
+}
+
 // The images of a transaction's blocks, in the order taken, to the first of its core's copies onward.
 fn copy_images(t: Transaction, c: u8, memory: &mut [u8])
     requires { ⌜ (length (now memory) ≡ 16384) × (c < 8) ⌝ }
     ensures { λ _. ⌜ now (memory .exit) ≡ copied c 0 (taken t) (now (memory .entry)) ⌝ }
 {
-    let count = block_count(t);
+    let count = taken_count(t);
     let mut i = 0;
     while i < count {
         let b = t.blocks[i];
@@ -180,6 +187,16 @@ fn closed_number(k: Core) -> u32
     k.next - 1
 }
 
+// The descriptor of core c's closed transaction t.
+fn write_first(block: &mut [u8], number: u32, t: Transaction, c: u8, memory: &[u8])
+    requires { ⌜ (length (now block) ≡ 128) × (length (now memory) ≡ 16384) × (c < 8) ⌝ }
+    ensures { λ _. ⌜ now (block .exit) ≡ descriptorBlock number (heldCopies c (taken t) (now (memory .entry))) ⌝ }
+{
+    let flags = flags_of(memory, c);
+    let blocks = t.blocks;
+    layout::write_descriptor(block, number, t.count, blocks, flags);
+}
+
 // What is stored next: the descriptor, then the copies in the order taken, then the commit.
 fn write_next(block: &mut [u8], k: Core, c: u8, memory: &[u8])
     requires { ⌜ (length (now block) ≡ 128) × (length (now memory) ≡ 16384) × (c < 8) ⌝ }
@@ -189,12 +206,10 @@ fn write_next(block: &mut [u8], k: Core, c: u8, memory: &[u8])
     let done = k.stored as usize;
     let number = closed_number(k);
     if done == 0 {
-        let flags = flags_of(memory, c);
-        let blocks = t.blocks;
-        layout::write_descriptor(block, number, t.count, blocks, flags);
+        write_first(block, number, t, c, memory);
         return;
     }
-    if done <= block_count(t) {
+    if done <= taken_count(t) {
         let image = copy_at(memory, c, done - 1);
         layout::write_data(block, image);
         return;
@@ -217,7 +232,7 @@ fn core_stored(mut k: Core) -> Core
     ensures { λ r. ⌜ r ≡ coreStored k ⌝ }
 {
     let t = k.closed;
-    let count = block_count(t);
+    let count = taken_count(t);
     if k.stored as usize <= count {
         k.stored = k.stored + 1;
         return k;

@@ -1,13 +1,12 @@
 -- `card::commit::copy_images` meets its contract. Invariant: the copies still to be made from here lead to the same memory.
 use Prim.Native.Nat.{_-_, _≤_, _<_}
-use native.Mathlib.Omega.{arith}
 use mathlib.Core.Path.{_≡_, refl}
 use borrow.Author.Needs.{needs}
 use lib.ListN.{length, drop}
 use Rattle.model.specs.Card.{taken}
 use Rattle.model.specs.Commit.{copied}
 use Rattle.card.proofs.Parts.{facts}
-use Rattle.card.proofs.CloseLaws.{few-taken, copied-more, copied-all}
+use Rattle.card.proofs.CloseLaws.{copied-more, copied-all}
 use Rattle.card.proofs.commit.copy_images.Statement.{statement}
 use Rattle.card.proofs.commit.copy_images.Tie as tie
 
@@ -17,12 +16,11 @@ Inv-loop c memory₀ t count i₀ memory i = (count ≡ length (taken t)) × (co
 abbrev μ-loop : tie.MeasureT-loop
 μ-loop c memory₀ t count i₀ memory i = count - i
 
-block-count-requires : tie.Need-block-count-requires Inv-loop μ-loop
-block-count-requires c κs = search needs
+taken-count-requires : tie.Need-taken-count-requires Inv-loop μ-loop
+taken-count-requires c κs = search needs
 
 loop-holds : tie.Need-loop-holds Inv-loop μ-loop
-loop-holds c = let h = few-taken (c .before .before .args .t1) (search facts) in
-    (search needs, omega (arith, c .block-count .ensures), search needs, search needs, refl)
+loop-holds c = (search needs, search needs, search needs, search needs, refl)
 
 element-copy-out-b : tie.Need-element-copy-out-b Inv-loop μ-loop
 element-copy-out-b c = search facts
@@ -51,7 +49,7 @@ copy-images-spec =
     (tie.spec
     Inv-loop
     μ-loop
-    block-count-requires
+    taken-count-requires
     loop-holds
     element-copy-out-b
     copy-image-requires

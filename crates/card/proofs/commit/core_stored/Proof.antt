@@ -1,20 +1,17 @@
 -- `card::commit::core_stored` meets its contract: one more store, or committed.
-use native.Mathlib.Omega.{arith}
-use Rattle.card.proofs.Parts.{facts}
-use Rattle.card.proofs.CloseLaws.{few-taken}
 use Rattle.card.proofs.StoreLaws.{core-more, core-committed}
 use borrow.Author.Needs.{needs}
 use Rattle.card.proofs.commit.core_stored.Statement.{statement}
 use Rattle.card.proofs.commit.core_stored.Tie as tie
 
-block-count-requires : tie.Need-block-count-requires
-block-count-requires c κs = search needs
+taken-count-requires : tie.Need-taken-count-requires
+taken-count-requires c κs = search needs
 
 cast-if1 : tie.Need-cast-if1
 cast-if1 c = search needs
 
 add-k : tie.Need-add-k
-add-k c = let h = few-taken (c .before .before .before .before .before .args .k .closed) (search facts) in omega (arith, c .before .before .before .block-count .ensures)
+add-k c = search needs
 
 returns : tie.Need-returns
 returns c = search (needs, core-more)
@@ -26,7 +23,7 @@ cast-wrapping-add-u8 : tie.Need-cast-wrapping-add-u8
 cast-wrapping-add-u8 c = search needs
 
 add-wrapping-add-u8 : tie.Need-add-wrapping-add-u8
-add-wrapping-add-u8 c = let h = few-taken (c .before .before .before .before .before .args .k .closed) (search facts) in omega (arith, c .before .before .before .block-count .ensures)
+add-wrapping-add-u8 c = search needs
 
 wrapping-add-u8-requires : tie.Need-wrapping-add-u8-requires
 wrapping-add-u8-requires c κs = search needs
@@ -38,7 +35,7 @@ pub core-stored-spec : {M : Type 1} → statement M
 core-stored-spec =
     tie.close
     (tie.spec
-    block-count-requires
+    taken-count-requires
     cast-if1
     add-k
     returns

@@ -1,7 +1,4 @@
 -- `card::commit::write_next` meets its contract: descriptor, copy or commit.
-use native.Mathlib.Omega.{arith}
-use Rattle.card.proofs.Parts.{facts}
-use Rattle.card.proofs.CloseLaws.{few-taken}
 use Rattle.card.proofs.StoreLaws.{next-descriptor, next-data, next-commit}
 use borrow.Author.Needs.{needs}
 use Rattle.card.proofs.commit.write_next.Statement.{statement}
@@ -13,27 +10,23 @@ cast-done c = search needs
 closed-number-requires : tie.Need-closed-number-requires
 closed-number-requires c κs = search needs
 
-flags-of-requires : tie.Need-flags-of-requires
-flags-of-requires c κs = search needs
-
-write-descriptor-requires : tie.Need-write-descriptor-requires
-write-descriptor-requires c κs = search needs
+write-first-requires : tie.Need-write-first-requires
+write-first-requires c κs = search needs
 
 same-length : tie.Need-same-length
 same-length c = search needs
 
 returns : tie.Need-returns
-returns c = next-descriptor _ _ _ _ (c .before .before .before .before .before .before .before .closed-number .ensures) (search facts) _ (c .before .before .before .before .before .flags-of .ensures) _ (c .before .before .write-descriptor .ensures) (c .before .before .before .before .before .before .if1 .taken)
+returns c = next-descriptor _ _ _ _ (c .before .before .before .before .before .closed-number .ensures) _ (c .before .before .write-first .ensures) (c .before .before .before .before .if1 .taken)
 
-block-count-requires : tie.Need-block-count-requires
-block-count-requires c κs = search needs
+taken-count-requires : tie.Need-taken-count-requires
+taken-count-requires c κs = search needs
 
 sub-copy-at : tie.Need-sub-copy-at
 sub-copy-at c = search needs
 
 copy-at-requires : tie.Need-copy-at-requires
-copy-at-requires c κs = let h = few-taken (c .before .before .before .before .before .before .before .before .args .k .closed) (search facts) in
-    (search needs, search needs, omega (arith, c .before .block-count .ensures))
+copy-at-requires c κs = search needs
 
 write-data-requires : tie.Need-write-data-requires
 write-data-requires c κs = search needs
@@ -42,7 +35,7 @@ same-length-2 : tie.Need-same-length-2
 same-length-2 c = search needs
 
 returns-2 : tie.Need-returns-2
-returns-2 c = next-data _ _ _ _ (c .before .before .before .before .before .before .before .before .closed-number .ensures) _ (c .before .before .before .before .copy-at .ensures) _ (c .before .before .write-data .ensures) _ (c .before .before .before .before .before .before .block-count .ensures) (c .before .before .before .before .before .before .before .if1 .left) (c .before .before .before .before .before .if2 .taken)
+returns-2 c = next-data _ _ _ _ (c .before .before .before .before .before .before .before .before .closed-number .ensures) _ (c .before .before .before .before .copy-at .ensures) _ (c .before .before .write-data .ensures) _ (c .before .before .before .before .before .before .taken-count .ensures .0) (c .before .before .before .before .before .before .before .if1 .left) (c .before .before .before .before .before .if2 .taken)
 
 write-commit-requires : tie.Need-write-commit-requires
 write-commit-requires c κs = search needs
@@ -51,7 +44,7 @@ same-length-3 : tie.Need-same-length-3
 same-length-3 c = search needs
 
 returns-3 : tie.Need-returns-3
-returns-3 c = next-commit _ _ _ _ (c .before .before .before .before .before .before .before .before .closed-number .ensures) _ (c .before .before .write-commit .ensures) _ (c .before .before .before .before .before .before .block-count .ensures) (c .before .before .before .before .before .before .before .if1 .left) (c .before .before .before .before .before .if2 .left)
+returns-3 c = next-commit _ _ _ _ (c .before .before .before .before .before .before .before .before .closed-number .ensures) _ (c .before .before .write-commit .ensures) _ (c .before .before .before .before .before .before .taken-count .ensures .0) (c .before .before .before .before .before .before .before .if1 .left) (c .before .before .before .before .before .if2 .left)
 
 pub write-next-spec : {M : Type 1} → statement M
 write-next-spec =
@@ -59,11 +52,10 @@ write-next-spec =
     (tie.spec
     cast-done
     closed-number-requires
-    flags-of-requires
-    write-descriptor-requires
+    write-first-requires
     same-length
     returns
-    block-count-requires
+    taken-count-requires
     sub-copy-at
     copy-at-requires
     write-data-requires
