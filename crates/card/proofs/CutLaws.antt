@@ -1,7 +1,7 @@
 -- CUT: what the code leaves where it is carried out.
 use Prim.Native.Nat.{ℕ}
 use native.Mathlib.Omega.{arith}
-use mathlib.Core.Path.{_≡_, refl, ap, _∙_}
+use mathlib.Core.Path.{_≡_}
 use lib.ListN.{length, replicate}
 use Rattle.model.specs.Bytes.{Bytes, zeroMemory}
 use Rattle.model.specs.Card.{downCard}

@@ -2,11 +2,11 @@
 use Prim.Native.Nat.{ℕ, zero, suc, _<_}
 use native.Mathlib.Omega.{arith}
 use mathlib.Core.Path.{_≡_, refl, sym, ap, _∙_, subst}
-use mathlib.Core.Bool.{Bool, true, false, cond, not}
+use mathlib.Core.Bool.{Bool, not}
 use mathlib.Core.List.{List, [], _∷_, _++_, map, map-append}
 use lib.ListN.{length, getD, drop, replicate, getD-replicate}
 use Rattle.model.specs.Lists.{below}
-use Rattle.model.specs.Bytes.{Bytes, replaced, store, zeroDisk, zeroMemory}
+use Rattle.model.specs.Bytes.{Bytes, replaced, store, zeroDisk}
 use Rattle.model.specs.Shape.{inRange, checked, checkedAnswer, clamped}
 use Rattle.model.specs.Card.{isBlank, newTail, freshCard}
 use Rattle.model.specs.Layout.{masterBlock}
@@ -20,7 +20,7 @@ use Rattle.model.specs.declared.Checked.the-variants.{Fits, OutOfRange}
 use Rattle.model.specs.declared.Phase.the-variants.{Up}
 use Rattle.model.proofs.Lists.{cases}
 use Rattle.model.proofs.Limits.{InRange, range-test, clamped-range, clamped-same}
-use Rattle.model.proofs.Command.{Clear, refusedWith, refusal-clear}
+use Rattle.model.proofs.Command.{refusedWith, refusal-clear}
 use Rattle.model.proofs.OneStore.{right-lengths}
 use Rattle.card.specs.Answer.{world, firstOf}
 use Rattle.card.proofs.Parts.{zero-memory}
@@ -56,11 +56,11 @@ module _ (x : Card) (d m : Bytes) (n : ℕ) (e : n ≡ refusal (notBlank (world 
   lengths : (length d ≡ 32896) × (length m ≡ 16384)
   lengths = right-lengths (world x d m) (refusal-clear (notBlank (world x d m)) (omega arith, (omega arith, tt)) (sym e ∙ h) .0)
 
-  pub disk-length : length d ≡ 32896
-  disk-length = lengths .0
+  pub blank-disk : length d ≡ 32896
+  blank-disk = lengths .0
 
-  pub memory-length : length m ≡ 16384
-  memory-length = lengths .1
+  pub blank-memory : length m ≡ 16384
+  blank-memory = lengths .1
 
 -- ---- the master
 -- equal on the cores of the shape

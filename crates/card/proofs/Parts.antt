@@ -3,7 +3,7 @@ use Prim.Native.Nat.{ℕ, zero, suc, _+_, _≤_, _<_, min}
 use native.Mathlib.Omega.{arith}
 use native.Mathlib.Numerals.{add-one}
 use mathlib.Core.Path.{_≡_, refl, sym, ap, _∙_}
-use mathlib.Core.Bool.{Bool, true, false, _||_}
+use mathlib.Core.Bool.{Bool, true, false}
 use mathlib.Core.List.{List, [], _∷_, _++_, map, append-nil}
 use lib.ListN.{length, take, drop, replicate, getD, set, length-map, length-take, List·getD-eq-default, drop-of-length-le}
 use lib.Seq.{drop-length, set-out, take-all, take-suc, getD-take}
@@ -12,7 +12,7 @@ use borrow.Author.Needs.{needs}
 use borrow.Author.Tests.{le-leb, lt-leb, lt-ltb, le-ltb, eq-eqb, ne-eqb, not-true, not-false}
 use Rattle.model.specs.Lists.{any}
 use Rattle.model.specs.Bytes.{zeroMemory}
-use Rattle.model.specs.Card.{newTail, sameName, taken, listed, lists, freshCore, noHolder, tailOf, coreOf, holderOf, withCore}
+use Rattle.model.specs.Card.{newTail, sameName, taken, listed, lists, freshCore, noHolder, tailOf, coreOf, holderOf, withCore, withHolder}
 use Rattle.model.specs.declared.Tail.{Tail}
 use Rattle.model.specs.declared.Name.{Name}
 use Rattle.model.specs.declared.Transaction.{Transaction}
@@ -140,6 +140,9 @@ module _ (x : Card) (i : ℕ) where
   pub holder-past : length (x .holders) ≡ 64 → 64 ≤ i → noHolder ≡ holderOf x i
   unfolding holderOf
   holder-past n h = element-past (x .holders) 64 n i noHolder noHolder refl h
+
+  pub holder-kept : length (x .holders) ≡ 64 → (n : Name) → 64 ≤ i → x ≡ withHolder x i n
+  holder-kept l n h = rw (set-past (x .holders) 64 l i (record { held = true; name = n }) h)
 
 -- ---- a transaction's blocks and names: a count above the array's length counts as its length
 module _ (t : Transaction) where

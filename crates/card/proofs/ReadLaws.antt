@@ -1,7 +1,7 @@
 -- Reading: the number in two stages, and the three answers of the block reader.
 use Prim.Native.Nat.{ℕ, _+_, _*_, _-_, _<_}
 use native.Mathlib.Omega.{arith}
-use mathlib.Core.Path.{_≡_, refl, sym, ap, _∙_}
+use mathlib.Core.Path.{_≡_, sym, _∙_}
 use mathlib.Core.Bool.{true, false, cond}
 use mathlib.Core.List.{[], _∷_}
 use lib.Dec.{leb}
@@ -10,11 +10,10 @@ use borrow.Author.Tests.{leb-false, ne-eqb}
 use Rattle.model.specs.Bytes.{Bytes, part, blockAt}
 use Rattle.model.specs.Shape.{homeBlock}
 use Rattle.model.specs.Card.{shapeOf, holderOf}
-use Rattle.model.specs.Command.{World, refusal, notUp, noBlock}
+use Rattle.model.specs.Command.{refusal, notUp, noBlock}
 use Rattle.model.specs.Reading.{readConditions, readNumber, readBlock}
 use Rattle.model.specs.declared.Card.{Card}
 use Rattle.model.specs.declared.Holder.{Holder}
-use Rattle.model.proofs.Limits.{InRange}
 use Rattle.model.proofs.Command.{Clear, refusal-clear}
 use Rattle.model.proofs.OneStore.{shape-limits, right-lengths}
 use Rattle.card.specs.Answer.{world, firstOf}

@@ -1,19 +1,18 @@
 -- Refusals met stage by stage, and the outcome of a command that was refused or carried out.
-use Prim.Native.Nat.{ℕ, zero, suc, _<_}
+use Prim.Native.Nat.{ℕ, _<_}
 use native.Mathlib.Omega.{arith}
-use mathlib.Core.Path.{_≡_, refl, sym, ap, _∙_}
-use mathlib.Core.Bool.{Bool, true, false, cond}
+use mathlib.Core.Path.{_≡_, refl, sym, _∙_}
+use mathlib.Core.Bool.{Bool, false, cond}
 use mathlib.Core.List.{List, [], _∷_, _++_}
 use lib.Dec.{eqb}
 use lib.ListN.{length}
 use borrow.Author.Tests.{eqb-true, eqb-false, ne-eqb}
+use Rattle.model.specs.Command.{World, Outcome, refusal, unless, notUp}
 use Rattle.model.specs.Bytes.{Bytes}
-use Rattle.model.specs.Card.{isBlank, isDown}
-use Rattle.model.specs.Command.{World, Outcome, refusal, unless, wrongLength, notUp}
 use Rattle.model.specs.declared.Card.{Card}
 use Rattle.model.proofs.Lists.{cases}
-use Rattle.model.proofs.Command.{Clear, Numbered, refusal-clear, refusedWith, unless-refused, unless-done}
 use Rattle.model.proofs.OneStore.{right-lengths}
+use Rattle.model.proofs.Command.{Clear, Numbered, refusal-clear, refusedWith, unless-refused, unless-done}
 use Rattle.card.specs.Answer.{world, firstOf}
 
 -- ---- the first of two stages that refuses
@@ -47,6 +46,27 @@ refusal-up w ys = refusal-joined (notUp w []) ys (omega arith, (omega arith, (om
 pub refusal-one : (t : Bool) (n : ℕ) → refusal ((t, n) ∷ []) ≡ cond t n 0
 unfolding refusal
 refusal-one t n = refl
+
+-- one condition, then the rest
+pub refusal-next : (t : Bool) (n : ℕ) (ys : List (Bool × ℕ)) → 0 < n → refusal ((t, n) ∷ ys) ≡ firstOf (cond t n 0) (refusal ys)
+refusal-next t n ys h = refusal-joined ((t, n) ∷ []) ys (h, tt) ∙ rw refusal-one
+
+-- a stage of one condition that does not refuse
+pub passed-one : (t : Bool) (n r : ℕ) → 0 < n → r ≡ cond t n 0 → r ≡ 0 → t ≡ false
+passed-one t n r h e z =
+    cases t (λ q. let k : r ≡ n = rw q at e in absurd (omega arith)) (λ q. q)
+
+-- the first stage passed: the slices have their lengths
+module _ (x : Card) (d m : Bytes) (n : ℕ) (e : n ≡ refusal (notUp (world x d m) [])) (h : n ≡ 0) where
+  up-lengths : (length d ≡ 32896) × (length m ≡ 16384)
+  up-lengths =
+      right-lengths (world x d m) (refusal-clear (notUp (world x d m) []) (omega arith, (omega arith, (omega arith, tt))) (sym e ∙ h) .0)
+
+  pub disk-length : length d ≡ 32896
+  disk-length = up-lengths .0
+
+  pub memory-length : length m ≡ 16384
+  memory-length = up-lengths .1
 
 -- ---- the code's number is the refusal of the conditions
 module _ (ts : List (Bool × ℕ)) (w : World) (done : Outcome) (n : ℕ) (e : n ≡ refusal ts) where

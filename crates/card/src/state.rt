@@ -5,7 +5,7 @@ ghost use mathlib.Core.Bool.{cond};
 ghost use mathlib.Core.List.{[], map};
 ghost use lib.Dec.{leb};
 ghost use lib.ListN.{length, replicate};
-ghost use Rattle.model.specs.Card.{sameName, taken, freshCore, freshCard, listed, lists, shapeOf, tailOf, coreOf, holderOf, withCore};
+ghost use Rattle.model.specs.Card.{sameName, taken, freshCore, freshCard, listed, lists, shapeOf, tailOf, coreOf, holderOf, withCore, withHolder};
 ghost use Rattle.model.specs.Command.{refusal, wrongLength, notUp};
 ghost use Rattle.model.specs.declared.Phase.the-variants.{Up};
 ghost use Rattle.card.specs.Answer.{world};
@@ -82,6 +82,21 @@ pub fn holder_at(card: Card, b: u8) -> Holder
         held: false,
         name: Name { core: 0, number: 0 },
     }
+}
+
+// The card with home block b held by the transaction of this name.
+pub fn with_holder(mut card: Card, b: u8, n: Name) -> Card
+    ensures { λ r. ⌜ r ≡ withHolder card b n ⌝ }
+{
+    let i = b as usize;
+    if 64 <= i {
+        return card;
+    }
+    card.holders[i] = Holder {
+        held: true,
+        name: n,
+    };
+    card
 }
 
 // Every core with an empty journal that begins at its tail.

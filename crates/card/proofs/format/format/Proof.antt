@@ -1,6 +1,6 @@
 -- `card::format::format` meets its contract: refused, out of range, or carried out.
 use borrow.Author.Needs.{needs}
-use Rattle.card.proofs.FormatLaws.{not-blank, out-of-range, disk-length, memory-length, fits-same, format-done}
+use Rattle.card.proofs.FormatLaws.{not-blank, out-of-range, blank-disk, blank-memory, fits-same, format-done}
 use Rattle.card.proofs.format.format.Statement.{statement}
 use Rattle.card.proofs.format.format.Tie as tie
 
@@ -35,7 +35,7 @@ returns-2 : tie.Need-returns-2
 returns-2 c = search (needs, out-of-range)
 
 formatted-requires : tie.Need-formatted-requires
-formatted-requires c κs = (search (needs, fits-same), search (needs, disk-length), search (needs, memory-length))
+formatted-requires c κs = (search (needs, fits-same), search (needs, blank-disk), search (needs, blank-memory))
 
 same-length-5 : tie.Need-same-length-5
 same-length-5 c = search needs
