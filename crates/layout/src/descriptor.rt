@@ -7,7 +7,7 @@ ghost use Rattle.model.specs.Lists.{below};
 ghost use Rattle.model.specs.Layout.{newHeld, descriptorBlock, pairAt, isHeld, isDescriptor, blockCount};
 ghost use Rattle.layout.specs.Words.{descriptorWords};
 ghost use Rattle.layout.specs.Loops.{every};
-ghost use Rattle.layout.specs.Distinct.{heldAt, isOther, isNew};
+ghost use Rattle.layout.specs.Distinct.{isNew};
 use crate::words::MARK;
 use crate::words::MAX_NUMBER;
 use crate::words::at_most;

@@ -8,7 +8,7 @@ ghost use Rattle.model.specs.Bytes.{be4};
 ghost use Rattle.model.specs.Lists.{below};
 ghost use Rattle.model.specs.Shape.{checked, clamped};
 ghost use Rattle.model.specs.Card.{newTail};
-ghost use Rattle.model.specs.Layout.{masterBlock, shapeIn, tailIn, isTail, isMaster};
+ghost use Rattle.model.specs.Layout.{masterBlock, tailIn, isTail, isMaster};
 ghost use Rattle.layout.specs.Words.{pairWord, masterWords};
 ghost use Rattle.layout.specs.Loops.{every};
 ghost use Rattle.layout.specs.Tails.{tailOrNone};

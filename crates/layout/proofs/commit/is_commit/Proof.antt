@@ -23,4 +23,7 @@ unfolding isCommit
 returns-4 c = search (needs, tests, listable-same)
 
 pub is-commit-spec : {M : Type 1} → statement M
-is-commit-spec = tie.close (tie.spec (λ c κs. search needs) returns (λ c κs. search needs) returns-2 (λ c κs. search needs) returns-3 (λ c. search needs) (λ c κs. search needs) returns-4)
+is-commit-spec =
+    tie.close
+    (tie.spec (λ c κs. search needs) returns (λ c κs. search needs) returns-2 (λ c κs. search needs) returns-3
+    (λ c. search needs) (λ c κs. search needs) returns-4)

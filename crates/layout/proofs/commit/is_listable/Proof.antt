@@ -14,4 +14,6 @@ unfolding isListable
 returns-2 c = search (needs, tests)
 
 pub is-listable-spec : {M : Type 1} → statement M
-is-listable-spec = tie.close (tie.spec (λ c. search needs) (λ c κs. search needs) returns (λ c κs. search needs) returns-2)
+is-listable-spec =
+    tie.close
+    (tie.spec (λ c. search needs) (λ c κs. search needs) returns (λ c κs. search needs) returns-2)

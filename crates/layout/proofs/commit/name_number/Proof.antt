@@ -9,4 +9,6 @@ unfolding pairAt
 returns c = search needs
 
 pub name-number-spec : {M : Type 1} → statement M
-name-number-spec = tie.close (tie.spec (λ c. search needs) (λ c. search needs) (λ c. search needs) (λ c κs. search needs) returns)
+name-number-spec =
+    tie.close
+    (tie.spec (λ c. search needs) (λ c. search needs) (λ c. search needs) (λ c κs. search needs) returns)

@@ -9,4 +9,6 @@ unfolding pairAt
 returns c = search needs
 
 pub held-flag-spec : {M : Type 1} → statement M
-held-flag-spec = tie.close (tie.spec (λ c. search needs) (λ c. search needs) (λ c. search needs) (λ c κs. search needs) returns)
+held-flag-spec =
+    tie.close
+    (tie.spec (λ c. search needs) (λ c. search needs) (λ c. search needs) (λ c κs. search needs) returns)

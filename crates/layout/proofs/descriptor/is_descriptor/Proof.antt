@@ -27,4 +27,7 @@ unfolding isDescriptor
 returns-5 c = search (needs, tests, held-yes, new-same)
 
 pub is-descriptor-spec : {M : Type 1} → statement M
-is-descriptor-spec = tie.close (tie.spec (λ c κs. search needs) returns returns-2 (λ c κs. search needs) returns-3 (λ c. search needs) (λ c κs. search needs) returns-4 (λ c. search needs) (λ c κs. search needs) returns-5)
+is-descriptor-spec =
+    tie.close
+    (tie.spec (λ c κs. search needs) returns returns-2 (λ c κs. search needs) returns-3 (λ c. search needs)
+    (λ c κs. search needs) returns-4 (λ c. search needs) (λ c κs. search needs) returns-5)

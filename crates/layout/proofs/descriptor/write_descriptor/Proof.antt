@@ -25,4 +25,7 @@ unfolding descriptorBlock descriptorWords heldOf
 returns c = search (needs, written-all)
 
 pub write-descriptor-spec : {M : Type 1} → statement M
-write-descriptor-spec = tie.close (tie.spec Inv-loop μ-loop loop-holds (λ c κs. search needs) (λ c. search needs) (λ c κs. search needs) (λ c. search needs) (λ c. search needs) loop-again (λ c. search needs) returns)
+write-descriptor-spec =
+    tie.close
+    (tie.spec Inv-loop μ-loop loop-holds (λ c κs. search needs) (λ c. search needs) (λ c κs. search needs)
+    (λ c. search needs) (λ c. search needs) loop-again (λ c. search needs) returns)

@@ -17,4 +17,8 @@ returns-3 : tie.Need-returns-3
 returns-3 c = search (needs, master-pair)
 
 pub master-word-spec : {M : Type 1} → statement M
-master-word-spec = tie.close (tie.spec (λ c κs. search needs) (λ c. search needs) (λ c. search needs) (λ c. search needs) (λ c. search needs) (λ c. search needs) returns (λ c. search needs) returns-2 (λ c. search needs) array-copy-out-t (λ c κs. search needs) returns-3)
+master-word-spec =
+    tie.close
+    (tie.spec (λ c κs. search needs) (λ c. search needs) (λ c. search needs) (λ c. search needs)
+    (λ c. search needs) (λ c. search needs) returns (λ c. search needs) returns-2 (λ c. search needs)
+    array-copy-out-t (λ c κs. search needs) returns-3)

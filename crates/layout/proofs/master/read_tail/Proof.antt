@@ -14,4 +14,8 @@ returns-2 : tie.Need-returns-2
 returns-2 c = search (needs, tail-some)
 
 pub read-tail-spec : {M : Type 1} → statement M
-read-tail-spec = tie.close (tie.spec (λ c κs. search needs) (λ c. search needs) returns (λ c. search needs) (λ c. search needs) (λ c κs. search needs) (λ c. search needs) (λ c. search needs) (λ c. search needs) (λ c κs. search needs) cast-t11 returns-2)
+read-tail-spec =
+    tie.close
+    (tie.spec (λ c κs. search needs) (λ c. search needs) returns (λ c. search needs) (λ c. search needs)
+    (λ c κs. search needs) (λ c. search needs) (λ c. search needs) (λ c. search needs) (λ c κs. search needs)
+    cast-t11 returns-2)

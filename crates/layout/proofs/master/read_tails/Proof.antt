@@ -22,4 +22,7 @@ returns : tie.Need-returns Inv-loop μ-loop
 returns c = search (needs, filled-all)
 
 pub read-tails-spec : {M : Type 1} → statement M
-read-tails-spec = tie.close (tie.spec Inv-loop μ-loop loop-holds (λ c κs. search needs) (λ c. search needs) (λ c. search needs) (λ c. search needs) (λ c. search needs) loop-again returns)
+read-tails-spec =
+    tie.close
+    (tie.spec Inv-loop μ-loop loop-holds (λ c κs. search needs) (λ c. search needs) (λ c. search needs)
+    (λ c. search needs) (λ c. search needs) loop-again returns)

@@ -18,4 +18,6 @@ unfolding hasHead
 returns-3 c = search (needs, tests)
 
 pub has-head-spec : {M : Type 1} → statement M
-has-head-spec = tie.close (tie.spec (λ c κs. search needs) returns (λ c κs. search needs) returns-2 (λ c κs. search needs) returns-3)
+has-head-spec =
+    tie.close
+    (tie.spec (λ c κs. search needs) returns (λ c κs. search needs) returns-2 (λ c κs. search needs) returns-3)

@@ -23,4 +23,8 @@ unfolding bytes
 returns c = simp (add-one, add-two, add-three) (sets-replaced (bytes 4 (c .args .w)) (now (c .args .b)) (c .args .at) (c .pre))
 
 pub put-word-spec : {M : Type 1} → statement M
-put-word-spec = tie.close (tie.spec (λ c. search needs) (λ c. search needs) (λ c. search needs) (λ c. search needs) slice-write-b-2 (λ c. search needs) (λ c. search needs) slice-write-b-3 (λ c. search needs) (λ c. search needs) slice-write-b-4 (λ c. search needs) returns)
+put-word-spec =
+    tie.close
+    (tie.spec (λ c. search needs) (λ c. search needs) (λ c. search needs) (λ c. search needs) slice-write-b-2
+    (λ c. search needs) (λ c. search needs) slice-write-b-3 (λ c. search needs) (λ c. search needs)
+    slice-write-b-4 (λ c. search needs) returns)
