@@ -1,22 +1,23 @@
 -- CLOSE: its refusals, the copies, the card, and what the code leaves where it is carried out.
-use Prim.Native.Nat.{ℕ, zero, suc, _+_, _*_, _-_, _%_, _^_, _≤_, _<_}
+use Prim.Native.Nat.{ℕ, _+_, _*_, _-_, _%_, _^_, _≤_, _<_}
 use native.Mathlib.Omega.{arith}
 use native.Mathlib.Numerals.{add-one}
-use mathlib.Core.Path.{_≡_, refl, sym, ap, _∙_}
+use mathlib.Core.Path.{_≡_, sym, ap, _∙_}
 use mathlib.Core.Bool.{Bool, true, false, not}
 use mathlib.Core.List.{List, [], _∷_, _++_}
 use lib.ListN.{length, take, drop, getD, length-take, drop-of-length-le}
 use lib.Seq.{drop-cons, getD-take}
 use Rattle.model.specs.Bytes.{Bytes, blockAt, store}
 use Rattle.model.specs.Card.{noTransaction, taken, stamped, coreOf, withCore}
-use Rattle.model.specs.Command.{World, Outcome, unstored, refusal}
+use Rattle.model.specs.Command.{unstored, refusal}
 use Rattle.model.specs.Commit.{copyBlock, copied, closeConditions, closedCard, closed, close}
 use Rattle.model.specs.declared.Transaction.{Transaction}
 use Rattle.model.specs.declared.Core.{Core}
 use Rattle.model.specs.declared.Card.{Card}
+use Rattle.layout.proofs.Blocks.{block-lent}
 use Rattle.card.specs.Answer.{world}
 use Rattle.card.proofs.Refusals.{was-done}
-use Rattle.card.proofs.EntryLaws.{entry, entry-hit, entry-pass, Entered, entered, lent-block}
+use Rattle.card.proofs.EntryLaws.{entry, entry-hit, entry-pass, Entered, entered}
 
 -- ---- refusals
 -- what CLOSE asks of the core
@@ -54,7 +55,7 @@ taken-at t i h = sym (getD-take (t .count) (t .blocks) i 0 (omega (arith, length
 -- through a value
 pub copied-image : (m : Bytes) (j : ℕ) (image z : Bytes) → image ≡ blockAt m j → z ≡ image → (k p : ℕ) → k ≡ p
     → take (128 * k) m ++ (z ++ drop (128 * k + 128 - 128 * k) (drop (128 * k) m)) ≡ store m p (blockAt m j)
-copied-image m j image z e q k p r = lent-block m k p r z (blockAt m j) (q ∙ e)
+copied-image m j image z e q k p r = block-lent m k z (blockAt m j) (q ∙ e) ∙ ap (λ (n : ℕ). store m n (blockAt m j)) r
 
 copied-one : (c i : ℕ) (bs : List ℕ) (m : Bytes) → i < length bs
     → copied c i (drop i bs) m ≡ copied c (i + 1) (drop (i + 1) bs) (store m (copyBlock c i) (blockAt m (getD bs i 0 % 64)))

@@ -1,17 +1,16 @@
--- CLOSE and STORE: what both meet first, and a block lent to a writer.
-use Prim.Native.Nat.{ℕ, _+_, _*_, _-_, _<_}
+-- CLOSE and STORE: what both meet first.
+use Prim.Native.Nat.{ℕ, _<_}
 use native.Mathlib.Omega.{arith}
-use mathlib.Core.Path.{_≡_, refl, sym, ap, _∙_}
-use mathlib.Core.Bool.{Bool, true, false, cond}
+use mathlib.Core.Path.{_≡_, sym, _∙_}
+use mathlib.Core.Bool.{Bool, cond}
 use mathlib.Core.List.{List, [], _∷_, _++_}
 use lib.Dec.{leb}
-use lib.ListN.{length, take, drop}
+use lib.ListN.{length}
 use borrow.Author.Tests.{leb-false}
-use Rattle.model.specs.Bytes.{Bytes, replaced, store}
+use Rattle.model.specs.Bytes.{Bytes}
 use Rattle.model.specs.Card.{shapeOf}
 use Rattle.model.specs.Command.{World, refusal, notUp, noCore}
 use Rattle.model.specs.declared.Card.{Card}
-use Rattle.model.proofs.Limits.{InRange}
 use Rattle.model.proofs.Command.{Clear, Numbered, refusal-clear}
 use Rattle.model.proofs.OneStore.{shape-limits, right-lengths}
 use Rattle.card.specs.Answer.{world, firstOf}
@@ -52,9 +51,3 @@ entered x c d m ys p z =
     let s = shape-limits x in
     let f : c < (shapeOf x) .cores = leb-false _ c (k .1 .1 .1 .0) in
     record { disk = l .0; memory = l .1; core = f; few = omega (arith, s .few-cores) }
-
--- the part of block k, lent and given back
-pub lent-block : (d : Bytes) (k p : ℕ) → k ≡ p → (z b : Bytes) → z ≡ b
-    → take (128 * k) d ++ (z ++ drop (128 * k + 128 - 128 * k) (drop (128 * k) d)) ≡ store d p b
-unfolding store replaced
-lent-block d k p e z b q = let s : 128 * k + 128 - 128 * k ≡ 128 = omega arith in rw (s, e, q)

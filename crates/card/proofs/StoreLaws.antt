@@ -1,29 +1,29 @@
 -- STORE: its refusals, what is stored next, the core, and what the code leaves where it is carried out.
-use Prim.Native.Nat.{ℕ, zero, suc, _+_, _*_, _-_, _%_, _≤_, _<_, min}
+use Prim.Native.Nat.{ℕ, _+_, _*_, _-_, _%_, _≤_, _<_, min}
 use native.Mathlib.Omega.{arith}
-use mathlib.Core.Path.{_≡_, refl, sym, ap, _∙_}
-use mathlib.Core.Bool.{Bool, true, false, not, cond}
-use mathlib.Core.List.{List, [], _∷_, _++_, map, map-append}
-use lib.Dec.{leb, eqb}
-use lib.ListN.{length, take, drop, getD, set, length-take}
-use borrow.Author.Tests.{le-leb, lt-leb, eq-eqb, ne-eqb}
+use mathlib.Core.Path.{_≡_, sym, ap, _∙_}
+use mathlib.Core.Bool.{Bool, true, false, not}
+use mathlib.Core.List.{List, [], _∷_, _++_, map}
+use lib.ListN.{length, take, drop, getD, length-take}
+use borrow.Author.Tests.{le-leb, lt-leb, ne-eqb}
 use Rattle.model.specs.Lists.{below}
-use Rattle.model.specs.Bytes.{Bytes, blockAt, store}
+use Rattle.model.specs.Bytes.{Bytes, blockAt}
 use Rattle.model.specs.Shape.{clamped, journalBlock}
 use Rattle.model.specs.Card.{noTransaction, taken, listed, recordSize, shapeOf, tailOf, coreOf, withCore}
-use Rattle.model.specs.Layout.{Held, newHeld, descriptorBlock, commitBlock, flagOf, escaped}
-use Rattle.model.specs.Command.{World, Outcome, storing, refusal}
+use Rattle.model.specs.Layout.{newHeld, descriptorBlock, commitBlock, flagOf, escaped}
+use Rattle.model.specs.Command.{refusal}
 use Rattle.model.specs.Commit.{copyBlock, heldCopies, closedNumber, nextStored, nextPosition, coreStored, storeConditions, stored, storeNext}
 use Rattle.model.specs.declared.Tail.{Tail}
 use Rattle.model.specs.declared.Transaction.{Transaction}
 use Rattle.model.specs.declared.Core.{Core}
 use Rattle.model.specs.declared.Card.{Card}
-use Rattle.model.proofs.Lists.{length-below, getD-below, getD-map-below}
+use Rattle.model.proofs.Lists.{getD-map-below}
 use Rattle.model.proofs.OneStore.{shape-limits, stored-low, position}
+use Rattle.layout.proofs.Blocks.{block-lent}
+use Rattle.layout.proofs.Loops.{same-below}
 use Rattle.card.specs.Answer.{world}
-use Rattle.card.proofs.Parts.{filled, filled-more, filled-all}
 use Rattle.card.proofs.Refusals.{was-done}
-use Rattle.card.proofs.EntryLaws.{entry, entry-hit, entry-pass, Entered, entered, lent-block}
+use Rattle.card.proofs.EntryLaws.{entry, entry-hit, entry-pass, Entered, entered}
 use Rattle.card.proofs.CloseLaws.{taken-at}
 
 -- ---- refusals
@@ -53,26 +53,10 @@ copy-read m k p e image q = q ∙ ap (blockAt m) e
 abbrev pub copyFlag : ℕ → Bytes → ℕ → ℕ
 copyFlag c m = λ i. flagOf (blockAt m (copyBlock c i))
 
-module _ (c : ℕ) (m : Bytes) (i : ℕ) (fs₀ fs : List ℕ) (size : length fs₀ ≡ 8) (e : fs ≡ filled (copyFlag c m) i (below 8) fs₀) where
-  pub flags-more : (image : Bytes) → image ≡ blockAt m (copyBlock c i) → (f : ℕ) → f ≡ flagOf image → i < 8
-      → set fs i f ≡ filled (copyFlag c m) (i + 1) (below 8) fs₀
-  flags-more image q f r h =
-      let l : length (below 8) ≡ 8 = length-below 8 in
-      let y : f ≡ copyFlag c m (getD (below 8) i 0) = r ∙ ap flagOf q ∙ ap (copyFlag c m) (sym (getD-below 8 i 0 h)) in
-      rw (e, y) (filled-more (copyFlag c m) i (below 8) fs₀ 0 (omega arith) (size ∙ sym l))
-
-  pub flags-all : 8 ≤ i → fs ≡ map (copyFlag c m) (below 8)
-  flags-all h =
-      let l : length (below 8) ≡ 8 = length-below 8 in
-      e ∙ filled-all (copyFlag c m) i (below 8) fs₀ (size ∙ sym l) (omega arith)
+pub flag-read : (c : ℕ) (m : Bytes) (i : ℕ) (image : Bytes) → image ≡ blockAt m (copyBlock c i) → (f : ℕ) → f ≡ flagOf image → f ≡ copyFlag c m i
+flag-read c m i image e f q = q ∙ ap flagOf e
 
 -- ---- what is stored next
-map-below-same : {A : Type 0} (f g : ℕ → A) (n : ℕ) → ((i : ℕ) → i < n → f i ≡ g i) → map f (below n) ≡ map g (below n)
-unfolding below
-map-below-same f g zero h = refl
-map-below-same f g (suc n) h =
-    rw (map-append f (below n) (n ∷ []), map-append g (below n) (n ∷ []), map-below-same f g n (λ i l. h i (omega arith)), h n (omega arith))
-
 took : (t : Transaction) → length (t .blocks) ≡ 8 → length (taken t) ≡ min (t .count) 8
 unfolding taken
 took t n = length-take (t .count) (t .blocks) ∙ ap (min (t .count)) n
@@ -84,7 +68,7 @@ unfolding heldCopies
 same-held t c m fs e n =
     let l : length (taken t) ≡ min (t .count) 8 = took t n in
     rw l
-    (map-below-same _ _ (min (t .count) 8)
+    (same-below _ _ (min (t .count) 8)
     (λ i h.
     let a : getD (t .blocks) i 0 ≡ getD (taken t) i 0 = taken-at t i (omega arith) in
     let b : getD fs i 0 ≡ copyFlag c m i = ap (λ (l : List ℕ). getD l i 0) e ∙ getD-map-below (copyFlag c m) 8 i 0 (omega arith) in
@@ -142,4 +126,4 @@ module _ (x : Card) (c : ℕ) (d m : Bytes) (n : ℕ) (e : n ≡ refusal (storeC
   unfolding storeNext stored shapeOf
   store-done k q p r j s z t l u y v =
       was-done (storeConditions c (world x d m)) (world x d m) (stored c (world x d m)) n e h _
-      (rw (lent-block d j _ s z (nextStored c k m) t, v, u, r, q))
+      (rw (block-lent d j z (nextStored c k m) t, v, u, s, r, q))

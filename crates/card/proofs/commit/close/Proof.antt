@@ -6,27 +6,12 @@ use borrow.Author.Needs.{needs}
 use Rattle.card.proofs.commit.close.Statement.{statement}
 use Rattle.card.proofs.commit.close.Tie as tie
 
-close-refusal-requires : tie.Need-close-refusal-requires
-close-refusal-requires c κs = search needs
-
-same-length : tie.Need-same-length
-same-length c = search needs
-
 returns : tie.Need-returns
 unfolding close
 returns c = was-refused _ _ _ _ (c .before .close-refusal .ensures) (c .if1 .taken)
 
-core-at-requires : tie.Need-core-at-requires
-core-at-requires c κs = search needs
-
 copy-images-requires : tie.Need-copy-images-requires
 copy-images-requires c κs = let e = close-entered _ _ _ _ _ (c .before .before .before .before .close-refusal .ensures) (c .before .before .before .if1 .left) in (e .memory, e .few)
-
-closed-card-requires : tie.Need-closed-card-requires
-closed-card-requires c κs = search needs
-
-same-length-2 : tie.Need-same-length-2
-same-length-2 c = search needs
 
 returns-2 : tie.Need-returns-2
 returns-2 c = search (needs, close-done)
@@ -35,11 +20,11 @@ pub close-spec : {M : Type 1} → statement M
 close-spec =
     tie.close
     (tie.spec
-    close-refusal-requires
-    same-length
+    (λ c κs. search needs)
+    (λ c. search needs)
     returns
-    core-at-requires
+    (λ c κs. search needs)
     copy-images-requires
-    closed-card-requires
-    same-length-2
+    (λ c κs. search needs)
+    (λ c. search needs)
     returns-2)

@@ -5,14 +5,8 @@ use borrow.Author.Needs.{needs}
 use Rattle.card.proofs.commit.close_refusal.Statement.{statement}
 use Rattle.card.proofs.commit.close_refusal.Tie as tie
 
-entry-refusal-requires : tie.Need-entry-refusal-requires
-entry-refusal-requires c κs = search needs
-
 returns : tie.Need-returns
 returns c = search (needs, close-first)
-
-core-at-requires : tie.Need-core-at-requires
-core-at-requires c κs = search needs
 
 returns-2 : tie.Need-returns-2
 returns-2 c = search (tests, needs, close-none)
@@ -26,4 +20,4 @@ returns-4 c = search (tests, needs, close-free)
 pub close-refusal-spec : {M : Type 1} → statement M
 close-refusal-spec =
     tie.close
-    (tie.spec entry-refusal-requires returns core-at-requires returns-2 returns-3 returns-4)
+    (tie.spec (λ c κs. search needs) returns (λ c κs. search needs) returns-2 returns-3 returns-4)

@@ -5,9 +5,6 @@ use borrow.Author.Needs.{needs}
 use Rattle.card.proofs.commit.copy_at.Statement.{statement}
 use Rattle.card.proofs.commit.copy_at.Tie as tie
 
-copy-place-requires : tie.Need-copy-place-requires
-copy-place-requires c κs = search needs
-
 load-block-requires : tie.Need-load-block-requires
 unfolding copyBlock
 load-block-requires c κs = search needs
@@ -16,4 +13,4 @@ returns : tie.Need-returns
 returns c = search (needs, copy-read)
 
 pub copy-at-spec : {M : Type 1} → statement M
-copy-at-spec = tie.close (tie.spec copy-place-requires load-block-requires returns)
+copy-at-spec = tie.close (tie.spec (λ c κs. search needs) load-block-requires returns)

@@ -5,12 +5,6 @@ use borrow.Author.Needs.{needs}
 use Rattle.card.proofs.commit.copy_image.Statement.{statement}
 use Rattle.card.proofs.commit.copy_image.Tie as tie
 
-load-block-requires : tie.Need-load-block-requires
-load-block-requires c κs = search needs
-
-copy-place-requires : tie.Need-copy-place-requires
-copy-place-requires c κs = search needs
-
 mul-start : tie.Need-mul-start
 unfolding copyBlock
 mul-start c = search needs
@@ -19,21 +13,9 @@ add-end : tie.Need-add-end
 unfolding copyBlock
 add-end c = search needs
 
-sub-write-image : tie.Need-sub-write-image
-sub-write-image c = search needs
-
-part-write-image-start : tie.Need-part-write-image-start
-part-write-image-start c = search needs
-
 part-write-image-end : tie.Need-part-write-image-end
 unfolding copyBlock
 part-write-image-end c = search needs
-
-write-image-requires : tie.Need-write-image-requires
-write-image-requires c κs = search needs
-
-same-length : tie.Need-same-length
-same-length c = search needs
 
 returns : tie.Need-returns
 returns c = search (needs, copied-image)
@@ -42,13 +24,13 @@ pub copy-image-spec : {M : Type 1} → statement M
 copy-image-spec =
     tie.close
     (tie.spec
-    load-block-requires
-    copy-place-requires
+    (λ c κs. search needs)
+    (λ c κs. search needs)
     mul-start
     add-end
-    sub-write-image
-    part-write-image-start
+    (λ c. search needs)
+    (λ c. search needs)
     part-write-image-end
-    write-image-requires
-    same-length
+    (λ c κs. search needs)
+    (λ c. search needs)
     returns)

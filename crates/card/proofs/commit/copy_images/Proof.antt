@@ -16,29 +16,14 @@ Inv-loop c memory₀ t count i₀ memory i = (count ≡ length (taken t)) × (co
 abbrev μ-loop : tie.MeasureT-loop
 μ-loop c memory₀ t count i₀ memory i = count - i
 
-taken-count-requires : tie.Need-taken-count-requires Inv-loop μ-loop
-taken-count-requires c κs = search needs
-
 loop-holds : tie.Need-loop-holds Inv-loop μ-loop
 loop-holds c = (search needs, search needs, search needs, search needs, refl)
 
 element-copy-out-b : tie.Need-element-copy-out-b Inv-loop μ-loop
 element-copy-out-b c = search facts
 
-copy-image-requires : tie.Need-copy-image-requires Inv-loop μ-loop
-copy-image-requires c κs = search needs
-
-add-i : tie.Need-add-i Inv-loop μ-loop
-add-i c = search needs
-
-loop-less : tie.Need-loop-less Inv-loop μ-loop
-loop-less c = search needs
-
 loop-again : tie.Need-loop-again Inv-loop μ-loop
 loop-again c = (search needs, search needs, search needs, search needs, search (facts, copied-more))
-
-same-length : tie.Need-same-length Inv-loop μ-loop
-same-length c = search needs
 
 returns : tie.Need-returns Inv-loop μ-loop
 returns c = search (facts, copied-all)
@@ -49,12 +34,12 @@ copy-images-spec =
     (tie.spec
     Inv-loop
     μ-loop
-    taken-count-requires
+    (λ c κs. search needs)
     loop-holds
     element-copy-out-b
-    copy-image-requires
-    add-i
-    loop-less
+    (λ c κs. search needs)
+    (λ c. search needs)
+    (λ c. search needs)
     loop-again
-    same-length
+    (λ c. search needs)
     returns)

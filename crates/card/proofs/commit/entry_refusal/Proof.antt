@@ -6,18 +6,12 @@ use borrow.Author.Needs.{needs}
 use Rattle.card.proofs.commit.entry_refusal.Statement.{statement}
 use Rattle.card.proofs.commit.entry_refusal.Tie as tie
 
-state-refusal-requires : tie.Need-state-refusal-requires
-state-refusal-requires c κs = search needs
-
 returns : tie.Need-returns
 returns c = first-hit _ _ _ (c .before .state-refusal .ensures) (c .if1 .taken) ∙ entry-stages _ _ _ _
-
-core-refusal-requires : tie.Need-core-refusal-requires
-core-refusal-requires c κs = search needs
 
 returns-2 : tie.Need-returns-2
 returns-2 c = first-pass _ _ _ _ (c .before .before .state-refusal .ensures) (c .before .if1 .left) (c .core-refusal .ensures) ∙ entry-stages _ _ _ _
 
 pub entry-refusal-spec : {M : Type 1} → statement M
 entry-refusal-spec =
-    tie.close (tie.spec state-refusal-requires returns core-refusal-requires returns-2)
+    tie.close (tie.spec (λ c κs. search needs) returns (λ c κs. search needs) returns-2)

@@ -16,24 +16,9 @@ ready c = store-entered _ _ _ _ _ (c .before .before .before .before .before .st
 low : (c : tie.After-journal-block) → c .journal-block .result < 257
 low c = store-low _ _ _ _ _ (c .before .before .before .before .before .store-refusal .ensures) (c .before .before .before .before .if1 .left) _ _ (c .journal-block .ensures)
 
-store-refusal-requires : tie.Need-store-refusal-requires
-store-refusal-requires c κs = search needs
-
-same-length : tie.Need-same-length
-same-length c = search needs
-
 returns : tie.Need-returns
 unfolding storeNext
 returns c = was-refused _ _ _ _ (c .before .store-refusal .ensures) (c .if1 .taken)
-
-core-at-requires : tie.Need-core-at-requires
-core-at-requires c κs = search needs
-
-next-position-requires : tie.Need-next-position-requires
-next-position-requires c κs = search needs
-
-journal-block-requires : tie.Need-journal-block-requires
-journal-block-requires c κs = search needs
 
 mul-start : tie.Need-mul-start
 mul-start c = omega (arith, low c)
@@ -41,26 +26,11 @@ mul-start c = omega (arith, low c)
 add-end : tie.Need-add-end
 add-end c = omega (arith, low c)
 
-sub-write-next : tie.Need-sub-write-next
-sub-write-next c = search needs
-
-part-write-next-start : tie.Need-part-write-next-start
-part-write-next-start c = search needs
-
 part-write-next-end : tie.Need-part-write-next-end
 part-write-next-end c = omega (arith, low c, ready c)
 
 write-next-requires : tie.Need-write-next-requires
 write-next-requires c κs = let e = ready (c .before) in (search needs, e .memory, e .few)
-
-core-stored-requires : tie.Need-core-stored-requires
-core-stored-requires c κs = search needs
-
-with-core-requires : tie.Need-with-core-requires
-with-core-requires c κs = search needs
-
-same-length-2 : tie.Need-same-length-2
-same-length-2 c = search needs
 
 returns-2 : tie.Need-returns-2
 returns-2 c = search (needs, store-done)
@@ -69,19 +39,19 @@ pub store-spec : {M : Type 1} → statement M
 store-spec =
     tie.close
     (tie.spec
-    store-refusal-requires
-    same-length
+    (λ c κs. search needs)
+    (λ c. search needs)
     returns
-    core-at-requires
-    next-position-requires
-    journal-block-requires
+    (λ c κs. search needs)
+    (λ c κs. search needs)
+    (λ c κs. search needs)
     mul-start
     add-end
-    sub-write-next
-    part-write-next-start
+    (λ c. search needs)
+    (λ c. search needs)
     part-write-next-end
     write-next-requires
-    core-stored-requires
-    with-core-requires
-    same-length-2
+    (λ c κs. search needs)
+    (λ c κs. search needs)
+    (λ c. search needs)
     returns-2)

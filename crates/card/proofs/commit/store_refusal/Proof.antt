@@ -5,14 +5,8 @@ use borrow.Author.Needs.{needs}
 use Rattle.card.proofs.commit.store_refusal.Statement.{statement}
 use Rattle.card.proofs.commit.store_refusal.Tie as tie
 
-entry-refusal-requires : tie.Need-entry-refusal-requires
-entry-refusal-requires c κs = search needs
-
 returns : tie.Need-returns
 returns c = search (needs, store-first)
-
-core-at-requires : tie.Need-core-at-requires
-core-at-requires c κs = search needs
 
 returns-2 : tie.Need-returns-2
 returns-2 c = search (tests, needs, store-none)
@@ -22,4 +16,4 @@ returns-3 c = search (tests, needs, store-free)
 
 pub store-refusal-spec : {M : Type 1} → statement M
 store-refusal-spec =
-    tie.close (tie.spec entry-refusal-requires returns core-at-requires returns-2 returns-3)
+    tie.close (tie.spec (λ c κs. search needs) returns (λ c κs. search needs) returns-2 returns-3)

@@ -6,11 +6,8 @@ use borrow.Author.Needs.{needs}
 use Rattle.card.proofs.commit.taken_count.Statement.{statement}
 use Rattle.card.proofs.commit.taken_count.Tie as tie
 
-block-count-requires : tie.Need-block-count-requires
-block-count-requires c κs = search needs
-
 returns : tie.Need-returns
 returns c = let h = few-taken (c .before .args .t) (search facts) in (search needs, omega (arith, c .block-count .ensures))
 
 pub taken-count-spec : {M : Type 1} → statement M
-taken-count-spec = tie.close (tie.spec block-count-requires returns)
+taken-count-spec = tie.close (tie.spec (λ c κs. search needs) returns)
