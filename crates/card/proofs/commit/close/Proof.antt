@@ -19,12 +19,5 @@ returns-2 c = search (needs, close-done)
 pub close-spec : {M : Type 1} → statement M
 close-spec =
     tie.close
-    (tie.spec
-    (λ c κs. search needs)
-    (λ c. search needs)
-    returns
-    (λ c κs. search needs)
-    copy-images-requires
-    (λ c κs. search needs)
-    (λ c. search needs)
-    returns-2)
+    (tie.spec (λ c κs. search needs) (λ c. search needs) returns (λ c κs. search needs) copy-images-requires
+    (λ c κs. search needs) (λ c. search needs) returns-2)

@@ -23,14 +23,5 @@ returns c = search (needs, copied-image)
 pub copy-image-spec : {M : Type 1} → statement M
 copy-image-spec =
     tie.close
-    (tie.spec
-    (λ c κs. search needs)
-    (λ c κs. search needs)
-    mul-start
-    add-end
-    (λ c. search needs)
-    (λ c. search needs)
-    part-write-image-end
-    (λ c κs. search needs)
-    (λ c. search needs)
-    returns)
+    (tie.spec (λ c κs. search needs) (λ c κs. search needs) mul-start add-end (λ c. search needs)
+    (λ c. search needs) part-write-image-end (λ c κs. search needs) (λ c. search needs) returns)

@@ -38,20 +38,6 @@ returns-2 c = search (needs, store-done)
 pub store-spec : {M : Type 1} → statement M
 store-spec =
     tie.close
-    (tie.spec
-    (λ c κs. search needs)
-    (λ c. search needs)
-    returns
-    (λ c κs. search needs)
-    (λ c κs. search needs)
-    (λ c κs. search needs)
-    mul-start
-    add-end
-    (λ c. search needs)
-    (λ c. search needs)
-    part-write-next-end
-    write-next-requires
-    (λ c κs. search needs)
-    (λ c κs. search needs)
-    (λ c. search needs)
-    returns-2)
+    (tie.spec (λ c κs. search needs) (λ c. search needs) returns (λ c κs. search needs) (λ c κs. search needs)
+    (λ c κs. search needs) mul-start add-end (λ c. search needs) (λ c. search needs) part-write-next-end
+    write-next-requires (λ c κs. search needs) (λ c κs. search needs) (λ c. search needs) returns-2)
