@@ -6,3 +6,6 @@ pub mod ReadLaws
 pub mod FormatLaws
 pub mod WriterLaws
 pub mod WriteLaws
+pub mod EntryLaws
+pub mod CloseLaws
+pub mod StoreLaws

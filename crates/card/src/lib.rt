@@ -3,5 +3,6 @@
 pub mod state; // the answer of a command, parts of the card, refusals that many commands share
 pub mod format; // FORMAT
 pub mod transaction; // WRITE
+pub mod commit; // CLOSE and STORE
 pub mod recovery; // CUT
 pub mod reading; // a block as its readers see it
