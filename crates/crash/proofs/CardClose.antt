@@ -25,7 +25,6 @@ use Rattle.crash.specs.Book.{absent, running, closed, isRunning, Entry, 
 use Rattle.crash.specs.Ledger.{Ledger, closeLedger, imageNow, recordBlocks}
 use Rattle.crash.specs.Claims.{IsBytes}
 use Rattle.crash.proofs.Relation.{sumNext, Fine, contents, JournalStands, DiskStands, Matches, CoreUp, holderAs, Up}
-use Rattle.crash.proofs.ReadRecords.{sum-low}
 use Rattle.crash.proofs.BookEntries.{other-number, other-core, change-at, raise-at, raise-other, records-snoc}
 use Rattle.crash.proofs.BookSteps.{Restages, restages-records, close-restages, close-book, close-holder, close-stamp, close-images, close-stamp-other, close-images-other}
 use Rattle.crash.proofs.BlockBytes.{bytes-store, bytes-blockAt}
@@ -33,6 +32,7 @@ use Rattle.crash.proofs.CardFrames.{SameClosed, record-same, contents-s
 use Rattle.crash.proofs.Tests.{clash}
 use Rattle.crash.proofs.LedgerStages.{running-present}
 use Rattle.model.proofs.Sizes.{length-copied}
+use Rattle.crash.proofs.LedgerSteps.{sum-low}
 
 -- ---- copies
 module _ (c : ℕ) (eight : c < 8) where

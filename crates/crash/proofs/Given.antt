@@ -12,15 +12,15 @@ use Rattle.model.specs.Bytes.{Bytes}
 use Rattle.model.specs.declared.Name.{Name}
 use Rattle.model.proofs.Lists.{any-mem, mem-any, mem-getD, and-left, below-mem}
 use Rattle.model.proofs.Select.{select-mem, mem-select}
-use Rattle.model.proofs.Shrink.{shrink-within}
 use Rattle.crash.specs.Book.{isClosed}
-use Rattle.crash.specs.Ledger.{Ledger, unretired, metIn, validIn, blocksIn}
+use Rattle.crash.specs.Ledger.{Ledger, unretired, validIn, blocksIn}
 use Rattle.crash.proofs.Tests.{clash, any-in, in-any, nameEquality, blockEquality}
 use Rattle.crash.proofs.Largest.{stageOf, RetiredBelow}
 use Rattle.crash.proofs.Invariant.{Inv, committed-closed, tookIn, imageAt}
 use Rattle.crash.proofs.ClosedImages.{Imaged, image-of-closed}
 use Rattle.crash.proofs.CutImages.{NewestHolder, newest-holder, gives}
 use Rattle.crash.proofs.Relation.{Newest, target}
+use Rattle.crash.proofs.ReadValid.{valid-unretired}
 
 module _ {home : ℕ → Bytes} {l : Ledger} (v : Inv home l) (imaged : Imaged l) (numbered : RetiredBelow (l .book)) where
   held-by : (b : ℕ) → List·Memᴰ b (blocksIn (l .shape .blocks) (l .book)) → (t : Name) × List·Memᴰ t (validIn (l .book)) × So (tookIn (l .book) b t)
@@ -28,10 +28,8 @@ module _ {home : ℕ → Bytes} {l : Ledger} (v : Inv home l) (imaged : Imaged l
   held-by b m = any-mem (tookIn (l .book) b) (validIn (l .book)) (select-mem _ (below (l .shape .blocks)) b m .1)
 
   valid-closed : (t : Name) → List·Memᴰ t (validIn (l .book)) → So (isClosed (stageOf (l .book) t))
-  unfolding validIn unretired
-  valid-closed t m =
-      committed-closed (stageOf (l .book) t)
-      (and-left _ _ (select-mem _ (l .book .opened) t (shrink-within (metIn (l .book)) (unretired (l .book)) t m) .1))
+  unfolding unretired
+  valid-closed t m = committed-closed (stageOf (l .book) t) (and-left _ _ (select-mem _ (l .book .opened) t (valid-unretired (l .book) t m) .1))
 
   module _ (b : ℕ) where
     newest-of : (o : Option Name) → NewestHolder l b o → List·Memᴰ b (blocksIn (l .shape .blocks) (l .book)) → Newest l b

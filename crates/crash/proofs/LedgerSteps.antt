@@ -1,7 +1,7 @@
 -- CLOSE, STORE and CHECKPOINT keep the ledger in order, and so do FORMAT, CUT and RECOVER: each of the first three gives
 -- one transaction its next stage and raises the number that counts those past it, so the stages of a core stay ranked by
 -- number; the others leave the transactions as they are, or have none.
-use Prim.Native.Nat.{ℕ, zero, suc, _+_, _≤_, _<_}
+use Prim.Native.Nat.{ℕ, zero, suc, _+_, _≤_, _<_, _*_}
 use native.Mathlib.Omega.{arith}
 use native.Mathlib.Decide.{decLt, ℕ-discrete}
 use mathlib.Core.Path.{_≡_, refl, sym, ap, _∙_, subst}
@@ -233,6 +233,11 @@ module _ (l : Ledger) (f : Fine l) (t : Name) (g : Stage) (was : (l .book .entry
       }
 
 -- ---- the count of closes
+pub sum-low : (k : Book) (n : ℕ) → ((c : ℕ) → c < n → k .next c ≤ 4000000001) → sumNext k n ≤ n * 4000000001
+unfolding sumNext
+sum-low k zero h = omega arith
+sum-low k (suc n) h = omega (arith, sum-low k n (λ c g. h c (omega arith)), h n (omega arith))
+
 pub sum-same : (k k′ : Book) → ((c : ℕ) → k′ .next c ≡ k .next c) → (n : ℕ) → sumNext k′ n ≡ sumNext k n
 unfolding sumNext
 sum-same k k′ same zero = refl

@@ -31,9 +31,10 @@ use Rattle.model.proofs.Journal.{IsBlock, Images, Stands, asRead, journal-wrap,
 use Rattle.crash.specs.Book.{isClosed, Book}
 use Rattle.crash.specs.Ledger.{Ledger, recordBlocks, storedOf, storedSince}
 use Rattle.crash.specs.Claims.{readAs, JournalsRead}
-use Rattle.crash.proofs.Relation.{Limits, sumNext, Fine, heldOf, recordOf, contents, DiskStands}
+use Rattle.crash.proofs.Relation.{Limits, Fine, heldOf, recordOf, contents, DiskStands}
 use Rattle.crash.proofs.LedgerStages.{closed-present, Unretired, stored-unretired}
 use Rattle.crash.proofs.ReadMaster.{shape-read, tail-read}
+use Rattle.crash.proofs.LedgerSteps.{sum-low}
 
 -- ---- the list that the reader finds
 -- the record of transaction t at a position
@@ -103,11 +104,6 @@ distinct-of (h ∷ hs) z f =
     (ne-eqb (h .block) (g .block)
     (λ e. let y : 0 ≡ suc (x .0) = f 0 (suc (x .0)) (omega arith) (omega (arith, x .1)) (e ∙ ap (λ (u : Held). u .block) (sym (x .2))) in omega arith))))
     (distinct-of hs z (λ i j a b e. let y : suc i ≡ suc j = f (suc i) (suc j) (omega arith) (omega arith) e in omega arith))
-
-pub sum-low : (k : Book) (n : ℕ) → ((c : ℕ) → c < n → k .next c ≤ 4000000001) → sumNext k n ≤ n * 4000000001
-unfolding sumNext
-sum-low k zero h = omega arith
-sum-low k (suc n) h = omega (arith, sum-low k n (λ c g. h c (omega arith)), h n (omega arith))
 
 module _ {l : Ledger} (f : Fine l) (t : Name) (h : isClosed ((l .book .entry t) .stage) ≡ true) where
   abbrev limits-of : Limits (l .shape) t (l .book .entry t)
@@ -275,13 +271,9 @@ module _ {l : Ledger} (f : Fine l) (d : Bytes) (c : ℕ) where
 -- what the ledger has for its transaction is what its record gives
 pub record IsRead (l : Ledger) (d : Bytes) (c : ℕ) (e : Committed) : Type 0 where
   pub core : e .core ≡ c
-  pub low : l .book .oldest c ≤ e .number
-  pub high : e .number < l .book .uncommitted c
   pub unretired : Unretired ((l .book .entry (nameOf e)) .stage)
   pub count : e .count ≡ length ((l .book .entry (nameOf e)) .blocks)
   pub stamp : e .stamp ≡ l .stamp (nameOf e)
-  pub named : e .named ≡ length ((l .book .entry (nameOf e)) .names)
-  pub held : heldBy (l .shape) d e ≡ heldOf l (nameOf e)
   pub blocks : blocksOf (l .shape) d e ≡ (l .book .entry (nameOf e)) .blocks
   pub names : namesOf (l .shape) d e ≡ (l .book .entry (nameOf e)) .names
   pub images : (i : ℕ) → i < e .count → imageOf (l .shape) d e i ≡ getD (l .images (nameOf e)) i []
@@ -309,13 +301,9 @@ module _ {l : Ledger} (f : Fine l) (d : Bytes) (c : ℕ) (in-range : c < l .shap
       let held : heldBy (l .shape) d (readRecord l t p) ≡ heldOf l t = subst (λ (r : Committed). heldBy (l .shape) d r ≡ heldOf l t) e (held-read x st) in
       record {
         core = refl;
-        low = a;
-        high = b;
         unretired = u;
         count = refl;
         stamp = refl;
-        named = refl;
-        held = held;
         blocks = blocks-read l t d (readRecord l t p) held;
         names = subst (λ (r : Committed). namesOf (l .shape) d r ≡ (l .book .entry t) .names) e (names-read x st);
         images =

@@ -40,7 +40,7 @@ metIn-monotone : (k : Book) → Monotone (metIn k)
 unfolding metIn
 metIn-monotone k = named-monotone (λ (t : Name). (k .entry t) .names) (λ (t : Name). t) sameName sameName-true sameName-refl (belowOldest k)
 
-valid-unretired : (k : Book) (t : Name) → List·Memᴰ t (validIn k) → List·Memᴰ t (unretired k)
+pub valid-unretired : (k : Book) (t : Name) → List·Memᴰ t (validIn k) → List·Memᴰ t (unretired k)
 unfolding validIn
 valid-unretired k = shrink-within (metIn k) (unretired k)
 
