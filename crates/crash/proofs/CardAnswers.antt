@@ -152,7 +152,7 @@ module _ {l : Ledger} {w : World} (u : Up l w) (c : ℕ) (in-range : c < l .shap
       elim (rule-met u c in-range b low opens) [
         | met-none _ e r ↦ rw (r, e, entry-free (l .book) c current b o v e, short) refl
         | met-own _ _ e r ↦ rw (r, e, entry-own (l .book) c current b o v e, short) refl
-        | met-running n h runs is _ e r ↦ (let y = holder-matches u c in-range b low opens o v n h runs is in
+        | met-running n h runs is _ e r ↦ (let y = holder-matches u c in-range b low opens n h runs is in
             let z = u .fine .limits n (running-present _ runs) in
             let own = entry-running (l .book) c current b o v n (h .other) e in
             let back = entry-holder (l .book) c current b o v n (h .other) e in

@@ -185,6 +185,13 @@ module _ {l : Ledger} {w : World} (u : Up l w) where
               met-running n m r (ap (newName (n .core)) x) (λ y. ne (ap₂ newName y (x ∙ ap (l .book .next) y))) (rw (e, sameName-false n t ne, k) refl)
               (rw (q, writer-name, sameName-false n t ne, runs-in n core, r) refl)))
 
+      -- a running holder's transaction
+      pub holder-matches : (n : Name) → MetHolder n → (l .book .entry n) .stage ≡ running → n ≡ newName (n .core) (l .book .next (n .core))
+          → Matches ((coreOf (w .card) (n .core)) .running) (l .book .entry n)
+      holder-matches n h runs is =
+          let live : isRunning ((l .book .entry (newName (n .core) (l .book .next (n .core)))) .stage) ≡ true = rw (← is) (ap isRunning runs) in
+          rw (← is) at (u .cores (n .core) (h .core) .runs live)
+
       -- what the rules make of the writer's transaction, and of a running holder's
       module _ (o : ℕ) (v : Bytes) where
         abbrev t₂ : Name
@@ -211,13 +218,8 @@ module _ {l : Ledger} {w : World} (u : Up l w) where
             ]
 
         module _ (n : Name) (h : MetHolder n) (runs : (l .book .entry n) .stage ≡ running) (is : n ≡ newName (n .core) (l .book .next (n .core))) where
-          pub holder-matches : Matches ((coreOf (w .card) (n .core)) .running) (l .book .entry n)
-          holder-matches =
-              let live : isRunning ((l .book .entry (newName (n .core) (l .book .next (n .core)))) .stage) ≡ true = rw (← is) (ap isRunning runs) in
-              rw (← is) at (u .cores (n .core) (h .core) .runs live)
-
           pub holder-after : meeting c b (l .book) ≡ running-holder n → length ((k₂ .entry n) .names) ≤ 12
               → Matches (withName ((coreOf (w .card) (n .core)) .running) (writerName (w .card) c)) (k₂ .entry n)
           holder-after e short =
               let q = entry-holder (l .book) c (u .fine .ranks c in-range .current) b o v n (h .other) e in
-              rw (q, writer-name) (matches-name holder-matches t₂ (more-names t₂ (l .book .entry n) (rw q at short)))
+              rw (q, writer-name) (matches-name (holder-matches n h runs is) t₂ (more-names t₂ (l .book .entry n) (rw q at short)))

@@ -38,7 +38,7 @@ use Rattle.crash.proofs.CardFrames.{SameClosed, core-set, core-other, r
 use Rattle.crash.proofs.ReadMaster.{shape-up}
 
 -- ---- the blocks of a record, one by one
-module _ {l : Ledger} (f : Fine l) (t : Name) (h : isClosed ((l .book .entry t) .stage) ≡ true) where
+module _ (l : Ledger) (t : Name) where
   record-size : length (recordOf l t) ≡ length (l .images t) + 2
   unfolding recordOf
   record-size = length-recordBlocks (t .number) (heldOf l t) (l .stamp t) ((l .book .entry t) .names) (l .images t)
@@ -52,12 +52,13 @@ module _ {l : Ledger} (f : Fine l) (t : Name) (h : isClosed ((l .book .entry t) 
       recordBlocks-each (t .number) (heldOf l t) (l .stamp t) ((l .book .entry t) .names) (l .images t) P a b c i
       (omega (arith, length-recordBlocks (t .number) (heldOf l t) (l .stamp t) ((l .book .entry t) .names) (l .images t)))
 
+module _ {l : Ledger} (f : Fine l) (t : Name) (h : isClosed ((l .book .entry t) .stage) ≡ true) where
   record-blocks : (i : ℕ) → i < length (recordOf l t) → IsBlock (getD (recordOf l t) i [])
   unfolding descriptorBlock commitBlock
   record-blocks =
       let s = record-sound f t h in
       let z = f .frozen t h in
-      record-each (λ (i : ℕ) (b : Bytes). IsBlock b)
+      record-each l t (λ (i : ℕ) (b : Bytes). IsBlock b)
       (record { size = length-descriptor (t .number) (heldOf l t) (s .few); bytes = each-isBytes _ (each-block _) })
       (λ i g. let x = z .images i g in
       record { size = length-escaped (getD (l .images t) i []) (omega (arith, x .size)) ∙ x .size; bytes = escaped-bytes (getD (l .images t) i []) (x .bytes) })
@@ -68,9 +69,9 @@ module _ {l : Ledger} (f : Fine l) (t : Name) (h : isClosed ((l .book .entry t) 
       → isCommit (l .shape) n (getD (recordOf l t) i []) ≡ false
   record-clear i n g low last =
       let s = record-sound f t h in
-      let size = record-size in
+      let size = record-size l t in
       no-commit (l .shape) n (getD (recordOf l t) i [])
-      (record-each (λ (j : ℕ) (b : Bytes). (suc j ≡ length (recordOf l t) → t .number < n) → hasHead 2 n b ≡ false)
+      (record-each l t (λ (j : ℕ) (b : Bytes). (suc j ≡ length (recordOf l t) → t .number < n) → hasHead 2 n b ≡ false)
       (λ _. head-other 1 (t .number) 2 n _ (descriptor-head s) (λ e _. omega arith))
       (λ j _ _. escaped-head (getD (l .images t) j []) 2 n)
       (λ z. head-other 2 (t .number) 2 n _ (commit-head s) (λ _ e. omega (arith, z (omega arith))))
@@ -124,7 +125,7 @@ module _ {l : Ledger} {w : World} (u : Up l w) (c : ℕ) (in-range : c < l .shap
       let y = u .cores c in-range in
       let m = y .closing busy in
       let n = u .fine .frozen t closed-now .count in
-      record-each (u .fine) t closed-now (λ (i : ℕ) (b : Bytes). x .stored ≡ i → nextStored c x (w .memory) ≡ b)
+      record-each l t (λ (i : ℕ) (b : Bytes). x .stored ≡ i → nextStored c x (w .memory) ≡ b)
       (λ e. rw (eq-eqb (x .stored) 0 e, m .blocks, next-now, held-copies l t c (w .memory) (y .copies busy)) refl)
       (λ i g e.
       let d : x .stored - 1 ≡ i = omega arith in

@@ -164,8 +164,8 @@ module _ {l : Ledger} (f : Fine l) (t : Name) (h : isClosed ((l .book .entry t) 
   length-record =
       length-recordBlocks (t .number) (heldOf l t) (l .stamp t) ((l .book .entry t) .names) (l .images t) ∙ ap (λ (n : ℕ). n + 2) (f .frozen t h .count)
 
-  as-read : (p : ℕ) → asRead (t .core) p (t .number) (heldOf l t) (l .stamp t) ((l .book .entry t) .names) ≡ readRecord l t p
-  as-read p = rw (length-held l t)
+as-read : (l : Ledger) (t : Name) (p : ℕ) → asRead (t .core) p (t .number) (heldOf l t) (l .stamp t) ((l .book .entry t) .names) ≡ readRecord l t p
+as-read l t p = rw (length-held l t)
 
 -- ---- blocks that stand one after the other, from a position on
 module _ (s : Shape) (d : Bytes) (c : ℕ) where
@@ -260,7 +260,7 @@ module _ {l : Ledger} (f : Fine l) (d : Bytes) (c : ℕ) where
       let x = z .0 i (omega arith) (omega arith) in
       let e = length-held l t in
       let hit : recordAt (l .shape) d c i p left ≡ Whole (readRecord l t p) =
-      record-read (record-sound f t x) (first-stands i p n z) left (omega arith) ∙ ap Whole (as-read f t x p) in
+      record-read (record-sound f t x) (first-stands i p n z) left (omega arith) ∙ ap Whole (as-read l t p) in
       let s : i + suc n ≡ suc i + n = omega arith in
       records-hit (l .shape) d c i p left most (readRecord l t p) hit
       ∙ rw add-one
@@ -297,7 +297,7 @@ module _ {l : Ledger} (f : Fine l) (d : Bytes) (c : ℕ) (in-range : c < l .shap
       let t = newName c i in
       let u = stored-unretired (f .ranks c in-range) i a b in
       let x = record-sound f t (u .is-closed) in
-      let e = as-read f t (u .is-closed) p in
+      let e = as-read l t p in
       let held : heldBy (l .shape) d (readRecord l t p) ≡ heldOf l t = subst (λ (r : Committed). heldBy (l .shape) d r ≡ heldOf l t) e (held-read x st) in
       record {
         core = refl;

@@ -163,8 +163,8 @@ module _ {l : Ledger} {w : World} (u : UpAt l w) where
       let f = u .up .fine in
       cut-up (u .up)
       (record {
-        held = λ b h m. held-newest (u .inv) (u .imaged) (numbered l f) b m;
-        home = λ b h n. u .homes b h ∙ home-target (u .inv) (u .imaged) (numbered l f) b h n;
+        held = λ b h m. held-newest (u .inv) (numbered l f) b (u .imaged) m;
+        home = λ b h n. u .homes b h ∙ home-target (u .inv) (numbered l f) b h n;
       })
 
 -- a card that has just come up, over the area that its saved writes give
