@@ -15,13 +15,13 @@ use Rattle.model.specs.Card.{isDown}
 use Rattle.model.specs.Layout.{maxNumber}
 use Rattle.model.specs.declared.Phase.{Phase}
 use Rattle.model.specs.declared.Shape.{Shape}
+use Rattle.model.proofs.Lists.{cases}
 use Rattle.crash.specs.Book.{Book, emptyBook, keptWrites, image, blank}
 use Rattle.crash.specs.Service.{Service, emptyService, noted, cutService, fed}
 use Rattle.crash.specs.Ledger.{Ledger, freshLedger, blankLedger, withBook, closeLedger, cutLedger, recoverLedger, entered}
 use Rattle.crash.specs.Claims.{downLedger}
-use Rattle.model.proofs.Lists.{cases}
-use Rattle.crash.proofs.Rename.{Renamed, SameWrites, empty-renamed, close-renamed, noted-renamed, same-image, kept-saved}
 use Rattle.crash.proofs.Tests.{clash}
+use Rattle.crash.proofs.Rename.{Renamed, SameWrites, empty-renamed, close-renamed, noted-renamed, same-image, kept-saved}
 
 -- a blank card is as one just come up, with nothing written
 pub data Agrees (v : Service) (l : Ledger) : Type 0 where

@@ -19,21 +19,21 @@ use Rattle.model.specs.Layout.{maxNumber}
 use Rattle.model.specs.Command.{World, refusal, notUp, noCore, noBlock}
 use Rattle.model.specs.Write.{writer, ruleFor, takesBlock, passesTwelve, listsFull, closedBlocks, journalFull, writeConditions}
 use Rattle.model.specs.Commit.{closeConditions, storeConditions}
+use Rattle.model.specs.Checkpoint.{checkpointConditions}
 use Rattle.model.specs.declared.Shape.{Shape}
 use Rattle.model.specs.declared.Name.{Name}
 use Rattle.model.specs.declared.Transaction.{Transaction}
 use Rattle.model.proofs.Lists.{cases, or-none}
 use Rattle.crash.specs.Book.{absent, running, isRunning, Entry, Book, begin, staged, taking, naming, holderIn, wrote}
 use Rattle.crash.specs.Ledger.{Ledger, namesCount, holderNames, recordBlocks, notUpFor, writeRefusals, closeRefusals, storeRefusals, checkpointRefusals}
-use Rattle.crash.proofs.Relation.{Matches, Up}
 use Rattle.crash.proofs.BookEntries.{change-at, records-snoc}
 use Rattle.crash.proofs.BookSteps.{begun, meeting}
-use Rattle.crash.proofs.CardRules.{entry-free, entry-own, entry-running, entry-closed, entry-holder, live-runs, writer-name, writer-matches, met-none, met-own, met-running, met-closed, rule-met, writer-after, holder-matches}
+use Rattle.crash.proofs.Relation.{Matches, Up}
 use Rattle.crash.proofs.LedgerStages.{running-present}
 use Rattle.crash.proofs.ReadMaster.{shape-up}
-use Rattle.crash.proofs.CardCut.{right-length}
 use Rattle.crash.proofs.ReadCheckpoint.{none-committed, oldest-valid, oldest-shares}
-use Rattle.model.specs.Checkpoint.{checkpointConditions}
+use Rattle.crash.proofs.CardRules.{entry-free, entry-own, entry-running, entry-closed, entry-holder, live-runs, writer-name, writer-matches, met-none, met-own, met-running, met-closed, rule-met, writer-after, holder-matches}
+use Rattle.crash.proofs.CardCut.{right-length}
 
 -- ---- conditions one by one
 -- the same conditions, each as far as none before it holds

@@ -32,15 +32,15 @@ use Rattle.model.proofs.Journal.{journal-wrap}
 use Rattle.model.proofs.Valid.{sameName-refl}
 use Rattle.crash.specs.Book.{Stage, committed, retired, isClosed, isRetired, counted, Entry, Write, Book, raise, holderIn, checkpoint}
 use Rattle.crash.specs.Ledger.{Ledger, withBook, imageNow, recordBlocks}
-use Rattle.crash.proofs.Relation.{IsBlock, Fine, recordOf, contents, JournalStands, DiskStands, CoreUp, holderAs, Up}
-use Rattle.crash.proofs.LedgerStages.{closed-present}
-use Rattle.crash.proofs.ReadRecords.{readRecord, IsRead, length-record}
+use Rattle.crash.proofs.Tests.{clash, impossible}
 use Rattle.crash.proofs.BookEntries.{same-or-not, sameName-false, other-number, other-core, raise-at, raise-other, records-cons}
 use Rattle.crash.proofs.BookSteps.{Restages, restaged, restages, restages-records, restages-holder, retired-none, retired-other, checkpoint-home, checkpoint-retires}
-use Rattle.crash.proofs.CardFrames.{core-set, core-other, record-same, contents-same, low-stored, low-other, low-journal, low-size, low-bytes, home-stands}
-use Rattle.crash.proofs.ReadCheckpoint.{oldest-of, oldest-is}
-use Rattle.crash.proofs.Tests.{clash, impossible}
+use Rattle.crash.proofs.Relation.{IsBlock, Fine, recordOf, contents, JournalStands, DiskStands, CoreUp, holderAs, Up}
+use Rattle.crash.proofs.LedgerStages.{closed-present}
 use Rattle.crash.proofs.ReadMaster.{shape-up, master-block}
+use Rattle.crash.proofs.ReadRecords.{readRecord, IsRead, length-record}
+use Rattle.crash.proofs.ReadCheckpoint.{oldest-of, oldest-is}
+use Rattle.crash.proofs.CardFrames.{core-set, core-other, record-same, contents-same, low-stored, low-other, low-journal, low-size, low-bytes, home-stands}
 
 -- ---- the ledger with one stage and the oldest numbers changed
 module _ (l : Ledger) (t : Name) (g : Stage) (o : ℕ → ℕ) where

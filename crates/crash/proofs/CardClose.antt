@@ -21,18 +21,18 @@ use Rattle.model.specs.declared.Core.{Core}
 use Rattle.model.specs.declared.Holder.{Holder}
 use Rattle.model.proofs.Lists.{getD-mem, getD-map}
 use Rattle.model.proofs.Store.{length-store, length-blockAt, block-stored, block-other}
+use Rattle.model.proofs.Sizes.{length-copied}
 use Rattle.crash.specs.Book.{absent, running, closed, isRunning, Entry, staged, close, holderIn}
 use Rattle.crash.specs.Ledger.{Ledger, closeLedger, imageNow, recordBlocks}
 use Rattle.crash.specs.Claims.{IsBytes}
-use Rattle.crash.proofs.Relation.{sumNext, Fine, contents, JournalStands, DiskStands, Matches, CoreUp, holderAs, Up}
+use Rattle.crash.proofs.Tests.{clash}
 use Rattle.crash.proofs.BookEntries.{other-number, other-core, change-at, raise-at, raise-other, records-snoc}
 use Rattle.crash.proofs.BookSteps.{Restages, restages-records, close-restages, close-book, close-holder, close-stamp, close-images, close-stamp-other, close-images-other}
 use Rattle.crash.proofs.BlockBytes.{bytes-store, bytes-blockAt}
-use Rattle.crash.proofs.CardFrames.{SameClosed, record-same, contents-same, none-stored, journal-stays, core-stays}
-use Rattle.crash.proofs.Tests.{clash}
+use Rattle.crash.proofs.Relation.{sumNext, Fine, contents, JournalStands, DiskStands, Matches, CoreUp, holderAs, Up}
 use Rattle.crash.proofs.LedgerStages.{running-present}
-use Rattle.model.proofs.Sizes.{length-copied}
 use Rattle.crash.proofs.LedgerSteps.{sum-low}
+use Rattle.crash.proofs.CardFrames.{SameClosed, record-same, contents-same, none-stored, journal-stays, core-stays}
 
 -- ---- copies
 module _ (c : ℕ) (eight : c < 8) where

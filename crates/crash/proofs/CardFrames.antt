@@ -11,7 +11,9 @@ use mathlib.Core.List.{List, _++_}
 use lib.ListN.{length, take}
 use lib.Seq.{getD-set-same, getD-set-other}
 use Rattle.model.specs.Bytes.{Bytes, blockAt, store}
+use Rattle.model.specs.Shape.{homeBlock, journalBlock}
 use Rattle.model.specs.Card.{newName, freshCore, coreOf, withCore, withRunning}
+use Rattle.model.specs.Layout.{isCommit}
 use Rattle.model.specs.Journal.{journalAt}
 use Rattle.model.specs.Commit.{copyBlock}
 use Rattle.model.specs.declared.Name.{Name}
@@ -20,17 +22,15 @@ use Rattle.model.specs.declared.Transaction.{Transaction}
 use Rattle.model.specs.declared.Core.{Core}
 use Rattle.model.specs.declared.Card.{Card}
 use Rattle.model.proofs.Lists.{flatMap-below}
-use Rattle.crash.specs.Book.{Stage, absent, running, isRunning, isClosed, counted, Entry}
-use Rattle.crash.specs.Ledger.{Ledger, recordBlocks}
-use Rattle.crash.proofs.LedgerStages.{closed-present}
-use Rattle.crash.proofs.BookEntries.{records-same}
-use Rattle.crash.proofs.Relation.{Fine, heldOf, recordOf, contents, JournalStands, CoreUp, Matches, IsBlock, DiskStands}
 use Rattle.model.proofs.Store.{length-store, block-stored, block-other}
 use Rattle.model.proofs.Journal.{home-apart}
-use Rattle.model.specs.Shape.{homeBlock, journalBlock}
-use Rattle.model.specs.Layout.{isCommit}
+use Rattle.crash.specs.Book.{Stage, absent, running, isRunning, isClosed, counted, Entry}
+use Rattle.crash.specs.Ledger.{Ledger, recordBlocks}
 use Rattle.crash.specs.Claims.{IsBytes}
+use Rattle.crash.proofs.BookEntries.{records-same}
 use Rattle.crash.proofs.BlockBytes.{bytes-store}
+use Rattle.crash.proofs.Relation.{Fine, heldOf, recordOf, contents, JournalStands, CoreUp, Matches, IsBlock, DiskStands}
+use Rattle.crash.proofs.LedgerStages.{closed-present}
 
 -- ---- one core of the card replaced
 pub core-set : (x : Card) (c : ℕ) (k : Core) → c < length (x .cores) → coreOf (withCore x c k) c ≡ k

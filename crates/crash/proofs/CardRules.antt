@@ -25,10 +25,10 @@ use Rattle.model.proofs.Lists.{cases}
 use Rattle.model.proofs.Valid.{sameName-refl}
 use Rattle.crash.specs.Book.{absent, running, isRunning, isClosed, Entry, Book, staged, taking, naming, begin, holderIn, Meeting, no-holder, own, running-holder, closed-holder, meets, ruled, change, wrote}
 use Rattle.crash.specs.Ledger.{Ledger}
-use Rattle.crash.proofs.Relation.{Matches, holderAs, Up}
-use Rattle.crash.proofs.LedgerStages.{present-open, closed-idle, running-next}
 use Rattle.crash.proofs.BookEntries.{same-or-not, sameName-false, change-at, change-other}
 use Rattle.crash.proofs.BookSteps.{begun, meeting, begun-other, wrote-entry}
+use Rattle.crash.proofs.Relation.{Matches, holderAs, Up}
+use Rattle.crash.proofs.LedgerStages.{present-open, closed-idle, running-next}
 
 -- ---- a transaction of the card and its entry
 matches-block : {t : Transaction} {e : Entry} → Matches t e → (b : ℕ) → length (e .blocks) < 8 → Matches (withBlock t b) (taking b e)

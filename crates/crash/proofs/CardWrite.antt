@@ -14,8 +14,8 @@ use Rattle.model.specs.Bytes.{Bytes, replaced, blockAt, store}
 use Rattle.model.specs.Shape.{homeBlock}
 use Rattle.model.specs.Card.{newName, noHolder, withName, withRunning, tailOf, coreOf, holderOf, withCore, withHolder}
 use Rattle.model.specs.Command.{World}
-use Rattle.model.specs.Commit.{copyBlock}
 use Rattle.model.specs.Write.{writerName, ruleFor, takesBlock, isNamedBack, loadsImage, writerAfter, writtenCard, writtenMemory, written}
+use Rattle.model.specs.Commit.{copyBlock}
 use Rattle.model.specs.declared.Name.{Name}
 use Rattle.model.specs.declared.Transaction.{Transaction}
 use Rattle.model.specs.declared.Core.{Core}
@@ -26,14 +26,14 @@ use Rattle.model.proofs.Store.{length-replaced, length-store, length-blockAt, b
 use Rattle.crash.specs.Book.{absent, running, isRunning, counted, Book, holderIn, running-holder, holderAfter, wrote}
 use Rattle.crash.specs.Ledger.{Ledger, withBook, imageNow, recordBlocks}
 use Rattle.crash.specs.Claims.{IsBytes}
-use Rattle.crash.proofs.Relation.{Fine, Limits, JournalStands, Matches, CoreUp, holderAs, Up}
-use Rattle.crash.proofs.BlockBytes.{block-written, block-unwritten, bytes-replaced, bytes-store, bytes-blockAt}
+use Rattle.crash.proofs.Tests.{clash, impossible}
 use Rattle.crash.proofs.BookEntries.{other-core, meets-met, meets-running, metHolder}
 use Rattle.crash.proofs.BookSteps.{meeting, wrote-numbers, wrote-running, wrote-stage, wrote-blocks-other, wrote-other, wrote-holder, wrote-holder-other, wrote-image, wrote-image-other}
+use Rattle.crash.proofs.BlockBytes.{block-written, block-unwritten, bytes-replaced, bytes-store, bytes-blockAt}
+use Rattle.crash.proofs.Relation.{Fine, Limits, JournalStands, Matches, CoreUp, holderAs, Up}
+use Rattle.crash.proofs.LedgerStages.{running-present, present-open, running-next}
 use Rattle.crash.proofs.CardFrames.{SameClosed, core-set, core-other, none-stored, journal-stays, core-stays}
 use Rattle.crash.proofs.CardRules.{writer-name, Met, met-none, met-own, met-running, met-closed, rule-met, writer-after, holder-after}
-use Rattle.crash.proofs.Tests.{clash, impossible}
-use Rattle.crash.proofs.LedgerStages.{running-present, present-open, running-next}
 
 -- ---- the card afterwards
 -- what WRITE leaves of a card

@@ -19,17 +19,17 @@ use Rattle.model.specs.declared.Shape.{Shape}
 use Rattle.model.specs.declared.Name.{Name}
 use Rattle.model.proofs.Limits.{InRange}
 use Rattle.model.proofs.Lists.{cases, getD-mem}
-use Rattle.model.proofs.Select.{select-mem}
 use Rattle.model.proofs.Store.{length-replaced}
+use Rattle.model.proofs.Select.{select-mem}
 use Rattle.crash.specs.Book.{Stage, absent, running, closed, committed, retired, isClosed, Entry, Write, Book, emptyBook, raise, close, store, checkpoint, keptWrites, image, blank}
 use Rattle.crash.specs.Ledger.{Ledger, freshLedger, withBook, imageNow, closeLedger, cutLedger, recoverLedger, blocksIn}
 use Rattle.crash.specs.Claims.{IsBytes}
-use Rattle.crash.proofs.Relation.{IsBlock, Limits, WriteFits, Frozen, Ranks, sumNext, Fine}
+use Rattle.crash.proofs.Tests.{impossible}
 use Rattle.crash.proofs.BookEntries.{nextName, uncommittedName, oldestName, same-or-not, other-number, other-core, raise-at, raise-other}
 use Rattle.crash.proofs.BookSteps.{Restages, restaged, restages, restages-keep, close-stamp, close-images, close-stamp-other, close-images-other, store-more, store-last, checkpoint-home, checkpoint-retires}
-use Rattle.crash.proofs.LedgerStages.{closed-present, running-present}
 use Rattle.crash.proofs.BlockBytes.{bytes-replaced}
-use Rattle.crash.proofs.Tests.{impossible}
+use Rattle.crash.proofs.Relation.{IsBlock, Limits, WriteFits, Frozen, Ranks, sumNext, Fine}
+use Rattle.crash.proofs.LedgerStages.{closed-present, running-present}
 
 -- ---- current images are blocks of bytes
 replaced-block : (o : ℕ) (x v : Bytes) → o ≤ 124 → length v ≡ 4 → IsBytes v → IsBlock x → IsBlock (replaced o 4 x v)

@@ -21,12 +21,12 @@ use Rattle.model.proofs.Lists.{cases, getD-mem, or-none}
 use Rattle.crash.specs.Book.{absent, running, isRunning, isClosed, Entry, Book, change, staged, begin, holderIn, Meeting, own, running-holder, meets, ruled, note, wrote}
 use Rattle.crash.specs.Ledger.{Ledger, withBook, namesCount, holderNames}
 use Rattle.crash.specs.Claims.{IsBytes}
-use Rattle.crash.proofs.Relation.{Limits, WriteFits, Fine}
+use Rattle.crash.proofs.Tests.{clash, impossible}
 use Rattle.crash.proofs.BookEntries.{nextName, same-or-not, change-at, change-other, change-by, takes, metHolder, meets-met, meets-own, running-or-not, ruled-other, ruled-stage, ruled-blocks, ruled-blocks-other, ruled-names}
 use Rattle.crash.proofs.BookSteps.{begun, begun-by, begun-fields, begun-same, begun-other, begun-running, begun-holder, begun-meets}
-use Rattle.crash.proofs.LedgerSteps.{ranks-kept, limits-same, same-frozen, sum-same}
+use Rattle.crash.proofs.Relation.{Limits, WriteFits, Fine}
 use Rattle.crash.proofs.LedgerStages.{running-present}
-use Rattle.crash.proofs.Tests.{clash, impossible}
+use Rattle.crash.proofs.LedgerSteps.{ranks-kept, limits-same, same-frozen, sum-same}
 
 -- ---- one block more
 snoc-distinct : (xs : List ℕ) (b : ℕ) → ((i j : ℕ) → i < length xs → j < length xs → getD xs i 0 ≡ getD xs j 0 → i ≡ j) → (List·Memᴰ b xs → ⊥)

@@ -26,10 +26,10 @@ use Rattle.model.proofs.Tape.{pointAt, Runs, at-end, one-more, run-runs}
 use Rattle.crash.specs.Book.{keptWrites, image, blank}
 use Rattle.crash.specs.Service.{Service, bookArea}
 use Rattle.crash.specs.Ledger.{Ledger, freshLedger, blankLedger, recoverLedger, entered, writeRefusals, closeRefusals, storeRefusals, checkpointRefusals, refusalsOf}
-use Rattle.crash.proofs.Agreement.{Agrees, Suits, blank-agrees, down-agrees, fed-agrees, area-same}
 use Rattle.crash.specs.Claims.{IsBytes, answerOf, JournalsRead, recoverStore, PointKept, LedgerKept, ComesUp, AreaKept, homeArea, fedPoint, blankStart, downStart, downLedger, Claim, Demands}
-use Rattle.crash.proofs.BlockBytes.{bytes-take, bytes-drop}
 use Rattle.crash.proofs.Tests.{clash}
+use Rattle.crash.proofs.BlockBytes.{bytes-take, bytes-drop}
+use Rattle.crash.proofs.Agreement.{Agrees, Suits, blank-agrees, down-agrees, fed-agrees, area-same}
 
 -- ---- a command of the tape as a point: 2 and 3 by what stands on the tape
 module _ (t : Bytes) (at : ℕ) (on-tape : at < length t) where

@@ -23,12 +23,12 @@ use Rattle.model.specs.declared.Committed.{Committed}
 use Rattle.model.proofs.Lists.{and-both, and-left, and-right, or-left, or-right, or-cases, any-mem, mem-any, mem-below, below-mem}
 use Rattle.crash.specs.Book.{isClosed, isRetired}
 use Rattle.crash.specs.Ledger.{Ledger, validIn, sharesLowerIn}
+use Rattle.crash.proofs.Tests.{clash, same-test}
 use Rattle.crash.proofs.Relation.{Fine, Up}
 use Rattle.crash.proofs.LedgerStages.{closed-present, unretired-rank, closing-stage}
+use Rattle.crash.proofs.ReadMaster.{shape-up}
 use Rattle.crash.proofs.ReadRecords.{readRecord, readList, IsRead, length-readList, readList-has, readList-first, readList-is, journal-read}
 use Rattle.crash.proofs.ReadValid.{journals-are, listed-journals, valid-same}
-use Rattle.crash.proofs.Tests.{clash, same-test}
-use Rattle.crash.proofs.ReadMaster.{shape-up}
 
 -- ---- what is read
 module _ {l : Ledger} {w : World} (u : Up l w) where

@@ -33,8 +33,8 @@ use Rattle.crash.specs.Ledger.{Ledger, recordBlocks, storedOf, storedSin
 use Rattle.crash.specs.Claims.{readAs, JournalsRead}
 use Rattle.crash.proofs.Relation.{Limits, Fine, heldOf, recordOf, contents, DiskStands}
 use Rattle.crash.proofs.LedgerStages.{closed-present, Unretired, stored-unretired}
-use Rattle.crash.proofs.ReadMaster.{shape-read, tail-read}
 use Rattle.crash.proofs.LedgerSteps.{sum-low}
+use Rattle.crash.proofs.ReadMaster.{shape-read, tail-read}
 
 -- ---- the list that the reader finds
 -- the record of transaction t at a position

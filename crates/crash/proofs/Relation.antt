@@ -15,8 +15,8 @@ use Rattle.model.specs.Shape.{homeBlock}
 use Rattle.model.specs.Card.{newName, taken, listed, noHolder, tailOf, coreOf, holderOf}
 use Rattle.model.specs.Layout.{Held, newHeld, flagOf, masterBlock, isCommit}
 use Rattle.model.specs.Journal.{journalAt}
-use Rattle.model.specs.Commit.{copyBlock}
 use Rattle.model.specs.Command.{World}
+use Rattle.model.specs.Commit.{copyBlock}
 use Rattle.model.specs.declared.Phase.the-variants.{Up as PhaseUp, Down as PhaseDown}
 use Rattle.model.specs.declared.Shape.{Shape}
 use Rattle.model.specs.declared.Tail.{Tail}
@@ -25,10 +25,10 @@ use Rattle.model.specs.declared.Transaction.{Transaction}
 use Rattle.model.specs.declared.Core.{Core}
 use Rattle.model.specs.declared.Holder.{Holder}
 use Rattle.model.proofs.Limits.{InRange}
+use Rattle.model.proofs.Journal.{recordBlocks as storedBlocks}
 use Rattle.crash.specs.Book.{absent, running, closed, committed, retired, isRunning, isClosed, counted, Entry, Write, Book, holderIn, keptWrites, image, blank}
 use Rattle.crash.specs.Ledger.{Ledger, imageNow, validIn, blocksIn, recordBlocks}
 use Rattle.crash.specs.Claims.{IsBytes}
-use Rattle.model.proofs.Journal.{recordBlocks as storedBlocks}
 
 -- a block of bytes
 pub record IsBlock (x : Bytes) : Type 0 where

@@ -16,50 +16,50 @@ use Rattle.model.specs.Lists.{any}
 use Rattle.model.specs.Bytes.{Bytes, blockAt, zeroMemory, number, part}
 use Rattle.model.specs.Shape.{between, homeBlock, inRange}
 use Rattle.model.specs.Card.{newName, sameName, blankCard, isBlank, isUp, isDown, shapeOf, downCard, emptyCard, freshCard}
+use Rattle.model.specs.Layout.{maxNumber}
 use Rattle.model.specs.Command.{World, Outcome, refusal, unstored, wrongLength}
+use Rattle.model.specs.Format.{formatted}
+use Rattle.model.specs.Write.{written}
 use Rattle.model.specs.Commit.{closed, stored}
 use Rattle.model.specs.Checkpoint.{checkpointed}
 use Rattle.model.specs.Recovery.{recovered}
 use Rattle.model.specs.Tape.{step, operandLength, operandLengths}
-use Rattle.model.proofs.Limits.{between-known, range-test}
-use Rattle.model.proofs.Command.{Numbered, rowOf, refusedWith, step-refused, step-done, Clear, refusal-clear, step-answer, refusal-passed}
 use Rattle.model.specs.declared.Name.{Name}
 use Rattle.model.specs.declared.Shape.{Shape}
 use Rattle.model.specs.declared.Card.{Card}
 use Rattle.model.specs.declared.Phase.the-variants.{Blank}
+use Rattle.model.specs.declared.Phase.{Phase}
+use Rattle.model.proofs.Limits.{between-known, range-test}
 use Rattle.model.proofs.Lists.{cases, and-left, getD-mem}
-use Rattle.model.specs.Format.{formatted}
-use Rattle.crash.proofs.CardFormat.{format-home, format-up, down-start}
-use Rattle.crash.proofs.CardRecover.{recover-home, recovered-home, recover-master, recover-stores, recover-up}
-use Rattle.crash.proofs.PhaseAnswers.{down-answers, blank-answers, up-answers}
-use Rattle.crash.specs.Service.{noted}
-use Rattle.model.specs.Layout.{maxNumber}
-use Rattle.model.specs.Write.{written}
-use Rattle.crash.proofs.CardWrite.{write-up}
-use Rattle.crash.proofs.LedgerWrite.{fine-wrote}
-use Rattle.crash.proofs.CardAnswers.{write-answers, close-answers, store-answers, checkpoint-answers}
-use Rattle.crash.proofs.ReadRecords.{journals-read}
+use Rattle.model.proofs.Command.{Numbered, rowOf, refusedWith, step-refused, step-done, Clear, refusal-clear, step-answer, refusal-passed}
 use Rattle.crash.specs.Book.{Book, Write, absent, running, committed, kept, image, blank, isClosed, holderIn, store, checkpoint, keptWrites, isRunning, wrote, meets}
+use Rattle.crash.specs.Service.{noted}
 use Rattle.crash.specs.Ledger.{Ledger, freshLedger, blankLedger, cutLedger, entered, refusalsOf, withBook, closeLedger, validIn, sharesLowerIn, recoverLedger, formatRefusals, writeRefusals, closeRefusals, storeRefusals, checkpointRefusals, notUpFor, namesCount, holderNames, recordBlocks}
 use Rattle.crash.specs.Claims.{recoverStore, IsBytes, JournalsRead, Claim, Demands}
-use Rattle.crash.proofs.Points.{Kept, Relates, claimed, demanded}
 use Rattle.crash.proofs.Tests.{clash, any-in, in-any, nameEquality, blockEquality}
+use Rattle.crash.proofs.BlockBytes.{bytes-take, bytes-drop}
 use Rattle.crash.proofs.Largest.{memberOf, RetiredBelow, valid-is-kept}
 use Rattle.crash.proofs.Invariant.{Inv, imageAt, opened-of}
 use Rattle.crash.proofs.InvariantSteps.{inv-fresh, inv-close, inv-store, inv-retire, inv-home-store, lower-retired}
 use Rattle.crash.proofs.InvariantWrite.{home-current, open-holds, holder-took, inv-wrote}
 use Rattle.crash.proofs.ClosedImages.{Imaged, image-of-closed, imaged-fresh, imaged-close, imaged-store, imaged-retire, imaged-home-store, imaged-wrote}
 use Rattle.crash.proofs.Relation.{Fine, Up, DownBy, target}
-use Rattle.crash.proofs.LedgerSteps.{fine-close, fine-store, fine-checkpoint}
-use Rattle.crash.proofs.CardCut.{cut-up, cut-down, right-length}
-use Rattle.crash.proofs.Given.{held-newest, home-target}
-use Rattle.crash.proofs.CardStore.{store-up, store-homes}
-use Rattle.crash.proofs.CardClose.{close-up}
-use Rattle.crash.proofs.CardCheckpoint.{checkpoint-up, home-stored, home-others, homes-stay}
-use Rattle.crash.proofs.ReadMaster.{shape-up}
-use Rattle.crash.proofs.BlockBytes.{bytes-take, bytes-drop}
 use Rattle.crash.proofs.LedgerStages.{running-is, below-oldest}
-use Rattle.model.specs.declared.Phase.{Phase}
+use Rattle.crash.proofs.LedgerSteps.{fine-close, fine-store, fine-checkpoint}
+use Rattle.crash.proofs.LedgerWrite.{fine-wrote}
+use Rattle.crash.proofs.ReadMaster.{shape-up}
+use Rattle.crash.proofs.ReadRecords.{journals-read}
+use Rattle.crash.proofs.CardWrite.{write-up}
+use Rattle.crash.proofs.CardClose.{close-up}
+use Rattle.crash.proofs.CardStore.{store-up, store-homes}
+use Rattle.crash.proofs.CardCheckpoint.{checkpoint-up, home-stored, home-others, homes-stay}
+use Rattle.crash.proofs.CardCut.{cut-up, cut-down, right-length}
+use Rattle.crash.proofs.CardFormat.{format-home, format-up, down-start}
+use Rattle.crash.proofs.CardRecover.{recover-home, recovered-home, recover-master, recover-stores, recover-up}
+use Rattle.crash.proofs.CardAnswers.{write-answers, close-answers, store-answers, checkpoint-answers}
+use Rattle.crash.proofs.PhaseAnswers.{down-answers, blank-answers, up-answers}
+use Rattle.crash.proofs.Given.{held-newest, home-target}
+use Rattle.crash.proofs.Points.{Kept, Relates, claimed, demanded}
 
 -- ---- a card that is up: the bytes and the histories of the blocks agree with the ledger
 record UpAt (l : Ledger) (w : World) : Type 0 where
