@@ -26,7 +26,7 @@ use Rattle.model.specs.declared.Transaction.{Transaction}
 use Rattle.model.proofs.Lists.{cases, or-none}
 use Rattle.crash.specs.Book.{absent, running, isRunning, Entry, Book, begin, staged, taking, naming, holderIn, wrote}
 use Rattle.crash.specs.Ledger.{Ledger, namesCount, holderNames, recordBlocks, notUpFor, writeRefusals, closeRefusals, storeRefusals, checkpointRefusals}
-use Rattle.crash.proofs.BookEntries.{change-at, records-snoc}
+use Rattle.crash.proofs.BookEntries.{change-at, records-snoc, nextName}
 use Rattle.crash.proofs.BookSteps.{begun, meeting}
 use Rattle.crash.proofs.Relation.{Matches, Up}
 use Rattle.crash.proofs.LedgerStages.{running-present}
@@ -119,7 +119,7 @@ blocks-pass {t} {e} m b = rw (m .count, length-append (e .blocks) (b ∷ [])) (s
 module _ {l : Ledger} {w : World} (u : Up l w) (c : ℕ) (in-range : c < l .shape .cores) (b : ℕ) (low : b < l .shape .blocks)
     (opens : (n : Name) → holderIn (l .book) b (l .book .writes) ≡ some n → (l .book .entry n) .stage ≢ absent) (o : ℕ) (v : Bytes) where
   abbrev t : Name
-  t = newName c (l .book .next c)
+  t = nextName c (l .book)
 
   abbrev k₂ : Book
   k₂ = wrote c b o v (l .book)
@@ -188,7 +188,7 @@ pub write-answers : {l : Ledger} {w : World} → Up l w → (c b o : ℕ) (v : B
 unfolding writeConditions writeRefusals noBlock namesCount
 write-answers {l} {w} u c b o v opens =
     let k₂ = wrote c b o v (l .book) in
-    let t = newName c (l .book .next c) in
+    let t = nextName c (l .book) in
     up-refusal u c _ _
     (λ h.
     then (ap (λ (s : Shape). leb (s .blocks) b) (shape-up u))

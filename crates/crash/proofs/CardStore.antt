@@ -29,7 +29,7 @@ use Rattle.model.proofs.Encoding.{length-descriptor, length-commit, length-esca
 use Rattle.model.proofs.Journal.{journal-low, home-apart, cores-apart, journal-apart, length-recordBlocks, recordBlocks-each}
 use Rattle.crash.specs.Book.{closed, committed, isClosed, counted, Entry, Book, raise, staged, store}
 use Rattle.crash.specs.Ledger.{Ledger, withBook, imageNow, recordBlocks}
-use Rattle.crash.proofs.BookEntries.{other-number, other-core, change-at, raise-at, raise-other, records-snoc}
+use Rattle.crash.proofs.BookEntries.{other-number, other-core, change-at, raise-at, raise-other, records-snoc, nextName, uncommittedName}
 use Rattle.crash.proofs.BookSteps.{Restages, restaged, restages-records, storedStage, store-restages, store-more, store-last, store-holder}
 use Rattle.crash.proofs.BlockBytes.{bytes-store, each-isBytes, escaped-bytes}
 use Rattle.crash.proofs.Relation.{IsBlock, Fine, heldOf, recordOf, contents, JournalStands, DiskStands, CoreUp, holderAs, Up}
@@ -89,7 +89,7 @@ held-copies l t c m h =
 
 module _ {l : Ledger} {w : World} (u : Up l w) (c : ℕ) (in-range : c < l .shape .cores) (busy : l .book .uncommitted c < l .book .next c) where
   abbrev t : Name
-  t = newName c (l .book .uncommitted c)
+  t = uncommittedName c (l .book)
 
   abbrev x : Core
   x = coreOf (w .card) c
@@ -253,8 +253,8 @@ module _ {l : Ledger} {w : World} (u : Up l w) (c : ℕ) (in-range : c < l .shap
   new-low : l .book .uncommitted c ≤ k₂ .uncommitted c
   new-low = by-last (λ h. omega (arith, more-uncommitted h)) (λ h. omega (arith, last-uncommitted h))
 
-  running-stays : k₂ .entry (newName c (l .book .next c)) ≡ l .book .entry (newName c (l .book .next c))
-  running-stays = new .other (newName c (l .book .next c)) (other-number c (omega arith))
+  running-stays : k₂ .entry (nextName c (l .book)) ≡ l .book .entry (nextName c (l .book))
+  running-stays = new .other (nextName c (l .book)) (other-number c (omega arith))
 
   -- ---- the disk afterwards
   abbrev at : ℕ
@@ -324,7 +324,7 @@ module _ {l : Ledger} {w : World} (u : Up l w) (c : ℕ) (in-range : c < l .shap
             λ a h.
             elim (ℕ-discrete a c) [
               | yes e ↦ subst (λ (i : ℕ). JournalStands l₂ d₂ i (tailOf (w .card) i)) (sym e) own-journal
-              | no ne ↦ (let v = new .other (newName a (l .book .next a)) (other-core (l .book .next a) (l .book .uncommitted c) ne) in
+              | no ne ↦ (let v = new .other (nextName a (l .book)) (other-core (l .book .next a) (l .book .uncommitted c) ne) in
                   journal-stays l (u .fine) a h l₂ (others a ne) (w .disk) d₂ (tailOf (w .card) a)
                   (rw v (none-stored l (u .fine) a h)) (rw v (u .disk .journals a h .reserved))
                   (λ q. elsewhere (journalBlock (l .shape) a q) (cores-apart (l .shape) a q c p (omega (arith, u .fine .range .long)) ne)) (u .disk .journals a h))
@@ -391,7 +391,7 @@ module _ {l : Ledger} {w : World} (u : Up l w) (c : ℕ) (in-range : c < l .shap
       elim (ℕ-discrete a c) [
         | yes e ↦ (let n : c < length (w .card .cores) = omega (arith, u .eight-cores, u .fine .range .few-cores) in
             rw (e, core-set (w .card) c (coreStored x) n) own-core)
-        | no ne ↦ (let v = new .other (newName a (l .book .next a)) (other-core (l .book .next a) (l .book .uncommitted c) ne) in
+        | no ne ↦ (let v = new .other (nextName a (l .book)) (other-core (l .book .next a) (l .book .uncommitted c) ne) in
             let y = u .cores a h in
             rw (core-other (w .card) c (coreStored x) a ne)
             (core-stays l (u .fine) a h l₂ (others a ne) (w .memory) (w .memory) (coreOf (w .card) a) ((coreOf (w .card) a) .running)

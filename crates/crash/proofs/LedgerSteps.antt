@@ -138,7 +138,7 @@ kept-fits l f w m =
 module _ (k k′ : Book) (c : ℕ) (r : Ranks k c) (o : k′ .oldest c ≡ k .oldest c) (u : k′ .uncommitted c ≡ k .uncommitted c) (n : k′ .next c ≡ k .next c)
     (stages : (i : ℕ) → i ≢ k .next c → (k′ .entry (newName c i)) .stage ≡ (k .entry (newName c i)) .stage)
     (blocks : (i : ℕ) → i < k .next c → length ((k′ .entry (newName c i)) .blocks) ≡ length ((k .entry (newName c i)) .blocks))
-    (current : ((k′ .entry (newName c (k .next c))) .stage ≡ absent) ⊎ ((k′ .entry (newName c (k .next c))) .stage ≡ running)) where
+    (current : ((k′ .entry (nextName c k)) .stage ≡ absent) ⊎ ((k′ .entry (nextName c k)) .stage ≡ running)) where
   below-next : (i : ℕ) → i < k .next c → i ≢ k .next c
   below-next i h e = omega arith
 

@@ -31,6 +31,7 @@ use Rattle.model.proofs.Journal.{IsBlock, Images, Stands, asRead, journal-wrap,
 use Rattle.crash.specs.Book.{isClosed, Book}
 use Rattle.crash.specs.Ledger.{Ledger, recordBlocks, storedOf, storedSince}
 use Rattle.crash.specs.Claims.{readAs, JournalsRead}
+use Rattle.crash.proofs.BookEntries.{oldestName}
 use Rattle.crash.proofs.Relation.{Limits, Fine, heldOf, recordOf, contents, DiskStands}
 use Rattle.crash.proofs.LedgerStages.{closed-present, Unretired, stored-unretired}
 use Rattle.crash.proofs.LedgerSteps.{sum-low}
@@ -363,8 +364,8 @@ module _ (l : Ledger) (c : ℕ) where
     -- the oldest comes first
     pub readList-first : l .book .oldest c < l .book .uncommitted c
         → readList l c t
-        ≡ readRecord l (newName c (l .book .oldest c)) (t .position)
-        ∷ readFrom l c (suc (l .book .oldest c)) ((t .position + (length ((l .book .entry (newName c (l .book .oldest c))) .blocks) + 2)) % l .shape .journal)
+        ≡ readRecord l (oldestName c (l .book)) (t .position)
+        ∷ readFrom l c (suc (l .book .oldest c)) ((t .position + (length ((l .book .entry (oldestName c (l .book))) .blocks) + 2)) % l .shape .journal)
         (l .book .uncommitted c - suc (l .book .oldest c))
     unfolding readList readFrom
     readList-first h =

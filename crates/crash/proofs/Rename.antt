@@ -19,6 +19,7 @@ use Rattle.model.specs.declared.Name.{Name}
 use Rattle.model.proofs.Lists.{cases}
 use Rattle.crash.specs.Book.{running, closed, committed, retired, isRunning, isClosed, isCommitted, isRetired, counted, Entry, Write, Book, emptyBook, change, raise, staged, taking, naming, begin, holderIn, Meeting, no-holder, own, running-holder, closed-holder, meets, ruled, holderAfter, note, wrote, close, store, checkpoint, committedIn, namesIn, kept, keptWrites, image}
 use Rattle.crash.specs.Service.{noted}
+use Rattle.crash.proofs.BookEntries.{nextName, oldestName, uncommittedName}
 
 -- ---- a test under a function
 
@@ -208,7 +209,7 @@ module _ {shift : ℕ → ℕ} {k k′ : Book} (r : Renamed shift k k′) where
   wrote-renamed : (c b o : ℕ) (v : Bytes) → Renamed shift (wrote c b o v k) (wrote c b o v k′)
   unfolding wrote
   wrote-renamed c b o v =
-      let t = newName c (k .next c) in
+      let t = nextName c k in
       rw (renamed-number shift c (k .next c) (k′ .next c) (r .next c), r .entry t)
       (note-renamed (cond-renamed (isRunning (k .entry t .stage)) r (begin-renamed r t)) t b o v)
 
@@ -219,7 +220,7 @@ module _ {shift : ℕ → ℕ} {k k′ : Book} (r : Renamed shift k k′) where
         opened = r .opened;
         entry =
             rw (renamed-number shift c (k .next c) (k′ .next c) (r .next c))
-            (change-renamed shift (newName c (k .next c)) (staged (closed 0)) (staged (closed 0)) (λ e. refl) (k .entry) (k′ .entry) (r .entry));
+            (change-renamed shift (nextName c k) (staged (closed 0)) (staged (closed 0)) (λ e. refl) (k .entry) (k′ .entry) (r .entry));
         writes = r .writes;
         oldest = r .oldest;
         uncommitted = r .uncommitted;
@@ -229,7 +230,7 @@ module _ {shift : ℕ → ℕ} {k k′ : Book} (r : Renamed shift k k′) where
   store-renamed : (c : ℕ) → Renamed shift (store c k) (store c k′)
   unfolding store
   store-renamed c =
-      let t = newName c (k .uncommitted c) in
+      let t = uncommittedName c k in
       let e = k .entry t in
       let n = suc (counted (e .stage)) in
       let last = leb (length (e .blocks) + 2) n in
@@ -247,7 +248,7 @@ module _ {shift : ℕ → ℕ} {k k′ : Book} (r : Renamed shift k k′) where
   checkpoint-renamed : (c : ℕ) → Renamed shift (checkpoint c k) (checkpoint c k′)
   unfolding checkpoint
   checkpoint-renamed c =
-      let t = newName c (k .oldest c) in
+      let t = oldestName c k in
       let e = k .entry t in
       let n = suc (counted (e .stage)) in
       let last = leb (length (e .blocks) + 1) n in

@@ -15,7 +15,7 @@ use borrow.Author.Tests.{eqb-true, eqb-false, ltb-true, ltb-false, leb-false, no
 use Rattle.model.specs.Lists.{any}
 use Rattle.model.specs.Bytes.{Bytes, blockAt, zeroMemory, number, part}
 use Rattle.model.specs.Shape.{between, homeBlock, inRange}
-use Rattle.model.specs.Card.{newName, sameName, blankCard, isBlank, isUp, isDown, shapeOf, downCard, emptyCard, freshCard}
+use Rattle.model.specs.Card.{sameName, blankCard, isBlank, isUp, isDown, shapeOf, downCard, emptyCard, freshCard}
 use Rattle.model.specs.Layout.{maxNumber}
 use Rattle.model.specs.Command.{World, Outcome, refusal, unstored, wrongLength}
 use Rattle.model.specs.Format.{formatted}
@@ -37,6 +37,7 @@ use Rattle.crash.specs.Service.{noted}
 use Rattle.crash.specs.Ledger.{Ledger, freshLedger, blankLedger, cutLedger, entered, refusalsOf, withBook, closeLedger, validIn, sharesLowerIn, recoverLedger, formatRefusals, writeRefusals, closeRefusals, storeRefusals, checkpointRefusals, notUpFor, namesCount, holderNames, recordBlocks}
 use Rattle.crash.specs.Claims.{recoverStore, IsBytes, JournalsRead, Claim, Demands}
 use Rattle.crash.proofs.Tests.{clash, any-in, in-any, nameEquality, blockEquality}
+use Rattle.crash.proofs.BookEntries.{nextName, oldestName}
 use Rattle.crash.proofs.BlockBytes.{bytes-take, bytes-drop}
 use Rattle.crash.proofs.Largest.{memberOf, RetiredBelow, valid-is-kept}
 use Rattle.crash.proofs.Invariant.{Inv, imageAt, opened-of}
@@ -95,11 +96,11 @@ module _ {l : Ledger} {w : World} (u : UpAt l w) where
           imaged = imaged-store (u .inv) (u .imaged) c (s .0) (s .1);
         }
 
-    close-at : (k .entry (newName c (k .next c))) .stage ≡ running → k .uncommitted c ≡ k .next c → UpAt (closeLedger c l) ((closed c w) .world)
+    close-at : (k .entry (nextName c k)) .stage ≡ running → k .uncommitted c ≡ k .next c → UpAt (closeLedger c l) ((closed c w) .world)
     unfolding closed closeLedger
     close-at runs free =
         record {
-          up = close-up (u .up) c in-range runs free (λ b m. running-holds (newName c (k .next c)) b runs m) (fine-close l (u .up .fine) c in-range runs free);
+          up = close-up (u .up) c in-range runs free (λ b m. running-holds (nextName c k) b runs m) (fine-close l (u .up .fine) c in-range runs free);
           home = u .home;
           homes = u .homes;
           inv = inv-close (u .inv) c runs;
@@ -108,9 +109,9 @@ module _ {l : Ledger} {w : World} (u : UpAt l w) where
 
     -- CHECKPOINT of a transaction that is valid and shares no block with one of a lower stamp
     module _ (some-committed : k .oldest c < k .uncommitted c)
-        (valid : any (sameName (newName c (k .oldest c))) (validIn k) ≡ true) (lowest : sharesLowerIn l (newName c (k .oldest c)) ≡ false) where
+        (valid : any (sameName (oldestName c k)) (validIn k) ≡ true) (lowest : sharesLowerIn l (oldestName c k) ≡ false) where
       abbrev t : Name
-      t = newName c (k .oldest c)
+      t = oldestName c k
 
       abbrev bs : List ℕ
       bs = (k .entry t) .blocks
@@ -329,7 +330,7 @@ module _ {l : Ledger} {w : World} (u : UpAt l w) (a : Bytes) where
   unfolding refusalsOf closeRefusals rowOf entered
   close-done h =
       let z = in-range-of _ (omega arith, (omega arith, tt)) h in
-      let runs : (l .book .entry (newName core (l .book .next core))) .stage ≡ running = running-is _ (not-false _ (z .1 .0)) in
+      let runs : (l .book .entry (nextName core (l .book))) .stage ≡ running = running-is _ (not-false _ (z .1 .0)) in
       plain (omega arith) (at-up (close-at u core (z .0) runs (omega (arith, ltb-false (l .book .uncommitted core) (l .book .next core) (z .1 .1 .0), u .up .fine .ranks core (z .0) .mid))))
 
   store-done : refusal (refusalsOf 4 a l) ≡ 0 → Done l w 4 a
@@ -368,12 +369,12 @@ module _ {l : Ledger} {w : World} (u : UpAt l w) (a : Bytes) where
     are-bytes = bytes-take 4 (drop 4 a) (bytes-drop 4 a bytes)
 
     write-at : (in-range : core < l .shape .cores) (low : b < l .shape .blocks) (inside : o ≤ 124)
-        → (ltb 12 (namesCount (wrote core b o v (l .book)) (newName core (l .book .next core)))
-        || ltb 12 (holderNames (wrote core b o v (l .book)) (meets (l .book) (newName core (l .book .next core)) (holderIn (l .book) b (l .book .writes))))) ≡ false
-        → ltb 8 (length (((wrote core b o v (l .book)) .entry (newName core (l .book .next core))) .blocks)) ≡ false
+        → (ltb 12 (namesCount (wrote core b o v (l .book)) (nextName core (l .book)))
+        || ltb 12 (holderNames (wrote core b o v (l .book)) (meets (l .book) (nextName core (l .book)) (holderIn (l .book) b (l .book .writes))))) ≡ false
+        → ltb 8 (length (((wrote core b o v (l .book)) .entry (nextName core (l .book))) .blocks)) ≡ false
         → ltb (l .shape .journal) (recordBlocks (l .book) core (l .book .oldest core) (l .book .next core - l .book .oldest core) + 2
-        + length (((wrote core b o v (l .book)) .entry (newName core (l .book .next core))) .blocks)) ≡ false
-        → (not (isRunning ((l .book .entry (newName core (l .book .next core))) .stage)) && ltb maxNumber (l .book .next core)) ≡ false
+        + length (((wrote core b o v (l .book)) .entry (nextName core (l .book))) .blocks)) ≡ false
+        → (not (isRunning ((l .book .entry (nextName core (l .book))) .stage)) && ltb maxNumber (l .book .next core)) ≡ false
         → UpAt (withBook l (wrote core b o v (l .book))) ((written core b o v w) .world)
     unfolding written
     write-at in-range low inside no-24 no-25 no-26 no-27 =
