@@ -47,7 +47,6 @@ module _ (t : Bytes) (at : ℕ) (on-tape : at < length t) where
       (λ h. rw h (sym (lt-ltb _ n (omega (arith, l, ltb-true (length t) (at + 1 + n) h)))))
       (λ h. rw h (sym (le-ltb _ n (omega (arith, l, ltb-false (length t) (at + 1 + n) h)))))
 
--- bytes of a part of bytes
 -- ---- what each command keeps of a relation of ledger and world
 pub record Kept (At : Ledger → World → Type 0) (l : Ledger) (w : World) (k : ℕ) (a : Bytes) : Type 0 where
   pub answer : (step k a w) .answer ≡ refusal (refusalsOf k a l)

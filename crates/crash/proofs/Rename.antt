@@ -1,69 +1,27 @@
 -- Two books that differ in the numbers of the transactions alone: the service book numbers from 1 since the last cut, the
 -- ledger goes on with the card's numbers. Every command keeps such a pair one, and a cut keeps the same writes of both:
 -- whatever a book does with names, it only compares them, and a shift of each core's numbers changes no comparison.
-use Prim.Native.Nat.{ℕ, zero, suc, _+_}
+use Prim.Native.Nat.{ℕ, suc, _+_}
 use native.Mathlib.Nat.{suc-add}
 use native.Mathlib.Omega.{arith}
 use mathlib.Core.Path.{_≡_, refl, sym, _∙_, ap}
 use mathlib.Core.List.{List, [], _∷_, _++_, map, map-map, map-append}
 use mathlib.Core.Option.{Option, none, some}
 use mathlib.Core.Bool.{Bool, true, false, cond}
-use lib.ListN.{length, getD, length-map}
+use lib.ListN.{length, getD}
 use lib.Dec.{eqb, leb}
 use borrow.Author.Tests.{eqb-true, eqb-false, eq-eqb, ne-eqb}
-use Rattle.model.specs.Lists.{all, any, select}
+use Rattle.model.specs.Lists.{any, select}
 use Rattle.model.specs.Bytes.{Bytes, number, part}
 use Rattle.model.specs.Card.{newName, sameName}
-use Rattle.model.specs.Shrink.{strike, shrinkIn, shrink}
 use Rattle.model.specs.declared.Name.{Name}
-use Rattle.model.proofs.Lists.{cases}
+use Rattle.model.proofs.Lists.{cases, all-map, any-map}
+use Rattle.model.proofs.Select.{select-map}
+use Rattle.model.proofs.Shrink.{shrink-map}
 use Rattle.crash.specs.Book.{running, closed, committed, retired, isRunning, isClosed, isCommitted, isRetired, counted, Entry, Write, Book, emptyBook, change, raise, staged, taking, naming, begin, holderIn, Meeting, no-holder, own, running-holder, closed-holder, meets, ruled, holderAfter, note, wrote, close, store, checkpoint, committedIn, namesIn, kept, keptWrites, image}
 use Rattle.crash.specs.Service.{noted}
+use Rattle.crash.proofs.Tests.{cond-apply}
 use Rattle.crash.proofs.BookEntries.{nextName, oldestName, uncommittedName}
-
--- ---- a test under a function
-
-cond-apply : {A B : Type 0} (f : A → B) (t : Bool) (x y : A) → cond t (f x) (f y) ≡ f (cond t x y)
-cond-apply f true x y = refl
-cond-apply f false x y = refl
-
--- ---- lists renamed
-module _ {A B : Type 0} (f : A → B) (p : A → Bool) (q : B → Bool) (h : (x : A) → q (f x) ≡ p x) where
-  select-map : (xs : List A) → select q (map f xs) ≡ map f (select p xs)
-  unfolding select
-  select-map [] = refl
-  select-map (x ∷ xs) = rw (h x, select-map xs) (cond-apply (map f) (p x) (x ∷ select p xs) (select p xs))
-
-  all-map : (xs : List A) → all q (map f xs) ≡ all p xs
-  unfolding all
-  all-map [] = refl
-  all-map (x ∷ xs) = rw (h x, all-map xs) refl
-
-  any-map : (xs : List A) → any q (map f xs) ≡ any p xs
-  unfolding any
-  any-map [] = refl
-  any-map (x ∷ xs) = rw (h x, any-map xs) refl
-
-shrinkIn-suc : {A : Type 0} (n : ℕ) (stays : List A → A → Bool) (es : List A)
-    → shrinkIn (suc n) stays es ≡ cond (eqb (length (strike stays es)) (length es)) es (shrinkIn n stays (strike stays es))
-unfolding shrinkIn
-shrinkIn-suc n stays es = cases (eqb (length (strike stays es)) (length es)) (λ e. rw (e, shrinkIn) refl) (λ e. rw (e, shrinkIn) refl)
-
-module _ {A B : Type 0} (f : A → B) (stays : List A → A → Bool) (stays′ : List B → B → Bool) (h : (es : List A) (e : A) → stays′ (map f es) (f e) ≡ stays es e) where
-  strike-map : (es : List A) → strike stays′ (map f es) ≡ map f (strike stays es)
-  unfolding strike
-  strike-map es = select-map f (stays es) (stays′ (map f es)) (h es) es
-
-  shrinkIn-map : (n : ℕ) (es : List A) → shrinkIn n stays′ (map f es) ≡ map f (shrinkIn n stays es)
-  unfolding shrinkIn
-  shrinkIn-map zero es = refl
-  shrinkIn-map (suc n) es =
-      rw (shrinkIn-suc n stays′ (map f es), shrinkIn-suc n stays es, strike-map es, length-map (strike stays es) f, length-map es f, shrinkIn-map n (strike stays es))
-      (cond-apply (map f) (eqb (length (strike stays es)) (length es)) es (shrinkIn n stays (strike stays es)))
-
-  shrink-map : (es : List A) → shrink stays′ (map f es) ≡ map f (shrink stays es)
-  unfolding shrink
-  shrink-map es = rw (length-map es f) (shrinkIn-map (length es) es)
 
 -- ---- names, entries and writes renamed
 unfoldable pub renamed : (ℕ → ℕ) → Name → Name
