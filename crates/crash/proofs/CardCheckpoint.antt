@@ -40,7 +40,7 @@ use Rattle.crash.proofs.LedgerStages.{closed-present}
 use Rattle.crash.proofs.ReadMaster.{shape-up, master-block}
 use Rattle.crash.proofs.ReadRecords.{readRecord, IsRead, length-record}
 use Rattle.crash.proofs.ReadCheckpoint.{oldest-of, oldest-is}
-use Rattle.crash.proofs.CardFrames.{core-set, core-other, record-same, contents-same, low-stored, low-other, low-journal, low-size, low-bytes, home-stands}
+use Rattle.crash.proofs.CardFrames.{core-set, core-other, record-same, contents-same, low-stored, low-other, low-journal, low-size, low-bytes, home-stands, core-up}
 
 -- ---- the ledger with one stage and the oldest numbers changed
 module _ (l : Ledger) (t : Name) (g : Stage) (o : ℕ → ℕ) where
@@ -221,27 +221,9 @@ module _ {l : Ledger} {w : World} (u : Up l w) (c : ℕ) (in-range : c < l .shap
         ]
 
     home-up : Fine l₂ → Up l₂ ((storing w (withCore (w .card) c homedCore) (homeBlock b) image) .world)
-    unfolding tailOf holderOf imageNow
     home-up fine =
-        record {
-          phase = u .phase;
-          ledger = u .ledger;
-          shape = u .shape;
-          closes = u .closes;
-          memory = u .memory;
-          memory-bytes = u .memory-bytes;
-          eight-tails = u .eight-tails;
-          eight-cores = length-set (w .card .cores) c homedCore ∙ u .eight-cores;
-          holder-room = u .holder-room;
-          fine = fine;
-          disk = home-disk;
-          cores = home-core;
-          holders =
-              λ b h.
-              u .holders b h
-              ∙ ap holderAs (sym (restages-holder (one-changed l t (committed (suc (x .homed))) (l .book .oldest)) (sym (ap isRetired stage-now)) b (l .book .writes)));
-          images = u .images;
-        }
+        let holder = restages-holder (one-changed l t (committed (suc (x .homed))) (l .book .oldest)) (sym (ap isRetired stage-now)) in
+        core-up u c homedCore (l₂ .book) (storeBlock (w .disk) (homeBlock b) image) refl (λ b. holder b (l .book .writes)) fine home-disk home-core
 
   -- ---- the master store
   module _ (all-home : x .homed ≡ length ((l .book .entry t) .blocks)) where

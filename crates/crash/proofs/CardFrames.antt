@@ -1,6 +1,6 @@
 -- What a command leaves alone: the journal of a core and the core itself, where its closed transactions stay, since both
 -- are read through the core's own entries, numbers, stamps and images alone, and nothing of the running one is stored.
--- A store of the master or of a home block leaves every journal.
+-- A store of the master or of a home block leaves every journal; a card with one core replaced stays in agreement.
 use Prim.Native.Nat.{ℕ, _+_, _-_, _≤_, _<_, _*_}
 use native.Mathlib.Omega.{arith}
 use native.Mathlib.Decide.{ℕ-discrete}
@@ -8,13 +8,14 @@ use mathlib.Core.Path.{_≡_, refl, ap, _∙_, sym}
 use mathlib.Core.Logic.{_⊎_, inl, inr, _≢_}
 use mathlib.Core.Bool.{true, false}
 use mathlib.Core.List.{List, _++_}
-use lib.ListN.{length, take}
+use lib.ListN.{length, take, length-set}
 use lib.Seq.{getD-set-same, getD-set-other}
 use Rattle.model.specs.Bytes.{Bytes, blockAt, store}
 use Rattle.model.specs.Shape.{homeBlock, journalBlock}
-use Rattle.model.specs.Card.{newName, freshCore, coreOf, withCore, withRunning}
+use Rattle.model.specs.Card.{newName, freshCore, coreOf, withCore, withRunning, tailOf, holderOf}
 use Rattle.model.specs.Layout.{isCommit}
 use Rattle.model.specs.Journal.{journalAt}
+use Rattle.model.specs.Command.{World}
 use Rattle.model.specs.Commit.{copyBlock}
 use Rattle.model.specs.declared.Name.{Name}
 use Rattle.model.specs.declared.Tail.{Tail}
@@ -24,12 +25,12 @@ use Rattle.model.specs.declared.Card.{Card}
 use Rattle.model.proofs.Lists.{flatMap-below}
 use Rattle.model.proofs.Store.{length-store, block-stored, block-other}
 use Rattle.model.proofs.Journal.{home-apart}
-use Rattle.crash.specs.Book.{Stage, absent, running, isRunning, isClosed, counted, Entry}
-use Rattle.crash.specs.Ledger.{Ledger, recordBlocks}
+use Rattle.crash.specs.Book.{Stage, absent, running, isRunning, isClosed, counted, Entry, Book, holderIn, Write, image, blank}
+use Rattle.crash.specs.Ledger.{Ledger, recordBlocks, withBook, imageNow}
 use Rattle.crash.specs.Claims.{IsBytes}
 use Rattle.crash.proofs.BookEntries.{records-same, nextName, uncommittedName}
 use Rattle.crash.proofs.BlockBytes.{bytes-store}
-use Rattle.crash.proofs.Relation.{Fine, heldOf, recordOf, contents, JournalStands, CoreUp, Matches, IsBlock, DiskStands}
+use Rattle.crash.proofs.Relation.{Fine, heldOf, recordOf, contents, JournalStands, CoreUp, Matches, IsBlock, DiskStands, Up, holderAs}
 use Rattle.crash.proofs.LedgerStages.{closed-present}
 
 -- ---- one core of the card replaced
@@ -184,4 +185,28 @@ home-stands {l} {tailAt = tailAt} f z b h x block =
             room = j .room;
             reserved = j .reserved;
           };
+    }
+
+-- ---- a card with one core replaced over another disk, where the book's writes and holders stay
+pub core-up : {l : Ledger} {w : World} → Up l w → (c : ℕ) (x : Core) (k : Book) (d : Bytes) → k .writes ≡ l .book .writes
+    → ((b : ℕ) → holderIn k b (l .book .writes) ≡ holderIn (l .book) b (l .book .writes)) → Fine (withBook l k) → DiskStands (withBook l k) d (tailOf (w .card))
+    → ((a : ℕ) → a < l .shape .cores → CoreUp (withBook l k) (w .memory) a (coreOf (withCore (w .card) c x) a))
+    → Up (withBook l k) (record { card = withCore (w .card) c x; disk = d; memory = w .memory })
+unfolding tailOf holderOf imageNow
+core-up {l} {w} u c x k d writes holder fine disk cores =
+    record {
+      phase = u .phase;
+      ledger = u .ledger;
+      shape = u .shape;
+      closes = u .closes;
+      memory = u .memory;
+      memory-bytes = u .memory-bytes;
+      eight-tails = u .eight-tails;
+      eight-cores = length-set (w .card .cores) c x ∙ u .eight-cores;
+      holder-room = u .holder-room;
+      fine = fine;
+      disk = disk;
+      cores = cores;
+      holders = λ b h. u .holders b h ∙ ap holderAs (sym (ap (holderIn k b) writes ∙ holder b));
+      images = λ b h g. u .images b h g ∙ ap (λ (ws : List Write). image (image blank (l .saved)) ws b) (sym writes);
     }

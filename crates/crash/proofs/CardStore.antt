@@ -8,14 +8,14 @@ use mathlib.Core.Path.{_≡_, refl, ap, ap₂, _∙_, sym, subst}
 use mathlib.Core.Logic.{_≢_}
 use mathlib.Core.Bool.{true, false}
 use mathlib.Core.List.{List, [], _∷_, _++_, flatMap, append-assoc, append-nil}
-use lib.ListN.{length, take, getD, length-append, length-set, List·getD-append}
+use lib.ListN.{length, take, getD, length-append, List·getD-append}
 use lib.Seq.{getD-at, take-suc, take-all, length-take-le}
 use lib.Dec.{leb}
 use borrow.Author.Tests.{le-leb, lt-leb, eq-eqb, ne-eqb}
 use Rattle.model.specs.Lists.{below}
 use Rattle.model.specs.Bytes.{Bytes, blockAt, part, number, store as storeBlock}
 use Rattle.model.specs.Shape.{homeBlock, journalBlock}
-use Rattle.model.specs.Card.{newName, recordSize, tailOf, coreOf, holderOf, withCore}
+use Rattle.model.specs.Card.{newName, recordSize, tailOf, coreOf, withCore}
 use Rattle.model.specs.Layout.{newHeld, hasHead, flagOf, escaped, descriptorBlock, commitBlock, isCommit}
 use Rattle.model.specs.Journal.{journalAt}
 use Rattle.model.specs.Command.{World}
@@ -28,14 +28,14 @@ use Rattle.model.proofs.Words.{each-block}
 use Rattle.model.proofs.Encoding.{length-descriptor, length-commit, length-escaped, descriptor-head, commit-head, head-other, no-commit, escaped-head}
 use Rattle.model.proofs.Journal.{journal-low, home-apart, cores-apart, journal-apart, length-recordBlocks, recordBlocks-each}
 use Rattle.crash.specs.Book.{closed, committed, isClosed, counted, Entry, Book, raise, staged, store}
-use Rattle.crash.specs.Ledger.{Ledger, withBook, imageNow, recordBlocks}
+use Rattle.crash.specs.Ledger.{Ledger, withBook, recordBlocks}
 use Rattle.crash.proofs.BookEntries.{other-number, other-core, change-at, raise-at, raise-other, records-snoc, nextName, uncommittedName}
 use Rattle.crash.proofs.BookSteps.{Restages, restaged, restages-records, storedStage, store-restages, store-more, store-last, store-holder}
 use Rattle.crash.proofs.BlockBytes.{bytes-store, each-isBytes, escaped-bytes}
-use Rattle.crash.proofs.Relation.{IsBlock, Fine, heldOf, recordOf, contents, JournalStands, DiskStands, CoreUp, holderAs, Up}
+use Rattle.crash.proofs.Relation.{IsBlock, Fine, heldOf, recordOf, contents, JournalStands, DiskStands, CoreUp, Up}
 use Rattle.crash.proofs.ReadMaster.{shape-up}
 use Rattle.crash.proofs.ReadRecords.{record-sound, length-record, records-flat, length-records, stored-closed}
-use Rattle.crash.proofs.CardFrames.{SameClosed, core-set, core-other, record-same, none-stored, journal-stays, core-stays}
+use Rattle.crash.proofs.CardFrames.{SameClosed, core-set, core-other, record-same, none-stored, journal-stays, core-stays, core-up}
 
 -- ---- the blocks of a record, one by one
 module _ (l : Ledger) (t : Name) where
@@ -399,24 +399,10 @@ module _ {l : Ledger} {w : World} (u : Up l w) (c : ℕ) (in-range : c < l .shap
       ]
 
   pub store-up : Fine l₂ → Up l₂ ((stored c w) .world)
-  unfolding stored store tailOf holderOf imageNow
+  unfolding stored
   store-up fine =
-      record {
-        phase = u .phase;
-        ledger = u .ledger;
-        shape = u .shape;
-        closes = u .closes;
-        memory = u .memory;
-        memory-bytes = u .memory-bytes;
-        eight-tails = u .eight-tails;
-        eight-cores = length-set (w .card .cores) c (coreStored x) ∙ u .eight-cores;
-        holder-room = u .holder-room;
-        fine = fine;
-        disk = subst (λ (d : Bytes). DiskStands l₂ d (tailOf (w .card))) (sym stored-disk) disk-stands;
-        cores = store-core;
-        holders = λ b h. u .holders b h ∙ ap holderAs (sym (store-holder c (x .stored) (l .book) stage-now b (l .book .writes)));
-        images = u .images;
-      }
+      core-up u c (coreStored x) k₂ ((stored c w) .world .disk) (new .writes) (λ b. store-holder c (x .stored) (l .book) stage-now b (l .book .writes)) fine
+      (subst (λ (d : Bytes). DiskStands l₂ d (tailOf (w .card))) (sym stored-disk) disk-stands) store-core
 
   -- a journal block is no home block
   pub store-homes : (b : ℕ) → b < l .shape .blocks → blockAt ((stored c w) .world .disk) (homeBlock b) ≡ blockAt (w .disk) (homeBlock b)
