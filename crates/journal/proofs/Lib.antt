@@ -1,0 +1,3 @@
+-- Laws of the slots, each once: how they are read, and which transactions of the model's lists they are.
+pub mod Slots
+pub mod Reading

@@ -1,0 +1,3 @@
+-- What the contracts of the crate cite, beside the definitions of model: sets of committed transactions as slots.
+pub mod Slots
+pub mod Walk

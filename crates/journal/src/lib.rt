@@ -1,0 +1,3 @@
+// The journals read: one record, all journals as slots, the valid set, the newest image of a block.
+// No function here is a public entry of the library: each says in a `requires` what its callers ensure.
+mod walk;
