@@ -1,0 +1,119 @@
+-- Loops over an index: a test at each index below a count, at some, and an array filled one after another.
+-- Each law has the form in which a loop needs it: none, one more, all.
+use Prim.Native.Nat.{ℕ, zero, suc, _+_, _≤_, _<_}
+use native.Mathlib.Omega.{arith}
+use native.Mathlib.Numerals.{add-one}
+use mathlib.Core.Path.{_≡_, refl, ap, _∙_, sym}
+use mathlib.Core.Bool.{Bool, true, false, false≢true, not, _&&_, _||_}
+use mathlib.Core.List.{List, [], _∷_, _++_, map, map-append}
+use lib.ListN.{length, take, set, length-set}
+use lib.Seq.{take-suc-set, take-all}
+use borrow.Author.Tests.{not-true, not-false}
+use Rattle.model.specs.Lists.{below, all, any}
+use Rattle.model.proofs.Lists.{cases, and-both, all-mem, all-append, any-append, mem-any, below-mem}
+use Rattle.layout.specs.Loops.{every, some}
+
+-- ---- a test at each index
+pub every-all : (p : ℕ → Bool) (n : ℕ) → every n p ≡ all p (below n)
+unfolding every
+every-all p n = refl
+
+all-map : {A : Type 0} (p : A → Bool) (f : ℕ → A) (xs : List ℕ) → all (λ (i : ℕ). p (f i)) xs ≡ all p (map f xs)
+unfolding all
+all-map p f [] = refl
+all-map p f (x ∷ xs) = ap (λ (b : Bool). p (f x) && b) (all-map p f xs)
+
+-- a test of each element of a list that is given by its index
+pub every-map : {A : Type 0} (p : A → Bool) (f : ℕ → A) (n : ℕ) → every n (λ (i : ℕ). p (f i)) ≡ all p (map f (below n))
+unfolding every
+every-map p f n = all-map p f (below n)
+
+pub every-none : (p : ℕ → Bool) → every 0 p ≡ true
+unfolding every below all
+every-none p = refl
+
+and-end : (b : Bool) → (b && true) ≡ b
+and-end true = refl
+and-end false = refl
+
+pub every-step : (p : ℕ → Bool) (n : ℕ) → every (suc n) p ≡ (every n p && p n)
+unfolding every below all
+every-step p n = all-append p (below n) (n ∷ []) ∙ ap (λ (b : Bool). every n p && b) (and-end (p n))
+
+pub every-more : (p : ℕ → Bool) (i : ℕ) → every i p ≡ true → p i ≡ true → every (i + 1) p ≡ true
+every-more p i h q = rw (add-one, every-step, h, q)
+
+pub every-no : (p : ℕ → Bool) (i n : ℕ) → i < n → p i ≡ false → false ≡ every n p
+unfolding every
+every-no p i n h q = cases (every n p) (λ t. absurd (false≢true (sym q ∙ all-mem p (below n) t (below-mem n i h)))) (λ t. sym t)
+
+pub every-yes : (p : ℕ → Bool) (i n : ℕ) → every i p ≡ true → i ≤ n → n ≤ i → true ≡ every n p
+every-yes p i n h q r = let e : i ≡ n = omega arith in sym h ∙ ap (λ (k : ℕ). every k p) e
+
+-- with what a call answered: r
+module _ (p : ℕ → Bool) (i : ℕ) (r : Bool) (e : r ≡ p i) where
+  pub every-out : (n : ℕ) → not r ≡ true → i < n → false ≡ every n p
+  every-out n h q = every-no p i n q (sym e ∙ not-true r h)
+
+  pub every-in : every i p ≡ true → not r ≡ false → every (i + 1) p ≡ true
+  every-in h q = every-more p i h (sym e ∙ not-false r q)
+
+-- ---- a test at some index
+pub some-any : (p : ℕ → Bool) (n : ℕ) → some n p ≡ any p (below n)
+unfolding some
+some-any p n = refl
+
+pub some-none : (p : ℕ → Bool) → some 0 p ≡ false
+unfolding some below any
+some-none p = refl
+
+or-end : (b : Bool) → (b || false) ≡ b
+or-end true = refl
+or-end false = refl
+
+pub some-step : (p : ℕ → Bool) (n : ℕ) → some (suc n) p ≡ (some n p || p n)
+unfolding some below any
+some-step p n = any-append p (below n) (n ∷ []) ∙ ap (λ (b : Bool). some n p || b) (or-end (p n))
+
+pub some-more : (p : ℕ → Bool) (i : ℕ) → some i p ≡ false → p i ≡ false → some (i + 1) p ≡ false
+some-more p i h q = rw (add-one, some-step, h, q)
+
+pub some-yes : (p : ℕ → Bool) (i n : ℕ) → i < n → p i ≡ true → true ≡ some n p
+unfolding some
+some-yes p i n h q = sym (mem-any p (below-mem n i h) q)
+
+pub some-no : (p : ℕ → Bool) (i n : ℕ) → some i p ≡ false → i ≤ n → n ≤ i → false ≡ some n p
+some-no p i n h q r = let e : i ≡ n = omega arith in sym h ∙ ap (λ (k : ℕ). some k p) e
+
+module _ (p : ℕ → Bool) (i : ℕ) (r : Bool) (e : r ≡ p i) where
+  pub some-in : (n : ℕ) → r ≡ true → i < n → true ≡ some n p
+  some-in n h q = some-yes p i n q (sym e ∙ h)
+
+  pub some-out : some i p ≡ false → r ≡ false → some (i + 1) p ≡ false
+  some-out h q = some-more p i h (sym e ∙ q)
+
+-- ---- an array filled
+module _ {A : Type 0} (f : ℕ → A) where
+  -- out, of n, has its first i
+  pub record Filled (n : ℕ) (out : List A) (i : ℕ) : Type 0 where
+    pub most : i ≤ n
+    pub size : length out ≡ n
+    pub same : take i out ≡ map f (below i)
+
+  pub filled-none : (n : ℕ) (out : List A) → length out ≡ n → Filled n out 0
+  unfolding below
+  filled-none n out h = record { most = omega arith; size = h; same = refl }
+
+  pub filled-more : (n : ℕ) (out : List A) (i : ℕ) (x : A) → Filled n out i → x ≡ f i → i < n → Filled n (set out i x) (i + 1)
+  unfolding below
+  filled-more n out i x w e h =
+      record {
+        most = omega arith;
+        size = length-set out i x ∙ w .size;
+        same = rw (add-one, take-suc-set out i x (omega (arith, w .size)), below, map-append, w .same, e);
+      }
+
+  pub filled-all : (n : ℕ) (out : List A) (i : ℕ) → Filled n out i → n ≤ i → out ≡ map f (below n)
+  filled-all n out i w h =
+      let e : i ≡ n = omega (arith, w .most) in
+      sym (take-all i out (omega (arith, w .size))) ∙ w .same ∙ ap (λ (k : ℕ). map f (below k)) e

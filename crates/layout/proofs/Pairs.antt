@@ -1,0 +1,174 @@
+-- Word i of a record block: one of its head, one of a pair, or none. The writers compute it word by word.
+use Prim.Native.Nat.{ℕ, zero, suc, _+_, _*_, _-_, _/_, _%_, _^_, _≤_, _<_, min}
+use native.Mathlib.Omega.{arith}
+use mathlib.Core.Path.{_≡_, refl, ap, _∙_, sym}
+use mathlib.Core.Bool.{true, false, cond}
+use mathlib.Core.List.{List, [], _∷_, _++_, map, flatMap}
+use lib.ListN.{length, take, getD, length-map, length-take, List·getD-append, List·getD-eq-default}
+use lib.Seq.{getD-append-add, getD-take}
+use lib.Dec.{eqb}
+use borrow.Author.Tests.{eq-eqb, ne-eqb}
+use Rattle.model.specs.Lists.{below}
+use Rattle.model.specs.Shape.{clamped}
+use Rattle.model.specs.Card.{newTail, newName}
+use Rattle.model.specs.Layout.{mark, pairWords, Held, newHeld}
+use Rattle.model.specs.declared.Shape.{Shape}
+use Rattle.model.specs.declared.Tail.{Tail}
+use Rattle.model.specs.declared.Name.{Name}
+use Rattle.model.proofs.Lists.{length-below, getD-map-below}
+use Rattle.model.proofs.Limits.{InRange, clamped-range}
+use Rattle.layout.specs.Words.{pairWord, masterWords, heldOf, descriptorWords, commitWords}
+
+-- the length of an array of structs, as its type gives it
+pub length-mapped : {A B : Type 0} (f : A → B) (l : List A) (n : ℕ) → length (map f l) ≡ n → length l ≡ n
+length-mapped f l n e = sym (length-map l f) ∙ e
+
+-- ---- one of two
+module _ (first second k : ℕ) where
+  pub pair-first : k % 2 ≡ 0 → first ≡ pairWord first second k
+  unfolding pairWord
+  pair-first h = rw (eq-eqb (k % 2) 0 h)
+
+  pub pair-second : (k % 2 ≡ 0 → ⊥) → second ≡ pairWord first second k
+  unfolding pairWord
+  pair-second h = rw (ne-eqb (k % 2) 0 h)
+
+-- ---- pairs after a head
+module _ {A : Type 0} (f g : A → ℕ) where
+  length-pairs : (xs : List A) → length (pairWords f g xs) ≡ 2 * length xs
+  unfolding pairWords flatMap
+  length-pairs [] = refl
+  length-pairs (x ∷ xs) = omega (arith, length-pairs xs)
+
+  getD-pair : (xs : List A) (k : ℕ) (d : A) → k / 2 < length xs → getD (pairWords f g xs) k 0 ≡ pairWord (f (getD xs (k / 2) d)) (g (getD xs (k / 2) d)) k
+  unfolding pairWords flatMap pairWord
+  getD-pair [] k d h = absurd (omega arith)
+  getD-pair (x ∷ xs) zero d h = refl
+  getD-pair (x ∷ xs) (suc zero) d h = refl
+  getD-pair (x ∷ xs) (suc (suc k)) d h =
+      let q : suc (suc k) / 2 ≡ suc (k / 2) = omega arith in
+      let r : suc (suc k) % 2 ≡ k % 2 = omega arith in
+      rw (q, r) (getD-pair xs k d (omega arith))
+
+  module _ (hs : List ℕ) (n : ℕ) (l : length hs ≡ n) (xs : List A) (i : ℕ) where
+    pub word-head : i < n → getD hs i 0 ≡ getD (hs ++ pairWords f g xs) i 0
+    word-head h = sym (List·getD-append hs (pairWords f g xs) 0 i (omega arith))
+
+    after : n ≤ i → getD (hs ++ pairWords f g xs) i 0 ≡ getD (pairWords f g xs) (i - n) 0
+    after h = let e : i ≡ length hs + (i - n) = omega arith in ap (λ (k : ℕ). getD (hs ++ pairWords f g xs) k 0) e ∙ getD-append-add hs (pairWords f g xs) (i - n) 0
+
+    pub word-pair : (d : A) → n ≤ i → (i - n) / 2 < length xs → pairWord (f (getD xs ((i - n) / 2) d)) (g (getD xs ((i - n) / 2) d)) (i - n) ≡ getD (hs ++ pairWords f g xs) i 0
+    word-pair d h q = sym (after h ∙ getD-pair xs (i - n) d q)
+
+    pub word-rest : n ≤ i → length xs ≤ (i - n) / 2 → 0 ≡ getD (hs ++ pairWords f g xs) i 0
+    word-rest h q = sym (after h ∙ List·getD-eq-default (pairWords f g xs) 0 (omega (arith, length-pairs xs)))
+
+-- ---- master
+tails : Shape → List Tail → List Tail
+tails s ts = map (λ (c : ℕ). getD ts c (newTail 0 0)) (below (s .cores))
+
+length-tails : (s : Shape) (ts : List Tail) → length (tails s ts) ≡ s .cores
+unfolding tails
+length-tails s ts = length-map (below (s .cores)) (λ (c : ℕ). getD ts c (newTail 0 0)) ∙ length-below (s .cores)
+
+pub length-master : (s : Shape) (ts : List Tail) → length (masterWords (clamped s) ts) ≤ 32
+unfolding masterWords tails
+length-master s ts =
+    let n = clamped s in
+    omega (arith, length-pairs (λ (t : Tail). t .number) (λ (t : Tail). t .position) (tails n ts), length-tails n ts, (clamped-range s) .few-cores)
+
+pub few-cores : (s near : Shape) (c : ℕ) → near ≡ clamped s → c < near .cores → c < 8
+few-cores s near c e h = omega (arith, (clamped-range s) .few-cores, ap (λ (z : Shape). z .cores) e)
+
+-- the shape that the code has is s
+module _ (s near : Shape) (e : near ≡ s) (ts : List Tail) (i : ℕ) where
+  head : List ℕ
+  head = mark ∷ 4 ∷ 0 ∷ near .cores ∷ near .blocks ∷ near .journal ∷ []
+
+  pub master-head : i < 6 → getD (mark ∷ 4 ∷ 0 ∷ near .cores ∷ near .blocks ∷ near .journal ∷ []) i 0 ≡ getD (masterWords s ts) i 0
+  unfolding masterWords head tails
+  master-head h = word-head (λ (t : Tail). t .number) (λ (t : Tail). t .position) head 6 refl (tails near ts) i h ∙ ap (λ (z : Shape). getD (masterWords z ts) i 0) e
+
+  pub master-rest : 6 ≤ i → near .cores ≤ (i - 6) / 2 → 0 ≡ getD (masterWords s ts) i 0
+  unfolding masterWords head tails
+  master-rest h q =
+      word-rest (λ (t : Tail). t .number) (λ (t : Tail). t .position) head 6 refl (tails near ts) i h (omega (arith, length-tails near ts))
+      ∙ ap (λ (z : Shape). getD (masterWords z ts) i 0) e
+
+  pub master-pair : (x : ℕ) → x ≡ pairWord ((getD ts ((i - 6) / 2) (newTail 0 0)) .number) ((getD ts ((i - 6) / 2) (newTail 0 0)) .position) (i - 6)
+      → 6 ≤ i → (i - 6) / 2 < near .cores → x ≡ getD (masterWords s ts) i 0
+  unfolding masterWords head tails
+  master-pair x v h q =
+      let t : getD (tails near ts) ((i - 6) / 2) (newTail 0 0) ≡ getD ts ((i - 6) / 2) (newTail 0 0) = getD-map-below (λ (c : ℕ). getD ts c (newTail 0 0)) (near .cores) ((i - 6) / 2) (newTail 0 0) q in
+      v
+      ∙ ap (λ (t : Tail). pairWord (t .number) (t .position) (i - 6)) (sym t)
+      ∙ word-pair (λ (t : Tail). t .number) (λ (t : Tail). t .position) head 6 refl (tails near ts) i (newTail 0 0) h (omega (arith, length-tails near ts))
+      ∙ ap (λ (z : Shape). getD (masterWords z ts) i 0) e
+
+-- ---- descriptor
+length-heldOf : (n : ℕ) (bs fs : List ℕ) → length (heldOf n bs fs) ≡ n
+unfolding heldOf
+length-heldOf n bs fs = length-map (below n) (λ (i : ℕ). newHeld (getD bs i 0) (getD fs i 0)) ∙ length-below n
+
+pub length-descriptor : (k count : ℕ) (bs fs : List ℕ) → length (descriptorWords k (min count 8) bs fs) ≤ 32
+unfolding descriptorWords
+length-descriptor k count bs fs =
+    let n = min count 8 in
+    omega (arith, length-pairs (λ (h : Held). h .block) (λ (h : Held). h .flag) (heldOf n bs fs), length-heldOf n bs fs)
+
+-- the count that the code has is n
+module _ (k n m : ℕ) (e : m ≡ n) (bs fs : List ℕ) (i : ℕ) where
+  descriptorHead : List ℕ
+  descriptorHead = mark ∷ 1 ∷ k ∷ length (heldOf n bs fs) ∷ []
+
+  pub descriptor-head : i < 4 → getD (mark ∷ 1 ∷ k ∷ m ∷ []) i 0 ≡ getD (descriptorWords k n bs fs) i 0
+  unfolding descriptorWords descriptorHead
+  descriptor-head h =
+      let l : m ≡ length (heldOf n bs fs) = e ∙ sym (length-heldOf n bs fs) in
+      rw l (word-head (λ (h : Held). h .block) (λ (h : Held). h .flag) descriptorHead 4 refl (heldOf n bs fs) i h)
+
+  pub descriptor-rest : 4 ≤ i → m ≤ (i - 4) / 2 → 0 ≡ getD (descriptorWords k n bs fs) i 0
+  unfolding descriptorWords descriptorHead
+  descriptor-rest h q = word-rest (λ (h : Held). h .block) (λ (h : Held). h .flag) descriptorHead 4 refl (heldOf n bs fs) i h (omega (arith, length-heldOf n bs fs))
+
+  pub descriptor-pair : (x a b : ℕ) → x ≡ pairWord a b (i - 4) → a ≡ getD bs ((i - 4) / 2) 0 → b ≡ getD fs ((i - 4) / 2) 0
+      → 4 ≤ i → (i - 4) / 2 < m → x ≡ getD (descriptorWords k n bs fs) i 0
+  unfolding descriptorWords descriptorHead heldOf
+  descriptor-pair x a b v p r h q =
+      let j = (i - 4) / 2 in
+      let t : getD (heldOf n bs fs) j (newHeld 0 0) ≡ newHeld (getD bs j 0) (getD fs j 0) = getD-map-below (λ (i : ℕ). newHeld (getD bs i 0) (getD fs i 0)) n j (newHeld 0 0) (omega arith) in
+      v
+      ∙ rw (p, r)
+      (ap (λ (h : Held). pairWord (h .block) (h .flag) (i - 4)) (sym t)
+      ∙ word-pair (λ (h : Held). h .block) (λ (h : Held). h .flag) descriptorHead 4 refl (heldOf n bs fs) i (newHeld 0 0) h (omega (arith, length-heldOf n bs fs)))
+
+-- ---- commit
+pub length-commit : (k stamp n : ℕ) (ns : List Name) → length ns ≡ 12 → length (commitWords k stamp (take n ns)) ≤ 32
+unfolding commitWords
+length-commit k stamp n ns l = omega (arith, length-pairs (λ (n : Name). n .core) (λ (n : Name). n .number) (take n ns), length-take n ns)
+
+-- the count that the code has is that of the names listed
+module _ (k stamp n m : ℕ) (e : m ≡ min n 12) (ns : List Name) (l : length ns ≡ 12) (i : ℕ) where
+  length-listed : length (take n ns) ≡ m
+  length-listed = length-take n ns ∙ ap (min n) l ∙ sym e
+
+  commitHead : List ℕ
+  commitHead = mark ∷ 2 ∷ k ∷ stamp / 2 ^ 32 ∷ stamp % 2 ^ 32 ∷ length (take n ns) ∷ []
+
+  pub commit-head : i < 6 → getD (mark ∷ 2 ∷ k ∷ stamp / 4294967296 ∷ stamp % 4294967296 ∷ m ∷ []) i 0 ≡ getD (commitWords k stamp (take n ns)) i 0
+  unfolding commitWords commitHead
+  commit-head h = rw (sym length-listed) (word-head (λ (n : Name). n .core) (λ (n : Name). n .number) commitHead 6 refl (take n ns) i h)
+
+  pub commit-rest : 6 ≤ i → m ≤ (i - 6) / 2 → 0 ≡ getD (commitWords k stamp (take n ns)) i 0
+  unfolding commitWords commitHead
+  commit-rest h q = word-rest (λ (n : Name). n .core) (λ (n : Name). n .number) commitHead 6 refl (take n ns) i h (omega (arith, length-listed))
+
+  pub commit-pair : (x : ℕ) → x ≡ pairWord ((getD ns ((i - 6) / 2) (newName 0 0)) .core) ((getD ns ((i - 6) / 2) (newName 0 0)) .number) (i - 6)
+      → 6 ≤ i → (i - 6) / 2 < m → x ≡ getD (commitWords k stamp (take n ns)) i 0
+  unfolding commitWords commitHead
+  commit-pair x v h q =
+      let j = (i - 6) / 2 in
+      let t : getD (take n ns) j (newName 0 0) ≡ getD ns j (newName 0 0) = getD-take n ns j (newName 0 0) (omega (arith, length-listed, length-take n ns)) in
+      v
+      ∙ ap (λ (x : Name). pairWord (x .core) (x .number) (i - 6)) (sym t)
+      ∙ word-pair (λ (n : Name). n .core) (λ (n : Name). n .number) commitHead 6 refl (take n ns) i (newName 0 0) h (omega (arith, length-listed))

@@ -1,0 +1,156 @@
+// The descriptor of a record: the blocks that its transaction took, each with its escape flag.
+ghost use mathlib.Core.Path.{_≡_};
+ghost use mathlib.Core.List.{map};
+ghost use Prim.Native.Nat.{ℕ, _≤_, _<_, min};
+ghost use lib.ListN.{length, getD};
+ghost use Rattle.model.specs.Lists.{below};
+ghost use Rattle.model.specs.Layout.{newHeld, descriptorBlock, pairAt, isHeld, isDescriptor, blockCount};
+ghost use Rattle.layout.specs.Words.{descriptorWords};
+ghost use Rattle.layout.specs.Loops.{every};
+ghost use Rattle.layout.specs.Distinct.{heldAt, isOther, isNew};
+
+use model::Shape;
+
+use crate::words::get_word;
+use crate::words::put_word;
+use crate::words::has_head;
+use crate::words::pair_word;
+use crate::words::wide;
+use crate::words::at_most;
+use crate::words::MARK;
+use crate::words::MAX_NUMBER;
+
+// Word i of a descriptor.
+fn descriptor_word(number: u32, count: u8, blocks: [u8; 8], flags: [u8; 8], i: usize) -> u32
+    ensures { λ r. ⌜ r ≡ getD (descriptorWords number (min count 8) blocks flags) i 0 ⌝ }
+{
+    let n = at_most(count, 8);
+    if i < 4 {
+        let head = [MARK, 1, number, n as u32];
+        return head[i];
+    }
+    let k = (i - 4) / 2;
+    if n as usize <= k {
+        return 0;
+    }
+    pair_word(wide(blocks[k]), wide(flags[k]), i - 4)
+}
+
+// The descriptor of a transaction that took so many of these blocks.
+pub fn write_descriptor(
+    block: &mut [u8],
+    number: u32,
+    count: u8,
+    blocks: [u8; 8],
+    flags: [u8; 8],
+)
+    requires { ⌜ length (now block) ≡ 128 ⌝ }
+    ensures { λ _. ⌜ now (block .exit) ≡ descriptorBlock number (map (λ (i : ℕ). newHeld (getD blocks i 0) (getD flags i 0)) (below (min count 8))) ⌝ }
+{
+    let mut i: usize = 0;
+    while i < 32 {
+        let w = descriptor_word(number, count, blocks, flags, i);
+        put_word(block, 4 * i, w);
+        i += 1;
+    }
+}
+
+// How many blocks the descriptor says that it has.
+pub fn block_count(block: &[u8]) -> u32
+    requires { ⌜ length (now block) ≡ 128 ⌝ }
+    ensures { λ r. ⌜ r ≡ blockCount (now (block .entry)) ⌝ }
+{
+    get_word(block, 12)
+}
+
+// The i-th block of a descriptor.
+pub fn held_block(block: &[u8], i: usize) -> u32
+    requires { ⌜ (length (now block) ≡ 128) × (i < 8) ⌝ }
+    ensures { λ r. ⌜ r ≡ (pairAt newHeld (now (block .entry)) 16 i) .block ⌝ }
+{
+    get_word(block, 16 + 8 * i)
+}
+
+// The flag of the i-th block of a descriptor.
+pub fn held_flag(block: &[u8], i: usize) -> u32
+    requires { ⌜ (length (now block) ≡ 128) × (i < 8) ⌝ }
+    ensures { λ r. ⌜ r ≡ (pairAt newHeld (now (block .entry)) 16 i) .flag ⌝ }
+{
+    get_word(block, 16 + 8 * i + 4)
+}
+
+// The i-th block is one that the disk has, and its flag is 0 or 1.
+fn is_held(s: Shape, block: &[u8], i: usize) -> bool
+    requires { ⌜ (length (now block) ≡ 128) × (i < 8) ⌝ }
+    ensures { λ r. ⌜ r ≡ isHeld s (pairAt newHeld (now (block .entry)) 16 i) ⌝ }
+{
+    if s.blocks as u32 <= held_block(block, i) {
+        return false;
+    }
+    held_flag(block, i) <= 1
+}
+
+fn are_held(s: Shape, block: &[u8], n: usize) -> bool
+    requires { ⌜ (length (now block) ≡ 128) × (n ≤ 8) ⌝ }
+    ensures { λ r. ⌜ r ≡ every n (λ (i : ℕ). isHeld s (pairAt newHeld (now (block .entry)) 16 i)) ⌝ }
+{
+    let mut i: usize = 0;
+    while i < n {
+        if !is_held(s, block, i) {
+            return false;
+        }
+        i += 1;
+    }
+    true
+}
+
+// The i-th block is none of those before it.
+fn is_new(block: &[u8], i: usize) -> bool
+    requires { ⌜ (length (now block) ≡ 128) × (i < 8) ⌝ }
+    ensures { λ r. ⌜ r ≡ isNew (now (block .entry)) i ⌝ }
+{
+    let x = held_block(block, i);
+    let mut j: usize = 0;
+    while j < i {
+        if held_block(block, j) == x {
+            return false;
+        }
+        j += 1;
+    }
+    true
+}
+
+fn are_new(block: &[u8], n: usize) -> bool
+    requires { ⌜ (length (now block) ≡ 128) × (n ≤ 8) ⌝ }
+    ensures { λ r. ⌜ r ≡ every n (isNew (now (block .entry))) ⌝ }
+{
+    let mut i: usize = 0;
+    while i < n {
+        if !is_new(block, i) {
+            return false;
+        }
+        i += 1;
+    }
+    true
+}
+
+// The block is a descriptor with this number.
+pub fn is_descriptor(s: Shape, number: u32, block: &[u8]) -> bool
+    requires { ⌜ length (now block) ≡ 128 ⌝ }
+    ensures { λ r. ⌜ r ≡ isDescriptor s number (now (block .entry)) ⌝ }
+{
+    if !has_head(block, 1, number) {
+        return false;
+    }
+    if MAX_NUMBER < number {
+        return false;
+    }
+    let n = block_count(block);
+    if 8 < n {
+        return false;
+    }
+    if !are_held(s, block, n as usize) {
+        return false;
+    }
+    are_new(block, n as usize)
+}
