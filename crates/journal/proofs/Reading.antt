@@ -1,7 +1,7 @@
 -- Reading all journals in one loop: what holds before each slot, and that a step keeps it.
 use Prim.Native.Nat.{ℕ, zero, suc, _+_, _*_, _-_, _/_, _%_, _≤_, _<_}
 use native.Mathlib.Omega.{arith}
-use native.Mathlib.Nat.{add-zero}
+use native.Mathlib.Nat.{mod-lt}
 use native.Mathlib.Numerals.{add-one}
 use native.Mathlib.Decide.{decLt, ℕ-discrete}
 use mathlib.Core.Path.{_≡_, refl, sym, ap, _∙_, subst}
@@ -10,7 +10,7 @@ use mathlib.Core.List.{List, [], _∷_, _++_, append-assoc, append-nil}
 use lib.ListN.{length, getD, set, length-set}
 use lib.Seq.{getD-set-same}
 use lib.Dec.{ltb, leb, eqb}
-use borrow.Author.Tests.{lt-ltb, le-ltb, ltb-true, leb-true, leb-false, eq-eqb, ne-eqb}
+use borrow.Author.Tests.{lt-ltb, le-ltb, le-leb, lt-leb, ltb-true, leb-true, leb-false, eq-eqb, ne-eqb}
 use Rattle.model.specs.Bytes.{Bytes}
 use Rattle.model.specs.Layout.{isDescriptor, hasHead, maxNumber}
 use Rattle.model.specs.Journal.{recordAt, recordsFrom, journal}
@@ -170,3 +170,69 @@ module _ (s : Shape) (d : Bytes) (ts : List Tail) (most : List ℕ) where
   pub reading-all : InRange s → (out : List ℕ) (w : Walk) (i : ℕ) → Reading out w i → 96 ≤ i → Reads s d ts most out
   unfolding Reads
   reading-all l out w i v h c g = v .done c (omega (arith, l .few-cores)) g
+
+-- ---- one step of the code
+found-cases : {A : Type 0} (r : Found) → (r ≡ Miss → A) → ((e : Committed) → r ≡ Whole e → A) → A
+found-cases (Whole e) f g = g e refl
+found-cases Miss f g = f refl
+
+no-room : (s : Shape) (d : Bytes) (c k p left : ℕ) → left < 2 → recordAt s d c k p left ≡ Miss
+no-room s d c k p left h =
+    found-cases (recordAt s d c k p left) (λ m. m) (λ e w. absurd (omega (arith, record-known s d c k p left e w .2)))
+
+module _ (s : Shape) (d : Bytes) (c : ℕ) (w : Walk) where
+  nothing-read : readAt s d c w ≡ Miss → ended w ≡ stepOf s w (readAt s d c w)
+  unfolding stepOf
+  nothing-read h = rw h
+
+  pub step-absent : s .cores ≤ c → ended w ≡ stepOf s w (readAt s d c w)
+  step-absent h = nothing-read (unfold readAt in rw (le-ltb c (s .cores) h))
+
+  pub step-counted : c < s .cores → w .most < 1 → ended w ≡ stepOf s w (readAt s d c w)
+  step-counted h m = nothing-read (unfold readAt in rw (lt-ltb c (s .cores) h, lt-leb 1 (w .most) m))
+
+  module _ (h : c < s .cores) (m : 1 ≤ w .most) where
+    reads-record : readAt s d c w ≡ recordAt s d c (w .number) (w .at) (w .left)
+    unfolding readAt
+    reads-record = rw (lt-ltb c (s .cores) h, le-leb 1 (w .most) m)
+
+    pub step-full : w .left < 2 → ended w ≡ stepOf s w (readAt s d c w)
+    step-full l = nothing-read (reads-record ∙ no-room s d c (w .number) (w .at) (w .left) l)
+
+    module _ (r : Found) (e : r ≡ recordAt s d c (w .number) (w .at) (w .left)) where
+      pub step-miss : r ≡ Miss → ended w ≡ stepOf s w (readAt s d c w)
+      step-miss z = nothing-read (reads-record ∙ sym e ∙ z)
+
+      pub step-hit : (x : Committed) (y : Step) → r ≡ Whole x → y ≡ stepOf s w (Whole x) → y ≡ stepOf s w (readAt s d c w)
+      step-hit x y z q = q ∙ rw (reads-record, ← e, z)
+
+-- what is known of a record just read
+module _ (s : Shape) (d : Bytes) (c k p left : ℕ) (r : Found) (e : r ≡ recordAt s d c k p left) (x : Committed) (z : r ≡ Whole x) where
+  pub hit-fits : x .count + 2 ≤ left
+  hit-fits = record-known s d c k p left x (sym e ∙ z) .2
+
+  pub hit-number : k ≤ maxNumber
+  unfolding isDescriptor
+  hit-number =
+      let q = record-known s d c k p left x (sym e ∙ z) .0 .descriptor in
+      leb-true k maxNumber (and-right (hasHead 1 k _) _ (and-left _ _ (and-left _ _ (and-left _ _ q))))
+
+pub resume-start : (s : Shape) (t : Tail) (most j : ℕ) (w : Walk) → j ≡ 0
+    → _≡_ {A = Walk} (record { number = t .number; at = t .position; left = s .journal; most = most }) (resumed s t most j w)
+unfolding resumed start
+resume-start s t most j w h = rw (eq-eqb j 0 h)
+
+pub resume-same : (s : Shape) (t : Tail) (most j : ℕ) (w : Walk) → (j ≡ 0 → ⊥) → w ≡ resumed s t most j w
+unfolding resumed
+resume-same s t most j w h = rw (ne-eqb j 0 h)
+
+pub wrapped : (s : Shape) (a : ℕ) → InRange s → a % s .journal < 256
+wrapped s a l = let z : 0 < s .journal = omega (arith, l .long) in omega (arith, mod-lt a z, l .short)
+
+pub past-record : (s : Shape) (w : Walk) (e : Committed)
+    → _≡_ {A = Step} (record {
+      slot = w .at + 1;
+      next = record { number = w .number + 1; at = (w .at + (e .count + 2)) % s .journal; left = w .left - (e .count + 2); most = w .most - 1 };
+    }) (stepOf s w (Whole e))
+unfolding stepOf
+past-record s w e = refl

@@ -29,7 +29,7 @@ use Rattle.journal.specs.Slots.{tailIn, numbersOf, slotOf, entry, foundA
 use Rattle.journal.specs.Walk.{Reads}
 
 pub number-at : (ts : List Tail) (c : ℕ) → getD (numbersOf ts) c 0 ≡ (tailIn ts c) .number
-unfolding numbersOf tailIn
+unfolding numbersOf
 number-at ts c = List·getD-map (λ (t : Tail). t .number) ts c (newTail 0 0)
 
 -- ---- one slot

@@ -17,7 +17,7 @@ use Rattle.model.specs.declared.Found.{Found}
 use Rattle.model.specs.declared.Found.the-variants.{Whole, Miss}
 
 -- ---- tails as an array holds them
-unfoldable pub tailIn : List Tail → ℕ → Tail
+abbrev pub tailIn : List Tail → ℕ → Tail
 tailIn ts c = getD ts c (newTail 0 0)
 
 -- the tail numbers alone: all that the names of transactions need
