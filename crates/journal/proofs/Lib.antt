@@ -4,4 +4,5 @@ pub mod Slots
 pub mod Entries
 pub mod Sets
 pub mod Shrinking
+pub mod Images
 pub mod Reading
