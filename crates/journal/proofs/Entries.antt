@@ -125,7 +125,7 @@ pub length-blocksIn : (f : Bytes) (n : ℕ) → length (blocksIn f n) ≡ n
 unfolding blocksIn heldIn pairsIn
 length-blocksIn f n = simp (length-map, length-below)
 
-block-at : (f : Bytes) (n i : ℕ) → i < n → getD (blocksIn f n) i 0 ≡ (pairAt newHeld f 16 i) .block
+pub block-at : (f : Bytes) (n i : ℕ) → i < n → getD (blocksIn f n) i 0 ≡ (pairAt newHeld f 16 i) .block
 unfolding blocksIn heldIn pairsIn
 block-at f n i h = List·getD-map (λ (x : Held). x .block) (map (pairAt newHeld f 16) (below n)) i (newHeld 0 0) ∙ rw (getD-map-below (pairAt newHeld f 16) n i (newHeld 0 0) h)
 

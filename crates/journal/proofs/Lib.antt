@@ -5,4 +5,5 @@ pub mod Entries
 pub mod Sets
 pub mod Shrinking
 pub mod Images
+pub mod Held
 pub mod Reading

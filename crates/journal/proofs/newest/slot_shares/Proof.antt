@@ -1,3 +1,6 @@
+use Rattle.journal.proofs.Images.{asks-none, asks-some}
+use Rattle.journal.proofs.Entries.{found-sized}
+use Rattle.journal.proofs.Held.{stamp-not, stamp-shares}
 use borrow.Author.Needs.{needs}
 use Rattle.journal.proofs.newest.slot_shares.Statement.{statement}
 use Rattle.journal.proofs.newest.slot_shares.Tie as tie
@@ -21,11 +24,11 @@ enum-told c = search needs
 
 -- src/newest.rt:150:9
 returns : tie.Need-returns
-returns c = ?
+returns c = search (needs, asks-none)
 
 -- src/newest.rt:153:9
 returns-2 : tie.Need-returns-2
-returns-2 c = ?
+returns-2 c = search (needs, asks-some, stamp-not)
 
 -- src/newest.rt:155:47
 cast-journal-part : tie.Need-cast-journal-part
@@ -41,11 +44,11 @@ cast-share-in c = search needs
 
 -- src/newest.rt:156:5
 share-in-requires : tie.Need-share-in-requires
-share-in-requires c κs = ?
+share-in-requires c κs = search (needs, found-sized)
 
 -- src/newest.rt:145:1
 returns-3 : tie.Need-returns-3
-returns-3 c = ?
+returns-3 c = search (needs, asks-some, stamp-shares)
 
 pub slot-shares-spec : {M : Type 1} → statement M
 slot-shares-spec =
