@@ -6,4 +6,5 @@ pub mod Sets
 pub mod Shrinking
 pub mod Images
 pub mod Held
+pub mod Model
 pub mod Reading
