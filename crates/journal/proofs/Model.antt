@@ -234,10 +234,11 @@ module _ (s : Shape) (d : Bytes) (ks set : List ℕ) (c : ℕ) where
   unfolding entriesOf
   front zero = ([], rw (add-zero) (sym (append-nil (listOf (foundAt s d ks set (12 * c))))))
   front (suc n) =
-      let r = front n in
-      (r .0 ++ listOf (foundAt s d ks set (12 * c + suc n)),
-      ap (λ (l : List Committed). l ++ listOf (foundAt s d ks set (12 * c + suc n))) (r .1)
-      ∙ append-assoc (listOf (foundAt s d ks set (12 * c))) (r .0) (listOf (foundAt s d ks set (12 * c + suc n))))
+      let r = front n in (
+        r .0 ++ listOf (foundAt s d ks set (12 * c + suc n)),
+        ap (λ (l : List Committed). l ++ listOf (foundAt s d ks set (12 * c + suc n))) (r .1)
+            ∙ append-assoc (listOf (foundAt s d ks set (12 * c))) (r .0) (listOf (foundAt s d ks set (12 * c + suc n))),
+      )
 
   -- where its first slot is filled, that is its oldest
   first-filled : isFilled s set (12 * c) ≡ true → firstFound (entriesOf s d ks set c 12) ≡ Whole (entry s d c (getD ks c 0) (slotOf s set (12 * c)))
