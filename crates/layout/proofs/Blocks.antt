@@ -4,11 +4,11 @@ use native.Mathlib.Omega.{arith}
 use native.Mathlib.Numerals.{add-one}
 use mathlib.Core.Path.{_≡_, refl, ap, _∙_, sym}
 use mathlib.Core.List.{List, [], _∷_, _++_, append-assoc, flatMap}
-use lib.ListN.{length, take, drop, set, getD, replicate, length-set, length-append, length-take, length-drop, replicate-append-replicate}
+use lib.ListN.{length, take, drop, set, getD, replicate, length-set, length-append, length-take, replicate-append-replicate}
 use lib.Seq.{take-suc-set, take-suc, take-all, take-at, drop-drop, sets, sets-eq}
 use borrow.Author.Tests.{eq-eqb, ne-eqb}
 use Rattle.model.specs.Layout.{mark, escaped}
-use Rattle.model.specs.Bytes.{Bytes, bytes, be4, part, replaced, words, padded, block, blockAt}
+use Rattle.model.specs.Bytes.{Bytes, bytes, be4, part, replaced, words, padded, block, blockAt, store}
 use Rattle.model.proofs.Store.{length-replaced}
 use Rattle.model.proofs.Words.{length-bytes, length-words, length-block}
 
@@ -69,9 +69,9 @@ begun-word ws b c i x few w e q h =
       whole = w .whole;
       size = ap length e ∙ length-replaced (4 * i) 4 b (bytes 4 x) (omega (arith, w .size)) (length-bytes 4 x) ∙ w .size;
       same =
-        rw (e, n, ← (append-assoc (take (4 * i) b) (bytes 4 x) (drop 4 (drop (4 * i) b))))
-        (take-at (take (4 * i) b ++ bytes 4 x) (drop 4 (drop (4 * i) b)) (4 * i + 4) len
-        ∙ rw (w .same, q) (sym (take-word ws (128 - length (words ws)) i fits)));
+          rw (e, n, ← (append-assoc (take (4 * i) b) (bytes 4 x) (drop 4 (drop (4 * i) b))))
+          (take-at (take (4 * i) b ++ bytes 4 x) (drop 4 (drop (4 * i) b)) (4 * i + 4) len
+          ∙ rw (w .same, q) (sym (take-word ws (128 - length (words ws)) i fits)));
     }
 
 -- ---- b has the first i words of the block of those given
@@ -88,10 +88,18 @@ written-more ws b c i x w e q h = record { few = w .few; begun = begun-word ws b
 pub written-all : (ws : List ℕ) (b : Bytes) (i : ℕ) → Written ws b i → 32 ≤ i → b ≡ block ws
 written-all ws b i w h = begun-all (block ws) b (4 * i) (w .begun) (omega arith)
 
--- ---- a part lent
+-- ---- a block of a slice, lent
+pub lent-size : (k : ℕ) → 128 * k + 128 - 128 * k ≡ 128
+lent-size k = omega arith
+
 pub block-part : (d : Bytes) (k : ℕ) → take (128 * k + 128 - 128 * k) (drop (128 * k) d) ≡ blockAt d k
 unfolding blockAt part
-block-part d k = let e : 128 * k + 128 - 128 * k ≡ 128 = omega arith in rw e
+block-part d k = rw (lent-size k)
+
+-- what a writer made of block k is a store
+pub block-lent : (d : Bytes) (k : ℕ) (w b : Bytes) → w ≡ b → take (128 * k) d ++ (w ++ drop (128 * k + 128 - 128 * k) (drop (128 * k) d)) ≡ store d k b
+unfolding store replaced
+block-lent d k w b e = rw (lent-size k, e)
 
 -- ---- images: the first word replaced, and escaped
 pub first-put : (s b r : Bytes) → r ≡ replaced 0 4 s b → r ≡ b ++ drop 4 s

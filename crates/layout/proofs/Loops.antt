@@ -3,14 +3,14 @@
 use Prim.Native.Nat.{ℕ, zero, suc, _+_, _≤_, _<_}
 use native.Mathlib.Omega.{arith}
 use native.Mathlib.Numerals.{add-one}
-use mathlib.Core.Path.{_≡_, refl, ap, _∙_, sym}
-use mathlib.Core.Bool.{Bool, true, false, false≢true, not, _&&_, _||_}
+use mathlib.Core.Path.{_≡_, refl, ap, _∙_, sym, ap₂}
+use mathlib.Core.Bool.{Bool, true, false, false≢true, not, _&&_, _||_, and-true, or-false}
 use mathlib.Core.List.{List, [], _∷_, _++_, map, map-append}
 use lib.ListN.{length, take, set, length-set}
 use lib.Seq.{take-suc-set, take-all}
 use borrow.Author.Tests.{not-true, not-false}
 use Rattle.model.specs.Lists.{below, all, any}
-use Rattle.model.proofs.Lists.{cases, and-both, all-mem, all-append, any-append, mem-any, below-mem}
+use Rattle.model.proofs.Lists.{cases, all-mem, all-append, any-append, mem-any, below-mem}
 use Rattle.layout.specs.Loops.{every, some}
 
 -- ---- a test at each index
@@ -32,13 +32,9 @@ pub every-none : (p : ℕ → Bool) → every 0 p ≡ true
 unfolding every below all
 every-none p = refl
 
-and-end : (b : Bool) → (b && true) ≡ b
-and-end true = refl
-and-end false = refl
-
 pub every-step : (p : ℕ → Bool) (n : ℕ) → every (suc n) p ≡ (every n p && p n)
 unfolding every below all
-every-step p n = all-append p (below n) (n ∷ []) ∙ ap (λ (b : Bool). every n p && b) (and-end (p n))
+every-step p n = all-append p (below n) (n ∷ []) ∙ ap (λ (b : Bool). every n p && b) (and-true (p n))
 
 pub every-more : (p : ℕ → Bool) (i : ℕ) → every i p ≡ true → p i ≡ true → every (i + 1) p ≡ true
 every-more p i h q = rw (add-one, every-step, h, q)
@@ -67,13 +63,9 @@ pub some-none : (p : ℕ → Bool) → some 0 p ≡ false
 unfolding some below any
 some-none p = refl
 
-or-end : (b : Bool) → (b || false) ≡ b
-or-end true = refl
-or-end false = refl
-
 pub some-step : (p : ℕ → Bool) (n : ℕ) → some (suc n) p ≡ (some n p || p n)
 unfolding some below any
-some-step p n = any-append p (below n) (n ∷ []) ∙ ap (λ (b : Bool). some n p || b) (or-end (p n))
+some-step p n = any-append p (below n) (n ∷ []) ∙ ap (λ (b : Bool). some n p || b) (or-false (p n))
 
 pub some-more : (p : ℕ → Bool) (i : ℕ) → some i p ≡ false → p i ≡ false → some (i + 1) p ≡ false
 some-more p i h q = rw (add-one, some-step, h, q)
@@ -91,6 +83,16 @@ module _ (p : ℕ → Bool) (i : ℕ) (r : Bool) (e : r ≡ p i) where
 
   pub some-out : some i p ≡ false → r ≡ false → some (i + 1) p ≡ false
   some-out h q = some-more p i h (sym e ∙ q)
+
+-- ---- lists given by an index
+module _ {A : Type 0} (f g : ℕ → A) where
+  pub same-below : (n : ℕ) → ((i : ℕ) → i < n → f i ≡ g i) → map f (below n) ≡ map g (below n)
+  unfolding below
+  same-below zero h = refl
+  same-below (suc n) h =
+      map-append f (below n) (n ∷ [])
+      ∙ ap₂ (λ (l : List A) (x : A). l ++ (x ∷ [])) (same-below n (λ i k. h i (omega arith))) (h n (omega arith))
+      ∙ sym (map-append g (below n) (n ∷ []))
 
 -- ---- an array filled
 module _ {A : Type 0} (f : ℕ → A) where

@@ -2,21 +2,20 @@
 use Prim.Native.Nat.{ℕ, zero, suc, _+_, _*_, _-_, _/_, _%_, _^_, _≤_, _<_, min}
 use native.Mathlib.Omega.{arith}
 use mathlib.Core.Path.{_≡_, refl, ap, _∙_, sym}
-use mathlib.Core.Bool.{true, false, cond}
 use mathlib.Core.List.{List, [], _∷_, _++_, map, flatMap}
 use lib.ListN.{length, take, getD, length-map, length-take, List·getD-append, List·getD-eq-default}
 use lib.Seq.{getD-append-add, getD-take}
-use lib.Dec.{eqb}
 use borrow.Author.Tests.{eq-eqb, ne-eqb}
 use Rattle.model.specs.Lists.{below}
 use Rattle.model.specs.Shape.{clamped}
 use Rattle.model.specs.Card.{newTail, newName}
-use Rattle.model.specs.Layout.{mark, pairWords, Held, newHeld}
+use Rattle.model.specs.Layout.{mark, pairWords, masterBlock, Held, newHeld}
 use Rattle.model.specs.declared.Shape.{Shape}
 use Rattle.model.specs.declared.Tail.{Tail}
 use Rattle.model.specs.declared.Name.{Name}
 use Rattle.model.proofs.Lists.{length-below, getD-map-below}
-use Rattle.model.proofs.Limits.{InRange, clamped-range}
+use Rattle.model.proofs.Limits.{clamped-range}
+use Rattle.layout.proofs.Loops.{same-below}
 use Rattle.layout.specs.Words.{pairWord, masterWords, heldOf, descriptorWords, commitWords}
 
 -- the length of an array of structs, as its type gives it
@@ -76,6 +75,11 @@ unfolding masterWords tails
 length-master s ts =
     let n = clamped s in
     omega (arith, length-pairs (λ (t : Tail). t .number) (λ (t : Tail). t .position) (tails n ts), length-tails n ts, (clamped-range s) .few-cores)
+
+-- a master is known by the tails of its cores
+pub master-tails : (s : Shape) (f g : ℕ → Tail) → ((c : ℕ) → c < s .cores → f c ≡ g c) → masterBlock s f ≡ masterBlock s g
+unfolding masterBlock
+master-tails s f g h = rw (same-below f g (s .cores) h)
 
 pub few-cores : (s near : Shape) (c : ℕ) → near ≡ clamped s → c < near .cores → c < 8
 few-cores s near c e h = omega (arith, (clamped-range s) .few-cores, ap (λ (z : Shape). z .cores) e)

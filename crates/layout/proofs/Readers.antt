@@ -1,23 +1,23 @@
 -- What the readers answer at each return.
-use Prim.Native.Nat.{ℕ, zero, suc, _+_, _*_, _^_, _≤_, _<_}
+use Prim.Native.Nat.{ℕ, zero, suc, _+_, _*_, _≤_, _<_}
 use native.Mathlib.Omega.{arith}
 use mathlib.Core.Path.{_≡_, refl, ap, _∙_, sym, ap₂}
-use mathlib.Core.Bool.{Bool, true, false, false≢true, cond, not, _&&_}
-use mathlib.Core.List.{List, [], _∷_, _++_, map, map-append}
-use lib.Dec.{eqb, ltb, leb}
+use mathlib.Core.Bool.{Bool, true, false, cond, not, _&&_}
+use mathlib.Core.List.{List, [], _∷_, _++_, map-append}
+use lib.Dec.{eqb}
 use borrow.Author.Tests.{eq-eqb, ne-eqb, lt-ltb, le-ltb, not-true, not-false}
 use Rattle.model.specs.Lists.{below, all}
 use Rattle.model.specs.Bytes.{Bytes, be4}
 use Rattle.model.specs.Shape.{inRange, checked}
 use Rattle.model.specs.Card.{newTail, newName}
-use Rattle.model.specs.Layout.{mark, maxNumber, hasHead, shapeIn, tailIn, isTail, isMaster, Held, newHeld, pairAt, pairsIn, heldIn, distinct, isHeld, isDescriptor, blockCount, isListable, isCommit, namesIn, nameCount, stampIn}
+use Rattle.model.specs.Layout.{mark, shapeIn, tailIn, isTail, isMaster, Held, newHeld, pairAt, pairsIn, heldIn, distinct, isHeld, blockCount, isListable, namesIn, nameCount, stampIn}
 use Rattle.model.specs.declared.Shape.{Shape}
 use Rattle.model.specs.declared.Checked.{Checked}
 use Rattle.model.specs.declared.Checked.the-variants.{Fits, OutOfRange}
-use Rattle.model.specs.declared.Tail.{Tail}
-use Rattle.model.proofs.Lists.{cases, and-left, and-right, all-mem, all-append, below-mem}
+use Rattle.model.proofs.Lists.{and-right, all-mem, all-append, below-mem}
 use Rattle.model.proofs.Limits.{InRange, range-test}
 use Rattle.model.proofs.Encoding.{tail-limits}
+use Rattle.model.proofs.OneStore.{master-limits}
 use Rattle.layout.specs.Loops.{every}
 use Rattle.layout.specs.Tails.{tailOrNone}
 use Rattle.layout.specs.Distinct.{heldAt, isOther, isNew}
@@ -159,9 +159,6 @@ module _ (m : Bytes) (c x : ℕ) (e : x ≡ be4 m 12) where
     unfolding isMaster shapeIn tailIn pairAt isMarked allTails
     tail-small t =
         let s = shapeIn m in
-        let u = inRange (s .cores) (s .blocks) (s .journal) in
-        let a : u ≡ true = and-right (isMarked m) u (and-left (isMarked m && u) (allTails m) t) in
-        let l : allTails m ≡ true = and-right (isMarked m && u) (allTails m) t in
+        let l : allTails m ≡ true = and-right (isMarked m && inRange (s .cores) (s .blocks) (s .journal)) (allTails m) t in
         let i : isTail s (tailIn m c) ≡ true = all-mem (λ (c : ℕ). isTail s (tailIn m c)) (below (s .cores)) l (below-mem (s .cores) c (omega arith)) in
-        let r : InRange s = range-test s a in
-        omega (arith, r .short, tail-limits s (tailIn m c) i .2)
+        omega (arith, (master-limits m t) .short, tail-limits s (tailIn m c) i .2)

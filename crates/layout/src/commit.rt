@@ -6,16 +6,14 @@ ghost use Rattle.model.specs.Card.{newName};
 ghost use Rattle.model.specs.Layout.{commitBlock, pairAt, isListable, isCommit, stampIn, nameCount};
 ghost use Rattle.layout.specs.Words.{pairWord, commitWords};
 ghost use Rattle.layout.specs.Loops.{every};
-
-use model::Name;
-use model::Shape;
-
+use crate::words::MARK;
+use crate::words::at_most;
 use crate::words::get_word;
-use crate::words::put_word;
 use crate::words::has_head;
 use crate::words::pair_word;
-use crate::words::at_most;
-use crate::words::MARK;
+use crate::words::put_word;
+use model::Name;
+use model::Shape;
 
 fn name_word(name: Name, k: usize) -> u32
     ensures { λ r. ⌜ r ≡ pairWord (name .core) (name .number) k ⌝ }

@@ -5,10 +5,9 @@ ghost use Prim.Native.Nat.{_+_, _*_, _≤_};
 ghost use lib.ListN.{length, drop};
 ghost use Rattle.model.specs.Bytes.{bytes, blockAt};
 ghost use Rattle.model.specs.Layout.{flagOf, escaped, unescaped};
-
+use crate::words::MARK;
 use crate::words::get_word;
 use crate::words::put_word;
-use crate::words::MARK;
 
 // One block from another.
 pub fn copy_block(to: &mut [u8], from: &[u8])

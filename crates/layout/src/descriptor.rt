@@ -7,18 +7,16 @@ ghost use Rattle.model.specs.Lists.{below};
 ghost use Rattle.model.specs.Layout.{newHeld, descriptorBlock, pairAt, isHeld, isDescriptor, blockCount};
 ghost use Rattle.layout.specs.Words.{descriptorWords};
 ghost use Rattle.layout.specs.Loops.{every};
-ghost use Rattle.layout.specs.Distinct.{heldAt, isOther, isNew};
-
-use model::Shape;
-
-use crate::words::get_word;
-use crate::words::put_word;
-use crate::words::has_head;
-use crate::words::pair_word;
-use crate::words::wide;
-use crate::words::at_most;
+ghost use Rattle.layout.specs.Distinct.{isNew};
 use crate::words::MARK;
 use crate::words::MAX_NUMBER;
+use crate::words::at_most;
+use crate::words::get_word;
+use crate::words::has_head;
+use crate::words::pair_word;
+use crate::words::put_word;
+use crate::words::wide;
+use model::Shape;
 
 // Word i of a descriptor.
 fn descriptor_word(number: u32, count: u8, blocks: [u8; 8], flags: [u8; 8], i: usize) -> u32
@@ -37,13 +35,7 @@ fn descriptor_word(number: u32, count: u8, blocks: [u8; 8], flags: [u8; 8], i: u
 }
 
 // The descriptor of a transaction that took so many of these blocks.
-pub fn write_descriptor(
-    block: &mut [u8],
-    number: u32,
-    count: u8,
-    blocks: [u8; 8],
-    flags: [u8; 8],
-)
+pub fn write_descriptor(block: &mut [u8], number: u32, count: u8, blocks: [u8; 8], flags: [u8; 8])
     requires { ⌜ length (now block) ≡ 128 ⌝ }
     ensures { λ _. ⌜ now (block .exit) ≡ descriptorBlock number (map (λ (i : ℕ). newHeld (getD blocks i 0) (getD flags i 0)) (below (min count 8))) ⌝ }
 {

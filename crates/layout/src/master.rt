@@ -8,20 +8,18 @@ ghost use Rattle.model.specs.Bytes.{be4};
 ghost use Rattle.model.specs.Lists.{below};
 ghost use Rattle.model.specs.Shape.{checked, clamped};
 ghost use Rattle.model.specs.Card.{newTail};
-ghost use Rattle.model.specs.Layout.{masterBlock, shapeIn, tailIn, isTail, isMaster};
+ghost use Rattle.model.specs.Layout.{masterBlock, tailIn, isTail, isMaster};
 ghost use Rattle.layout.specs.Words.{pairWord, masterWords};
 ghost use Rattle.layout.specs.Loops.{every};
 ghost use Rattle.layout.specs.Tails.{tailOrNone};
-
+use crate::words::MARK;
+use crate::words::MAX_NUMBER;
+use crate::words::get_word;
+use crate::words::pair_word;
+use crate::words::put_word;
 use model::Checked;
 use model::Shape;
 use model::Tail;
-
-use crate::words::get_word;
-use crate::words::put_word;
-use crate::words::pair_word;
-use crate::words::MARK;
-use crate::words::MAX_NUMBER;
 
 fn tail_word(t: Tail, k: usize) -> u32
     ensures { λ r. ⌜ r ≡ pairWord (t .number) (t .position) k ⌝ }
@@ -35,7 +33,14 @@ fn master_word(s: Shape, tails: [Tail; 8], i: usize) -> u32
 {
     let near = s.clamped();
     if i < 6 {
-        let head = [MARK, 4, 0, near.cores as u32, near.blocks as u32, near.journal as u32];
+        let head = [
+            MARK,
+            4,
+            0,
+            near.cores as u32,
+            near.blocks as u32,
+            near.journal as u32,
+        ];
         return head[i];
     }
     let c = (i - 6) / 2;
