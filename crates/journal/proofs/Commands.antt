@@ -1,8 +1,8 @@
 -- The functions of this crate in the words of RECOVER and CHECKPOINT: what a command needs of the slots that it read.
 use Prim.Native.Nat.{ℕ, _*_, _<_, min}
 use native.Mathlib.Omega.{arith}
-use mathlib.Core.Path.{_≡_, refl, sym, ap, _∙_}
-use mathlib.Core.Bool.{Bool, true, _&&_}
+use mathlib.Core.Path.{_≡_, refl, ap, _∙_}
+use mathlib.Core.Bool.{_&&_}
 use mathlib.Core.List.{List, []}
 use lib.ListN.{length, getD}
 use lib.Dec.{ltb}
@@ -14,7 +14,7 @@ use Rattle.model.specs.Layout.{unescaped}
 use Rattle.model.specs.Journal.{journal, journals, blocksOf}
 use Rattle.model.specs.Valid.{isIn, validSet, newest}
 use Rattle.model.specs.Command.{World}
-use Rattle.model.specs.Recovery.{shapeOn, tailOn, committedOn, validOn, blocksLeft, imageFound, newestImage}
+use Rattle.model.specs.Recovery.{shapeOn, tailOn, committedOn, validOn, blocksLeft, newestImage}
 use Rattle.model.specs.Checkpoint.{committedNow, validNow, committedOf, share}
 use Rattle.model.specs.declared.Shape.{Shape}
 use Rattle.model.specs.declared.Tail.{Tail}

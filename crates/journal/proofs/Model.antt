@@ -3,8 +3,8 @@ use Prim.Native.Nat.{ℕ, zero, suc, _+_, _*_, _-_, _/_, _%_, _≤_, _<_, min}
 use native.Mathlib.Omega.{arith}
 use native.Mathlib.Nat.{add-zero}
 use native.Mathlib.Decide.{decLt}
-use mathlib.Core.Path.{_≡_, refl, sym, ap, _∙_, subst, fun-ext}
-use mathlib.Core.Bool.{Bool, true, false, true≢false, cond, _&&_, _||_}
+use mathlib.Core.Path.{_≡_, refl, sym, ap, _∙_, fun-ext}
+use mathlib.Core.Bool.{Bool, true, false, true≢false, cond, _&&_}
 use mathlib.Core.List.{List, [], _∷_, _++_, map, flatMap, List·Memᴰ, List·Memᴰ·head, List·Memᴰ·tail, Memᴰ·append-right, map-append, append-nil, append-assoc}
 use lib.ListN.{length, getD}
 use lib.Dec.{ltb, leb, eqb}
@@ -12,11 +12,11 @@ use borrow.Author.Tests.{lt-ltb, ltb-true, not-true, not-false}
 use Rattle.model.specs.Lists.{below, all, any, select}
 use Rattle.model.specs.Bytes.{Bytes, blockAt}
 use Rattle.model.specs.Card.{newName}
-use Rattle.model.specs.Layout.{newHeld, hasHead, stampIn, nameCount, namesIn, isListable, isCommit, unescaped}
-use Rattle.model.specs.Journal.{journalAt, recordsFrom, journal, journals, nameOf, namesOf, blocksOf, heldBy, took, imageOf}
+use Rattle.model.specs.Layout.{hasHead, stampIn, nameCount, namesIn, isListable, isCommit, unescaped}
+use Rattle.model.specs.Journal.{journalAt, journal, journals, namesOf, blocksOf, heldBy, took, imageOf}
 use Rattle.model.specs.Shrink.{strike, shrinkIn, shrink}
 use Rattle.model.specs.Valid.{isIn, isMet, namesMet, validSet, blocksHeld, later, newest}
-use Rattle.model.specs.Recovery.{shapeOn, tailOn, committedOn, validOn, blocksLeft, placeOf, imageFound, newestImage}
+use Rattle.model.specs.Recovery.{shapeOn, placeOf, imageFound}
 use Rattle.model.specs.declared.Shape.{Shape}
 use Rattle.model.specs.declared.Tail.{Tail}
 use Rattle.model.specs.declared.Name.{Name}
@@ -28,14 +28,13 @@ use Rattle.model.proofs.Select.{select-mem}
 use Rattle.model.proofs.Limits.{InRange}
 use Rattle.model.proofs.Journal.{Known, records-known, records-all}
 use Rattle.model.proofs.Records.{journals-known}
-use Rattle.journal.specs.declared.newest.Image.{Image}
-use Rattle.journal.specs.Slots.{tailIn, numbersOf, numberIn, numbered, slotOf, isFilled, entry, foundAs, foundAt, listOf, entriesTo, entries, entriesOf, Sized, filledFrom, oldestAt}
+use Rattle.journal.specs.Slots.{tailIn, numbersOf, numberIn, slotOf, isFilled, entry, foundAs, foundAt, listOf, entriesTo, entries, entriesOf, Sized, filledFrom, oldestAt}
 use Rattle.journal.specs.Walk.{Reads}
 use Rattle.journal.specs.Sets.{isHere}
 use Rattle.journal.specs.Newest.{imageAt, foundImage, firstOr, heldFrom, sharesBelow}
-use Rattle.journal.proofs.Slots.{number-at, entries-split, reads-journals}
+use Rattle.journal.proofs.Slots.{number-at, entries-split}
 use Rattle.journal.proofs.Entries.{whole-known}
-use Rattle.journal.proofs.Sets.{mem-entries, holds-found, empty-found, core-length, in-slot}
+use Rattle.journal.proofs.Sets.{mem-entries, holds-found, core-length, in-slot}
 use Rattle.journal.proofs.Shrinking.{settled, goes-on}
 use Rattle.journal.proofs.Held.{any-took}
 
