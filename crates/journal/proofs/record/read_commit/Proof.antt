@@ -1,0 +1,19 @@
+-- `journal::read_commit` meets its contract: a commit's count of names is at most 12, so it fits a byte.
+use Rattle.journal.proofs.OneRecord.{commit-fits, commit-is, commit-none}
+use borrow.Author.Needs.{needs}
+use Rattle.journal.proofs.record.read_commit.Statement.{statement}
+use Rattle.journal.proofs.record.read_commit.Tie as tie
+
+cast-t7 : tie.Need-cast-t7
+cast-t7 c = search (needs, commit-fits)
+
+returns : tie.Need-returns
+returns c = search (needs, commit-is)
+
+returns-2 : tie.Need-returns-2
+returns-2 c = search (needs, commit-none)
+
+pub read-commit-spec : {M : Type 1} → statement M
+read-commit-spec =
+    tie.close
+    (tie.spec (λ c κs. search needs) (λ c κs. search needs) (λ c κs. search needs) cast-t7 returns returns-2)

@@ -1,0 +1,31 @@
+-- `journal::advance` meets its contract: it is the step past a record.
+use Rattle.journal.proofs.Reading.{wrapped, past-record}
+use borrow.Author.Needs.{needs}
+use Rattle.journal.proofs.walk.advance.Statement.{statement}
+use Rattle.journal.proofs.walk.advance.Tie as tie
+
+cast-t12 : tie.Need-cast-t12
+cast-t12 c = search (needs, wrapped)
+
+returns : tie.Need-returns
+returns c = past-record _ _ _
+
+pub advance-spec : {M : Type 1} → statement M
+advance-spec =
+    tie.close
+    (tie.spec
+    (λ c. search needs)
+    (λ c. search needs)
+    (λ c. search needs)
+    (λ c. search needs)
+    (λ c. search needs)
+    (λ c. search needs)
+    (λ c. search needs)
+    (λ c. search needs)
+    (λ c. search needs)
+    cast-t12
+    (λ c. search needs)
+    (λ c. search needs)
+    (λ c. search needs)
+    (λ c. search needs)
+    returns)
