@@ -1,0 +1,67 @@
+-- A set of committed transactions as 96 slots. Slot 12 * c + j is core c's j-th record from its tail: the position after
+-- its descriptor, 0 for none. The same slots with some of them zero are a smaller set.
+use Prim.Native.Nat.{ℕ, zero, suc, _+_, _*_, _-_, _/_, _%_, min}
+use mathlib.Core.List.{List, [], _∷_, _++_, map}
+use mathlib.Core.Bool.{Bool, cond}
+use mathlib.Core.Path.{_≡_}
+use lib.ListN.{getD}
+use lib.Dec.{ltb, eqb}
+use Rattle.model.specs.Bytes.{Bytes}
+use Rattle.model.specs.Card.{newTail}
+use Rattle.model.specs.Layout.{blockCount, stampIn, nameCount}
+use Rattle.model.specs.Journal.{journalAt}
+use Rattle.model.specs.declared.Shape.{Shape}
+use Rattle.model.specs.declared.Tail.{Tail}
+use Rattle.model.specs.declared.Committed.{Committed}
+use Rattle.model.specs.declared.Found.{Found}
+use Rattle.model.specs.declared.Found.the-variants.{Whole, Miss}
+
+-- ---- tails as an array holds them
+abbrev pub tailIn : List Tail → ℕ → Tail
+tailIn ts c = getD ts c (newTail 0 0)
+
+-- the tail numbers alone: all that the names of transactions need
+unfoldable pub numbersOf : List Tail → List ℕ
+numbersOf ts = map (λ (t : Tail). t .number) ts
+
+-- tails with these numbers
+unfoldable pub numbered : List ℕ → ℕ → Tail
+numbered ks c = newTail (getD ks c 0) 0
+
+-- ---- what a slot gives
+-- slot i; the slots of a core that the disk has not are empty
+unfoldable pub slotOf : Shape → List ℕ → ℕ → ℕ
+slotOf s set i = cond (ltb (i / 12) (s .cores)) (getD set i 0) 0
+
+-- transaction k of core c, with v the position after its descriptor, read again from the disk. The counts are no higher
+-- than a record has them, so that this is one for any v.
+unfoldable pub entry : Shape → Bytes → ℕ → ℕ → ℕ → Committed
+entry s d c k v =
+    let n = min (blockCount (journalAt s d c (v - 1))) 8 in
+    let f = journalAt s d c (v - 1 + (n + 1)) in
+    record { core = c; number = k; position = v - 1; count = n; stamp = stampIn f; named = min (nameCount f) 12 }
+
+-- the transaction in a slot, where it is not empty; ks are the tail numbers
+unfoldable pub foundAs : Shape → Bytes → List ℕ → ℕ → ℕ → Found
+foundAs s d ks i v = cond (eqb v 0) Miss (Whole (entry s d (i / 12) (getD ks (i / 12) 0 + i % 12) v))
+
+unfoldable pub foundAt : Shape → Bytes → List ℕ → List ℕ → ℕ → Found
+foundAt s d ks set i = foundAs s d ks i (slotOf s set i)
+
+-- ---- sets
+unfoldable pub listOf : Found → List Committed
+listOf Miss = []
+listOf (Whole e) = e ∷ []
+
+-- the transactions in the first n slots, in order of core and number
+unfoldable pub entriesTo : Shape → Bytes → List ℕ → List ℕ → ℕ → List Committed
+entriesTo s d ks set zero = []
+entriesTo s d ks set (suc n) = entriesTo s d ks set n ++ listOf (foundAt s d ks set n)
+
+unfoldable pub entries : Shape → Bytes → List ℕ → List ℕ → List Committed
+entries s d ks set = entriesTo s d ks set 96
+
+-- those in the first n slots of core c
+unfoldable pub entriesOf : Shape → Bytes → List ℕ → List ℕ → ℕ → ℕ → List Committed
+entriesOf s d ks set c zero = []
+entriesOf s d ks set c (suc n) = entriesOf s d ks set c n ++ listOf (foundAt s d ks set (12 * c + n))
