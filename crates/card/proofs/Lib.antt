@@ -4,3 +4,4 @@ pub mod Refusals
 pub mod CutLaws
 pub mod ReadLaws
 pub mod FormatLaws
+pub mod RecoverLaws

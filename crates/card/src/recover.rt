@@ -1,0 +1,143 @@
+// RECOVER: one store of recovery. A block held in the valid set gets its newest image, from the lowest block to the
+// highest; then one master store empties all journals, and the card is up.
+ghost use mathlib.Core.Path.{_≡_};
+ghost use mathlib.Core.Bool.{true, cond, not};
+ghost use mathlib.Core.List.{[], map};
+ghost use Prim.Native.Nat.{suc, _+_, _≤_, _<_, min};
+ghost use lib.ListN.{length};
+ghost use Rattle.model.specs.Lists.{below};
+ghost use Rattle.model.specs.Bytes.{Bytes, blockAt};
+ghost use Rattle.model.specs.Card.{newTail};
+ghost use Rattle.model.specs.Layout.{maxNumber, isMaster};
+ghost use Rattle.model.specs.Command.{refusal};
+ghost use Rattle.model.specs.Recovery.{shapeOn, emptiedTail, recoverConditions, recoverStep};
+ghost use Rattle.model.proofs.Limits.{InRange};
+ghost use Rattle.card.specs.Answer.{world, outcomeOf};
+ghost use Rattle.card.specs.Recovering.{tailAfter};
+use crate::state::Answer;
+use crate::state::up_card;
+use crate::state::wrong_length;
+use model::Card;
+use model::Checked;
+use model::Phase;
+use model::Shape;
+use model::Tail;
+
+// Refusal 8, a first block that is no master.
+fn master_refusal(disk: &[u8]) -> u8
+    requires { ⌜ length (now disk) ≡ 32896 ⌝ }
+    ensures { λ r. ⌜ r ≡ cond (not (isMaster (blockAt (now (disk .entry)) 0))) 8 0 ⌝ }
+{
+    if layout::is_master(&disk[0..128]) {
+        return 0;
+    }
+    8
+}
+
+// The first block is looked at once the slices have their lengths and the card is down.
+fn recover_refusal(card: Card, disk: &[u8], memory: &[u8]) -> u8
+    ensures { λ r. ⌜ r ≡ refusal (recoverConditions (world card (now (disk .entry)) (now (memory .entry)))) ⌝ }
+{
+    if wrong_length(disk, memory) {
+        return 1;
+    }
+    let p = card.phase;
+    match p {
+        Phase::Blank => 20,
+        Phase::Up => 23,
+        Phase::Down => master_refusal(disk),
+    }
+}
+
+// The shape that the disk's master gives: one that was taken for a master has it within the limits.
+fn disk_shape(disk: &[u8]) -> Shape
+    requires { ⌜ (length (now disk) ≡ 32896) × (isMaster (blockAt (now disk) 0) ≡ true) ⌝ }
+    ensures { λ r. ⌜ (r ≡ shapeOn (now (disk .entry))) × InRange r ⌝ }
+{
+    let made = layout::read_shape(&disk[0..128]);
+    let Checked::Fits(s) = made else {
+        return Shape {
+            cores: 1,
+            blocks: 1,
+            journal: 4,
+        };
+    };
+    s
+}
+
+// The tail of a journal emptied after so many records: a number between them is left out, and none is above
+// 4,000,000,001.
+fn next_tail(t: Tail, count: usize) -> Tail
+    requires { ⌜ count ≤ 12 ⌝ }
+    ensures { λ r. ⌜ r ≡ newTail (min (t .number + (count + 1)) (suc maxNumber)) 0 ⌝ }
+{
+    let number = t.number as usize + (count + 1);
+    if number < 4000000001 {
+        return Tail {
+            number: number as u32,
+            position: 0,
+        };
+    }
+    Tail {
+        number: 4000000001,
+        position: 0,
+    }
+}
+
+// Core c's tail after recovery, from the slots of all journals read whole; the empty one for a core that the disk has
+// not.
+fn emptied_tail(s: Shape, tails: [Tail; 8], slots: &[u16; 96], c: usize) -> Tail
+    requires { ⌜ c < 8 ⌝ }
+    ensures { λ r. ⌜ r ≡ tailAfter s tails (now (slots .entry)) c ⌝ }
+{
+    if s.cores as usize <= c {
+        return Tail {
+            number: 0,
+            position: 0,
+        };
+    }
+    let count = journal::count_slots(s, slots, 12 * c, 12);
+    let t = tails[c];
+    next_tail(t, count)
+}
+
+fn emptied_tails(s: Shape, tails: [Tail; 8], slots: &[u16; 96]) -> [Tail; 8]
+    ensures { λ r. ⌜ r ≡ map (tailAfter s tails (now (slots .entry))) (below 8) ⌝ }
+{
+    let mut out = [Tail {
+        number: 0,
+        position: 0,
+    }; 8];
+    let mut c: usize = 0;
+    while c < 8 {
+        out[c] = emptied_tail(s, tails, slots, c);
+        c += 1;
+    }
+    out
+}
+
+// The tails that empty all journals of a disk.
+fn tails_after(s: Shape, disk: &[u8]) -> [Tail; 8]
+    requires { ⌜ (length (now disk) ≡ 32896) × (isMaster (blockAt (now disk) 0) ≡ true) × (s ≡ shapeOn (now disk)) × InRange s ⌝ }
+    ensures { λ r. ⌜ r ≡ map (emptiedTail (now (disk .entry))) (below 8) ⌝ }
+{
+    let tails = layout::read_tails(&disk[0..128]);
+    let slots = journal::read_journals(s, disk, tails, [s.journal; 8]);
+    emptied_tails(s, tails, &slots)
+}
+
+// The last store of recovery: one master with all journals empty. The card is up.
+fn bring_up(disk: &mut [u8]) -> Answer
+    requires { ⌜ (length (now disk) ≡ 32896) × (isMaster (blockAt (now disk) 0) ≡ true) ⌝ }
+    ensures { λ r. ⌜ ((x : Card) (m : Bytes) → outcomeOf r (now (disk .exit)) m ≡ recoverStep [] (world x (now (disk .entry)) m)) ⌝ }
+{
+    let s = disk_shape(disk);
+    let tails = tails_after(s, disk);
+    layout::write_master(&mut disk[0..128], s, tails);
+    let card = up_card(s, tails);
+    Answer {
+        number: 0,
+        stores: 1,
+        card,
+    }
+}
