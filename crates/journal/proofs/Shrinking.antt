@@ -21,11 +21,11 @@ use Rattle.journal.specs.Sets.{struck}
 use Rattle.journal.proofs.Sets.{entries-length, struck-entries}
 
 module _ {A : Type 0} (stays : List A → A → Bool) where
-  settled : (n : ℕ) (es : List A) → eqb (length (strike stays es)) (length es) ≡ true → shrinkIn (suc n) stays es ≡ es
+  pub settled : (n : ℕ) (es : List A) → eqb (length (strike stays es)) (length es) ≡ true → shrinkIn (suc n) stays es ≡ es
   unfolding shrinkIn
   settled n es h = rw (h, shrinkIn)
 
-  goes-on : (n : ℕ) (es : List A) → eqb (length (strike stays es)) (length es) ≡ false → shrinkIn (suc n) stays es ≡ shrinkIn n stays (strike stays es)
+  pub goes-on : (n : ℕ) (es : List A) → eqb (length (strike stays es)) (length es) ≡ false → shrinkIn (suc n) stays es ≡ shrinkIn n stays (strike stays es)
   unfolding shrinkIn
   goes-on n es h = rw (h, shrinkIn)
 

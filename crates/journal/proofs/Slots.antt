@@ -68,7 +68,7 @@ module _ (s : Shape) (d : Bytes) (ks : List ℕ) where
   entries-before out i x c (suc n) h = rw (entries-before out i x c n (omega arith), found-other out i x (12 * c + n) (omega arith))
 
   -- ---- core by core
-  entries-split : (set : List ℕ) (c n : ℕ) → entriesTo s d ks set (12 * c + n) ≡ entriesTo s d ks set (12 * c) ++ entriesOf s d ks set c n
+  pub entries-split : (set : List ℕ) (c n : ℕ) → entriesTo s d ks set (12 * c + n) ≡ entriesTo s d ks set (12 * c) ++ entriesOf s d ks set c n
   unfolding entriesTo entriesOf
   entries-split set c zero = rw (add-zero, append-nil)
   entries-split set c (suc n) =

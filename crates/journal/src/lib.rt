@@ -4,6 +4,7 @@ mod record;
 mod walk;
 mod entry;
 mod valid;
+mod newest;
 
 pub use record::journal_part;
 pub use record::read_record;
@@ -15,6 +16,14 @@ pub use entry::count_slots;
 pub use entry::entry_at;
 pub use entry::place_of;
 pub use entry::took_block;
+pub use entry::block_at;
+pub use entry::oldest_in;
 
 pub use valid::valid_slots;
 pub use valid::is_oldest_in;
+
+pub use newest::Image;
+pub use newest::image_at;
+pub use newest::newest_image;
+pub use newest::next_held;
+pub use newest::shares_lower;
