@@ -2,18 +2,19 @@
 // highest; then one master store empties all journals, and the card is up.
 ghost use mathlib.Core.Path.{_≡_};
 ghost use mathlib.Core.Bool.{true, cond, not};
-ghost use mathlib.Core.List.{[], map};
-ghost use Prim.Native.Nat.{suc, _+_, _≤_, _<_, min};
+ghost use mathlib.Core.List.{List, [], _∷_, map};
+ghost use Prim.Native.Nat.{ℕ, suc, _+_, _≤_, _<_, min};
 ghost use lib.ListN.{length};
 ghost use Rattle.model.specs.Lists.{below};
 ghost use Rattle.model.specs.Bytes.{Bytes, blockAt};
 ghost use Rattle.model.specs.Card.{newTail};
 ghost use Rattle.model.specs.Layout.{maxNumber, isMaster};
 ghost use Rattle.model.specs.Command.{refusal};
-ghost use Rattle.model.specs.Recovery.{shapeOn, emptiedTail, recoverConditions, recoverStep};
+ghost use Rattle.model.specs.Recovery.{shapeOn, validOn, newestImage, emptiedTail, recoverConditions, recoverStep, recovered, recover};
 ghost use Rattle.model.proofs.Limits.{InRange};
+ghost use Rattle.journal.specs.Slots.{entries};
 ghost use Rattle.card.specs.Answer.{world, outcomeOf};
-ghost use Rattle.card.specs.Recovering.{tailAfter};
+ghost use Rattle.card.specs.Recovering.{numbersOn, tailAfter};
 use crate::state::Answer;
 use crate::state::up_card;
 use crate::state::wrong_length;
@@ -140,4 +141,71 @@ fn bring_up(disk: &mut [u8]) -> Answer
         stores: 1,
         card,
     }
+}
+
+// The slots of the valid set of a disk.
+fn valid_set(s: Shape, disk: &[u8]) -> [u16; 96]
+    requires { ⌜ (length (now disk) ≡ 32896) × (isMaster (blockAt (now disk) 0) ≡ true) × (s ≡ shapeOn (now disk)) × InRange s ⌝ }
+    ensures { λ r. ⌜ entries s (now (disk .entry)) (numbersOn (now (disk .entry))) r ≡ validOn (now (disk .entry)) ⌝ }
+{
+    let tails = layout::read_tails(&disk[0..128]);
+    let committed = journal::read_journals(s, disk, tails, [s.journal; 8]);
+    journal::valid_slots(s, disk, tails, committed)
+}
+
+// The newest image of block b in the valid set.
+fn newest_block(s: Shape, disk: &[u8], valid: &[u16; 96], b: u8) -> [u8; 128]
+    requires { ⌜ (length (now disk) ≡ 32896) × (s ≡ shapeOn (now disk)) × InRange s × (entries s (now disk) (numbersOn (now disk)) (now valid) ≡ validOn (now disk)) ⌝ }
+    ensures { λ r. ⌜ r ≡ newestImage (now (disk .entry)) b ⌝ }
+{
+    let at = journal::newest_image(s, disk, valid, b);
+    let image = layout::load_block(disk, at.block);
+    layout::unescape(at.flag, image)
+}
+
+// A home store of recovery, of the lowest block left; recovery has then passed it.
+fn restore_block(card: Card, s: Shape, disk: &mut [u8], valid: &[u16; 96], b: u8) -> Answer
+    requires { ⌜ (length (now disk) ≡ 32896) × (s ≡ shapeOn (now disk)) × InRange s × (entries s (now disk) (numbersOn (now disk)) (now valid) ≡ validOn (now disk)) × (b < s .blocks) ⌝ }
+    ensures { λ r. ⌜ ((bs : List ℕ) (m : Bytes) → outcomeOf r (now (disk .exit)) m ≡ recoverStep (b ∷ bs) (world card (now (disk .entry)) m)) ⌝ }
+{
+    let image = newest_block(s, disk, valid, b);
+    let from = 128 * s.home_block(b);
+    let to = from + 128;
+    layout::write_image(&mut disk[from..to], image);
+    let mut next = card;
+    next.recovered = b + 1;
+    Answer {
+        number: 0,
+        stores: 1,
+        card: next,
+    }
+}
+
+// The next store of recovery over a disk whose first block is a master.
+fn recovered(card: Card, disk: &mut [u8]) -> Answer
+    requires { ⌜ (length (now disk) ≡ 32896) × (isMaster (blockAt (now disk) 0) ≡ true) ⌝ }
+    ensures { λ r. ⌜ ((m : Bytes) → outcomeOf r (now (disk .exit)) m ≡ recovered (world card (now (disk .entry)) m)) ⌝ }
+{
+    let s = disk_shape(disk);
+    let valid = valid_set(s, disk);
+    let b = journal::next_held(s, disk, &valid, card.recovered);
+    if b < s.blocks {
+        return restore_block(card, s, disk, &valid, b);
+    }
+    bring_up(disk)
+}
+
+// RECOVER. Memory takes no part: only its length is asked for.
+pub fn recover(card: Card, disk: &mut [u8], memory: &[u8]) -> Answer
+    ensures { λ r. ⌜ outcomeOf r (now (disk .exit)) (now (memory .entry)) ≡ recover (world card (now (disk .entry)) (now (memory .entry))) ⌝ }
+{
+    let n = recover_refusal(card, disk, memory);
+    if n != 0 {
+        return Answer {
+            number: n,
+            stores: 0,
+            card,
+        };
+    }
+    recovered(card, disk)
 }

@@ -1,46 +1,41 @@
+-- `card::recover::emptied_tails` meets its contract: the array is filled core by core.
+use Prim.Native.Nat.{_-_}
+use borrow.Author.Needs.{needs}
+use Rattle.layout.proofs.Loops.{Filled, filled-none, filled-more, filled-all}
+use Rattle.card.specs.Recovering.{tailAfter}
+use Rattle.card.proofs.Parts.{facts}
 use Rattle.card.proofs.recover.emptied_tails.Statement.{statement}
 use Rattle.card.proofs.recover.emptied_tails.Tie as tie
-use Rattle.card.proofs.recover.emptied_tails.Reads as reads
-use Rattle.card.proofs.recover.emptied_tails.Lts as lts
-use Rattle.card.proofs.recover.emptied_tail.Reads as emptied-tail-reads
 
 abbrev Inv-loop : tie.InvT-loop
-Inv-loop s tails slots out₀ c₀ out c = ?
+Inv-loop s tails slots out₀ c₀ out c = Filled (tailAfter s tails slots) 8 out c
 
 abbrev μ-loop : tie.MeasureT-loop
-μ-loop s tails slots out₀ c₀ out c = ?
+μ-loop s tails slots out₀ c₀ out c = 8 - c
 
--- src/recover.rt:112:5
 loop-holds : tie.Need-loop-holds Inv-loop μ-loop
-loop-holds c = ?
+loop-holds c = search (facts, filled-none)
 
--- src/recover.rt:113:18
 emptied-tail-requires : tie.Need-emptied-tail-requires Inv-loop μ-loop
-emptied-tail-requires c κs = ?
+emptied-tail-requires c κs = search needs
 
--- src/recover.rt:113:9
 mul-out : tie.Need-mul-out Inv-loop μ-loop
-mul-out c = ?
+mul-out c = search needs
 
--- src/recover.rt:113:9
 array-set-from-out : tie.Need-array-set-from-out Inv-loop μ-loop
-array-set-from-out c = ?
+array-set-from-out c = search needs
 
--- src/recover.rt:114:9
 add-c : tie.Need-add-c Inv-loop μ-loop
-add-c c = ?
+add-c c = search needs
 
--- src/recover.rt:112:5
 loop-less : tie.Need-loop-less Inv-loop μ-loop
-loop-less c = ?
+loop-less c = search needs
 
--- src/recover.rt:112:5
 loop-again : tie.Need-loop-again Inv-loop μ-loop
-loop-again c = ?
+loop-again c = search (needs, filled-more)
 
--- src/recover.rt:104:1
 returns : tie.Need-returns Inv-loop μ-loop
-returns c = ?
+returns c = search (needs, filled-all)
 
 pub emptied-tails-spec : {M : Type 1} → statement M
 emptied-tails-spec =
