@@ -9,13 +9,13 @@ use lib.Dec.{ltb, eqb}
 use borrow.Author.Tests.{lt-ltb, le-ltb, ltb-true, not-false}
 use Rattle.model.specs.Lists.{below}
 use Rattle.model.specs.Bytes.{Bytes, be4, part, replaced, blockAt, store}
-use Rattle.model.specs.Shape.{inRange, homeBlock, checked, clamped}
+use Rattle.model.specs.Shape.{homeBlock, checked, clamped}
 use Rattle.model.specs.Card.{newTail, freshCard, downCard}
 use Rattle.model.specs.Layout.{mark, maxNumber, shapeIn, tailIn, isMaster, masterBlock, unescaped}
 use Rattle.model.specs.Journal.{journal, journals}
-use Rattle.model.specs.Valid.{validSet, blocksHeld, newest}
-use Rattle.model.specs.Command.{Outcome, World, refusal, wrongLength, storing}
-use Rattle.model.specs.Recovery.{shapeOn, tailOn, committedOn, validOn, blocksLeft, imageFound, newestImage, recoveredTo, emptiedTail, broughtUp, recoverConditions, recoverStep, recovered, recover}
+use Rattle.model.specs.Valid.{validSet, newest}
+use Rattle.model.specs.Command.{Outcome, refusal, wrongLength}
+use Rattle.model.specs.Recovery.{shapeOn, tailOn, committedOn, validOn, blocksLeft, newestImage, recoveredTo, emptiedTail, broughtUp, recoverConditions, recoverStep, recovered, recover}
 use Rattle.model.specs.declared.Card.{Card}
 use Rattle.model.specs.declared.Tail.{Tail}
 use Rattle.model.specs.declared.Shape.{Shape}
@@ -27,8 +27,9 @@ use Rattle.model.proofs.Lists.{cases, and-left, and-right, map-below, getD-map-
 use Rattle.model.proofs.Limits.{InRange, clamped-same}
 use Rattle.model.proofs.OneStore.{right-lengths, master-limits, left-below}
 use Rattle.layout.specs.Tails.{tailOrNone}
+use Rattle.layout.proofs.Blocks.{block-lent}
 use Rattle.journal.specs.declared.newest.Image.{Image}
-use Rattle.journal.specs.Slots.{numbersOf, numberIn, numbered, entries, filledFrom, entriesOf}
+use Rattle.journal.specs.Slots.{numbersOf, numberIn, numbered, entries, filledFrom}
 use Rattle.journal.specs.Walk.{Reads}
 use Rattle.journal.specs.Newest.{foundImage, firstOr, heldFrom}
 use Rattle.journal.proofs.Slots.{number-at, reads-journals}
@@ -36,7 +37,6 @@ use Rattle.journal.proofs.Sets.{core-length}
 use Rattle.journal.proofs.Model.{found-bytes, image-numbers, held-numbers, valid-tails, journals-tails}
 use Rattle.card.specs.Answer.{world}
 use Rattle.card.specs.Recovering.{numbersOn, tailAfter}
-use Rattle.layout.proofs.Blocks.{block-lent}
 use Rattle.card.proofs.FormatLaws.{master-same}
 use Rattle.card.proofs.Refusals.{was-done, none-held}
 
@@ -44,7 +44,7 @@ use Rattle.card.proofs.Refusals.{was-done, none-held}
 pub disk-right : (d m : Bytes) (r : Bool) → ((x : Card) → r ≡ wrongLength (world x d m)) → r ≡ false → length d ≡ 32896
 disk-right d m r e h = right-lengths (world downCard d m) (sym (e downCard) ∙ h) .0
 
--- none met
+-- with none met the first block is a master
 module _ (x : Card) (d m : Bytes) (n : ℕ) (e : n ≡ refusal (recoverConditions (world x d m))) (h : n ≡ 0) where
   pub recover-clear : (length d ≡ 32896) × (isMaster (blockAt d 0) ≡ true)
   unfolding recoverConditions
@@ -114,7 +114,7 @@ module _ (s : Shape) (ts : List Tail) (set : List ℕ) (c : ℕ) where
   unfolding tailAfter
   after-some h n q r z = z ∙ rw (lt-ltb c (s .cores) h, ← q)
 
--- the slots that were read give the tails that recovery stores
+-- the tails of a master, and the slots read from them, are those of the disk
 module _ (d : Bytes) (s : Shape) (z : s ≡ shapeOn d) (l : InRange s) (ts : List Tail) (e : ts ≡ map (tailOrNone (take 128 d)) (below 8)) where
   disk-tail : (c : ℕ) → c < s .cores → getD ts c (newTail 0 0) ≡ tailOn d c
   unfolding tailOn tailOrNone blockAt part shapeOn
@@ -134,6 +134,7 @@ module _ (d : Bytes) (s : Shape) (z : s ≡ shapeOn d) (l : InRange s) (ts : Lis
       rw (lt-ltb c 8 g) a
 
   module _ (set : List ℕ) (r : Reads s d ts (replicate 8 (s .journal)) set) where
+    -- they give the tails that recovery stores
     tail-emptied : (c : ℕ) → c < 8 → tailAfter s ts set c ≡ emptiedTail d c
     unfolding tailAfter emptiedTail Reads
     tail-emptied c h =
@@ -145,7 +146,10 @@ module _ (d : Bytes) (s : Shape) (z : s ≡ shapeOn d) (l : InRange s) (ts : Lis
         rw (t, disk-tail c g, f))
         (λ t. rw t))
 
-    -- and those that are valid are the valid set
+    pub tails-emptied : (out : List Tail) → out ≡ map (tailAfter s ts set) (below 8) → out ≡ map (emptiedTail d) (below 8)
+    tails-emptied out q = q ∙ map-below _ _ 8 tail-emptied
+
+    -- and of them the valid set
     pub valid-read : (v : List ℕ) → entries s d (numbersOf ts) v ≡ validSet s d (numbered (numbersOf ts)) (entries s d (numbersOf ts) set) → entries s d (numbersOn d) v ≡ validOn d
     unfolding numbersOn validOn committedOn blockAt part
     valid-read v q =
@@ -155,9 +159,6 @@ module _ (d : Bytes) (s : Shape) (z : s ≡ shapeOn d) (l : InRange s) (ts : Lis
         let vs : entries s d (numbersOf ts) v ≡ validSet s d (tailOn d) (journals s d (tailOn d) (λ (c : ℕ). s .journal)) =
         q ∙ ap (validSet s d (numbered (numbersOf ts))) es ∙ valid-tails s d (numbered (numbersOf ts)) (tailOn d) same-number (tailOn d) (λ (c : ℕ). s .journal) in
         rw (← k, ← z) vs
-
-    pub tails-emptied : (out : List Tail) → out ≡ map (tailAfter s ts set) (below 8) → out ≡ map (emptiedTail d) (below 8)
-    tails-emptied out q = q ∙ map-below _ _ 8 tail-emptied
 
 -- ---- the master store
 module _ (d : Bytes) (s : Shape) (z : s ≡ shapeOn d) (l : InRange s) (ts : List Tail) (e : ts ≡ map (emptiedTail d) (below 8)) where

@@ -66,8 +66,7 @@ fn disk_shape(disk: &[u8]) -> Shape
     s
 }
 
-// The tail of a journal emptied after so many records: a number between them is left out, and none is above
-// 4,000,000,001.
+// The tail of a journal emptied after so many records: one above the number that would come next, at most 4,000,000,001.
 fn next_tail(t: Tail, count: usize) -> Tail
     requires { ⌜ count ≤ 12 ⌝ }
     ensures { λ r. ⌜ r ≡ newTail (min (t .number + (count + 1)) (suc maxNumber)) 0 ⌝ }

@@ -17,13 +17,13 @@ unfolding recover
 returns c = was-refused _ _ _ _ (c .before .recover-refusal .ensures) (c .if1 .taken)
 
 recovered-requires : tie.Need-recovered-requires
-recovered-requires c κs = recover-clear _ _ _ _ (c .before .recover-refusal .ensures) (c .if1 .left)
+recovered-requires c κs = recover-clear _ _ _ _ (c .before .before .recover-refusal .ensures) (c .before .if1 .left)
 
 same-length-2 : tie.Need-same-length-2
 same-length-2 c = search needs
 
 returns-2 : tie.Need-returns-2
-returns-2 c = recover-done _ _ _ _ (c .before .before .recover-refusal .ensures) (c .before .if1 .left) _ (c .recovered .ensures _)
+returns-2 c = recover-done _ _ _ _ (c .before .before .before .before .before .recover-refusal .ensures) (c .before .before .before .before .if1 .left) _ (c .before .before .recovered .ensures _)
 
 pub recover-spec : {M : Type 1} → statement M
 recover-spec =

@@ -20,7 +20,8 @@ same-length : tie.Need-same-length
 same-length c = search needs
 
 returns : tie.Need-returns
-returns c = λ m. recovered-home _ _ _ (c .before .before .before .before .disk-shape .ensures .0) _ (c .before .before .before .valid-set .ensures) _ (c .before .before .next-held .ensures) m (c .before .if1 .taken) _ (λ bs. c .restore-block .ensures bs m)
+returns c = let n = c .before .before .before .before .before .before .before in let v = n .before .before .before in
+    λ m. recovered-home _ _ _ (v .before .before .disk-shape .ensures .0) _ (v .valid-set .ensures) _ (n .next-held .ensures) m (c .before .before .before .before .before .if1 .taken) _ (λ bs. c .before .before .restore-block .ensures bs m)
 
 bring-up-requires : tie.Need-bring-up-requires
 bring-up-requires c κs = search needs
@@ -29,7 +30,8 @@ same-length-2 : tie.Need-same-length-2
 same-length-2 c = search needs
 
 returns-2 : tie.Need-returns-2
-returns-2 c = λ m. recovered-up _ _ _ (c .before .before .before .before .disk-shape .ensures .0) _ (c .before .before .before .valid-set .ensures) _ (c .before .before .next-held .ensures) m (c .before .if1 .left) _ (c .bring-up .ensures _ m)
+returns-2 c = let n = c .before .before .before .before .before .before in let v = n .before .before .before in
+    λ m. recovered-up _ _ _ (v .before .before .disk-shape .ensures .0) _ (v .valid-set .ensures) _ (n .next-held .ensures) m (c .before .before .before .before .if1 .left) _ (c .before .before .bring-up .ensures _ m)
 
 pub recovered-spec : {M : Type 1} → statement M
 recovered-spec =
