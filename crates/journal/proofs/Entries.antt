@@ -5,7 +5,7 @@ use native.Mathlib.Nat.{add-zero}
 use native.Mathlib.Numerals.{add-one}
 use native.Mathlib.Decide.{decLt}
 use mathlib.Core.Path.{_≡_, refl, sym, ap, _∙_}
-use mathlib.Core.Bool.{Bool, true, false, true≢false, cond, not, _||_}
+use mathlib.Core.Bool.{Bool, true, false, true≢false, cond, not}
 use mathlib.Core.List.{List, [], _∷_, map}
 use lib.ListN.{length, getD, List·getD-map, length-map}
 use lib.Dec.{ltb, eqb}
@@ -89,7 +89,7 @@ module _ (s : Shape) (d : Bytes) (set : List ℕ) (i v : ℕ) (e : v ≡ slotOf 
       ap Whole (q ∙ ap (λ (k : ℕ). entry s d (i / 12) k v) (sym z)) ∙ sym (filled-slot s d [] set i v (sym e) h)
 
 -- ---- its size
-whole-known : (t : Bool) (x e : Committed) → cond t Miss (Whole x) ≡ Whole e → (t ≡ false) × (x ≡ e)
+pub whole-known : (t : Bool) (x e : Committed) → cond t Miss (Whole x) ≡ Whole e → (t ≡ false) × (x ≡ e)
 whole-known true x e h = let z : _≡_ {A = ℕ} 0 1 = cc in absurd (omega arith)
 whole-known false x e h = (refl, (cc))
 

@@ -1,17 +1,17 @@
 -- Images: where one stands, the newest of a block over the slots, and tests of all transactions in a set.
-use Prim.Native.Nat.{ℕ, zero, suc, _+_, _≤_, _<_}
+use Prim.Native.Nat.{ℕ, suc, _+_, _≤_, _<_}
 use native.Mathlib.Omega.{arith}
 use native.Mathlib.Numerals.{add-one}
 use mathlib.Core.Path.{_≡_, refl, sym, ap, _∙_}
-use mathlib.Core.Bool.{Bool, true, false, false≢true, cond, _&&_, _||_}
+use mathlib.Core.Bool.{Bool, true, false, false≢true, cond, _||_}
 use mathlib.Core.List.{List, [], _∷_, _++_, map}
 use lib.ListN.{getD}
-use lib.Dec.{ltb, leb}
+use lib.Dec.{leb}
 use borrow.Author.Tests.{lt-ltb, le-ltb, le-leb, lt-leb}
 use Rattle.model.specs.Lists.{below, any}
 use Rattle.model.specs.Bytes.{Bytes}
 use Rattle.model.specs.Shape.{clamped, journalBlock}
-use Rattle.model.specs.Layout.{Held, newHeld, pairAt, pairsIn, heldIn}
+use Rattle.model.specs.Layout.{newHeld, pairAt, pairsIn, heldIn}
 use Rattle.model.specs.Journal.{journalAt, heldBy, blocksOf, took}
 use Rattle.model.specs.Valid.{later, newest}
 use Rattle.model.specs.Recovery.{placeOf}
@@ -24,7 +24,6 @@ use Rattle.model.proofs.Limits.{InRange, clamped-same}
 use Rattle.journal.specs.declared.newest.Image.{Image}
 use Rattle.journal.specs.Slots.{foundAt, listOf, entriesTo, entries, asks}
 use Rattle.journal.specs.Newest.{imageAt, foundImage, laterOf, laterFound}
-use Rattle.journal.proofs.OneRecord.{part-low}
 use Rattle.journal.proofs.Entries.{took-is}
 use Rattle.journal.proofs.Sets.{entries-mem}
 

@@ -7,4 +7,5 @@ pub mod Shrinking
 pub mod Images
 pub mod Held
 pub mod Model
+pub mod Commands
 pub mod Reading

@@ -17,7 +17,6 @@ use Rattle.model.specs.declared.Committed.{Committed}
 use Rattle.model.specs.declared.Found.{Found}
 use Rattle.model.specs.declared.Found.the-variants.{Whole, Miss}
 use Rattle.journal.specs.declared.newest.Image.{Image}
-use Rattle.journal.specs.Slots.{entries}
 
 -- the image of the i-th block of a transaction
 unfoldable pub imageAt : Shape → Bytes → Committed → ℕ → Image

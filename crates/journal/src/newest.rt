@@ -11,15 +11,13 @@ ghost use Rattle.model.specs.Checkpoint.{share};
 ghost use Rattle.model.specs.declared.Found.the-variants.{Miss};
 ghost use Rattle.journal.specs.Slots.{foundAt, entries, Sized, blocksIn, asks};
 ghost use Rattle.journal.specs.Newest.{imageAt, foundImage, laterOf, laterFound, heldFrom, sharesBelow};
-
-use model::Committed;
-use model::Found;
-use model::Shape;
-
-use crate::record::journal_part;
 use crate::entry::entry_at;
 use crate::entry::place_of;
 use crate::entry::took_block;
+use crate::record::journal_part;
+use model::Committed;
+use model::Found;
+use model::Shape;
 
 // Where an image stands: its disk block and its flag, with the stamp of the transaction that has it.
 pub struct Image {
