@@ -6,3 +6,4 @@ pub mod transaction; // WRITE
 pub mod commit; // CLOSE and STORE
 pub mod recovery; // CUT
 pub mod reading; // a block as its readers see it
+mod recover; // RECOVER; private until all seven commands are there, so that none is called before the proof of whole runs
