@@ -56,17 +56,17 @@ module _ (s : Shape) (d : Bytes) (ts : List Tail) (most : List ℕ) where
       (λ f. let z : w .most ≡ 0 = omega (arith, leb-false 1 (w .most) f) in rw (z, recordsFrom))
 
   -- ---- a step
-  module _ (out : List ℕ) (w : Walk) (c j : ℕ) (u : Under out w c j) (l : j < 12) (size : 12 * c + j < length out) where
+  module _ (out : List ℕ) (w : Walk) (c j : ℕ) (u : Under out w c j) (l : j < 12) (size : 12 * c + j < length out) (low : w .at < 256) (lim : InRange s) where
     more-entries : (x : ℕ) → entriesOf s d (numbersOf ts) (set out (12 * c + j) x) c (suc j)
         ≡ entriesOf s d (numbersOf ts) out c j ++ listOf (foundAt s d (numbersOf ts) (set out (12 * c + j) x) (12 * c + j))
     unfolding entriesOf
     more-entries x = rw (entries-before s d (numbersOf ts) out (12 * c + j) x c j (omega arith))
 
-    stored-slot : (x : ℕ) → c < s .cores → slotOf s (set out (12 * c + j) x) (12 * c + j) ≡ x
+    stored-slot : (x : ℕ) → x ≤ 256 → c < s .cores → slotOf s (set out (12 * c + j) x) (12 * c + j) ≡ x
     unfolding slotOf
-    stored-slot x h =
+    stored-slot x g h =
         let q : (12 * c + j) / 12 ≡ c = omega arith in
-        rw (q, lt-ltb c (s .cores) h) (getD-set-same out (12 * c + j) x 0 size)
+        rw (q, lt-ltb c (s .cores) h, getD-set-same out (12 * c + j) x 0 size) (omega arith)
 
     missed : readAt s d c w ≡ Miss → Under (set out (12 * c + j) 0) ((ended w) .next) c (suc j)
     unfolding listOf
@@ -76,7 +76,7 @@ module _ (s : Shape) (d : Bytes) (ts : List Tail) (most : List ℕ) where
           number = λ g. absurd (omega arith);
           same =
               λ g.
-              rw (more-entries 0, empty-slot s d (numbersOf ts) (set out (12 * c + j) 0) (12 * c + j) (stored-slot 0 g), empty-rest c ((ended w) .next) refl, append-nil)
+              rw (more-entries 0, empty-slot s d (numbersOf ts) (set out (12 * c + j) 0) (12 * c + j) (stored-slot 0 (omega arith) g), empty-rest c ((ended w) .next) refl, append-nil)
               (rw (missed-rest c w g h) at (u .same g));
         }
 
@@ -91,8 +91,8 @@ module _ (s : Shape) (d : Bytes) (ts : List Tail) (most : List ℕ) where
         let k : (tailIn ts c) .number + j ≡ w .number = sym number in
         let z : w .most ≡ suc (w .most - 1) = omega arith in
         let found : foundAt s d (numbersOf ts) (set out (12 * c + j) (w .at + 1)) (12 * c + j) ≡ Whole e =
-        filled-slot s d (numbersOf ts) (set out (12 * c + j) (w .at + 1)) (12 * c + j) (w .at + 1) (stored-slot (w .at + 1) g) (omega arith)
-        ∙ rw (q, r, number-at ts c, k, entry-read s d c (w .number) (w .at) (w .left) e h) in
+        filled-slot s d (numbersOf ts) (set out (12 * c + j) (w .at + 1)) (12 * c + j) (w .at + 1) (stored-slot (w .at + 1) (omega arith) g) (omega arith)
+        ∙ rw (q, r, number-at ts c (omega (arith, lim .few-cores)), k, entry-read s d c (w .number) (w .at) (w .left) e h) in
         let on : rest c w ≡ e ∷ rest c ((stepOf s w (Whole e)) .next) =
         ap (λ (n : ℕ). recordsFrom n s d c (w .number) (w .at) (w .left)) z
         ∙ records-hit s d c (w .number) (w .at) (w .left) (w .most - 1) e h in
@@ -126,7 +126,7 @@ module _ (s : Shape) (d : Bytes) (ts : List Tail) (most : List ℕ) where
   started l out c = record { few = omega (arith, l .short); number = λ g. omega arith; same = λ g. refl }
 
   module _ (l : InRange s) (out : List ℕ) (w r : Walk) (i : ℕ) (v : Reading out w i) (e : r ≡ resumed s (tailIn ts (i / 12)) (getD most (i / 12) 0) (i % 12) w)
-      (h : i < 96) where
+      (h : i < 96) (low : r .at < 256) where
     resumed-under : Under out r (i / 12) (i % 12)
     unfolding resumed
     resumed-under =
@@ -139,7 +139,7 @@ module _ (s : Shape) (d : Bytes) (ts : List Tail) (most : List ℕ) where
       next-under : Under (set out i (x .slot)) (x .next) (i / 12) (suc (i % 12))
       next-under =
           let z : 12 * (i / 12) + i % 12 ≡ i = omega arith in
-          rw (q) (rw z at (stepped out r (i / 12) (i % 12) resumed-under (omega arith) (omega (arith, v .size)) (readAt s d (i / 12) r) refl))
+          rw (q) (rw z at (stepped out r (i / 12) (i % 12) resumed-under (omega arith) (omega (arith, v .size)) low l (readAt s d (i / 12) r) refl))
 
       last-slot : (c : ℕ) → 12 * c + 12 ≡ i + 1 → c < s .cores → entriesOf s d (numbersOf ts) (set out i (x .slot)) c 12 ≡ whole c
       last-slot c z g =

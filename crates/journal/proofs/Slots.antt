@@ -22,15 +22,15 @@ use Rattle.model.specs.declared.Tail.{Tail}
 use Rattle.model.specs.declared.Committed.{Committed}
 use Rattle.model.specs.declared.Found.{Found}
 use Rattle.model.specs.declared.Found.the-variants.{Whole, Miss}
-use Rattle.model.proofs.Lists.{cases, flatMap-append}
+use Rattle.model.proofs.Lists.{flatMap-append, getD-map-below}
 use Rattle.model.proofs.Journal.{record-known}
 use Rattle.model.proofs.Limits.{InRange}
 use Rattle.journal.specs.Slots.{tailIn, numbersOf, slotOf, entry, foundAs, foundAt, listOf, entriesTo, entries, entriesOf}
 use Rattle.journal.specs.Walk.{Reads}
 
-pub number-at : (ts : List Tail) (c : ℕ) → getD (numbersOf ts) c 0 ≡ (tailIn ts c) .number
+pub number-at : (ts : List Tail) (c : ℕ) → c < 8 → getD (numbersOf ts) c 0 ≡ (tailIn ts c) .number
 unfolding numbersOf
-number-at ts c = List·getD-map (λ (t : Tail). t .number) ts c (newTail 0 0)
+number-at ts c h = getD-map-below (λ (c : ℕ). (tailIn ts c) .number) 8 c 0 h
 
 -- ---- one slot
 -- a record that was read is what its slot gives

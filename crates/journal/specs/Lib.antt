@@ -2,3 +2,4 @@
 pub mod Record
 pub mod Slots
 pub mod Walk
+pub mod Sets

@@ -1,14 +1,15 @@
 -- A set of committed transactions as 96 slots. Slot 12 * c + j is core c's j-th record from its tail: the position after
 -- its descriptor, 0 for none. The same slots with some of them zero are a smaller set.
-use Prim.Native.Nat.{ℕ, zero, suc, _+_, _*_, _-_, _/_, _%_, min}
+use Prim.Native.Nat.{ℕ, zero, suc, _+_, _*_, _-_, _/_, _%_, _≤_, _<_, min}
 use mathlib.Core.List.{List, [], _∷_, _++_, map}
-use mathlib.Core.Bool.{Bool, cond}
+use mathlib.Core.Bool.{Bool, cond, not}
 use mathlib.Core.Path.{_≡_}
 use lib.ListN.{getD}
 use lib.Dec.{ltb, eqb}
+use Rattle.model.specs.Lists.{below}
 use Rattle.model.specs.Bytes.{Bytes}
 use Rattle.model.specs.Card.{newTail}
-use Rattle.model.specs.Layout.{blockCount, stampIn, nameCount}
+use Rattle.model.specs.Layout.{Held, blockCount, heldIn, stampIn, nameCount}
 use Rattle.model.specs.Journal.{journalAt}
 use Rattle.model.specs.declared.Shape.{Shape}
 use Rattle.model.specs.declared.Tail.{Tail}
@@ -22,16 +23,23 @@ tailIn ts c = getD ts c (newTail 0 0)
 
 -- the tail numbers alone: all that the names of transactions need
 unfoldable pub numbersOf : List Tail → List ℕ
-numbersOf ts = map (λ (t : Tail). t .number) ts
+numbersOf ts = map (λ (c : ℕ). (tailIn ts c) .number) (below 8)
+
+-- core c's; there are eight
+unfoldable pub numberIn : List ℕ → ℕ → ℕ
+numberIn ks c = cond (ltb c 8) (getD ks c 0) 0
 
 -- tails with these numbers
 unfoldable pub numbered : List ℕ → ℕ → Tail
-numbered ks c = newTail (getD ks c 0) 0
+numbered ks c = newTail (numberIn ks c) 0
 
 -- ---- what a slot gives
--- slot i; the slots of a core that the disk has not are empty
+-- slot i, no higher than a position can make it; the slots of a core that the disk has not are empty
 unfoldable pub slotOf : Shape → List ℕ → ℕ → ℕ
-slotOf s set i = cond (ltb (i / 12) (s .cores)) (getD set i 0) 0
+slotOf s set i = cond (ltb (i / 12) (s .cores)) (min (getD set i 0) 256) 0
+
+unfoldable pub isFilled : Shape → List ℕ → ℕ → Bool
+isFilled s set i = not (eqb (slotOf s set i) 0)
 
 -- transaction k of core c, with v the position after its descriptor, read again from the disk. The counts are no higher
 -- than a record has them, so that this is one for any v.
@@ -65,3 +73,18 @@ entries s d ks set = entriesTo s d ks set 96
 unfoldable pub entriesOf : Shape → Bytes → List ℕ → List ℕ → ℕ → ℕ → List Committed
 entriesOf s d ks set c zero = []
 entriesOf s d ks set c (suc n) = entriesOf s d ks set c n ++ listOf (foundAt s d ks set (12 * c + n))
+
+-- what functions over a transaction ask of it: a core that the disk has, and counts that a record can have
+pub record Sized (s : Shape) (e : Committed) : Type 0 where
+  pub core : e .core < s .cores
+  pub few : e .count ≤ 8
+  pub short : e .named ≤ 12
+
+-- how many of the n slots from a on are not empty
+unfoldable pub filledFrom : Shape → List ℕ → ℕ → ℕ → ℕ
+filledFrom s set a zero = 0
+filledFrom s set a (suc n) = filledFrom s set a n + cond (isFilled s set (a + n)) 1 0
+
+-- the blocks of the first n that a descriptor has
+unfoldable pub blocksIn : Bytes → ℕ → List ℕ
+blocksIn b n = map (λ (h : Held). h .block) (heldIn b n)

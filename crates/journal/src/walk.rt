@@ -1,6 +1,6 @@
 // All journals read in one loop over the slots.
 ghost use mathlib.Core.Path.{_≡_};
-ghost use Prim.Native.Nat.{_+_, _≤_};
+ghost use Prim.Native.Nat.{_+_, _≤_, _<_};
 ghost use lib.ListN.{length};
 ghost use Rattle.model.proofs.Limits.{InRange};
 ghost use Rattle.model.specs.Layout.{maxNumber};
@@ -78,7 +78,7 @@ fn read_step(s: Shape, disk: &[u8], c: u8, w: Walk) -> Step
 
 // A core's first slot starts at its tail; the others go on from the one before.
 fn resume(s: Shape, t: Tail, most: u8, j: usize, w: Walk) -> Walk
-    ensures { λ r. ⌜ r ≡ resumed s t most j w ⌝ }
+    ensures { λ r. ⌜ (r ≡ resumed s t most j w) × (r .at < 256) ⌝ }
 {
     if j == 0 {
         return Walk {

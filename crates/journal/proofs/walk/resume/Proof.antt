@@ -7,11 +7,11 @@ use Rattle.journal.proofs.walk.resume.Lts as lts
 
 -- src/walk.rt:71:9
 returns : tie.Need-returns
-returns c = search (needs, resume-start)
+returns c = (search (needs, resume-start), search needs)
 
 -- src/walk.rt:67:1
 returns-2 : tie.Need-returns-2
-returns-2 c = search (needs, resume-same)
+returns-2 c = (search (needs, resume-same), search needs)
 
 pub resume-spec : {M : Type 1} → statement M
 resume-spec = tie.close (tie.spec returns returns-2)
