@@ -4,3 +4,5 @@ pub mod Refusals
 pub mod CutLaws
 pub mod ReadLaws
 pub mod FormatLaws
+pub mod CheckpointLaws
+pub mod OldestLaws

@@ -4,3 +4,4 @@ pub mod state; // the answer of a command, parts of the card, refusals that many
 pub mod format; // FORMAT
 pub mod recovery; // CUT
 pub mod reading; // a block as its readers see it
+pub mod checkpoint; // CHECKPOINT
