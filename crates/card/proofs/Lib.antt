@@ -10,3 +10,5 @@ pub mod EntryLaws
 pub mod CloseLaws
 pub mod StoreLaws
 pub mod RecoverLaws
+pub mod CheckpointLaws
+pub mod OldestLaws

@@ -7,3 +7,4 @@ pub mod commit; // CLOSE and STORE
 pub mod recovery; // CUT
 pub mod reading; // a block as its readers see it
 mod recover; // RECOVER; private until all seven commands are there, so that none is called before the proof of whole runs
+pub mod checkpoint; // CHECKPOINT
