@@ -4,7 +4,7 @@ pub mod state; // the answer of a command, parts of the card, refusals that many
 pub mod format; // FORMAT
 pub mod transaction; // WRITE
 pub mod commit; // CLOSE and STORE
-pub mod recovery; // CUT
-pub mod reading; // a block as its readers see it
-mod recover; // RECOVER; private until all seven commands are there, so that none is called before the proof of whole runs
 pub mod checkpoint; // CHECKPOINT
+pub mod recovery; // CUT
+mod recover; // RECOVER; private until all seven commands are there, so that none is called before the proof of whole runs
+pub mod reading; // a block as its readers see it
