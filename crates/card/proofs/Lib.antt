@@ -4,4 +4,9 @@ pub mod Refusals
 pub mod CutLaws
 pub mod ReadLaws
 pub mod FormatLaws
+pub mod WriterLaws
+pub mod WriteLaws
+pub mod EntryLaws
+pub mod CloseLaws
+pub mod StoreLaws
 pub mod RecoverLaws

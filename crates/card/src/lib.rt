@@ -2,6 +2,8 @@
 // its definition in crate `model`, for all inputs.
 pub mod state; // the answer of a command, parts of the card, refusals that many commands share
 pub mod format; // FORMAT
+pub mod transaction; // WRITE
+pub mod commit; // CLOSE and STORE
 pub mod recovery; // CUT
 pub mod reading; // a block as its readers see it
 mod recover; // RECOVER; private until all seven commands are there, so that none is called before the proof of whole runs

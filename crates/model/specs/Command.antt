@@ -40,7 +40,7 @@ unless conditions w done = elim (refusal conditions) [ zero ↦ done | suc n ↦
 unfoldable pub wrongLength : World → Bool
 wrongLength w = not (eqb (length (w .disk)) 32896) || not (eqb (length (w .memory)) 16384)
 
--- 'the order 1, .. 20 to 23, then 4 to 8': what WRITE, CLOSE, STORE, CHECKPOINT and reading meet first
+-- 'Order: 1, 2, 3, then 20 to 23, then 4 to 8': what WRITE, CLOSE, STORE, CHECKPOINT and reading meet first
 abbrev pub notUp : World → List (Bool × ℕ) → List (Bool × ℕ)
 notUp w rest = (wrongLength w, 1) ∷ (isBlank (w .card .phase), 20) ∷ (isDown (w .card .phase), 22) ∷ rest
 

@@ -28,7 +28,7 @@ operandLengths = 0 ∷ 3 ∷ 8 ∷ 1 ∷ 1 ∷ 1 ∷ 0 ∷ 0 ∷ []
 unfoldable pub operandLength : ℕ → ℕ
 operandLength k = getD operandLengths k 0
 
--- the seven commands
+-- the seven commands; the tape refuses every byte but 1 to 7 before (`commandAt`), so the last case is 7
 unfoldable pub step : Step
 step k a w =
     let c = getD a 0 0 in

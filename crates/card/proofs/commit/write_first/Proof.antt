@@ -1,0 +1,13 @@
+-- `card::commit::write_first` meets its contract: the first of the eight flags belong to the blocks taken.
+use Rattle.card.proofs.Parts.{facts}
+use Rattle.card.proofs.StoreLaws.{first-written}
+use borrow.Author.Needs.{needs}
+use Rattle.card.proofs.commit.write_first.Statement.{statement}
+use Rattle.card.proofs.commit.write_first.Tie as tie
+
+returns : tie.Need-returns
+returns c = search (facts, first-written)
+
+pub write-first-spec : {M : Type 1} → statement M
+write-first-spec =
+    tie.close (tie.spec (λ c κs. search needs) (λ c κs. search needs) (λ c. search needs) returns)
