@@ -1,0 +1,175 @@
+-- The functions over slots and over one transaction: what each answers at its returns.
+use Prim.Native.Nat.{ℕ, zero, suc, _+_, _*_, _-_, _/_, _%_, _≤_, _<_, min}
+use native.Mathlib.Omega.{arith}
+use native.Mathlib.Nat.{add-zero}
+use native.Mathlib.Numerals.{add-one}
+use native.Mathlib.Decide.{decLt}
+use mathlib.Core.Path.{_≡_, refl, sym, ap, _∙_}
+use mathlib.Core.Bool.{Bool, true, false, true≢false, cond, not, _||_}
+use mathlib.Core.List.{List, [], _∷_, map}
+use lib.ListN.{length, getD, List·getD-map, length-map}
+use lib.Dec.{ltb, eqb}
+use borrow.Author.Tests.{lt-ltb, le-ltb, eq-eqb, ne-eqb, ltb-true}
+use Rattle.model.specs.Lists.{below, any}
+use Rattle.model.specs.Bytes.{Bytes}
+use Rattle.model.specs.Layout.{Held, newHeld, pairAt, pairsIn, heldIn, blockCount, nameCount, stampIn}
+use Rattle.model.specs.Journal.{journalAt, heldBy, blocksOf, took}
+use Rattle.model.specs.Recovery.{placeOf}
+use Rattle.model.specs.declared.Shape.{Shape}
+use Rattle.model.specs.declared.Committed.{Committed}
+use Rattle.model.specs.declared.Found.{Found}
+use Rattle.model.specs.declared.Found.the-variants.{Whole, Miss}
+use Rattle.model.proofs.Lists.{cases, length-below, getD-map-below}
+use Rattle.model.proofs.Records.{length-blocksOf}
+use Rattle.journal.specs.Slots.{slotOf, isFilled, entry, foundAs, foundAt, Sized, filledFrom, blocksIn}
+use Rattle.journal.proofs.Slots.{empty-slot, filled-slot}
+
+-- ---- a slot
+module _ (s : Shape) (set : List ℕ) (i : ℕ) where
+  pub slot-absent : s .cores ≤ i / 12 → 0 ≡ slotOf s set i
+  unfolding slotOf
+  slot-absent h = rw (le-ltb (i / 12) (s .cores) h)
+
+  pub slot-there : (r : ℕ) → r ≡ min (getD set i 0) 256 → i / 12 < s .cores → r ≡ slotOf s set i
+  unfolding slotOf
+  slot-there r e h = e ∙ rw (lt-ltb (i / 12) (s .cores) h)
+
+  -- a slot that is not empty is one of a core that the disk has
+  pub slot-core : (v : ℕ) → v ≡ slotOf s set i → (v ≡ 0 → ⊥) → i / 12 < s .cores
+  unfolding slotOf
+  slot-core v e h =
+      cases (ltb (i / 12) (s .cores))
+      (λ t. ltb-true (i / 12) (s .cores) t)
+      (λ f. absurd (h (e ∙ rw f)))
+
+  pub filled-is : (v : ℕ) → v ≡ slotOf s set i → not (eqb v 0) ≡ isFilled s set i
+  unfolding isFilled
+  filled-is v e = rw e
+
+  module _ (r : Bool) (e : r ≡ isFilled s set i) where
+    pub one-yes : r ≡ true → 1 ≡ filledFrom s set i 1
+    unfolding filledFrom
+    one-yes h = rw (add-zero, ← e, h)
+
+    pub one-no : r ≡ false → 0 ≡ filledFrom s set i 1
+    unfolding filledFrom
+    one-no h = rw (add-zero, ← e, h)
+
+pub slot-low : (r x : ℕ) → r ≡ min x 256 → r ≤ 256
+slot-low r x e = omega arith
+
+pub count-none : (s : Shape) (set : List ℕ) (a : ℕ) → 0 ≡ filledFrom s set a 0
+unfolding filledFrom
+count-none s set a = refl
+
+pub count-more : (s : Shape) (set : List ℕ) (a i n r : ℕ) → n ≡ filledFrom s set a i → r ≡ filledFrom s set (a + i) 1 → n + r ≡ filledFrom s set a (i + 1)
+unfolding filledFrom
+count-more s set a i n r e q = rw (add-one, filledFrom, e, q, add-zero) (omega arith)
+
+pub count-all : (s : Shape) (set : List ℕ) (a i n r : ℕ) → r ≡ filledFrom s set a i → i ≤ n → n ≤ i → r ≡ filledFrom s set a n
+count-all s set a i n r e p q = let z : i ≡ n = omega arith in e ∙ rw z
+
+-- ---- a transaction read
+pub entry-is : (s : Shape) (d : Bytes) (c k v n m x y st : ℕ) (b f : Bytes) → b ≡ journalAt s d c (v - 1) → x ≡ blockCount b → n ≡ min x 8
+    → f ≡ journalAt s d c (v - 1 + (n + 1)) → st ≡ stampIn f → y ≡ nameCount f → m ≡ min y 12
+    → _≡_ {A = Committed} (record { core = c; number = k; position = v - 1; count = n; stamp = st; named = m }) (entry s d c k v)
+unfolding entry
+entry-is s d c k v n m x y st b f eb ex en ef es ey em =
+    let h : n ≡ min (blockCount (journalAt s d c (v - 1))) 8 = en ∙ rw (ex, eb) in
+    let g : f ≡ journalAt s d c (v - 1 + (min (blockCount (journalAt s d c (v - 1))) 8 + 1)) = rw h at ef in
+    rw (em, ey, es, g, h)
+
+module _ (s : Shape) (d : Bytes) (set : List ℕ) (i v : ℕ) (e : v ≡ slotOf s set i) where
+  pub found-none : v ≡ 0 → Miss ≡ foundAt s d [] set i
+  found-none h = sym (empty-slot s d [] set i (sym e ∙ h))
+
+  pub found-some : (x : Committed) → (v ≡ 0 → ⊥) → x ≡ entry s d (i / 12) (i % 12) v → Whole x ≡ foundAt s d [] set i
+  found-some x h q =
+      let z : getD [] (i / 12) 0 + i % 12 ≡ i % 12 = omega arith in
+      ap Whole (q ∙ ap (λ (k : ℕ). entry s d (i / 12) k v) (sym z)) ∙ sym (filled-slot s d [] set i v (sym e) h)
+
+-- ---- its size
+whole-known : (t : Bool) (x e : Committed) → cond t Miss (Whole x) ≡ Whole e → (t ≡ false) × (x ≡ e)
+whole-known true x e h = let z : _≡_ {A = ℕ} 0 1 = cc in absurd (omega arith)
+whole-known false x e h = (refl, (cc))
+
+pub found-sized : (s : Shape) (d : Bytes) (ks set : List ℕ) (i : ℕ) (r : Found) (e : Committed) → r ≡ foundAt s d ks set i → r ≡ Whole e → Sized s e
+unfolding foundAt foundAs entry
+found-sized s d ks set i r e q h =
+    let v = slotOf s set i in
+    let w = whole-known (eqb v 0) (entry s d (i / 12) (getD ks (i / 12) 0 + i % 12) v) e (sym q ∙ h) in
+    rw (← (w .1))
+    (record { core = slot-core s set i v refl (λ z. let y : _≡_ {A = Bool} true false = sym (eq-eqb v 0 z) ∙ w .0 in absurd (true≢false y)); few = omega arith; short = omega arith })
+
+-- ---- the place of a block
+-- none of the first j is block b
+unfoldable pub Passed : ℕ → List ℕ → ℕ → Type 0
+Passed b xs j = (i : ℕ) → i < j → eqb b (getD xs i 0) ≡ false
+
+passed-rest : (b x : ℕ) (xs : List ℕ) (j : ℕ) → Passed b (x ∷ xs) (suc j) → Passed b xs j
+unfolding Passed
+passed-rest b x xs j p i h = p (suc i) (omega arith)
+
+place-at : (b : ℕ) (xs : List ℕ) (j : ℕ) → Passed b xs j → j < length xs → eqb b (getD xs j 0) ≡ true → placeOf b xs ≡ j
+unfolding placeOf Passed
+place-at b [] j p l h = absurd (omega arith)
+place-at b (x ∷ xs) zero p l h = rw h
+place-at b (x ∷ xs) (suc j) p l h = rw (p 0 (omega arith)) (ap suc (place-at b xs j (passed-rest b x xs j p) (omega arith) h))
+
+place-none : (b : ℕ) (xs : List ℕ) → Passed b xs (length xs) → placeOf b xs ≡ length xs
+unfolding placeOf Passed
+place-none b [] p = refl
+place-none b (x ∷ xs) p = rw (p 0 (omega arith)) (ap suc (place-none b xs (passed-rest b x xs (length xs) p)))
+
+pub length-blocksIn : (f : Bytes) (n : ℕ) → length (blocksIn f n) ≡ n
+unfolding blocksIn heldIn pairsIn
+length-blocksIn f n = simp (length-map, length-below)
+
+block-at : (f : Bytes) (n i : ℕ) → i < n → getD (blocksIn f n) i 0 ≡ (pairAt newHeld f 16 i) .block
+unfolding blocksIn heldIn pairsIn
+block-at f n i h = List·getD-map (λ (x : Held). x .block) (map (pairAt newHeld f 16) (below n)) i (newHeld 0 0) ∙ rw (getD-map-below (pairAt newHeld f 16) n i (newHeld 0 0) h)
+
+pub passed-none : (b : ℕ) (xs : List ℕ) → Passed b xs 0
+unfolding Passed
+passed-none b xs i h = absurd (omega arith)
+
+module _ (f : Bytes) (n b j : ℕ) (p : Passed b (blocksIn f n) j) where
+  pub place-end : j ≤ n → n ≤ j → j ≡ placeOf b (blocksIn f n)
+  place-end h q =
+      let e : j ≡ length (blocksIn f n) = omega (arith, length-blocksIn f n) in
+      e ∙ sym (place-none b (blocksIn f n) (rw e at p))
+
+  module _ (x : ℕ) (e : x ≡ (pairAt newHeld f 16 j) .block) (l : j < n) where
+    pub place-hit : x ≡ b → j ≡ placeOf b (blocksIn f n)
+    place-hit h = sym (place-at b (blocksIn f n) j p (omega (arith, length-blocksIn f n)) (eq-eqb b (getD (blocksIn f n) j 0) (omega (arith, block-at f n j l))))
+
+    pub passed-more : (x ≡ b → ⊥) → Passed b (blocksIn f n) (j + 1)
+    unfolding Passed
+    passed-more h i g =
+        elim (decLt i j) [
+          | yes lt ↦ p i lt
+          | no ge ↦ let z : i ≡ j = omega arith in rw z (ne-eqb b (getD (blocksIn f n) j 0) (λ y. h (e ∙ sym (block-at f n j l) ∙ sym y)))
+        ]
+
+pub place-is : (s : Shape) (d : Bytes) (e : Committed) (b r : ℕ) (f : Bytes) → f ≡ journalAt s d (e .core) (e .position) → r ≡ placeOf b (blocksIn f (e .count)) → r ≡ placeOf b (blocksOf s d e)
+unfolding blocksIn blocksOf heldBy
+place-is s d e b r f q h = h ∙ rw q
+
+-- it took the block where that has a place
+place-any : (b : ℕ) (xs : List ℕ) → ltb (placeOf b xs) (length xs) ≡ any (eqb b) xs
+unfolding placeOf any
+place-any b [] = refl
+place-any b (x ∷ xs) =
+    cases (eqb b x)
+    (λ h. rw h (lt-ltb 0 (suc (length xs)) (omega arith)))
+    (λ h. rw h (later-place (placeOf b xs) (length xs) ∙ place-any b xs))
+  where
+    later-place : (m n : ℕ) → ltb (suc m) (suc n) ≡ ltb m n
+    later-place m n = elim (decLt m n) [
+      | yes l ↦ lt-ltb (suc m) (suc n) (omega arith) ∙ sym (lt-ltb m n l)
+      | no g ↦ let h : n ≤ m = omega arith in le-ltb (suc m) (suc n) (omega arith) ∙ sym (le-ltb m n h)
+    ]
+
+pub took-is : (s : Shape) (d : Bytes) (e : Committed) (b p : ℕ) → p ≡ placeOf b (blocksOf s d e) → ltb p (e .count) ≡ took s d b e
+unfolding took
+took-is s d e b p h = ap (ltb p) (sym (length-blocksOf s d e)) ∙ rw h (place-any b (blocksOf s d e))

@@ -1,0 +1,98 @@
+use denote.Ref.{now}
+use mathlib.Core.Path.{sym}
+use borrow.Author.Needs.{needs}
+use Rattle.journal.specs.Slots.{filledFrom}
+use Rattle.journal.proofs.Shrinking.{shrink-same, shrink-less, shrink-falls}
+use Prim.Native.Nat.{ℕ, _<_}
+use borrow.Fn.Kinds.{In}
+use borrow.Fn.PlainCycle.{Measures, is, falls, and}
+use Rattle.journal.proofs.valid.shrink_set.Reads as shrink-set
+use Rattle.journal.proofs.valid.shrink_set.Kinds as shrink-set-kinds
+use Rattle.journal.proofs.valid.+shrink_set.Lts-shrink_set as shrink-set-lts
+use Rattle.journal.proofs.entry.count_slots.Reads as count-slots-reads
+use Rattle.journal.proofs.valid.strike_round.Reads as strike-round-reads
+use Rattle.journal.proofs.valid.+shrink_set.{statement}
+use Rattle.journal.proofs.valid.+shrink_set.Tie.{close}
+
+abbrev μ-shrink-set : Measures 3 shrink-set-kinds.ps ℕ
+μ-shrink-set κs a = filledFrom (a .0) (now (a .1 .1 .1 .0)) 0 96
+
+abbrev shrink-set-at : ℕ → In 3 shrink-set-kinds.ps
+shrink-set-at t =
+    and 3 shrink-set-kinds.ps (is 3 shrink-set-kinds.ps μ-shrink-set t) shrink-set.Pre
+
+abbrev shrink-set-below : ℕ → In 3 shrink-set-kinds.ps
+shrink-set-below t =
+    and 3 shrink-set-kinds.ps (falls 3 shrink-set-kinds.ps _<_ μ-shrink-set t) shrink-set.Pre
+
+-- src/valid.rt:130:5
+shrink-set-strike-round-requires : (t : ℕ) → shrink-set-lts.Need-strike-round-requires (
+  strike-round-reads.Asked,
+  strike-round-reads.Learnt,
+  count-slots-reads.Asked,
+  count-slots-reads.Learnt,
+  shrink-set-below t,
+  shrink-set.Post,
+) (shrink-set-at t) shrink-set.Post
+shrink-set-strike-round-requires t c κs = search needs
+
+-- src/valid.rt:131:9
+shrink-set-count-slots-requires : (t : ℕ) → shrink-set-lts.Need-count-slots-requires (
+  strike-round-reads.Asked,
+  strike-round-reads.Learnt,
+  count-slots-reads.Asked,
+  count-slots-reads.Learnt,
+  shrink-set-below t,
+  shrink-set.Post,
+) (shrink-set-at t) shrink-set.Post
+shrink-set-count-slots-requires t c κs = search needs
+
+-- src/valid.rt:133:9
+shrink-set-returns : (t : ℕ) → shrink-set-lts.Need-returns (
+  strike-round-reads.Asked,
+  strike-round-reads.Learnt,
+  count-slots-reads.Asked,
+  count-slots-reads.Learnt,
+  shrink-set-below t,
+  shrink-set.Post,
+) (shrink-set-at t) shrink-set.Post
+shrink-set-returns t c = search (needs, shrink-same)
+
+-- src/valid.rt:135:5
+shrink-set-shrink-set-requires : (t : ℕ) → shrink-set-lts.Need-shrink-set-requires (
+  strike-round-reads.Asked,
+  strike-round-reads.Learnt,
+  count-slots-reads.Asked,
+  count-slots-reads.Learnt,
+  shrink-set-below t,
+  shrink-set.Post,
+) (shrink-set-at t) shrink-set.Post
+shrink-set-shrink-set-requires t c κs = let n : _ = c .before .before in let w : _ = n .before .before in let z : _ = w .before .before .before in (rw (← (z .pre .0)) (shrink-falls _ _ _ _ _ _ _ (w .strike-round .ensures) (n .count-slots .ensures .0) (z .pre .1 .2) (c .before .if1 .left)), (z .pre .1 .0, z .pre .1 .1, n .count-slots .ensures .0))
+
+-- src/valid.rt:126:1
+shrink-set-returns-2 : (t : ℕ) → shrink-set-lts.Need-returns-2 (
+  strike-round-reads.Asked,
+  strike-round-reads.Learnt,
+  count-slots-reads.Asked,
+  count-slots-reads.Learnt,
+  shrink-set-below t,
+  shrink-set.Post,
+) (shrink-set-at t) shrink-set.Post
+shrink-set-returns-2 t c = search (needs, shrink-less)
+
+pub +shrink-set-spec : {M : Type 1} → statement M
++shrink-set-spec = close μ-shrink-set λ t. shrink-set-lts.spec (
+  strike-round-reads.Asked,
+  strike-round-reads.Learnt,
+  count-slots-reads.Asked,
+  count-slots-reads.Learnt,
+  shrink-set-below t,
+  shrink-set.Post,
+)
+    (shrink-set-at t)
+    shrink-set.Post
+    (shrink-set-strike-round-requires t)
+    (shrink-set-count-slots-requires t)
+    (shrink-set-returns t)
+    (shrink-set-shrink-set-requires t)
+    (shrink-set-returns-2 t)

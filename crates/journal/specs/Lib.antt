@@ -1,0 +1,5 @@
+-- What the contracts of the crate cite, beside the definitions of model: sets of committed transactions as slots.
+pub mod Record
+pub mod Slots
+pub mod Walk
+pub mod Sets

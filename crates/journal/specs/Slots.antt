@@ -1,0 +1,90 @@
+-- A set of committed transactions as 96 slots. Slot 12 * c + j is core c's j-th record from its tail: the position after
+-- its descriptor, 0 for none. The same slots with some of them zero are a smaller set.
+use Prim.Native.Nat.{ℕ, zero, suc, _+_, _*_, _-_, _/_, _%_, _≤_, _<_, min}
+use mathlib.Core.List.{List, [], _∷_, _++_, map}
+use mathlib.Core.Bool.{Bool, cond, not}
+use mathlib.Core.Path.{_≡_}
+use lib.ListN.{getD}
+use lib.Dec.{ltb, eqb}
+use Rattle.model.specs.Lists.{below}
+use Rattle.model.specs.Bytes.{Bytes}
+use Rattle.model.specs.Card.{newTail}
+use Rattle.model.specs.Layout.{Held, blockCount, heldIn, stampIn, nameCount}
+use Rattle.model.specs.Journal.{journalAt}
+use Rattle.model.specs.declared.Shape.{Shape}
+use Rattle.model.specs.declared.Tail.{Tail}
+use Rattle.model.specs.declared.Committed.{Committed}
+use Rattle.model.specs.declared.Found.{Found}
+use Rattle.model.specs.declared.Found.the-variants.{Whole, Miss}
+
+-- ---- tails as an array holds them
+abbrev pub tailIn : List Tail → ℕ → Tail
+tailIn ts c = getD ts c (newTail 0 0)
+
+-- the tail numbers alone: all that the names of transactions need
+unfoldable pub numbersOf : List Tail → List ℕ
+numbersOf ts = map (λ (c : ℕ). (tailIn ts c) .number) (below 8)
+
+-- core c's; there are eight
+unfoldable pub numberIn : List ℕ → ℕ → ℕ
+numberIn ks c = cond (ltb c 8) (getD ks c 0) 0
+
+-- tails with these numbers
+unfoldable pub numbered : List ℕ → ℕ → Tail
+numbered ks c = newTail (numberIn ks c) 0
+
+-- ---- what a slot gives
+-- slot i, no higher than a position can make it; the slots of a core that the disk has not are empty
+unfoldable pub slotOf : Shape → List ℕ → ℕ → ℕ
+slotOf s set i = cond (ltb (i / 12) (s .cores)) (min (getD set i 0) 256) 0
+
+unfoldable pub isFilled : Shape → List ℕ → ℕ → Bool
+isFilled s set i = not (eqb (slotOf s set i) 0)
+
+-- transaction k of core c, with v the position after its descriptor, read again from the disk. The counts are no higher
+-- than a record has them, so that this is one for any v.
+unfoldable pub entry : Shape → Bytes → ℕ → ℕ → ℕ → Committed
+entry s d c k v =
+    let n = min (blockCount (journalAt s d c (v - 1))) 8 in
+    let f = journalAt s d c (v - 1 + (n + 1)) in
+    record { core = c; number = k; position = v - 1; count = n; stamp = stampIn f; named = min (nameCount f) 12 }
+
+-- the transaction in a slot, where it is not empty; ks are the tail numbers
+unfoldable pub foundAs : Shape → Bytes → List ℕ → ℕ → ℕ → Found
+foundAs s d ks i v = cond (eqb v 0) Miss (Whole (entry s d (i / 12) (getD ks (i / 12) 0 + i % 12) v))
+
+unfoldable pub foundAt : Shape → Bytes → List ℕ → List ℕ → ℕ → Found
+foundAt s d ks set i = foundAs s d ks i (slotOf s set i)
+
+-- ---- sets
+unfoldable pub listOf : Found → List Committed
+listOf Miss = []
+listOf (Whole e) = e ∷ []
+
+-- the transactions in the first n slots, in order of core and number
+unfoldable pub entriesTo : Shape → Bytes → List ℕ → List ℕ → ℕ → List Committed
+entriesTo s d ks set zero = []
+entriesTo s d ks set (suc n) = entriesTo s d ks set n ++ listOf (foundAt s d ks set n)
+
+unfoldable pub entries : Shape → Bytes → List ℕ → List ℕ → List Committed
+entries s d ks set = entriesTo s d ks set 96
+
+-- those in the first n slots of core c
+unfoldable pub entriesOf : Shape → Bytes → List ℕ → List ℕ → ℕ → ℕ → List Committed
+entriesOf s d ks set c zero = []
+entriesOf s d ks set c (suc n) = entriesOf s d ks set c n ++ listOf (foundAt s d ks set (12 * c + n))
+
+-- what functions over a transaction ask of it: a core that the disk has, and counts that a record can have
+pub record Sized (s : Shape) (e : Committed) : Type 0 where
+  pub core : e .core < s .cores
+  pub few : e .count ≤ 8
+  pub short : e .named ≤ 12
+
+-- how many of the n slots from a on are not empty
+unfoldable pub filledFrom : Shape → List ℕ → ℕ → ℕ → ℕ
+filledFrom s set a zero = 0
+filledFrom s set a (suc n) = filledFrom s set a n + cond (isFilled s set (a + n)) 1 0
+
+-- the blocks of the first n that a descriptor has
+unfoldable pub blocksIn : Bytes → ℕ → List ℕ
+blocksIn b n = map (λ (h : Held). h .block) (heldIn b n)

@@ -1,0 +1,44 @@
+-- One step of reading the journals, slot by slot, and what the slots read must give.
+use Prim.Native.Nat.{ℕ, zero, suc, _+_, _*_, _-_, _/_, _%_, _<_}
+use mathlib.Core.List.{List, [], _∷_, _++_}
+use mathlib.Core.Bool.{Bool, cond, _&&_}
+use mathlib.Core.Path.{_≡_}
+use lib.ListN.{getD}
+use lib.Dec.{ltb, leb, eqb}
+use Rattle.model.specs.Bytes.{Bytes}
+use Rattle.model.specs.Journal.{recordAt, journal}
+use Rattle.model.specs.declared.Shape.{Shape}
+use Rattle.model.specs.declared.Tail.{Tail}
+use Rattle.model.specs.declared.Committed.{Committed}
+use Rattle.model.specs.declared.Found.{Found}
+use Rattle.model.specs.declared.Found.the-variants.{Whole, Miss}
+use Rattle.journal.specs.declared.walk.Walk.{Walk}
+use Rattle.journal.specs.declared.walk.Step.{Step}
+use Rattle.journal.specs.Slots.{tailIn, numbersOf, entriesOf}
+
+-- the record where the walk of core c stands, if more of them count
+unfoldable pub readAt : Shape → Bytes → ℕ → Walk → Found
+readAt s d c w = cond (ltb c (s .cores) && leb 1 (w .most)) (recordAt s d c (w .number) (w .at) (w .left)) Miss
+
+-- a miss leaves no blocks, so that nothing more is read
+abbrev pub ended : Walk → Step
+ended w = record { slot = 0; next = record { number = w .number; at = w .at; left = 0; most = w .most } }
+
+unfoldable pub stepOf : Shape → Walk → Found → Step
+stepOf s w Miss = ended w
+stepOf s w (Whole e) =
+    record {
+      slot = w .at + 1;
+      next = record { number = w .number + 1; at = (w .at + (e .count + 2)) % s .journal; left = w .left - (e .count + 2); most = w .most - 1 };
+    }
+
+-- a core's first slot starts at its tail
+unfoldable pub start : Shape → Tail → ℕ → Walk
+start s t most = record { number = t .number; at = t .position; left = s .journal; most = most }
+
+unfoldable pub resumed : Shape → Tail → ℕ → ℕ → Walk → Walk
+resumed s t most j w = cond (eqb j 0) (start s t most) w
+
+-- each core's slots give its journal, as far as it counts
+unfoldable pub Reads : Shape → Bytes → List Tail → List ℕ → List ℕ → Type 0
+Reads s d ts most set = (c : ℕ) → c < s .cores → entriesOf s d (numbersOf ts) set c 12 ≡ journal s d c (tailIn ts c) (getD most c 0)

@@ -1,0 +1,176 @@
+// The valid set: of the transactions read, those whose names are all met, found by striking the others until none goes.
+ghost use mathlib.Core.Path.{_≡_};
+ghost use Prim.Native.Nat.{_*_, _≤_, _<_};
+ghost use lib.ListN.{length};
+ghost use Rattle.model.proofs.Limits.{InRange};
+ghost use Rattle.model.specs.Shrink.{shrink};
+ghost use Rattle.model.specs.Valid.{namesMet, validSet};
+ghost use Rattle.journal.specs.Slots.{numbersOf, numbered, entries, isFilled, Sized, filledFrom};
+ghost use Rattle.layout.specs.Loops.{every};
+ghost use Rattle.journal.specs.Sets.{isHere, slotMet, nameMet, kept, struck};
+
+use model::Committed;
+use model::Found;
+use model::Shape;
+use model::Tail;
+
+use crate::record::journal_part;
+use crate::entry::is_filled;
+use crate::entry::count_slots;
+use crate::entry::entry_at;
+
+// Whether transaction k of core c, whose tail number is n, is in the set.
+fn is_here(s: Shape, set: &[u16; 96], n: u32, c: u32, k: u32) -> bool
+    requires { ⌜ InRange s × (n ≤ k) ⌝ }
+    ensures { λ r. ⌜ r ≡ isHere s (now (set .entry)) n c k ⌝ }
+{
+    if s.cores as u32 <= c {
+        return false;
+    }
+    let j = k - n;
+    if 12 <= j {
+        return false;
+    }
+    is_filled(s, set, 12 * c as usize + j as usize)
+}
+
+// Whether a name is met: below its core's tail number, or in the set.
+fn is_met(s: Shape, numbers: &[u32; 8], set: &[u16; 96], c: u32, k: u32) -> bool
+    requires { ⌜ InRange s ⌝ }
+    ensures { λ r. ⌜ r ≡ slotMet s (now (numbers .entry)) (now (set .entry)) c k ⌝ }
+{
+    if 8 <= c {
+        return false;
+    }
+    let n = numbers[c as usize];
+    if k < n {
+        return true;
+    }
+    is_here(s, set, n, c, k)
+}
+
+// Whether the i-th name of a commit is met.
+fn name_met(s: Shape, numbers: &[u32; 8], set: &[u16; 96], commit: &[u8], i: usize) -> bool
+    requires { ⌜ InRange s × (length (now commit) ≡ 128) × (i < 12) ⌝ }
+    ensures { λ r. ⌜ r ≡ nameMet s (now (numbers .entry)) (now (set .entry)) (now (commit .entry)) i ⌝ }
+{
+    let c = layout::name_core(commit, i);
+    let k = layout::name_number(commit, i);
+    is_met(s, numbers, set, c, k)
+}
+
+// Whether the first n names of a commit are.
+fn are_met(s: Shape, numbers: &[u32; 8], set: &[u16; 96], commit: &[u8], n: usize) -> bool
+    requires { ⌜ InRange s × (length (now commit) ≡ 128) × (n ≤ 12) ⌝ }
+    ensures { λ r. ⌜ r ≡ every n (nameMet s (now (numbers .entry)) (now (set .entry)) (now (commit .entry))) ⌝ }
+{
+    let mut i: usize = 0;
+    while i < n {
+        if !name_met(s, numbers, set, commit, i) {
+            return false;
+        }
+        i += 1;
+    }
+    true
+}
+
+// Whether each name of a transaction is met.
+fn names_met(s: Shape, disk: &[u8], numbers: &[u32; 8], set: &[u16; 96], e: Committed) -> bool
+    requires { ⌜ InRange s × (length (now disk) ≡ 32896) × Sized s e ⌝ }
+    ensures { λ r. ⌜ r ≡ namesMet s (now (disk .entry)) (numbered (now (numbers .entry))) (entries s (now (disk .entry)) (now (numbers .entry)) (now (set .entry))) e ⌝ }
+{
+    let at = e.position as usize + (e.count as usize + 1);
+    let commit = journal_part(s, disk, e.core, at);
+    are_met(s, numbers, set, commit, e.named as usize)
+}
+
+// Slot i after one round: struck where a name is unmet.
+fn keep_slot(s: Shape, disk: &[u8], numbers: &[u32; 8], set: &[u16; 96], i: usize) -> u16
+    requires { ⌜ InRange s × (length (now disk) ≡ 32896) × (i < 96) ⌝ }
+    ensures { λ r. ⌜ r ≡ kept s (now (disk .entry)) (now (numbers .entry)) (now (set .entry)) i ⌝ }
+{
+    let Found::Whole(e) = entry_at(s, disk, set, i) else {
+        return 0;
+    };
+    if names_met(s, disk, numbers, set, e) {
+        return set[i];
+    }
+    0
+}
+
+// The set after one round.
+fn strike_unmet(s: Shape, disk: &[u8], numbers: &[u32; 8], set: &[u16; 96]) -> [u16; 96]
+    requires { ⌜ InRange s × (length (now disk) ≡ 32896) ⌝ }
+    ensures { λ r. ⌜ r ≡ struck s (now (disk .entry)) (now (numbers .entry)) (now (set .entry)) ⌝ }
+{
+    let mut next = [0u16; 96];
+    let mut i: usize = 0;
+    while i < 96 {
+        next[i] = keep_slot(s, disk, numbers, set, i);
+        i += 1;
+    }
+    next
+}
+
+// One round in place: its copy of the set is gone before the next one begins, so that the recursion stays small.
+fn strike_round(s: Shape, disk: &[u8], numbers: &[u32; 8], set: &mut [u16; 96])
+    requires { ⌜ InRange s × (length (now disk) ≡ 32896) ⌝ }
+    ensures { λ _. ⌜ now (set .exit) ≡ struck s (now (disk .entry)) (now (numbers .entry)) (now (set .entry)) ⌝ }
+{
+    let next = strike_unmet(s, disk, numbers, set);
+    *set = next;
+}
+
+// The largest part of the set in which each name is met: struck until none goes. The count of those remaining falls with
+// each call.
+fn shrink_set(s: Shape, disk: &[u8], numbers: &[u32; 8], set: &mut [u16; 96], count: usize)
+    requires { ⌜ InRange s × (length (now disk) ≡ 32896) × (count ≡ filledFrom s (now set) 0 96) ⌝ }
+    ensures { λ _. ⌜ entries s (now (disk .entry)) (now (numbers .entry)) (now (set .exit)) ≡ shrink (namesMet s (now (disk .entry)) (numbered (now (numbers .entry)))) (entries s (now (disk .entry)) (now (numbers .entry)) (now (set .entry))) ⌝ }
+{
+    strike_round(s, disk, numbers, set);
+    let left = count_slots(s, set, 0, 96);
+    if left == count {
+        return;
+    }
+    shrink_set(s, disk, numbers, set, left);
+}
+
+fn number_of(t: Tail) -> u32
+    ensures { λ r. ⌜ r ≡ t .number ⌝ }
+{
+    t.number
+}
+
+// The tail numbers: what the recursion hands on of the tails.
+fn numbers_of(tails: [Tail; 8]) -> [u32; 8]
+    ensures { λ r. ⌜ r ≡ numbersOf tails ⌝ }
+{
+    let mut numbers = [0u32; 8];
+    let mut c: usize = 0;
+    while c < 8 {
+        let t = tails[c];
+        numbers[c] = number_of(t);
+        c += 1;
+    }
+    numbers
+}
+
+// The valid set of the transactions read. No public entry.
+pub fn valid_slots(s: Shape, disk: &[u8], tails: [Tail; 8], committed: [u16; 96]) -> [u16; 96]
+    requires { ⌜ InRange s × (length (now disk) ≡ 32896) ⌝ }
+    ensures { λ r. ⌜ entries s (now (disk .entry)) (numbersOf tails) r ≡ validSet s (now (disk .entry)) (numbered (numbersOf tails)) (entries s (now (disk .entry)) (numbersOf tails) committed) ⌝ }
+{
+    let numbers = numbers_of(tails);
+    let mut set = committed;
+    let count = count_slots(s, &set, 0, 96);
+    shrink_set(s, disk, &numbers, &mut set, count);
+    set
+}
+
+// Whether core c's oldest transaction is in the set. No public entry.
+pub fn is_oldest_in(s: Shape, set: &[u16; 96], c: u8) -> bool
+    requires { ⌜ InRange s × (c < s .cores) ⌝ }
+    ensures { λ r. ⌜ r ≡ isFilled s (now (set .entry)) (12 * c) ⌝ }
+{
+    is_filled(s, set, 12 * c as usize)
+}

@@ -1,0 +1,118 @@
+// All journals read in one loop over the slots.
+ghost use mathlib.Core.Path.{_≡_};
+ghost use Prim.Native.Nat.{_+_, _≤_, _<_};
+ghost use lib.ListN.{length};
+ghost use Rattle.model.proofs.Limits.{InRange};
+ghost use Rattle.model.specs.Layout.{maxNumber};
+ghost use Rattle.model.specs.declared.Found.the-variants.{Whole};
+ghost use Rattle.journal.specs.Walk.{readAt, stepOf, resumed, Reads};
+
+use model::Committed;
+use model::Found;
+use model::Shape;
+use model::Tail;
+
+use crate::record::read_record;
+
+// Where the reading of a journal stands: the number of the next record and its position, the blocks left of the journal,
+// and how many more records count.
+pub struct Walk {
+    pub number: u32,
+    pub at: u8,
+    pub left: u8,
+    pub most: u8,
+}
+
+// One slot read, and the walk after it.
+pub struct Step {
+    pub slot: u16,
+    pub next: Walk,
+}
+
+// The slot of a record that was read, and the walk past it.
+fn advance(s: Shape, w: Walk, e: Committed) -> Step
+    requires { ⌜ InRange s × (e .count + 2 ≤ w .left) × (1 ≤ w .most) × (w .number ≤ maxNumber) ⌝ }
+    ensures { λ r. ⌜ r ≡ stepOf s w (Whole e) ⌝ }
+{
+    let size = e.count as usize + 2;
+    let at = (w.at as usize + size) % s.journal as usize;
+    Step {
+        slot: w.at as u16 + 1,
+        next: Walk {
+            number: w.number + 1,
+            at: at as u8,
+            left: (w.left as usize - size) as u8,
+            most: w.most - 1,
+        },
+    }
+}
+
+// One slot of core c. A miss leaves no blocks, so that nothing more of this journal is read.
+fn read_step(s: Shape, disk: &[u8], c: u8, w: Walk) -> Step
+    requires { ⌜ InRange s × (length (now disk) ≡ 32896) ⌝ }
+    ensures { λ r. ⌜ r ≡ stepOf s w (readAt s (now (disk .entry)) c w) ⌝ }
+{
+    let end = Step {
+        slot: 0,
+        next: Walk {
+            number: w.number,
+            at: w.at,
+            left: 0,
+            most: w.most,
+        },
+    };
+    if s.cores <= c {
+        return end;
+    }
+    if w.most < 1 {
+        return end;
+    }
+    if w.left < 2 {
+        return end;
+    }
+    let Found::Whole(e) = read_record(s, disk, c, w.number, w.at, w.left) else {
+        return end;
+    };
+    advance(s, w, e)
+}
+
+// A core's first slot starts at its tail; the others go on from the one before.
+fn resume(s: Shape, t: Tail, most: u8, j: usize, w: Walk) -> Walk
+    ensures { λ r. ⌜ (r ≡ resumed s t most j w) × (r .at < 256) ⌝ }
+{
+    if j == 0 {
+        return Walk {
+            number: t.number,
+            at: t.position,
+            left: s.journal,
+            most,
+        };
+    }
+    w
+}
+
+// All journals, each from its tail and up to so many records. A slot has two bytes: the tail of a card that no run made
+// may stand at position 255. No public entry: callers give a shape within its limits and a whole disk.
+pub fn read_journals(s: Shape, disk: &[u8], tails: [Tail; 8], most: [u8; 8]) -> [u16; 96]
+    requires { ⌜ InRange s × (length (now disk) ≡ 32896) ⌝ }
+    ensures { λ r. ⌜ Reads s (now (disk .entry)) tails most r ⌝ }
+{
+    let mut slots = [0u16; 96];
+    let mut w = Walk {
+        number: 0,
+        at: 0,
+        left: 0,
+        most: 0,
+    };
+    let mut i: usize = 0;
+    while i < 96 {
+        let c = i / 12;
+        let t = tails[c];
+        let from = resume(s, t, most[c], i % 12, w);
+        let step = read_step(s, disk, c as u8, from);
+        slots[i] = step.slot;
+        w = step.next;
+        i += 1;
+    }
+    slots
+}
