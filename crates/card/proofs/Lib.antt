@@ -9,3 +9,4 @@ pub mod WriteLaws
 pub mod EntryLaws
 pub mod CloseLaws
 pub mod StoreLaws
+pub mod TapeLaws
