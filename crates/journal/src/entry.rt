@@ -7,10 +7,12 @@ ghost use Rattle.model.proofs.Limits.{InRange};
 ghost use Rattle.model.specs.Journal.{blocksOf, took};
 ghost use Rattle.model.specs.Recovery.{placeOf};
 ghost use Rattle.journal.specs.Slots.{slotOf, isFilled, entry, foundAt, Sized, filledFrom, blocksIn};
-use crate::record::journal_part;
+
 use model::Committed;
 use model::Found;
 use model::Shape;
+
+use crate::record::journal_part;
 
 // The lower of the two: a slot that no reading filled may lead to any number.
 fn at_most(x: u32, most: u8) -> u8
