@@ -8,14 +8,14 @@ use mathlib.Core.Path.{_≡_, ap, ap₂, _∙_, sym, subst, refl}
 use mathlib.Core.Logic.{_≢_}
 use mathlib.Core.Bool.{Bool}
 use mathlib.Core.List.{[], _∷_, _++_, append-assoc}
-use lib.ListN.{length, take, drop, length-take, length-drop, take-append-drop}
+use lib.ListN.{length, take, drop, length-take, length-drop, take-append-drop, replicate}
 use lib.Seq.{length-take-le, take-at, drop-at, take-append-le, drop-append-le, take-append-add, drop-append-add}
 use lib.Dec.{ltb, eqb}
 use borrow.Author.Tests.{lt-ltb}
 use Rattle.model.specs.Lists.{all}
 use Rattle.model.specs.Bytes.{Bytes, part, be4, blockAt, replaced, store}
 use Rattle.model.specs.Layout.{mark, escaped}
-use Rattle.model.proofs.Lists.{cases, and-left, and-right, and-both, all-append, mem-all, mem-getD, Each, each-getD}
+use Rattle.model.proofs.Lists.{cases, and-left, and-right, and-both, all-append, mem-all, mem-getD, Each, each-getD, each-replicate}
 use Rattle.model.proofs.Store.{length-replaced, part-before, part-after}
 use Rattle.model.proofs.Words.{IsByte}
 use Rattle.crash.specs.Claims.{IsBytes}
@@ -49,6 +49,9 @@ bytes-blockAt d k h = bytes-take 128 (drop (128 * k) d) (bytes-drop (128 * k) d 
 
 pub each-isBytes : (s : Bytes) → Each IsByte s → IsBytes s
 each-isBytes s h = mem-all (λ (x : ℕ). ltb x 256) s (λ x m. let r = mem-getD m 0 in lt-ltb x 256 (subst IsByte (r .2) (each-getD IsByte s h (r .0) 0 (r .1))))
+
+pub zero-bytes : (n : ℕ) → IsBytes (replicate n 0)
+zero-bytes n = each-isBytes (replicate n 0) (each-replicate IsByte n 0 (omega arith))
 
 pub escaped-bytes : (b : Bytes) → IsBytes b → IsBytes (escaped b)
 unfolding escaped

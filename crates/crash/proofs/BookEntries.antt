@@ -46,6 +46,7 @@ other-number c ne e = ne (ap (λ (n : Name). n .number) e)
 pub other-core : {a c : ℕ} (i j : ℕ) → a ≢ c → newName a i ≢ newName c j
 other-core i j ne e = ne (ap (λ (n : Name). n .core) e)
 
+-- ---- stages
 pub by-stage : (P : Stage → Type 0) → P absent → P running → ((n : ℕ) → P (closed n)) → ((n : ℕ) → P (committed n)) → P retired → (g : Stage) → P g
 by-stage P a b c d e absent = a
 by-stage P a b c d e running = b

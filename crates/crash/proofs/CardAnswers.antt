@@ -19,21 +19,21 @@ use Rattle.model.specs.Layout.{maxNumber}
 use Rattle.model.specs.Command.{World, refusal, notUp, noCore, noBlock}
 use Rattle.model.specs.Write.{writer, ruleFor, takesBlock, passesTwelve, listsFull, closedBlocks, journalFull, writeConditions}
 use Rattle.model.specs.Commit.{closeConditions, storeConditions}
+use Rattle.model.specs.Checkpoint.{checkpointConditions}
 use Rattle.model.specs.declared.Shape.{Shape}
 use Rattle.model.specs.declared.Name.{Name}
 use Rattle.model.specs.declared.Transaction.{Transaction}
 use Rattle.model.proofs.Lists.{cases, or-none}
 use Rattle.crash.specs.Book.{absent, running, isRunning, Entry, Book, begin, staged, taking, naming, holderIn, wrote}
 use Rattle.crash.specs.Ledger.{Ledger, namesCount, holderNames, recordBlocks, notUpFor, writeRefusals, closeRefusals, storeRefusals, checkpointRefusals}
-use Rattle.crash.proofs.Relation.{Matches, Up}
-use Rattle.crash.proofs.BookEntries.{change-at, records-snoc}
+use Rattle.crash.proofs.BookEntries.{change-at, records-snoc, nextName}
 use Rattle.crash.proofs.BookSteps.{begun, meeting}
-use Rattle.crash.proofs.CardRules.{entry-free, entry-own, entry-running, entry-closed, entry-holder, live-runs, writer-name, writer-matches, met-none, met-own, met-running, met-closed, rule-met, writer-after, holder-matches}
+use Rattle.crash.proofs.Relation.{Matches, Up}
 use Rattle.crash.proofs.LedgerStages.{running-present}
 use Rattle.crash.proofs.ReadMaster.{shape-up}
-use Rattle.crash.proofs.CardCut.{right-length}
 use Rattle.crash.proofs.ReadCheckpoint.{none-committed, oldest-valid, oldest-shares}
-use Rattle.model.specs.Checkpoint.{checkpointConditions}
+use Rattle.crash.proofs.CardRules.{entry-free, entry-own, entry-running, entry-closed, entry-holder, live-runs, writer-name, writer-matches, met-none, met-own, met-running, met-closed, rule-met, writer-after, holder-matches}
+use Rattle.crash.proofs.CardCut.{right-length}
 
 -- ---- conditions one by one
 -- the same conditions, each as far as none before it holds
@@ -119,7 +119,7 @@ blocks-pass {t} {e} m b = rw (m .count, length-append (e .blocks) (b ∷ [])) (s
 module _ {l : Ledger} {w : World} (u : Up l w) (c : ℕ) (in-range : c < l .shape .cores) (b : ℕ) (low : b < l .shape .blocks)
     (opens : (n : Name) → holderIn (l .book) b (l .book .writes) ≡ some n → (l .book .entry n) .stage ≢ absent) (o : ℕ) (v : Bytes) where
   abbrev t : Name
-  t = newName c (l .book .next c)
+  t = nextName c (l .book)
 
   abbrev k₂ : Book
   k₂ = wrote c b o v (l .book)
@@ -152,7 +152,7 @@ module _ {l : Ledger} {w : World} (u : Up l w) (c : ℕ) (in-range : c < l .shap
       elim (rule-met u c in-range b low opens) [
         | met-none _ e r ↦ rw (r, e, entry-free (l .book) c current b o v e, short) refl
         | met-own _ _ e r ↦ rw (r, e, entry-own (l .book) c current b o v e, short) refl
-        | met-running n h runs is _ e r ↦ (let y = holder-matches u c in-range b low opens o v n h runs is in
+        | met-running n h runs is _ e r ↦ (let y = holder-matches u c in-range b low opens n h runs is in
             let z = u .fine .limits n (running-present _ runs) in
             let own = entry-running (l .book) c current b o v n (h .other) e in
             let back = entry-holder (l .book) c current b o v n (h .other) e in
@@ -188,7 +188,7 @@ pub write-answers : {l : Ledger} {w : World} → Up l w → (c b o : ℕ) (v : B
 unfolding writeConditions writeRefusals noBlock namesCount
 write-answers {l} {w} u c b o v opens =
     let k₂ = wrote c b o v (l .book) in
-    let t = newName c (l .book .next c) in
+    let t = nextName c (l .book) in
     up-refusal u c _ _
     (λ h.
     then (ap (λ (s : Shape). leb (s .blocks) b) (shape-up u))

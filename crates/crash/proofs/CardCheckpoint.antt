@@ -32,15 +32,15 @@ use Rattle.model.proofs.Journal.{journal-wrap}
 use Rattle.model.proofs.Valid.{sameName-refl}
 use Rattle.crash.specs.Book.{Stage, committed, retired, isClosed, isRetired, counted, Entry, Write, Book, raise, holderIn, checkpoint}
 use Rattle.crash.specs.Ledger.{Ledger, withBook, imageNow, recordBlocks, recordOf, tailsPast, checkpointStored}
+use Rattle.crash.proofs.Tests.{clash, impossible}
+use Rattle.crash.proofs.BookEntries.{same-or-not, sameName-false, other-number, other-core, raise-at, raise-other, records-cons, nextName, oldestName, uncommittedName}
+use Rattle.crash.proofs.BookSteps.{Restages, restaged, restages, restages-records, restages-holder, retired-none, retired-other, checkpoint-home, checkpoint-retires}
 use Rattle.crash.proofs.Relation.{IsBlock, Fine, contents, JournalStands, DiskStands, CoreUp, holderAs, Up}
 use Rattle.crash.proofs.LedgerStages.{closed-present}
+use Rattle.crash.proofs.ReadMaster.{shape-up, master-block, tail-read, master-same}
 use Rattle.crash.proofs.ReadRecords.{readRecord, IsRead, length-record}
-use Rattle.crash.proofs.BookEntries.{same-or-not, sameName-false, other-number, other-core, raise-at, raise-other, records-cons}
-use Rattle.crash.proofs.BookSteps.{Restages, restaged, restages, restages-records, restages-holder, retired-none, retired-other, checkpoint-home, checkpoint-retires}
-use Rattle.crash.proofs.CardFrames.{core-set, core-other, record-same, contents-same, low-stored, low-other, low-journal, low-size, low-bytes, home-stands}
 use Rattle.crash.proofs.ReadCheckpoint.{oldest-of, oldest-is}
-use Rattle.crash.proofs.Tests.{clash, impossible}
-use Rattle.crash.proofs.ReadMaster.{shape-up, tail-read, master-block, master-same}
+use Rattle.crash.proofs.CardFrames.{core-set, core-other, record-same, contents-same, low-stored, low-other, low-journal, low-size, low-bytes, home-stands, core-up}
 
 -- ---- the ledger with one stage and the oldest numbers changed
 module _ (l : Ledger) (t : Name) (g : Stage) (o : ℕ → ℕ) where
@@ -53,17 +53,17 @@ module _ (l : Ledger) (t : Name) (g : Stage) (o : ℕ → ℕ) where
   record-stays : (v : Name) → recordOf advanced v ≡ recordOf l v
   record-stays v = record-same l advanced v (one-changed .blocks v) (one-changed .names v) refl refl
 
-  module _ (a : ℕ) (not-closing : newName a (l .book .uncommitted a) ≢ t) (not-current : newName a (l .book .next a) ≢ t) where
-    closing-stays : advanced .book .entry (newName a (l .book .uncommitted a)) ≡ l .book .entry (newName a (l .book .uncommitted a))
-    closing-stays = one-changed .other (newName a (l .book .uncommitted a)) not-closing
+  module _ (a : ℕ) (not-closing : uncommittedName a (l .book) ≢ t) (not-current : nextName a (l .book) ≢ t) where
+    closing-stays : advanced .book .entry (uncommittedName a (l .book)) ≡ l .book .entry (uncommittedName a (l .book))
+    closing-stays = one-changed .other (uncommittedName a (l .book)) not-closing
 
-    current-stays : advanced .book .entry (newName a (l .book .next a)) ≡ l .book .entry (newName a (l .book .next a))
-    current-stays = one-changed .other (newName a (l .book .next a)) not-current
+    current-stays : advanced .book .entry (nextName a (l .book)) ≡ l .book .entry (nextName a (l .book))
+    current-stays = one-changed .other (nextName a (l .book)) not-current
 
     contents-kept : o a ≡ l .book .oldest a → contents advanced a ≡ contents l a
     contents-kept e =
         contents-same l advanced a e refl (λ i h. record-stays (newName a i))
-        (rw (closing-stays, record-stays (newName a (l .book .uncommitted a))) refl)
+        (rw (closing-stays, record-stays (uncommittedName a (l .book))) refl)
 
     journal-advanced : (d d₂ : Bytes) (tail tail₂ : Tail) → ((q : ℕ) → journalAt (l .shape) d₂ a q ≡ journalAt (l .shape) d a q)
         → tail₂ .number ≡ o a → tail₂ .position < l .shape .journal
@@ -126,7 +126,7 @@ still-held t h e = cases (h .held && sameName (h .name) t) (λ z. clash (rw z at
 -- ---- CHECKPOINT
 module _ {l : Ledger} {w : World} (u : Up l w) (c : ℕ) (in-range : c < l .shape .cores) (some-committed : l .book .oldest c < l .book .uncommitted c) where
   abbrev t : Name
-  t = newName c (l .book .oldest c)
+  t = oldestName c (l .book)
 
   abbrev x : Core
   x = coreOf (w .card) c
@@ -150,13 +150,13 @@ module _ {l : Ledger} {w : World} (u : Up l w) (c : ℕ) (in-range : c < l .shap
   size = length-record (u .fine) t closed-now
 
   -- it is neither the one being stored nor the running one, of any core
-  not-closing : (a : ℕ) → newName a (l .book .uncommitted a) ≢ t
+  not-closing : (a : ℕ) → uncommittedName a (l .book) ≢ t
   not-closing a q =
       let z : l .book .uncommitted a ≡ l .book .uncommitted c = ap (λ (v : Name). l .book .uncommitted (v .core)) q in
       let y : l .book .uncommitted a ≡ l .book .oldest c = ap (λ (v : Name). v .number) q in
       omega arith
 
-  not-current : (a : ℕ) → newName a (l .book .next a) ≢ t
+  not-current : (a : ℕ) → nextName a (l .book) ≢ t
   not-current a q =
       let z : l .book .next a ≡ l .book .next c = ap (λ (v : Name). l .book .next (v .core)) q in
       let y : l .book .next a ≡ l .book .oldest c = ap (λ (v : Name). v .number) q in
@@ -217,31 +217,13 @@ module _ {l : Ledger} {w : World} (u : Up l w) (c : ℕ) (in-range : c < l .shap
               (λ _. rw z (changed .stage)) (λ n. absurd (omega arith)) y₂))
           | no ne ↦ rw (core-other (w .card) c homedCore a ne)
               (core-advanced l t g (l .book .oldest) a (not-closing a) (not-current a) (w .memory) (coreOf (w .card) a) ((coreOf (w .card) a) .used) ((coreOf (w .card) a) .homed) (y .used)
-              (λ n. ap (λ (v : Entry). v .stage) (changed .other (newName a (l .book .oldest a)) (other-core (l .book .oldest a) (l .book .oldest c) ne)) ∙ y .homed n) (y .none-homed) y)
+              (λ n. ap (λ (v : Entry). v .stage) (changed .other (oldestName a (l .book)) (other-core (l .book .oldest a) (l .book .oldest c) ne)) ∙ y .homed n) (y .none-homed) y)
         ]
 
     home-up : Fine l₂ → Up l₂ ((storing w (withCore (w .card) c homedCore) (homeBlock b) image) .world)
-    unfolding tailOf holderOf imageNow
     home-up fine =
-        record {
-          phase = u .phase;
-          ledger = u .ledger;
-          shape = u .shape;
-          closes = u .closes;
-          memory = u .memory;
-          memory-bytes = u .memory-bytes;
-          eight-tails = u .eight-tails;
-          eight-cores = length-set (w .card .cores) c homedCore ∙ u .eight-cores;
-          holder-room = u .holder-room;
-          fine = fine;
-          disk = home-disk;
-          cores = home-core;
-          holders =
-              λ b h.
-              u .holders b h
-              ∙ ap holderAs (sym (restages-holder (one-changed l t (committed (suc (x .homed))) (l .book .oldest)) (sym (ap isRetired stage-now)) b (l .book .writes)));
-          images = u .images;
-        }
+        let holder = restages-holder (one-changed l t (committed (suc (x .homed))) (l .book .oldest)) (sym (ap isRetired stage-now)) in
+        core-up u c homedCore (l₂ .book) (storeBlock (w .disk) (homeBlock b) image) refl (λ b. holder b (l .book .writes)) fine home-disk home-core
 
   -- ---- the master store
   module _ (all-home : x .homed ≡ length ((l .book .entry t) .blocks)) where
@@ -310,7 +292,7 @@ module _ {l : Ledger} {w : World} (u : Up l w) (c : ℕ) (in-range : c < l .shap
         let k = l .book in
         let o = k .oldest c in
         let i : k .uncommitted c - o ≡ suc (k .uncommitted c - suc o) = omega arith in
-        let v = newName c (k .uncommitted c) in
+        let v = uncommittedName c k in
         let f : ℕ → List Bytes = λ j. recordOf l (newName c (o + j)) in
         let last = take (counted ((k .entry v) .stage)) (recordOf l v) in
         let first : newName c (o + 0) ≡ t = ap (newName c) (omega arith) in
@@ -382,7 +364,7 @@ module _ {l : Ledger} {w : World} (u : Up l w) (c : ℕ) (in-range : c < l .shap
           | no ne ↦ (let same = raise-other c (l .book .oldest) a ne in
               rw (other-cores a ne)
               (core-advanced l t retired o₂ a (not-closing a) (not-current a) (w .memory) (coreOf (w .card) a) ((coreOf (w .card) a) .used) ((coreOf (w .card) a) .homed) (rw same (y .used))
-              (rw same (λ g. ap (λ (v : Entry). v .stage) (changed .other (newName a (l .book .oldest a)) (other-core (l .book .oldest a) (l .book .oldest c) ne)) ∙ y .homed g))
+              (rw same (λ g. ap (λ (v : Entry). v .stage) (changed .other (oldestName a (l .book)) (other-core (l .book .oldest a) (l .book .oldest c) ne)) ∙ y .homed g))
               (rw same (y .none-homed)) y))
         ]
 

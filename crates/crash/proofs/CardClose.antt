@@ -21,18 +21,18 @@ use Rattle.model.specs.declared.Core.{Core}
 use Rattle.model.specs.declared.Holder.{Holder}
 use Rattle.model.proofs.Lists.{getD-mem, getD-map}
 use Rattle.model.proofs.Store.{length-store, length-blockAt, block-stored, block-other}
+use Rattle.model.proofs.Sizes.{length-copied}
 use Rattle.crash.specs.Book.{absent, running, closed, isRunning, Entry, staged, close, holderIn}
 use Rattle.crash.specs.Ledger.{Ledger, closeLedger, imageNow, recordBlocks}
 use Rattle.crash.specs.Claims.{IsBytes}
-use Rattle.crash.proofs.Relation.{sumNext, Fine, contents, JournalStands, DiskStands, Matches, CoreUp, holderAs, Up}
-use Rattle.crash.proofs.ReadRecords.{sum-low}
-use Rattle.crash.proofs.BookEntries.{other-number, other-core, change-at, raise-at, raise-other, records-snoc}
+use Rattle.crash.proofs.Tests.{clash}
+use Rattle.crash.proofs.BookEntries.{other-number, other-core, change-at, raise-at, raise-other, records-snoc, nextName, oldestName}
 use Rattle.crash.proofs.BookSteps.{Restages, restages-records, close-restages, close-book, close-holder, close-stamp, close-images, close-stamp-other, close-images-other}
 use Rattle.crash.proofs.BlockBytes.{bytes-store, bytes-blockAt}
-use Rattle.crash.proofs.CardFrames.{SameClosed, record-same, contents-same, none-stored, journal-stays, core-stays}
-use Rattle.crash.proofs.Tests.{clash}
+use Rattle.crash.proofs.Relation.{sumNext, Fine, contents, JournalStands, DiskStands, Matches, CoreUp, holderAs, Up}
 use Rattle.crash.proofs.LedgerStages.{running-present}
-use Rattle.model.proofs.Sizes.{length-copied}
+use Rattle.crash.proofs.LedgerSteps.{sum-low}
+use Rattle.crash.proofs.CardFrames.{SameClosed, record-same, contents-same, none-stored, journal-stays, core-stays}
 
 -- ---- copies
 module _ (c : ℕ) (eight : c < 8) where
@@ -93,11 +93,11 @@ unfolding copyBlock
 cores-copies a c i j h g ne e = ne (omega arith)
 
 module _ {l : Ledger} {w : World} (u : Up l w) (c : ℕ) (in-range : c < l .shape .cores)
-    (runs : (l .book .entry (newName c (l .book .next c))) .stage ≡ running) (free : l .book .uncommitted c ≡ l .book .next c)
-    (holds : (b : ℕ) → List·Memᴰ b ((l .book .entry (newName c (l .book .next c))) .blocks) → holderIn (l .book) b (l .book .writes) ≡ some (newName c (l .book .next c)))
+    (runs : (l .book .entry (nextName c (l .book))) .stage ≡ running) (free : l .book .uncommitted c ≡ l .book .next c)
+    (holds : (b : ℕ) → List·Memᴰ b ((l .book .entry (nextName c (l .book))) .blocks) → holderIn (l .book) b (l .book .writes) ≡ some (nextName c (l .book)))
     (fine : Fine (closeLedger c l)) where
   abbrev t : Name
-  t = newName c (l .book .next c)
+  t = nextName c (l .book)
 
   abbrev x : Core
   x = coreOf (w .card) c
@@ -188,7 +188,7 @@ module _ {l : Ledger} {w : World} (u : Up l w) (c : ℕ) (in-range : c < l .shap
             λ a h.
             elim (ℕ-discrete a c) [
               | yes e ↦ subst (λ (i : ℕ). JournalStands l₂ (w .disk) i (tailOf (w .card) i)) (sym e) own-journal
-              | no ne ↦ (let v = new-other (newName a (l .book .next a)) (other-core (l .book .next a) (l .book .next c) ne) .0 in
+              | no ne ↦ (let v = new-other (nextName a (l .book)) (other-core (l .book .next a) (l .book .next c) ne) .0 in
                   journal-stays l (u .fine) a h l₂ (others a ne) (w .disk) (w .disk) (tailOf (w .card) a)
                   (rw v (none-stored l (u .fine) a h)) (rw v (u .disk .journals a h .reserved)) (λ q. refl) (u .disk .journals a h))
             ];
@@ -271,7 +271,7 @@ module _ {l : Ledger} {w : World} (u : Up l w) (c : ℕ) (in-range : c < l .shap
         stored = rw (new-numbers .1 c, new-next, free, new-entry, close-stamp l c) (λ _. (refl, stamp));
         copies = rw (new-numbers .1 c, new-next, free, new-entry) (λ _. copied-image);
         none-closing = rw (new-numbers .1 c, new-next) (λ h. absurd (omega arith));
-        homed = rw (new-numbers .0 c, new-numbers .1 c) (λ h. rw (new-other (newName c (l .book .oldest c)) (other-number c (omega arith)) .0) (y .homed h));
+        homed = rw (new-numbers .0 c, new-numbers .1 c) (λ h. rw (new-other (oldestName c (l .book)) (other-number c (omega arith)) .0) (y .homed h));
         none-homed = rw (new-numbers .0 c, new-numbers .1 c) (y .none-homed);
       }
 
@@ -279,7 +279,7 @@ module _ {l : Ledger} {w : World} (u : Up l w) (c : ℕ) (in-range : c < l .shap
   close-core a h =
       elim (ℕ-discrete a c) [
         | yes e ↦ rw (e, closed-core) own-core
-        | no ne ↦ (let v = new-other (newName a (l .book .next a)) (other-core (l .book .next a) (l .book .next c) ne) .0 in
+        | no ne ↦ (let v = new-other (nextName a (l .book)) (other-core (l .book .next a) (l .book .next c) ne) .0 in
             let y = u .cores a h in
             rw (other-cores a ne)
             (core-stays l (u .fine) a h l₂ (others a ne) (w .memory) m₂ (coreOf (w .card) a) ((coreOf (w .card) a) .running)

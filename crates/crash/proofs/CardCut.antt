@@ -6,7 +6,7 @@ use native.Mathlib.Omega.{arith}
 use mathlib.Core.Path.{_≡_, refl, sym, _∙_, subst}
 use mathlib.Core.Bool.{false}
 use mathlib.Core.List.{List, List·Memᴰ}
-use lib.ListN.{length, replicate, length-replicate}
+use lib.ListN.{length, length-replicate}
 use lib.Dec.{leb, eqb}
 use borrow.Author.Tests.{eq-eqb, le-leb}
 use Rattle.model.specs.Lists.{below, any, select}
@@ -17,16 +17,15 @@ use Rattle.model.specs.Command.{World, unstored, wrongLength}
 use Rattle.model.specs.declared.Phase.{Phase}
 use Rattle.model.specs.declared.Phase.the-variants.{Down as PhaseDown}
 use Rattle.model.specs.declared.Tail.{Tail}
-use Rattle.model.proofs.Lists.{cases, mem-below, each-replicate}
+use Rattle.model.proofs.Lists.{cases, mem-below}
 use Rattle.model.proofs.Select.{select-mem, select-same}
-use Rattle.model.proofs.Words.{IsByte}
 use Rattle.crash.specs.Book.{Book}
 use Rattle.crash.specs.Ledger.{Ledger, blocksIn, cutLedger, heldOf, recordOf}
 use Rattle.crash.specs.Claims.{IsBytes}
 use Rattle.crash.proofs.Relation.{Fine, contents, JournalStands, DiskStands, Up, target, Newest, DownBy}
 use Rattle.crash.proofs.Tests.{clash, any-in, in-any, blockEquality}
+use Rattle.crash.proofs.BlockBytes.{zero-bytes}
 use Rattle.crash.proofs.LedgerSteps.{fine-cut, phased}
-use Rattle.crash.proofs.BlockBytes.{each-isBytes}
 
 -- ---- the ledger in another phase, with other blocks left
 pub target-phased : (p : Phase) (bs : List ℕ) (l : Ledger) (b : ℕ) → target (phased p bs l) b ≡ target l b
@@ -66,9 +65,6 @@ all-left bs = sym (select-same (leb 0) bs (λ b m. le-leb 0 b (omega arith)))
 pub right-length : (w : World) → length (w .disk) ≡ 32896 → length (w .memory) ≡ 16384 → wrongLength w ≡ false
 unfolding wrongLength
 right-length w d m = rw (eq-eqb (length (w .disk)) 32896 d, eq-eqb (length (w .memory)) 16384 m)
-
-pub zero-bytes : (n : ℕ) → IsBytes (replicate n 0)
-zero-bytes n = each-isBytes (replicate n 0) (each-replicate IsByte n 0 (omega arith))
 
 -- what the commands before a cut leave to recovery
 pub record Gives (l : Ledger) (d : Bytes) : Type 0 where

@@ -20,19 +20,19 @@ use Rattle.model.specs.Format.{formatted}
 use Rattle.model.specs.declared.Shape.{Shape}
 use Rattle.model.specs.declared.Tail.{Tail}
 use Rattle.model.proofs.Limits.{InRange, range-test}
-use Rattle.model.proofs.Select.{select-mem}
 use Rattle.model.proofs.Store.{length-store, block-stored, block-other}
 use Rattle.model.proofs.Encoding.{no-commit}
 use Rattle.model.proofs.Journal.{journal-low, home-apart}
+use Rattle.model.proofs.Select.{select-mem}
 use Rattle.crash.specs.Book.{Write, emptyBook, keptWrites, image, blank}
 use Rattle.crash.specs.Ledger.{freshLedger, unretired, validIn, blocksIn}
 use Rattle.crash.specs.Claims.{IsBytes, downStart, downLedger}
-use Rattle.crash.proofs.Relation.{Up, target, DownBy, IsBlock}
 use Rattle.crash.proofs.Tests.{clash}
-use Rattle.crash.proofs.BlockBytes.{bytes-store}
-use Rattle.crash.proofs.CardCut.{zero-bytes, Gives, down-over}
-use Rattle.crash.proofs.CardFresh.{ComeUp, fresh-up}
+use Rattle.crash.proofs.BlockBytes.{bytes-store, zero-bytes}
+use Rattle.crash.proofs.Relation.{Up, target, DownBy, IsBlock}
 use Rattle.crash.proofs.ReadMaster.{master-block}
+use Rattle.crash.proofs.CardFresh.{ComeUp, fresh-up}
+use Rattle.crash.proofs.CardCut.{Gives, down-over}
 
 -- ---- blocks of zeros
 abbrev zeros : ℕ → Bytes

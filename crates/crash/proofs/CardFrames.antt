@@ -1,6 +1,6 @@
 -- What a command leaves alone: the journal of a core and the core itself, where its closed transactions stay, since both
 -- are read through the core's own entries, numbers, stamps and images alone, and nothing of the running one is stored.
--- A store of the master or of a home block leaves every journal.
+-- A store of the master or of a home block leaves every journal; a card with one core replaced stays in agreement.
 use Prim.Native.Nat.{ℕ, _+_, _-_, _≤_, _<_, _*_}
 use native.Mathlib.Omega.{arith}
 use native.Mathlib.Decide.{ℕ-discrete}
@@ -8,11 +8,14 @@ use mathlib.Core.Path.{_≡_, refl, ap, _∙_, sym}
 use mathlib.Core.Logic.{_⊎_, inl, inr, _≢_}
 use mathlib.Core.Bool.{true, false}
 use mathlib.Core.List.{List, _++_}
-use lib.ListN.{length, take}
+use lib.ListN.{length, take, length-set}
 use lib.Seq.{getD-set-same, getD-set-other}
 use Rattle.model.specs.Bytes.{Bytes, blockAt, store}
-use Rattle.model.specs.Card.{newName, freshCore, coreOf, withCore, withRunning}
+use Rattle.model.specs.Shape.{homeBlock, journalBlock}
+use Rattle.model.specs.Card.{newName, freshCore, coreOf, withCore, withRunning, tailOf, holderOf}
+use Rattle.model.specs.Layout.{isCommit}
 use Rattle.model.specs.Journal.{journalAt}
+use Rattle.model.specs.Command.{World}
 use Rattle.model.specs.Commit.{copyBlock}
 use Rattle.model.specs.declared.Name.{Name}
 use Rattle.model.specs.declared.Tail.{Tail}
@@ -20,15 +23,13 @@ use Rattle.model.specs.declared.Transaction.{Transaction}
 use Rattle.model.specs.declared.Core.{Core}
 use Rattle.model.specs.declared.Card.{Card}
 use Rattle.model.proofs.Lists.{flatMap-below}
-use Rattle.crash.specs.Book.{Stage, absent, running, isRunning, isClosed, counted, Entry}
-use Rattle.crash.specs.Ledger.{Ledger, recordBlocks, heldOf, recordOf}
+use Rattle.crash.specs.Book.{Stage, absent, running, isRunning, isClosed, counted, Entry, Book, holderIn, Write, image, blank}
+use Rattle.crash.specs.Ledger.{Ledger, recordBlocks, heldOf, recordOf, withBook, imageNow}
 use Rattle.crash.proofs.LedgerStages.{closed-present}
-use Rattle.crash.proofs.BookEntries.{records-same}
-use Rattle.crash.proofs.Relation.{Fine, contents, JournalStands, CoreUp, Matches, IsBlock, DiskStands}
+use Rattle.crash.proofs.BookEntries.{records-same, nextName, uncommittedName}
+use Rattle.crash.proofs.Relation.{Fine, contents, JournalStands, CoreUp, Matches, IsBlock, DiskStands, Up, holderAs}
 use Rattle.model.proofs.Store.{length-store, block-stored, block-other}
 use Rattle.model.proofs.Journal.{home-apart}
-use Rattle.model.specs.Shape.{homeBlock, journalBlock}
-use Rattle.model.specs.Layout.{isCommit}
 use Rattle.crash.specs.Claims.{IsBytes}
 use Rattle.crash.proofs.BlockBytes.{bytes-store}
 
@@ -50,13 +51,13 @@ record-same l l₂ t bs ns im st = simp (bs, ns, im, st)
 
 pub contents-same : (l l₂ : Ledger) (c : ℕ) → l₂ .book .oldest c ≡ l .book .oldest c → l₂ .book .uncommitted c ≡ l .book .uncommitted c
     → ((i : ℕ) → i < l .book .uncommitted c → recordOf l₂ (newName c i) ≡ recordOf l (newName c i))
-    → take (counted ((l₂ .book .entry (newName c (l .book .uncommitted c))) .stage)) (recordOf l₂ (newName c (l .book .uncommitted c)))
-    ≡ take (counted ((l .book .entry (newName c (l .book .uncommitted c))) .stage)) (recordOf l (newName c (l .book .uncommitted c)))
+    → take (counted ((l₂ .book .entry (uncommittedName c (l .book))) .stage)) (recordOf l₂ (uncommittedName c (l .book)))
+    ≡ take (counted ((l .book .entry (uncommittedName c (l .book))) .stage)) (recordOf l (uncommittedName c (l .book)))
     → contents l₂ c ≡ contents l c
 unfolding contents
 contents-same l l₂ c o u f g =
     rw (o, u, g)
-    (ap (λ (x : List Bytes). x ++ take (counted ((l .book .entry (newName c (l .book .uncommitted c))) .stage)) (recordOf l (newName c (l .book .uncommitted c))))
+    (ap (λ (x : List Bytes). x ++ take (counted ((l .book .entry (uncommittedName c (l .book))) .stage)) (recordOf l (uncommittedName c (l .book))))
     (flatMap-below (λ (i : ℕ). recordOf l₂ (newName c (l .book .oldest c + i))) (λ (i : ℕ). recordOf l (newName c (l .book .oldest c + i)))
     (l .book .uncommitted c - l .book .oldest c) (λ i h. f (l .book .oldest c + i) (omega arith))))
 
@@ -76,14 +77,14 @@ unstarted g (inr e) = rw e
 
 module _ (l : Ledger) (fine : Fine l) (c : ℕ) (in-range : c < l .shape .cores) where
   -- of the running one, or of the next to open, nothing is stored
-  pub none-stored : counted ((l .book .entry (newName c (l .book .next c))) .stage) ≡ 0
-  none-stored = unstarted ((l .book .entry (newName c (l .book .next c))) .stage) (fine .ranks c in-range .current)
+  pub none-stored : counted ((l .book .entry (nextName c (l .book))) .stage) ≡ 0
+  none-stored = unstarted ((l .book .entry (nextName c (l .book))) .stage) (fine .ranks c in-range .current)
 
   module _ (l₂ : Ledger) (same : SameClosed l l₂ c) where
     same-record : (i : ℕ) → i < l .book .next c → recordOf l₂ (newName c i) ≡ recordOf l (newName c i)
     same-record i h = record-same l l₂ (newName c i) (ap (λ (e : Entry). e .blocks) (same .entry i h)) (ap (λ (e : Entry). e .names) (same .entry i h)) (same .images i h) (same .stamp i h)
 
-    contents-stay : counted ((l₂ .book .entry (newName c (l .book .next c))) .stage) ≡ 0 → contents l₂ c ≡ contents l c
+    contents-stay : counted ((l₂ .book .entry (nextName c (l .book))) .stage) ≡ 0 → contents l₂ c ≡ contents l c
     contents-stay z =
         let r = fine .ranks c in-range in
         contents-same l l₂ c (same .oldest) (same .uncommitted) (λ i h. same-record i (omega (arith, r .mid)))
@@ -97,9 +98,9 @@ module _ (l : Ledger) (fine : Fine l) (c : ℕ) (in-range : c < l .shape .cores)
         records-same (l .book) (l₂ .book) c (l .book .oldest c) (n - l .book .oldest c) (λ j p q. ap (λ (e : Entry). length (e .blocks)) (same .entry j (omega arith)))
 
     -- its journal, with the running one's reserve
-    pub journal-stays : (d d₂ : Bytes) (t : Tail) → counted ((l₂ .book .entry (newName c (l .book .next c))) .stage) ≡ 0
-        → (isRunning ((l₂ .book .entry (newName c (l .book .next c))) .stage) ≡ true
-        → recordBlocks (l .book) c (l .book .oldest c) (l .book .next c - l .book .oldest c) + (length ((l₂ .book .entry (newName c (l .book .next c))) .blocks) + 2) ≤ l .shape .journal)
+    pub journal-stays : (d d₂ : Bytes) (t : Tail) → counted ((l₂ .book .entry (nextName c (l .book))) .stage) ≡ 0
+        → (isRunning ((l₂ .book .entry (nextName c (l .book))) .stage) ≡ true
+        → recordBlocks (l .book) c (l .book .oldest c) (l .book .next c - l .book .oldest c) + (length ((l₂ .book .entry (nextName c (l .book))) .blocks) + 2) ≤ l .shape .journal)
         → ((q : ℕ) → journalAt (l .shape) d₂ c q ≡ journalAt (l .shape) d c q) → JournalStands l d c t → JournalStands l₂ d₂ c t
     journal-stays d d₂ t z reserve at j =
         let r = fine .ranks c in-range in
@@ -116,8 +117,8 @@ module _ (l : Ledger) (fine : Fine l) (c : ℕ) (in-range : c < l .shape .cores)
 
     -- the core of the card, with a running transaction that matches
     pub core-stays : (m m₂ : Bytes) (k : Core) (t : Transaction)
-        → (isRunning ((l₂ .book .entry (newName c (l .book .next c))) .stage) ≡ true → Matches t (l₂ .book .entry (newName c (l .book .next c))))
-        → (isRunning ((l₂ .book .entry (newName c (l .book .next c))) .stage) ≡ false → t .live ≡ false)
+        → (isRunning ((l₂ .book .entry (nextName c (l .book))) .stage) ≡ true → Matches t (l₂ .book .entry (nextName c (l .book))))
+        → (isRunning ((l₂ .book .entry (nextName c (l .book))) .stage) ≡ false → t .live ≡ false)
         → ((i : ℕ) → i < 8 → blockAt m₂ (copyBlock c i) ≡ blockAt m (copyBlock c i)) → CoreUp l m c k → CoreUp l₂ m₂ c (withRunning k t)
     core-stays m m₂ k t run idle copy u =
         let r = fine .ranks c in-range in
@@ -137,10 +138,10 @@ module _ (l : Ledger) (fine : Fine l) (c : ℕ) (in-range : c < l .shape .cores)
           none-homed = rw (same .oldest, same .uncommitted) (u .none-homed);
         }
       where
-        few : l .book .uncommitted c < l .book .next c → length ((l .book .entry (newName c (l .book .uncommitted c))) .blocks) ≤ 8
+        few : l .book .uncommitted c < l .book .next c → length ((l .book .entry (uncommittedName c (l .book))) .blocks) ≤ 8
         few h =
             let s = fine .ranks c in-range .storing h in
-            fine .limits (newName c (l .book .uncommitted c)) (closed-present _ (ap isClosed (s .1))) .few
+            fine .limits (uncommittedName c (l .book)) (closed-present _ (ap isClosed (s .1))) .few
 
 -- ---- a store below the journals, of the master or of a home block
 module _ {l : Ledger} {d : Bytes} {tailAt : ℕ → Tail} (f : Fine l) (z : DiskStands l d tailAt) (k : ℕ) (low : k ≤ l .shape .blocks) (x : Bytes) (block : IsBlock x) where
@@ -184,4 +185,28 @@ home-stands {l} {tailAt = tailAt} f z b h x block =
             room = j .room;
             reserved = j .reserved;
           };
+    }
+
+-- ---- a card with one core replaced over another disk, where the book's writes and holders stay
+pub core-up : {l : Ledger} {w : World} → Up l w → (c : ℕ) (x : Core) (k : Book) (d : Bytes) → k .writes ≡ l .book .writes
+    → ((b : ℕ) → holderIn k b (l .book .writes) ≡ holderIn (l .book) b (l .book .writes)) → Fine (withBook l k) → DiskStands (withBook l k) d (tailOf (w .card))
+    → ((a : ℕ) → a < l .shape .cores → CoreUp (withBook l k) (w .memory) a (coreOf (withCore (w .card) c x) a))
+    → Up (withBook l k) (record { card = withCore (w .card) c x; disk = d; memory = w .memory })
+unfolding tailOf holderOf imageNow
+core-up {l} {w} u c x k d writes holder fine disk cores =
+    record {
+      phase = u .phase;
+      ledger = u .ledger;
+      shape = u .shape;
+      closes = u .closes;
+      memory = u .memory;
+      memory-bytes = u .memory-bytes;
+      eight-tails = u .eight-tails;
+      eight-cores = length-set (w .card .cores) c x ∙ u .eight-cores;
+      holder-room = u .holder-room;
+      fine = fine;
+      disk = disk;
+      cores = cores;
+      holders = λ b h. u .holders b h ∙ ap holderAs (sym (ap (holderIn k b) writes ∙ holder b));
+      images = λ b h g. u .images b h g ∙ ap (λ (ws : List Write). image (image blank (l .saved)) ws b) (sym writes);
     }

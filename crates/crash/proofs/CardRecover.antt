@@ -26,16 +26,16 @@ use Rattle.model.proofs.Lists.{cases, mem-below, length-below, getD-map-below}
 use Rattle.model.proofs.Select.{select-mem, select-same}
 use Rattle.crash.specs.Book.{keptWrites, blank}
 use Rattle.crash.specs.Ledger.{Ledger, blocksIn, recoverLedger, recoverStored}
+use Rattle.crash.proofs.Tests.{impossible}
 use Rattle.crash.proofs.Relation.{IsBlock, Fine, Up, target, DownBy}
+use Rattle.crash.proofs.LedgerSteps.{image-block, blank-block, fine-home, phased, kept-fits}
 use Rattle.crash.proofs.ReadMaster.{shape-read, master-same, master-block}
 use Rattle.crash.proofs.ReadRecords.{length-readList, few-records, journal-read}
 use Rattle.crash.proofs.ReadValid.{own-tails, blocks-on}
 use Rattle.crash.proofs.ReadNewest.{newest-image}
-use Rattle.crash.proofs.LedgerSteps.{image-block, blank-block, fine-home, phased, kept-fits}
-use Rattle.crash.proofs.CardCut.{stands-phased, target-phased, newest-phased, held-low}
-use Rattle.crash.proofs.CardFresh.{ComeUp, fresh-up}
 use Rattle.crash.proofs.CardFrames.{low-stored, low-other, low-journal, low-size, low-bytes, home-stands}
-use Rattle.crash.proofs.Tests.{impossible}
+use Rattle.crash.proofs.CardFresh.{ComeUp, fresh-up}
+use Rattle.crash.proofs.CardCut.{stands-phased, target-phased, newest-phased, held-low}
 
 -- ---- ascending lists: those left after the first are those above it
 abbrev Ascending : List ℕ → Type 0

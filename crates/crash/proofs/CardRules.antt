@@ -25,10 +25,10 @@ use Rattle.model.proofs.Lists.{cases}
 use Rattle.model.proofs.Valid.{sameName-refl}
 use Rattle.crash.specs.Book.{absent, running, isRunning, isClosed, Entry, Book, staged, taking, naming, begin, holderIn, Meeting, no-holder, own, running-holder, closed-holder, meets, ruled, change, wrote}
 use Rattle.crash.specs.Ledger.{Ledger}
+use Rattle.crash.proofs.BookEntries.{same-or-not, sameName-false, change-at, change-other, nextName}
+use Rattle.crash.proofs.BookSteps.{begun, meeting, begun-other, wrote-entry}
 use Rattle.crash.proofs.Relation.{Matches, holderAs, Up}
 use Rattle.crash.proofs.LedgerStages.{present-open, closed-idle, running-next}
-use Rattle.crash.proofs.BookEntries.{same-or-not, sameName-false, change-at, change-other}
-use Rattle.crash.proofs.BookSteps.{begun, meeting, begun-other, wrote-entry}
 
 -- ---- a transaction of the card and its entry
 matches-block : {t : Transaction} {e : Entry} → Matches t e → (b : ℕ) → length (e .blocks) < 8 → Matches (withBlock t b) (taking b e)
@@ -70,9 +70,9 @@ unfolding taken listed
 matches-opened e b n = record { live = refl; blocks = rw b refl; count = rw b refl; names = rw n refl; named = rw n refl; block-room = refl; name-room = refl }
 
 -- ---- entries after a WRITE
-module _ (k : Book) (c : ℕ) (current : ((k .entry (newName c (k .next c))) .stage ≡ absent) ⊎ ((k .entry (newName c (k .next c))) .stage ≡ running)) (b o : ℕ) (v : Bytes) where
+module _ (k : Book) (c : ℕ) (current : ((k .entry (nextName c k)) .stage ≡ absent) ⊎ ((k .entry (nextName c k)) .stage ≡ running)) (b o : ℕ) (v : Bytes) where
   abbrev t : Name
-  t = newName c (k .next c)
+  t = nextName c k
 
   ruled-by : (m : Meeting) → meeting c b k ≡ m → (n : Name) → (wrote c b o v k) .entry n ≡ ruled m t b (begun c k .entry) n
   ruled-by m e n = ap (λ (f : Name → Entry). f n) (wrote-entry k c current b o v ∙ ap (λ (m : Meeting). ruled m t b (begun c k .entry)) e)
@@ -115,9 +115,9 @@ more-names n e h q = let g : length (e .names ++ (n ∷ [])) ≤ 12 = rw q at h 
 -- ---- running ones
 module _ {l : Ledger} {w : World} (u : Up l w) where
   -- a core's transaction runs in the card where it does in the ledger
-  pub live-runs : (a : ℕ) → a < l .shape .cores → (coreOf (w .card) a) .running .live ≡ isRunning ((l .book .entry (newName a (l .book .next a))) .stage)
+  pub live-runs : (a : ℕ) → a < l .shape .cores → (coreOf (w .card) a) .running .live ≡ isRunning ((l .book .entry (nextName a (l .book))) .stage)
   live-runs a h =
-      cases (isRunning ((l .book .entry (newName a (l .book .next a))) .stage))
+      cases (isRunning ((l .book .entry (nextName a (l .book))) .stage))
       (λ e. u .cores a h .runs e .live ∙ sym e)
       (λ e. u .cores a h .idle e ∙ sym e)
 
@@ -131,15 +131,15 @@ module _ {l : Ledger} {w : World} (u : Up l w) where
       ]
 
   module _ (c : ℕ) (in-range : c < l .shape .cores) where
-    pub writer-name : writerName (w .card) c ≡ newName c (l .book .next c)
+    pub writer-name : writerName (w .card) c ≡ nextName c (l .book)
     unfolding writerName
     writer-name = rw (u .cores c in-range .next)
 
     -- the writer, opened where none runs, and its entry
-    pub writer-matches : Matches (writer (w .card) c) (begun c (l .book) .entry (newName c (l .book .next c)))
+    pub writer-matches : Matches (writer (w .card) c) (begun c (l .book) .entry (nextName c (l .book)))
     unfolding writer begin
     writer-matches =
-        let t = newName c (l .book .next c) in
+        let t = nextName c (l .book) in
         rw (live-runs c in-range)
         (elim (u .fine .ranks c in-range .current) [
           | inl e ↦ (let z = u .fine .unopened t e in
@@ -153,13 +153,13 @@ module _ {l : Ledger} {w : World} (u : Up l w) where
         pub holder : holderIn (l .book) b (l .book .writes) ≡ some n
         pub name : (holderOf (w .card) b) .name ≡ n
         pub held : (holderOf (w .card) b) .held ≡ true
-        pub other : n ≢ newName c (l .book .next c)
+        pub other : n ≢ nextName c (l .book)
         pub core : n .core < l .shape .cores
 
       pub data Met : Type 0 where
         met-none : holderIn (l .book) b (l .book .writes) ≡ none → meeting c b (l .book) ≡ no-holder → ruleFor (w .card) c b ≡ Free → Met
-        met-own : holderIn (l .book) b (l .book .writes) ≡ some (newName c (l .book .next c)) → (holderOf (w .card) b) .held ≡ true → meeting c b (l .book) ≡ own → ruleFor (w .card) c b ≡ Own → Met
-        met-running : (n : Name) → MetHolder n → (l .book .entry n) .stage ≡ running → n ≡ newName (n .core) (l .book .next (n .core)) → n .core ≢ c
+        met-own : holderIn (l .book) b (l .book .writes) ≡ some (nextName c (l .book)) → (holderOf (w .card) b) .held ≡ true → meeting c b (l .book) ≡ own → ruleFor (w .card) c b ≡ Own → Met
+        met-running : (n : Name) → MetHolder n → (l .book .entry n) .stage ≡ running → n ≡ nextName (n .core) (l .book) → n .core ≢ c
             → meeting c b (l .book) ≡ running-holder n → ruleFor (w .card) c b ≡ Running → Met
         met-closed : (n : Name) → MetHolder n → isClosed ((l .book .entry n) .stage) ≡ true → meeting c b (l .book) ≡ closed-holder n → ruleFor (w .card) c b ≡ Closed → Met
 
@@ -171,7 +171,7 @@ module _ {l : Ledger} {w : World} (u : Up l w) where
           go none e = let q = u .holders b low ∙ ap holderAs e in met-none e (rw e refl) (rw q refl)
           go (some n) e =
               let q : holderOf (w .card) b ≡ record { held = true; name = n } = u .holders b low ∙ ap holderAs e in
-              let t = newName c (l .book .next c) in
+              let t = nextName c (l .book) in
               same-or-not n t
               (λ s. met-own (e ∙ ap some s) (rw q refl) (rw (e, s, sameName-refl t) refl) (rw (q, writer-name, s, sameName-refl t) refl))
               (λ ne.
@@ -185,10 +185,17 @@ module _ {l : Ledger} {w : World} (u : Up l w) where
               met-running n m r (ap (newName (n .core)) x) (λ y. ne (ap₂ newName y (x ∙ ap (l .book .next) y))) (rw (e, sameName-false n t ne, k) refl)
               (rw (q, writer-name, sameName-false n t ne, runs-in n core, r) refl)))
 
+      -- a running holder's transaction
+      pub holder-matches : (n : Name) → MetHolder n → (l .book .entry n) .stage ≡ running → n ≡ nextName (n .core) (l .book)
+          → Matches ((coreOf (w .card) (n .core)) .running) (l .book .entry n)
+      holder-matches n h runs is =
+          let live : isRunning ((l .book .entry (nextName (n .core) (l .book))) .stage) ≡ true = rw (← is) (ap isRunning runs) in
+          rw (← is) at (u .cores (n .core) (h .core) .runs live)
+
       -- what the rules make of the writer's transaction, and of a running holder's
       module _ (o : ℕ) (v : Bytes) where
         abbrev t₂ : Name
-        t₂ = newName c (l .book .next c)
+        t₂ = nextName c (l .book)
 
         abbrev k₂ : Book
         k₂ = wrote c b o v (l .book)
@@ -210,14 +217,9 @@ module _ {l : Ledger} {w : World} (u : Up l w) where
                   rw (r, q, h .name) (matches-block (matches-name writer-matches n (more-names n e₁ (rw q at short))) b (more-blocks b (naming n e₁) (rw q at few))))
             ]
 
-        module _ (n : Name) (h : MetHolder n) (runs : (l .book .entry n) .stage ≡ running) (is : n ≡ newName (n .core) (l .book .next (n .core))) where
-          pub holder-matches : Matches ((coreOf (w .card) (n .core)) .running) (l .book .entry n)
-          holder-matches =
-              let live : isRunning ((l .book .entry (newName (n .core) (l .book .next (n .core)))) .stage) ≡ true = rw (← is) (ap isRunning runs) in
-              rw (← is) at (u .cores (n .core) (h .core) .runs live)
-
+        module _ (n : Name) (h : MetHolder n) (runs : (l .book .entry n) .stage ≡ running) (is : n ≡ nextName (n .core) (l .book)) where
           pub holder-after : meeting c b (l .book) ≡ running-holder n → length ((k₂ .entry n) .names) ≤ 12
               → Matches (withName ((coreOf (w .card) (n .core)) .running) (writerName (w .card) c)) (k₂ .entry n)
           holder-after e short =
               let q = entry-holder (l .book) c (u .fine .ranks c in-range .current) b o v n (h .other) e in
-              rw (q, writer-name) (matches-name holder-matches t₂ (more-names t₂ (l .book .entry n) (rw q at short)))
+              rw (q, writer-name) (matches-name (holder-matches n h runs is) t₂ (more-names t₂ (l .book .entry n) (rw q at short)))

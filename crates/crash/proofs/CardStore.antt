@@ -8,14 +8,14 @@ use mathlib.Core.Path.{_≡_, refl, ap, ap₂, _∙_, sym, subst}
 use mathlib.Core.Logic.{_≢_}
 use mathlib.Core.Bool.{true, false}
 use mathlib.Core.List.{List, [], _∷_, _++_, flatMap, append-assoc, append-nil}
-use lib.ListN.{length, take, getD, length-append, length-set, List·getD-append}
+use lib.ListN.{length, take, getD, length-append, List·getD-append}
 use lib.Seq.{getD-at, take-suc, take-all, length-take-le}
 use lib.Dec.{leb}
 use borrow.Author.Tests.{le-leb, lt-leb, eq-eqb, ne-eqb}
 use Rattle.model.specs.Lists.{below}
 use Rattle.model.specs.Bytes.{Bytes, blockAt, part, number, store as storeBlock}
 use Rattle.model.specs.Shape.{homeBlock, journalBlock}
-use Rattle.model.specs.Card.{newName, recordSize, tailOf, coreOf, holderOf, withCore}
+use Rattle.model.specs.Card.{newName, recordSize, tailOf, coreOf, withCore}
 use Rattle.model.specs.Layout.{newHeld, hasHead, flagOf, escaped, descriptorBlock, commitBlock, isCommit}
 use Rattle.model.specs.Journal.{journalAt}
 use Rattle.model.specs.Command.{World}
@@ -28,17 +28,17 @@ use Rattle.model.proofs.Words.{each-block}
 use Rattle.model.proofs.Encoding.{length-descriptor, length-commit, length-escaped, descriptor-head, commit-head, head-other, no-commit, escaped-head}
 use Rattle.model.proofs.Journal.{journal-low, home-apart, cores-apart, journal-apart, length-recordBlocks, recordBlocks-each, recordBlocks as storedBlocks}
 use Rattle.crash.specs.Book.{closed, committed, isClosed, counted, Entry, Book, raise, staged, store}
-use Rattle.crash.specs.Ledger.{Ledger, withBook, imageNow, recordBlocks, heldOf, recordOf, recordStored}
-use Rattle.crash.proofs.Relation.{IsBlock, Fine, contents, JournalStands, DiskStands, CoreUp, holderAs, Up}
-use Rattle.crash.proofs.ReadRecords.{record-sound, length-record, records-flat, length-records, stored-closed}
-use Rattle.crash.proofs.BookEntries.{other-number, other-core, change-at, raise-at, raise-other, records-snoc}
+use Rattle.crash.specs.Ledger.{Ledger, withBook, recordBlocks, imageNow, heldOf, recordOf, recordStored}
+use Rattle.crash.proofs.BookEntries.{other-number, other-core, change-at, raise-at, raise-other, records-snoc, nextName, uncommittedName}
 use Rattle.crash.proofs.BookSteps.{Restages, restaged, restages-records, storedStage, store-restages, store-more, store-last, store-holder}
 use Rattle.crash.proofs.BlockBytes.{bytes-store, each-isBytes, escaped-bytes}
-use Rattle.crash.proofs.CardFrames.{SameClosed, core-set, core-other, record-same, none-stored, journal-stays, core-stays}
+use Rattle.crash.proofs.Relation.{IsBlock, Fine, contents, JournalStands, DiskStands, CoreUp, Up, holderAs}
 use Rattle.crash.proofs.ReadMaster.{shape-up, tail-read}
+use Rattle.crash.proofs.ReadRecords.{record-sound, length-record, records-flat, length-records, stored-closed}
+use Rattle.crash.proofs.CardFrames.{SameClosed, core-set, core-other, record-same, none-stored, journal-stays, core-stays, core-up}
 
 -- ---- the blocks of a record, one by one
-module _ {l : Ledger} (f : Fine l) (t : Name) (h : isClosed ((l .book .entry t) .stage) ≡ true) where
+module _ (l : Ledger) (t : Name) where
   record-size : length (recordOf l t) ≡ length (l .images t) + 2
   unfolding recordOf storedBlocks
   record-size = length-recordBlocks (t .number) (heldOf l t) (l .stamp t) ((l .book .entry t) .names) (l .images t)
@@ -52,12 +52,13 @@ module _ {l : Ledger} (f : Fine l) (t : Name) (h : isClosed ((l .book .entry t) 
       recordBlocks-each (t .number) (heldOf l t) (l .stamp t) ((l .book .entry t) .names) (l .images t) P a b c i
       (omega (arith, length-recordBlocks (t .number) (heldOf l t) (l .stamp t) ((l .book .entry t) .names) (l .images t)))
 
+module _ {l : Ledger} (f : Fine l) (t : Name) (h : isClosed ((l .book .entry t) .stage) ≡ true) where
   record-blocks : (i : ℕ) → i < length (recordOf l t) → IsBlock (getD (recordOf l t) i [])
   unfolding descriptorBlock commitBlock
   record-blocks =
       let s = record-sound f t h in
       let z = f .frozen t h in
-      record-each (λ (i : ℕ) (b : Bytes). IsBlock b)
+      record-each l t (λ (i : ℕ) (b : Bytes). IsBlock b)
       (record { size = length-descriptor (t .number) (heldOf l t) (s .few); bytes = each-isBytes _ (each-block _) })
       (λ i g. let x = z .images i g in
       record { size = length-escaped (getD (l .images t) i []) (omega (arith, x .size)) ∙ x .size; bytes = escaped-bytes (getD (l .images t) i []) (x .bytes) })
@@ -68,9 +69,9 @@ module _ {l : Ledger} (f : Fine l) (t : Name) (h : isClosed ((l .book .entry t) 
       → isCommit (l .shape) n (getD (recordOf l t) i []) ≡ false
   record-clear i n g low last =
       let s = record-sound f t h in
-      let size = record-size in
+      let size = record-size l t in
       no-commit (l .shape) n (getD (recordOf l t) i [])
-      (record-each (λ (j : ℕ) (b : Bytes). (suc j ≡ length (recordOf l t) → t .number < n) → hasHead 2 n b ≡ false)
+      (record-each l t (λ (j : ℕ) (b : Bytes). (suc j ≡ length (recordOf l t) → t .number < n) → hasHead 2 n b ≡ false)
       (λ _. head-other 1 (t .number) 2 n _ (descriptor-head s) (λ e _. omega arith))
       (λ j _ _. escaped-head (getD (l .images t) j []) 2 n)
       (λ z. head-other 2 (t .number) 2 n _ (commit-head s) (λ _ e. omega (arith, z (omega arith))))
@@ -88,7 +89,7 @@ held-copies l t c m h =
 
 module _ {l : Ledger} {w : World} (u : Up l w) (c : ℕ) (in-range : c < l .shape .cores) (busy : l .book .uncommitted c < l .book .next c) where
   abbrev t : Name
-  t = newName c (l .book .uncommitted c)
+  t = uncommittedName c (l .book)
 
   abbrev x : Core
   x = coreOf (w .card) c
@@ -124,7 +125,7 @@ module _ {l : Ledger} {w : World} (u : Up l w) (c : ℕ) (in-range : c < l .shap
       let y = u .cores c in-range in
       let m = y .closing busy in
       let n = u .fine .frozen t closed-now .count in
-      record-each (u .fine) t closed-now (λ (i : ℕ) (b : Bytes). x .stored ≡ i → nextStored c x (w .memory) ≡ b)
+      record-each l t (λ (i : ℕ) (b : Bytes). x .stored ≡ i → nextStored c x (w .memory) ≡ b)
       (λ e. rw (eq-eqb (x .stored) 0 e, m .blocks, next-now, held-copies l t c (w .memory) (y .copies busy)) refl)
       (λ i g e.
       let d : x .stored - 1 ≡ i = omega arith in
@@ -252,8 +253,8 @@ module _ {l : Ledger} {w : World} (u : Up l w) (c : ℕ) (in-range : c < l .shap
   new-low : l .book .uncommitted c ≤ k₂ .uncommitted c
   new-low = by-last (λ h. omega (arith, more-uncommitted h)) (λ h. omega (arith, last-uncommitted h))
 
-  running-stays : k₂ .entry (newName c (l .book .next c)) ≡ l .book .entry (newName c (l .book .next c))
-  running-stays = new .other (newName c (l .book .next c)) (other-number c (omega arith))
+  running-stays : k₂ .entry (nextName c (l .book)) ≡ l .book .entry (nextName c (l .book))
+  running-stays = new .other (nextName c (l .book)) (other-number c (omega arith))
 
   -- ---- the disk afterwards
   abbrev at : ℕ
@@ -328,7 +329,7 @@ module _ {l : Ledger} {w : World} (u : Up l w) (c : ℕ) (in-range : c < l .shap
             λ a h.
             elim (ℕ-discrete a c) [
               | yes e ↦ subst (λ (i : ℕ). JournalStands l₂ d₂ i (tailOf (w .card) i)) (sym e) own-journal
-              | no ne ↦ (let v = new .other (newName a (l .book .next a)) (other-core (l .book .next a) (l .book .uncommitted c) ne) in
+              | no ne ↦ (let v = new .other (nextName a (l .book)) (other-core (l .book .next a) (l .book .uncommitted c) ne) in
                   journal-stays l (u .fine) a h l₂ (others a ne) (w .disk) d₂ (tailOf (w .card) a)
                   (rw v (none-stored l (u .fine) a h)) (rw v (u .disk .journals a h .reserved))
                   (λ q. elsewhere (journalBlock (l .shape) a q) (cores-apart (l .shape) a q c p (omega (arith, u .fine .range .long)) ne)) (u .disk .journals a h))
@@ -395,7 +396,7 @@ module _ {l : Ledger} {w : World} (u : Up l w) (c : ℕ) (in-range : c < l .shap
       elim (ℕ-discrete a c) [
         | yes e ↦ (let n : c < length (w .card .cores) = omega (arith, u .eight-cores, u .fine .range .few-cores) in
             rw (e, core-set (w .card) c (coreStored x) n) own-core)
-        | no ne ↦ (let v = new .other (newName a (l .book .next a)) (other-core (l .book .next a) (l .book .uncommitted c) ne) in
+        | no ne ↦ (let v = new .other (nextName a (l .book)) (other-core (l .book .next a) (l .book .uncommitted c) ne) in
             let y = u .cores a h in
             rw (core-other (w .card) c (coreStored x) a ne)
             (core-stays l (u .fine) a h l₂ (others a ne) (w .memory) (w .memory) (coreOf (w .card) a) ((coreOf (w .card) a) .running)
@@ -403,24 +404,10 @@ module _ {l : Ledger} {w : World} (u : Up l w) (c : ℕ) (in-range : c < l .shap
       ]
 
   pub store-up : Fine l₂ → Up l₂ ((stored c w) .world)
-  unfolding stored store tailOf holderOf imageNow
+  unfolding stored
   store-up fine =
-      record {
-        phase = u .phase;
-        ledger = u .ledger;
-        shape = u .shape;
-        closes = u .closes;
-        memory = u .memory;
-        memory-bytes = u .memory-bytes;
-        eight-tails = u .eight-tails;
-        eight-cores = length-set (w .card .cores) c (coreStored x) ∙ u .eight-cores;
-        holder-room = u .holder-room;
-        fine = fine;
-        disk = subst (λ (d : Bytes). DiskStands l₂ d (tailOf (w .card))) (sym stored-disk) disk-stands;
-        cores = store-core;
-        holders = λ b h. u .holders b h ∙ ap holderAs (sym (store-holder c (x .stored) (l .book) stage-now b (l .book .writes)));
-        images = u .images;
-      }
+      core-up u c (coreStored x) k₂ ((stored c w) .world .disk) (new .writes) (λ b. store-holder c (x .stored) (l .book) stage-now b (l .book .writes)) fine
+      (subst (λ (d : Bytes). DiskStands l₂ d (tailOf (w .card))) (sym stored-disk) disk-stands) store-core
 
   -- a journal block is no home block
   pub store-homes : (b : ℕ) → b < l .shape .blocks → blockAt ((stored c w) .world .disk) (homeBlock b) ≡ blockAt (w .disk) (homeBlock b)

@@ -14,8 +14,8 @@ use Rattle.model.specs.Bytes.{Bytes, replaced, blockAt, store}
 use Rattle.model.specs.Shape.{homeBlock}
 use Rattle.model.specs.Card.{newName, noHolder, withName, withRunning, tailOf, coreOf, holderOf, withCore, withHolder}
 use Rattle.model.specs.Command.{World}
-use Rattle.model.specs.Commit.{copyBlock}
 use Rattle.model.specs.Write.{writerName, ruleFor, takesBlock, isNamedBack, loadsImage, writerAfter, writtenCard, writtenMemory, written}
+use Rattle.model.specs.Commit.{copyBlock}
 use Rattle.model.specs.declared.Name.{Name}
 use Rattle.model.specs.declared.Transaction.{Transaction}
 use Rattle.model.specs.declared.Core.{Core}
@@ -26,14 +26,14 @@ use Rattle.model.proofs.Store.{length-replaced, length-store, length-blockAt, b
 use Rattle.crash.specs.Book.{absent, running, isRunning, counted, Book, holderIn, running-holder, holderAfter, wrote}
 use Rattle.crash.specs.Ledger.{Ledger, withBook, imageNow, recordBlocks}
 use Rattle.crash.specs.Claims.{IsBytes}
-use Rattle.crash.proofs.Relation.{Fine, Limits, JournalStands, Matches, CoreUp, holderAs, Up}
-use Rattle.crash.proofs.BlockBytes.{block-written, block-unwritten, bytes-replaced, bytes-store, bytes-blockAt}
-use Rattle.crash.proofs.BookEntries.{other-core, meets-met, meets-running, metHolder}
+use Rattle.crash.proofs.Tests.{clash, impossible}
+use Rattle.crash.proofs.BookEntries.{other-core, meets-met, meets-running, metHolder, nextName}
 use Rattle.crash.proofs.BookSteps.{meeting, wrote-numbers, wrote-running, wrote-stage, wrote-blocks-other, wrote-other, wrote-holder, wrote-holder-other, wrote-image, wrote-image-other}
+use Rattle.crash.proofs.BlockBytes.{block-written, block-unwritten, bytes-replaced, bytes-store, bytes-blockAt}
+use Rattle.crash.proofs.Relation.{Fine, Limits, JournalStands, Matches, CoreUp, holderAs, Up}
+use Rattle.crash.proofs.LedgerStages.{running-present, present-open, running-next}
 use Rattle.crash.proofs.CardFrames.{SameClosed, core-set, core-other, none-stored, journal-stays, core-stays}
 use Rattle.crash.proofs.CardRules.{writer-name, Met, met-none, met-own, met-running, met-closed, rule-met, writer-after, holder-after}
-use Rattle.crash.proofs.Tests.{clash, impossible}
-use Rattle.crash.proofs.LedgerStages.{running-present, present-open, running-next}
 
 -- ---- the card afterwards
 -- what WRITE leaves of a card
@@ -129,10 +129,10 @@ module _ {l : Ledger} {w : World} (u : Up l w) (c : ℕ) (in-range : c < l .shap
     (opens : (n : Name) → holderIn (l .book) b (l .book .writes) ≡ some n → (l .book .entry n) .stage ≢ absent)
     (home : holderIn (l .book) b (l .book .writes) ≡ none → blockAt (w .disk) (homeBlock b) ≡ imageNow l b)
     (reserve : recordBlocks (l .book) c (l .book .oldest c) (l .book .next c - l .book .oldest c) + 2
-    + length (((wrote c b o v (l .book)) .entry (newName c (l .book .next c))) .blocks) ≤ l .shape .journal)
+    + length (((wrote c b o v (l .book)) .entry (nextName c (l .book))) .blocks) ≤ l .shape .journal)
     (fine : Fine (withBook l (wrote c b o v (l .book)))) where
   abbrev t : Name
-  t = newName c (l .book .next c)
+  t = nextName c (l .book)
 
   abbrev k₂ : Book
   k₂ = wrote c b o v (l .book)
@@ -214,8 +214,8 @@ module _ {l : Ledger} {w : World} (u : Up l w) (c : ℕ) (in-range : c < l .shap
         images = λ i g. refl;
       }
 
-  other-stage : (a : ℕ) → a ≢ c → (k₂ .entry (newName a (l .book .next a))) .stage ≡ (l .book .entry (newName a (l .book .next a))) .stage
-  other-stage a ne = wrote-stage (l .book) c current b o v (newName a (l .book .next a)) (other-core (l .book .next a) (l .book .next c) ne)
+  other-stage : (a : ℕ) → a ≢ c → (k₂ .entry (nextName a (l .book))) .stage ≡ (l .book .entry (nextName a (l .book))) .stage
+  other-stage a ne = wrote-stage (l .book) c current b o v (nextName a (l .book)) (other-core (l .book .next a) (l .book .next c) ne)
 
   eight : c < length (x .cores)
   eight = omega (arith, u .eight-cores, u .fine .range .few-cores)
@@ -246,8 +246,8 @@ module _ {l : Ledger} {w : World} (u : Up l w) (c : ℕ) (in-range : c < l .shap
 
   -- ---- cores
   stays : (a : ℕ) (h : a < l .shape .cores) (r : Transaction) → coreOf (writtenCard x c b) a ≡ withRunning (coreOf x a) r
-      → (isRunning ((k₂ .entry (newName a (l .book .next a))) .stage) ≡ true → Matches r (k₂ .entry (newName a (l .book .next a))))
-      → (isRunning ((k₂ .entry (newName a (l .book .next a))) .stage) ≡ false → r .live ≡ false)
+      → (isRunning ((k₂ .entry (nextName a (l .book))) .stage) ≡ true → Matches r (k₂ .entry (nextName a (l .book))))
+      → (isRunning ((k₂ .entry (nextName a (l .book))) .stage) ≡ false → r .live ≡ false)
       → CoreUp l₂ m₂ a (coreOf (writtenCard x c b) a)
   stays a h r e p q = rw e (core-stays l (u .fine) a h l₂ (same a h) (w .memory) m₂ (coreOf x a) r p q (λ i _. copies-stay a i) (u .cores a h))
 
@@ -260,9 +260,9 @@ module _ {l : Ledger} {w : World} (u : Up l w) (c : ℕ) (in-range : c < l .shap
 
   -- a core that neither writes nor holds
   other-core-up : (a : ℕ) (h : a < l .shape .cores) → a ≢ c → (isNamedBack (ruleFor x c b) ≡ true → a ≢ ((holderOf x b) .name) .core)
-      → meeting c b (l .book) ≢ running-holder (newName a (l .book .next a)) → CoreUp l₂ m₂ a (coreOf (writtenCard x c b) a)
+      → meeting c b (l .book) ≢ running-holder (nextName a (l .book)) → CoreUp l₂ m₂ a (coreOf (writtenCard x c b) a)
   other-core-up a h ne apart nr =
-      let e = wrote-other (l .book) c current b o v (newName a (l .book .next a)) (other-core (l .book .next a) (l .book .next c) ne) nr in
+      let e = wrote-other (l .book) c current b o v (nextName a (l .book)) (other-core (l .book .next a) (l .book .next c) ne) nr in
       stays a h ((coreOf x a) .running) (written-core x c b a ne apart) (rw e (u .cores a h .runs)) (rw e (u .cores a h .idle))
 
   write-core : (a : ℕ) → a < l .shape .cores → CoreUp l₂ m₂ a (coreOf (writtenCard x c b) a)
@@ -286,13 +286,13 @@ module _ {l : Ledger} {w : World} (u : Up l w) (c : ℕ) (in-range : c < l .shap
             | yes e ↦ (let back : isNamedBack (ruleFor x c b) ≡ true = rw r refl in
                 let size : n .core < length (x .cores) = omega (arith, u .eight-cores, u .fine .range .few-cores, g .core) in
                 let n-limits : Limits (l .shape) n (k₂ .entry n) = fine .limits n (running-present _ (wrote-stage (l .book) c current b o v n (g .other) ∙ runs)) in
-                let run : isRunning ((k₂ .entry (newName (n .core) (l .book .next (n .core)))) .stage) ≡ true =
-                ap isRunning (other-stage (n .core) apart) ∙ (let z : isRunning ((l .book .entry (newName (n .core) (l .book .next (n .core)))) .stage) ≡ true = rw (← is) (ap isRunning runs) in z) in
+                let run : isRunning ((k₂ .entry (nextName (n .core) (l .book))) .stage) ≡ true =
+                ap isRunning (other-stage (n .core) apart) ∙ (let z : isRunning ((l .book .entry (nextName (n .core) (l .book))) .stage) ≡ true = rw (← is) (ap isRunning runs) in z) in
                 subst (λ (i : ℕ). CoreUp l₂ m₂ i (coreOf (writtenCard x c b) i)) (sym e)
                 (stays (n .core) (g .core) (withName ((coreOf x (n .core)) .running) (writerName x c)) (written-holder x c b (n .core) (ap (λ (n : Name). n .core) (g .name)) size back apart)
                 (λ _. rw (← is) (holder-after u c in-range b low opens o v n g runs is m (n-limits .short))) (clash run)))
             | no away ↦ other-core-up a h ne (λ _ q. away (q ∙ ap (λ (n : Name). n .core) (g .name)))
-                (λ q. away (let s : n ≡ newName a (l .book .next a) = cc in sym (ap (λ (n : Name). n .core) s)))
+                (λ q. away (let s : n ≡ nextName a (l .book) = cc in sym (ap (λ (n : Name). n .core) s)))
           ]
         ]
       ]
@@ -325,7 +325,7 @@ module _ {l : Ledger} {w : World} (u : Up l w) (c : ℕ) (in-range : c < l .shap
             (journal-stays l (u .fine) c in-range l₂ (same c in-range) (w .disk) (w .disk) (tailOf x c)
             (ap counted (wrote-running (l .book) c current b o v)) (λ _. omega (arith, reserve)) (λ q. refl) (u .disk .journals c in-range))
         | no ne ↦ (let s = other-stage a ne in
-            let n = ap length (wrote-blocks-other (l .book) c current b o v (newName a (l .book .next a)) (other-core (l .book .next a) (l .book .next c) ne)) in
+            let n = ap length (wrote-blocks-other (l .book) c current b o v (nextName a (l .book)) (other-core (l .book .next a) (l .book .next c) ne)) in
             journal-stays l (u .fine) a h l₂ (same a h) (w .disk) (w .disk) (tailOf x a)
             (ap counted s ∙ none-stored l (u .fine) a h) (rw (s, n) (u .disk .journals a h .reserved)) (λ q. refl) (u .disk .journals a h))
       ]

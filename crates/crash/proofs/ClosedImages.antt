@@ -1,12 +1,12 @@
 -- The images that the ledger notes at CLOSE are those of the histories: `Imaged`, kept by every command.
 -- At CLOSE the running transaction that took a block still holds it, so the block's history up to its last held write is
 -- the whole history. From then on no write is held by it, so that part of the history stays as it is.
+use Prim.Native.Nat.{ℕ, _≤_, _<_}
 use mathlib.Core.Path.{_≡_, refl, sym, _∙_, ap, fun-ext}
 use mathlib.Core.Bool.{false, So}
 use mathlib.Core.Logic.{_⊎_}
 use mathlib.Core.List.{List, [], _∷_, map}
 use mathlib.Core.Option.{some}
-use Prim.Native.Nat.{ℕ, _≤_, _<_}
 use lib.ListN.{length, getD}
 use lib.Dec.{eqb}
 use Rattle.model.specs.Bytes.{Bytes}
@@ -18,13 +18,13 @@ use Rattle.model.proofs.Valid.{sameName-true, sameName-refl}
 use Rattle.crash.specs.Book.{Stage, absent, running, closed, committed, isClosed, Entry, Write, emptyBook, begin, store, checkpoint, holderIn, Meeting, meets, ruled, holderAfter, note, wrote, Book}
 use Rattle.crash.specs.Ledger.{Ledger, freshLedger, withBook, imageNow, closeLedger}
 use Rattle.crash.proofs.Tests.{clash, false-of, in-any, blockEquality}
+use Rattle.crash.proofs.BookEntries.{nextName, uncommittedName, oldestName}
+use Rattle.crash.proofs.BookSteps.{begun, begun-by, begun-running, close-images}
 use Rattle.crash.proofs.History.{Event, value, upto}
 use Rattle.crash.proofs.Largest.{stageOf}
 use Rattle.crash.proofs.Invariant.{image-history, areaBefore, historyOf, imageAt, tookIn, Inv}
 use Rattle.crash.proofs.InvariantSteps.{Moved, moved-each, moved-blocks, begin-moved, close-moved, store-moved, retire-moved, home-moved}
 use Rattle.crash.proofs.InvariantWrite.{Edits, withWrite, lastHolder, open-last, meets-ruled, rule-edits, rule-open}
-use Rattle.crash.proofs.BookEntries.{nextName, uncommittedName, oldestName}
-use Rattle.crash.proofs.BookSteps.{begun, begun-by, begun-running, close-images}
 
 abbrev pub Imaged : Ledger → Type 0
 Imaged l = (t : Name) → So (isClosed (stageOf (l .book) t)) → l .images t ≡ map (imageAt l t) ((l .book .entry t) .blocks)

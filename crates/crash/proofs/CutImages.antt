@@ -1,13 +1,13 @@
 -- What recovery gives: each block gets the image of the highest-stamped valid transaction that took it, or stays as it is.
 -- That is the area as the card came up with the kept writes, since the valid transactions are the kept unretired ones.
 -- Nothing is assumed of how the reader finds that transaction: `NewestHolder` says what it has to be.
+use Prim.Native.Nat.{ℕ, _≤_}
+use native.Mathlib.Omega.{arith}
 use mathlib.Core.Path.{_≡_, refl, sym, _∙_, ap}
 use mathlib.Core.Bool.{Bool, false, So, not, _&&_}
 use mathlib.Core.Logic.{⊎-elim}
 use mathlib.Core.List.{List, [], _∷_, _++_, List·Memᴰ, List·Memᴰ·head, List·Memᴰ·tail, List·Memᴰ·not-nil, List·Memᴰ·cases-cons}
 use mathlib.Core.Option.{Option, none, some}
-use Prim.Native.Nat.{ℕ, _≤_}
-use native.Mathlib.Omega.{arith}
 use lib.Dec.{eqb, leb}
 use borrow.Author.Tests.{not-true, leb-true, leb-false}
 use Rattle.model.specs.Lists.{select}

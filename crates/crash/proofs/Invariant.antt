@@ -1,12 +1,12 @@
 -- What holds of a ledger and the home area from one coming up to the next cut: `Inv`.
 -- The history of each block is good, with what the ledger knows of the transactions; a transaction took the blocks that
 -- it held after some write. Where a command only adds to what is known of transactions (`Grows`), good histories stay good.
+use Prim.Native.Nat.{ℕ, _≤_, _<_}
+use native.Mathlib.Omega.{arith}
 use mathlib.Core.Path.{_≡_, refl, subst, fun-ext}
 use mathlib.Core.Bool.{Bool, true, false, So, cond}
 use mathlib.Core.Logic.{inl, inr, ⊎-elim}
 use mathlib.Core.List.{List, [], _∷_, List·Memᴰ}
-use Prim.Native.Nat.{ℕ, _≤_, _<_}
-use native.Mathlib.Omega.{arith}
 use lib.ListN.{take}
 use lib.Dec.{eqb}
 use Rattle.model.specs.Lists.{any}
@@ -17,10 +17,10 @@ use Rattle.model.proofs.Lists.{cases}
 use Rattle.crash.specs.Book.{Stage, absent, running, closed, committed, retired, isClosed, isCommitted, isRetired, Write, Book, kept, image, blank}
 use Rattle.crash.specs.Ledger.{Ledger}
 use Rattle.crash.proofs.Tests.{clash}
+use Rattle.crash.proofs.BookEntries.{by-stage}
 use Rattle.crash.proofs.History.{Event, value, upto, Took, Status, Sound, Chain, Good}
 use Rattle.crash.proofs.Steps.{Extends, extend}
 use Rattle.crash.proofs.Largest.{largest-mono, memberOf, stageOf, listsName, kept-largest}
-use Rattle.crash.proofs.BookEntries.{by-stage}
 
 -- ---- the histories of a list of writes
 abbrev pub eventOf : Write → Event Name Bytes

@@ -1,11 +1,12 @@
 -- CLOSE, STORE and CHECKPOINT keep the invariant, as opening a transaction does; it holds of a card that has come up.
 -- Each moves one transaction one stage on (`Moves`) and writes nothing. All but a home store leave alone who has stored
 -- which block home; a home store adds one, whose older holders are retired since 33 did not apply.
+use Prim.Native.Nat.{ℕ, suc, _+_, _≤_, _<_}
+use native.Mathlib.Omega.{arith}
 use mathlib.Core.Path.{_≡_, refl, sym, _∙_, ap, subst}
 use mathlib.Core.Bool.{Bool, false, So, cond, _||_, or-false}
 use mathlib.Core.List.{List, [], _∷_, List·Memᴰ, List·Memᴰ·head, List·Memᴰ·tail}
-use Prim.Native.Nat.{ℕ, suc, _+_, _≤_, _<_}
-use native.Mathlib.Omega.{arith}
+use mathlib.Core.Logic.{_≢_}
 use lib.ListN.{length, take, getD}
 use lib.Seq.{take-all, take-suc}
 use lib.Dec.{eqb, leb}
@@ -20,13 +21,12 @@ use Rattle.model.proofs.Valid.{sameName-refl}
 use Rattle.crash.specs.Book.{Stage, absent, running, closed, committed, retired, isClosed, isCommitted, isRetired, Entry, Write, Book, emptyBook, change, staged, begin, close, store, checkpoint, kept, image, blank}
 use Rattle.crash.specs.Ledger.{Ledger, freshLedger, withBook, closeLedger, sharesLowerIn}
 use Rattle.crash.proofs.Tests.{clash, any-in, in-any, nameEquality, blockEquality}
+use Rattle.crash.proofs.BookEntries.{same-or-not, sameName-false, change-at, change-other, change-each, nextName, uncommittedName, oldestName}
+use Rattle.crash.proofs.BookSteps.{close-stamp, close-images-other, close-stamp-other}
 use Rattle.crash.proofs.History.{Took, Good}
 use Rattle.crash.proofs.Steps.{with-one, store-home}
 use Rattle.crash.proofs.Largest.{memberOf, stageOf}
 use Rattle.crash.proofs.Invariant.{history, areaBefore, historyOf, imageAt, tookIn, homedBy, homed, status, isOpened, closed-opened, Known, Inv, sound-of, retired-homed, Grows, extends, good-grown}
-use Rattle.crash.proofs.BookEntries.{same-or-not, sameName-false, change-at, change-other, change-each, nextName, uncommittedName, oldestName}
-use mathlib.Core.Logic.{_≢_}
-use Rattle.crash.proofs.BookSteps.{close-stamp, close-images-other, close-stamp-other}
 
 pub inv-fresh : (s : Shape) (saved : List Write) (first : ℕ → ℕ) → Inv (image blank saved) (freshLedger s saved first)
 unfolding freshLedger emptyBook any

@@ -1,12 +1,12 @@
 -- WRITE keeps the invariant, by each of the four rules.
 -- The block's holder after the write has not closed. It is the holder before it, and it and the writer name each other;
 -- or it is the writer, and the holder before it is retired, or closed and then named by the writer.
+use Prim.Native.Nat.{ℕ}
 use mathlib.Core.Path.{_≡_, refl, sym, _∙_, ap}
 use mathlib.Core.Bool.{Bool, false, So, cond, _||_, or-false}
 use mathlib.Core.Logic.{_⊎_, inl, inr, ⊎-elim, ⊎-map, _≢_}
 use mathlib.Core.List.{List, [], _∷_, _++_}
 use mathlib.Core.Option.{Option, none, some}
-use Prim.Native.Nat.{ℕ}
 use lib.Dec.{eqb}
 use borrow.Author.Tests.{eqb-true}
 use Rattle.model.specs.Lists.{any}
@@ -18,13 +18,13 @@ use Rattle.model.proofs.Valid.{sameName-refl}
 use Rattle.crash.specs.Book.{absent, running, isClosed, isRetired, Entry, Write, Book, change, taking, naming, holderIn, Meeting, no-holder, own, running-holder, closed-holder, meets, ruled, holderAfter, note, wrote, kept}
 use Rattle.crash.specs.Ledger.{Ledger, withBook, imageNow}
 use Rattle.crash.proofs.Tests.{clash, false-of, blockEquality, impossible}
+use Rattle.crash.proofs.BookEntries.{change-at, change-other, change-each, nextName, same-or-not, sameName-false}
+use Rattle.crash.proofs.BookSteps.{begun-by, begun-running}
 use Rattle.crash.proofs.History.{Event, value, Took, Status, Link, Next, Chain, Good, older}
 use Rattle.crash.proofs.Steps.{write}
 use Rattle.crash.proofs.Largest.{memberOf, stageOf}
 use Rattle.crash.proofs.Invariant.{eventOf, history, image-history, areaBefore, historyOf, tookIn, homedBy, homed, status, retired-closed, open-not-homed, Known, Inv, sound-of, retired-homed, Grows, extends, good-grown}
 use Rattle.crash.proofs.InvariantSteps.{inv-begin}
-use Rattle.crash.proofs.BookEntries.{change-at, change-other, change-each, nextName, same-or-not, sameName-false}
-use Rattle.crash.proofs.BookSteps.{begun-by, begun-running}
 
 -- ---- what a write may do to a transaction: add to its names and, before it closes, to its blocks
 pub record Edits (x y : Entry) : Type 0 where

@@ -7,13 +7,13 @@ use native.Mathlib.Decide.{decLt, ℕ-discrete}
 use mathlib.Core.Path.{_≡_, refl, sym, ap, _∙_, subst}
 use mathlib.Core.Logic.{_⊎_, inl, inr, _≢_}
 use mathlib.Core.Bool.{true, false}
+use lib.Dec.{ltb}
+use borrow.Author.Tests.{lt-ltb, le-ltb}
 use Rattle.model.specs.Card.{newName}
 use Rattle.crash.specs.Book.{Stage, absent, running, closed, committed, retired, isRunning, isClosed, isCommitted, isRetired, Book}
 use Rattle.crash.proofs.Tests.{clash, impossible}
+use Rattle.crash.proofs.BookEntries.{by-stage, uncommittedName}
 use Rattle.crash.proofs.Relation.{Ranks}
-use borrow.Author.Tests.{lt-ltb, le-ltb}
-use lib.Dec.{ltb}
-use Rattle.crash.proofs.BookEntries.{by-stage}
 
 pub closed-present : (g : Stage) → isClosed g ≡ true → g ≢ absent
 closed-present g h e = clash h (ap isClosed e)
@@ -113,5 +113,5 @@ module _ {k : Book} {c : ℕ} (r : Ranks k c) (i : ℕ) where
 
 -- the one that is being stored
 pub closing-stage : {k : Book} {c : ℕ} → Ranks k c → k .uncommitted c < k .next c
-    → (isClosed ((k .entry (newName c (k .uncommitted c))) .stage) ≡ true) × (isRetired ((k .entry (newName c (k .uncommitted c))) .stage) ≡ false)
+    → (isClosed ((k .entry (uncommittedName c k)) .stage) ≡ true) × (isRetired ((k .entry (uncommittedName c k)) .stage) ≡ false)
 closing-stage r h = let x = r .storing h in (ap isClosed (x .1), ap isRetired (x .1))

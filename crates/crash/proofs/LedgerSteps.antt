@@ -1,7 +1,7 @@
 -- CLOSE, STORE and CHECKPOINT keep the ledger in order, and so do FORMAT, CUT and RECOVER: each of the first three gives
 -- one transaction its next stage and raises the number that counts those past it, so the stages of a core stay ranked by
 -- number; the others leave the transactions as they are, or have none.
-use Prim.Native.Nat.{ℕ, zero, suc, _+_, _≤_, _<_}
+use Prim.Native.Nat.{ℕ, zero, suc, _+_, _≤_, _<_, _*_}
 use native.Mathlib.Omega.{arith}
 use native.Mathlib.Decide.{decLt, ℕ-discrete}
 use mathlib.Core.Path.{_≡_, refl, sym, ap, _∙_, subst}
@@ -19,17 +19,17 @@ use Rattle.model.specs.declared.Shape.{Shape}
 use Rattle.model.specs.declared.Name.{Name}
 use Rattle.model.proofs.Limits.{InRange}
 use Rattle.model.proofs.Lists.{cases, getD-mem}
-use Rattle.model.proofs.Select.{select-mem}
 use Rattle.model.proofs.Store.{length-replaced}
+use Rattle.model.proofs.Select.{select-mem}
 use Rattle.crash.specs.Book.{Stage, absent, running, closed, committed, retired, isClosed, Entry, Write, Book, emptyBook, raise, close, store, checkpoint, keptWrites, image, blank}
 use Rattle.crash.specs.Ledger.{Ledger, freshLedger, withBook, imageNow, closeLedger, cutLedger, recoverLedger, blocksIn}
 use Rattle.crash.specs.Claims.{IsBytes}
-use Rattle.crash.proofs.Relation.{IsBlock, Limits, WriteFits, Frozen, Ranks, sumNext, Fine}
+use Rattle.crash.proofs.Tests.{impossible}
 use Rattle.crash.proofs.BookEntries.{nextName, uncommittedName, oldestName, same-or-not, other-number, other-core, raise-at, raise-other}
 use Rattle.crash.proofs.BookSteps.{Restages, restaged, restages, restages-keep, close-stamp, close-images, close-stamp-other, close-images-other, store-more, store-last, checkpoint-home, checkpoint-retires}
-use Rattle.crash.proofs.LedgerStages.{closed-present, running-present}
 use Rattle.crash.proofs.BlockBytes.{bytes-replaced}
-use Rattle.crash.proofs.Tests.{impossible}
+use Rattle.crash.proofs.Relation.{IsBlock, Limits, WriteFits, Frozen, Ranks, sumNext, Fine}
+use Rattle.crash.proofs.LedgerStages.{closed-present, running-present}
 
 -- ---- current images are blocks of bytes
 replaced-block : (o : ℕ) (x v : Bytes) → o ≤ 124 → length v ≡ 4 → IsBytes v → IsBlock x → IsBlock (replaced o 4 x v)
@@ -138,7 +138,7 @@ kept-fits l f w m =
 module _ (k k′ : Book) (c : ℕ) (r : Ranks k c) (o : k′ .oldest c ≡ k .oldest c) (u : k′ .uncommitted c ≡ k .uncommitted c) (n : k′ .next c ≡ k .next c)
     (stages : (i : ℕ) → i ≢ k .next c → (k′ .entry (newName c i)) .stage ≡ (k .entry (newName c i)) .stage)
     (blocks : (i : ℕ) → i < k .next c → length ((k′ .entry (newName c i)) .blocks) ≡ length ((k .entry (newName c i)) .blocks))
-    (current : ((k′ .entry (newName c (k .next c))) .stage ≡ absent) ⊎ ((k′ .entry (newName c (k .next c))) .stage ≡ running)) where
+    (current : ((k′ .entry (nextName c k)) .stage ≡ absent) ⊎ ((k′ .entry (nextName c k)) .stage ≡ running)) where
   below-next : (i : ℕ) → i < k .next c → i ≢ k .next c
   below-next i h e = omega arith
 
@@ -233,6 +233,11 @@ module _ (l : Ledger) (f : Fine l) (t : Name) (g : Stage) (was : (l .book .entry
       }
 
 -- ---- the count of closes
+pub sum-low : (k : Book) (n : ℕ) → ((c : ℕ) → c < n → k .next c ≤ 4000000001) → sumNext k n ≤ n * 4000000001
+unfolding sumNext
+sum-low k zero h = omega arith
+sum-low k (suc n) h = omega (arith, sum-low k n (λ c g. h c (omega arith)), h n (omega arith))
+
 pub sum-same : (k k′ : Book) → ((c : ℕ) → k′ .next c ≡ k .next c) → (n : ℕ) → sumNext k′ n ≡ sumNext k n
 unfolding sumNext
 sum-same k k′ same zero = refl

@@ -21,12 +21,12 @@ use Rattle.model.proofs.Lists.{cases, getD-mem, or-none}
 use Rattle.crash.specs.Book.{absent, running, isRunning, isClosed, Entry, Book, change, staged, begin, holderIn, Meeting, own, running-holder, meets, ruled, note, wrote}
 use Rattle.crash.specs.Ledger.{Ledger, withBook, namesCount, holderNames}
 use Rattle.crash.specs.Claims.{IsBytes}
-use Rattle.crash.proofs.Relation.{Limits, WriteFits, Fine}
+use Rattle.crash.proofs.Tests.{clash, impossible}
 use Rattle.crash.proofs.BookEntries.{nextName, same-or-not, change-at, change-other, change-by, takes, metHolder, meets-met, meets-own, running-or-not, ruled-other, ruled-stage, ruled-blocks, ruled-blocks-other, ruled-names}
 use Rattle.crash.proofs.BookSteps.{begun, begun-by, begun-fields, begun-same, begun-other, begun-running, begun-holder, begun-meets}
-use Rattle.crash.proofs.LedgerSteps.{ranks-kept, limits-same, same-frozen, sum-same}
+use Rattle.crash.proofs.Relation.{Limits, WriteFits, Fine}
 use Rattle.crash.proofs.LedgerStages.{running-present}
-use Rattle.crash.proofs.Tests.{clash, impossible}
+use Rattle.crash.proofs.LedgerSteps.{ranks-kept, limits-same, same-frozen, sum-same}
 
 -- ---- one block more
 snoc-distinct : (xs : List ℕ) (b : ℕ) → ((i j : ℕ) → i < length xs → j < length xs → getD xs i 0 ≡ getD xs j 0 → i ≡ j) → (List·Memᴰ b xs → ⊥)
@@ -129,7 +129,7 @@ module _ (l : Ledger) (f : Fine l) (t : Name) (last : t .number ≡ l .book .nex
               (λ i lt. ap length (ruled-blocks-other m t b (l .book .entry) (newName a i)
               (λ e. let p : i ≡ t .number = ap (λ (n : Name). n .number) e in
               let q : l .book .next a ≡ l .book .next (t .core) = ap (λ (n : Name). l .book .next (n .core)) e in omega arith)))
-              (rw (after-stage (newName a (l .book .next a))) (r .current));
+              (rw (after-stage (nextName a (l .book))) (r .current));
           far = λ u h. rw (after-stage u) (f .far u h);
           limits = λ u h. same-or-not u t (λ e. rw e writer-limits) (λ ne. other-limits u ne (rw (after-stage u) at h));
           unopened = λ u h. let g : (l .book .entry u) .stage ≡ absent = rw (after-stage u) at h in rw (absent-same u g) (f .unopened u g);
@@ -192,7 +192,7 @@ module _ (l : Ledger) (f : Fine l) (c : ℕ) (hc : c < l .shape .cores) where
               ranks-kept k (begin w k) a r refl refl refl
               (λ i ne. other i (λ e. ne (ap (λ (n : Name). n .number) e ∙ sym (ap (λ (n : Name). k .next (n .core)) e))))
               (λ i lt. ap length (opening-blocks (newName a i)))
-              (same-or-not (newName a (k .next a)) w (λ e. inr (opening-at (newName a (k .next a)) e)) (λ ne. rw (opening-other (newName a (k .next a)) ne) (r .current)));
+              (same-or-not (nextName a k) w (λ e. inr (opening-at (nextName a k) e)) (λ ne. rw (opening-other (nextName a k) ne) (r .current)));
           far = λ u h.
               same-or-not u w
               (λ e. absurd (let p : u .core ≡ c = ap (λ (n : Name). n .core) e in omega arith))

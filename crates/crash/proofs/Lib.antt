@@ -26,13 +26,13 @@ pub mod ReadNewest
 pub mod ReadCheckpoint
 pub mod CardFrames
 pub mod CardFresh
-pub mod CardFormat
 pub mod CardRules
 pub mod CardWrite
 pub mod CardClose
 pub mod CardStore
 pub mod CardCheckpoint
 pub mod CardCut
+pub mod CardFormat
 pub mod CardRecover
 pub mod CardAnswers
 pub mod PhaseAnswers

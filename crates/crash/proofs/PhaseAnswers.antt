@@ -26,8 +26,8 @@ use Rattle.model.specs.declared.Card.{Card}
 use Rattle.model.proofs.Lists.{cases}
 use Rattle.model.proofs.Command.{Row, rowOf, each-command, step-answer}
 use Rattle.crash.specs.Ledger.{Ledger, blankLedger, notUpFor, formatRefusals, writeRefusals, closeRefusals, storeRefusals, checkpointRefusals, refusalsOf}
-use Rattle.crash.proofs.Relation.{Up, DownBy}
 use Rattle.crash.proofs.Tests.{clash}
+use Rattle.crash.proofs.Relation.{Up, DownBy}
 use Rattle.crash.proofs.ReadMaster.{master-stands}
 use Rattle.crash.proofs.CardCut.{right-length}
 

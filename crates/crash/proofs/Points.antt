@@ -24,10 +24,10 @@ use Rattle.model.proofs.Lists.{cases, flatMap-append, flatMap-below}
 use Rattle.model.proofs.Command.{unless-done, unless-refused, refusedWith, refusal-passed}
 use Rattle.model.proofs.Tape.{pointAt, Runs, at-end, one-more, run-runs}
 use Rattle.crash.specs.Book.{keptWrites, image, blank, hasRunning}
-use Rattle.crash.specs.Service.{Service, fed, emptyService, cutService, bookArea}
-use Rattle.crash.specs.Ledger.{Ledger, freshLedger, blankLedger, closeLedger, cutLedger, recoverLedger, entered, diskAfter, storeCount, writeRefusals, closeRefusals, storeRefusals, checkpointRefusals, refusalsOf}
-use Rattle.crash.proofs.Agreement.{Agrees, Suits, blank-agrees, down-agrees, fed-agrees, area-same}
+use Rattle.crash.specs.Service.{Service, bookArea, fed, emptyService, cutService}
+use Rattle.crash.specs.Ledger.{Ledger, freshLedger, blankLedger, recoverLedger, entered, writeRefusals, closeRefusals, storeRefusals, checkpointRefusals, refusalsOf, closeLedger, cutLedger, diskAfter, storeCount}
 use Rattle.crash.specs.Claims.{IsBytes, answerOf, JournalsRead, PointKept, LedgerKept, ComesUp, AreaKept, homeArea, fedPoint, blankStart, downStart, downLedger, Claim, Demands}
+use Rattle.crash.proofs.Agreement.{Agrees, Suits, blank-agrees, down-agrees, fed-agrees, area-same}
 use Rattle.crash.proofs.BlockBytes.{bytes-take, bytes-drop}
 use Rattle.crash.proofs.Tests.{clash}
 

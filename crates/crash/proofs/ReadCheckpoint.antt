@@ -23,12 +23,13 @@ use Rattle.model.specs.declared.Committed.{Committed}
 use Rattle.model.proofs.Lists.{and-both, and-left, and-right, or-left, or-right, or-cases, any-mem, mem-any, mem-below, below-mem}
 use Rattle.crash.specs.Book.{isClosed, isRetired}
 use Rattle.crash.specs.Ledger.{Ledger, validIn, sharesLowerIn}
+use Rattle.crash.proofs.Tests.{clash, same-test}
+use Rattle.crash.proofs.BookEntries.{oldestName, uncommittedName}
 use Rattle.crash.proofs.Relation.{Fine, Up}
 use Rattle.crash.proofs.LedgerStages.{closed-present, unretired-rank, closing-stage}
+use Rattle.crash.proofs.ReadMaster.{shape-up}
 use Rattle.crash.proofs.ReadRecords.{readRecord, readList, IsRead, length-readList, readList-has, readList-first, readList-is, journal-read}
 use Rattle.crash.proofs.ReadValid.{journals-are, listed-journals, valid-same}
-use Rattle.crash.proofs.Tests.{clash, same-test}
-use Rattle.crash.proofs.ReadMaster.{shape-up}
 
 -- ---- what is read
 module _ {l : Ledger} {w : World} (u : Up l w) where
@@ -58,14 +59,14 @@ module _ {l : Ledger} {w : World} (u : Up l w) where
   committed-of c h = rw (shape-up u) (journal-read (u .fine) (u .disk) c h (committedCount (w .card) c) (count-enough c h))
 
   pub oldest-of : (c : ℕ) → c < l .shape .cores → l .book .oldest c < l .book .uncommitted c
-      → oldest (committedOf w c) ≡ readRecord l (newName c (l .book .oldest c)) ((tailOf (w .card) c) .position)
+      → oldest (committedOf w c) ≡ readRecord l (oldestName c (l .book)) ((tailOf (w .card) c) .position)
   unfolding oldest
   oldest-of c h g = ap oldest (committed-of c h ∙ readList-first l c (tailOf (w .card) c) g)
 
   pub oldest-is : (c : ℕ) → c < l .shape .cores → l .book .oldest c < l .book .uncommitted c → IsRead l (w .disk) c (oldest (committedOf w c))
   oldest-is c h g =
       rw (oldest-of c h g)
-      (readList-is (u .fine) (u .disk) c h (readRecord l (newName c (l .book .oldest c)) ((tailOf (w .card) c) .position))
+      (readList-is (u .fine) (u .disk) c h (readRecord l (oldestName c (l .book)) ((tailOf (w .card) c) .position))
       (rw (readList-first l c (tailOf (w .card) c) g) (List·Memᴰ·head refl)))
 
 -- ---- 33: a lower one that shares a block
@@ -127,7 +128,7 @@ module _ {l : Ledger} {w : World} (u : Up l w) (c : ℕ) (e : Committed) (x : Is
         shares = sym (ap₂ share (blocks-up e c x) (blocks-up g (g .core) y)) ∙ and-right (ltb (g .stamp) (e .stamp)) _ h;
       }
 
-  closed-lower : (i : ℕ) → i < l .shape .cores → lowerClosed i ≡ true → Lower l (nameOf e) (newName i (l .book .uncommitted i))
+  closed-lower : (i : ℕ) → i < l .shape .cores → lowerClosed i ≡ true → Lower l (nameOf e) (uncommittedName i (l .book))
   closed-lower i h g =
       let r = u .fine .ranks i h in
       let k = u .cores i h in
@@ -150,7 +151,7 @@ module _ {l : Ledger} {w : World} (u : Up l w) (c : ℕ) (e : Committed) (x : Is
   lower-read g i y r =
       and-both (lt-ltb (g .stamp) (e .stamp) (omega (arith, y .stamp, x .stamp, r .lower))) (ap₂ share (blocks-up e c x) (blocks-up g i y) ∙ r .shares)
 
-  lower-closed : (i : ℕ) → i < l .shape .cores → l .book .uncommitted i < l .book .next i → Lower l (nameOf e) (newName i (l .book .uncommitted i)) → lowerClosed i ≡ true
+  lower-closed : (i : ℕ) → i < l .shape .cores → l .book .uncommitted i < l .book .next i → Lower l (nameOf e) (uncommittedName i (l .book)) → lowerClosed i ≡ true
   lower-closed i h s r =
       let k = u .cores i h in
       and-both (and-both (k .closing s .live) (lt-ltb _ (e .stamp) (omega (arith, k .stored s .1, x .stamp, r .lower)))) (ap₂ share (blocks-up e c x) (k .closing s .blocks) ∙ r .shares)
@@ -200,15 +201,15 @@ module _ {l : Ledger} {w : World} (u : Up l w) (c : ℕ) (in-range : c < l .shap
       ]
 
   module _ (some : l .book .oldest c < l .book .uncommitted c) where
-    oldest-name : nameOf (oldest (committedOf w c)) ≡ newName c (l .book .oldest c)
+    oldest-name : nameOf (oldest (committedOf w c)) ≡ oldestName c (l .book)
     oldest-name = ap nameOf (oldest-of u c in-range some)
 
     -- '32'
-    pub oldest-valid : isIn (validNow w) (nameOf (oldest (committedOf w c))) ≡ any (sameName (newName c (l .book .oldest c))) (validIn (l .book))
+    pub oldest-valid : isIn (validNow w) (nameOf (oldest (committedOf w c))) ≡ any (sameName (oldestName c (l .book))) (validIn (l .book))
     oldest-valid =
         ap₂ isIn (valid-now u) oldest-name
-        ∙ valid-same (u .fine) (u .disk) (committedCount (w .card)) (count-enough u) (newName c (l .book .oldest c))
+        ∙ valid-same (u .fine) (u .disk) (committedCount (w .card)) (count-enough u) (oldestName c (l .book))
 
     -- '33'
-    pub oldest-shares : sharesLower w (oldest (committedOf w c)) ≡ sharesLowerIn l (newName c (l .book .oldest c))
+    pub oldest-shares : sharesLower w (oldest (committedOf w c)) ≡ sharesLowerIn l (oldestName c (l .book))
     oldest-shares = shares-same u c (oldest (committedOf w c)) (oldest-is u c in-range some) ∙ ap (sharesLowerIn l) oldest-name

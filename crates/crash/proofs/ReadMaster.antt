@@ -5,23 +5,23 @@ use Prim.Native.Nat.{ℕ, suc, _<_}
 use native.Mathlib.Omega.{arith}
 use mathlib.Core.Path.{_≡_, ap, _∙_}
 use mathlib.Core.Bool.{true}
+use mathlib.Core.List.{List, _∷_}
 use borrow.Author.Tests.{le-leb, lt-ltb}
 use Rattle.model.specs.Bytes.{Bytes, blockAt, block}
 use Rattle.model.specs.Shape.{between, clamped}
+use Rattle.model.specs.Card.{shapeOf}
 use Rattle.model.specs.Layout.{maxNumber, isTail, isMaster, shapeIn, tailIn, mark, pairWords, masterBlock}
+use Rattle.model.specs.Command.{World}
 use Rattle.model.specs.Recovery.{shapeOn, tailOn}
 use Rattle.model.specs.declared.Tail.{Tail}
+use Rattle.model.specs.declared.Shape.{Shape}
+use Rattle.model.proofs.Limits.{clamped-same, InRange}
+use Rattle.model.proofs.Lists.{map-below}
+use Rattle.model.proofs.Words.{each-block}
 use Rattle.model.proofs.Encoding.{master-shape, master-tail, master-read, length-master}
 use Rattle.crash.specs.Ledger.{Ledger}
-use Rattle.crash.proofs.Relation.{Fine, DiskStands, Up, IsBlock}
-use Rattle.model.specs.Card.{shapeOf}
-use Rattle.model.specs.Command.{World}
-use Rattle.model.specs.declared.Shape.{Shape}
-use mathlib.Core.List.{List, _∷_}
-use Rattle.model.proofs.Lists.{map-below}
-use Rattle.model.proofs.Limits.{clamped-same, InRange}
-use Rattle.model.proofs.Words.{each-block}
 use Rattle.crash.proofs.BlockBytes.{each-isBytes}
+use Rattle.crash.proofs.Relation.{Fine, DiskStands, Up, IsBlock}
 
 module _ {l : Ledger} {d : Bytes} {tailAt : ℕ → Tail} (f : Fine l) (z : DiskStands l d tailAt) where
   tail-fits : (c : ℕ) → c < l .shape .cores → isTail (l .shape) (tailAt c) ≡ true

@@ -24,12 +24,12 @@ use Rattle.model.specs.declared.Found.the-variants.{Whole, Miss}
 use Rattle.model.proofs.Lists.{cases, getD-mem}
 use Rattle.crash.specs.Book.{isClosed}
 use Rattle.crash.specs.Ledger.{Ledger}
+use Rattle.crash.proofs.Tests.{clash, any-in, in-any, blockEquality}
 use Rattle.crash.proofs.Relation.{Fine, DiskStands, Newest, target}
 use Rattle.crash.proofs.LedgerStages.{closed-present}
 use Rattle.crash.proofs.ReadMaster.{shape-read}
 use Rattle.crash.proofs.ReadRecords.{IsRead, few-records}
 use Rattle.crash.proofs.ReadValid.{valid-name, valid-read, valid-are, own-tails, valid-on}
-use Rattle.crash.proofs.Tests.{clash, any-in, in-any, blockEquality}
 
 -- ---- the newest of a list
 module _ (s : Shape) (d : Bytes) (b : ℕ) where

@@ -31,8 +31,10 @@ use Rattle.model.proofs.Journal.{IsBlock, Images, Stands, asRead, journal-wrap,
 use Rattle.crash.specs.Book.{isClosed, Book}
 use Rattle.crash.specs.Ledger.{Ledger, recordBlocks, storedOf, storedSince, heldOf, recordOf}
 use Rattle.crash.specs.Claims.{readAs, JournalsRead}
-use Rattle.crash.proofs.Relation.{Limits, sumNext, Fine, contents, DiskStands}
+use Rattle.crash.proofs.BookEntries.{oldestName}
+use Rattle.crash.proofs.Relation.{Limits, Fine, contents, DiskStands, sumNext}
 use Rattle.crash.proofs.LedgerStages.{closed-present, Unretired, stored-unretired}
+use Rattle.crash.proofs.LedgerSteps.{sum-low}
 use Rattle.crash.proofs.ReadMaster.{shape-read, tail-read}
 
 -- ---- the list that the reader finds
@@ -104,11 +106,6 @@ distinct-of (h ∷ hs) z f =
     (λ e. let y : 0 ≡ suc (x .0) = f 0 (suc (x .0)) (omega arith) (omega (arith, x .1)) (e ∙ ap (λ (u : Held). u .block) (sym (x .2))) in omega arith))))
     (distinct-of hs z (λ i j a b e. let y : suc i ≡ suc j = f (suc i) (suc j) (omega arith) (omega arith) e in omega arith))
 
-pub sum-low : (k : Book) (n : ℕ) → ((c : ℕ) → c < n → k .next c ≤ 4000000001) → sumNext k n ≤ n * 4000000001
-unfolding sumNext
-sum-low k zero h = omega arith
-sum-low k (suc n) h = omega (arith, sum-low k n (λ c g. h c (omega arith)), h n (omega arith))
-
 module _ {l : Ledger} (f : Fine l) (t : Name) (h : isClosed ((l .book .entry t) .stage) ≡ true) where
   abbrev limits-of : Limits (l .shape) t (l .book .entry t)
   limits-of = f .limits t (closed-present _ h)
@@ -168,8 +165,8 @@ module _ {l : Ledger} (f : Fine l) (t : Name) (h : isClosed ((l .book .entry t) 
   length-record =
       length-recordBlocks (t .number) (heldOf l t) (l .stamp t) ((l .book .entry t) .names) (l .images t) ∙ ap (λ (n : ℕ). n + 2) (f .frozen t h .count)
 
-  as-read : (p : ℕ) → asRead (t .core) p (t .number) (heldOf l t) (l .stamp t) ((l .book .entry t) .names) ≡ readRecord l t p
-  as-read p = rw (length-held l t)
+as-read : (l : Ledger) (t : Name) (p : ℕ) → asRead (t .core) p (t .number) (heldOf l t) (l .stamp t) ((l .book .entry t) .names) ≡ readRecord l t p
+as-read l t p = rw (length-held l t)
 
 -- ---- blocks that stand one after the other, from a position on
 module _ (s : Shape) (d : Bytes) (c : ℕ) where
@@ -264,7 +261,7 @@ module _ {l : Ledger} (f : Fine l) (d : Bytes) (c : ℕ) where
       let x = z .0 i (omega arith) (omega arith) in
       let e = length-held l t in
       let hit : recordAt (l .shape) d c i p left ≡ Whole (readRecord l t p) =
-      record-read (record-sound f t x) (first-stands i p n z) left (omega arith) ∙ ap Whole (as-read f t x p) in
+      record-read (record-sound f t x) (first-stands i p n z) left (omega arith) ∙ ap Whole (as-read l t p) in
       let s : i + suc n ≡ suc i + n = omega arith in
       records-hit (l .shape) d c i p left most (readRecord l t p) hit
       ∙ rw add-one
@@ -275,13 +272,9 @@ module _ {l : Ledger} (f : Fine l) (d : Bytes) (c : ℕ) where
 -- what the ledger has for its transaction is what its record gives
 pub record IsRead (l : Ledger) (d : Bytes) (c : ℕ) (e : Committed) : Type 0 where
   pub core : e .core ≡ c
-  pub low : l .book .oldest c ≤ e .number
-  pub high : e .number < l .book .uncommitted c
   pub unretired : Unretired ((l .book .entry (nameOf e)) .stage)
   pub count : e .count ≡ length ((l .book .entry (nameOf e)) .blocks)
   pub stamp : e .stamp ≡ l .stamp (nameOf e)
-  pub named : e .named ≡ length ((l .book .entry (nameOf e)) .names)
-  pub held : heldBy (l .shape) d e ≡ heldOf l (nameOf e)
   pub blocks : blocksOf (l .shape) d e ≡ (l .book .entry (nameOf e)) .blocks
   pub names : namesOf (l .shape) d e ≡ (l .book .entry (nameOf e)) .names
   pub images : (i : ℕ) → i < e .count → imageOf (l .shape) d e i ≡ getD (l .images (nameOf e)) i []
@@ -305,17 +298,13 @@ module _ {l : Ledger} (f : Fine l) (d : Bytes) (c : ℕ) (in-range : c < l .shap
       let t = newName c i in
       let u = stored-unretired (f .ranks c in-range) i a b in
       let x = record-sound f t (u .is-closed) in
-      let e = as-read f t (u .is-closed) p in
+      let e = as-read l t p in
       let held : heldBy (l .shape) d (readRecord l t p) ≡ heldOf l t = subst (λ (r : Committed). heldBy (l .shape) d r ≡ heldOf l t) e (held-read x st) in
       record {
         core = refl;
-        low = a;
-        high = b;
         unretired = u;
         count = refl;
         stamp = refl;
-        named = refl;
-        held = held;
         blocks = blocks-read l t d (readRecord l t p) held;
         names = subst (λ (r : Committed). namesOf (l .shape) d r ≡ (l .book .entry t) .names) e (names-read x st);
         images =
@@ -375,8 +364,8 @@ module _ (l : Ledger) (c : ℕ) where
     -- the oldest comes first
     pub readList-first : l .book .oldest c < l .book .uncommitted c
         → readList l c t
-        ≡ readRecord l (newName c (l .book .oldest c)) (t .position)
-        ∷ readFrom l c (suc (l .book .oldest c)) ((t .position + (length ((l .book .entry (newName c (l .book .oldest c))) .blocks) + 2)) % l .shape .journal)
+        ≡ readRecord l (oldestName c (l .book)) (t .position)
+        ∷ readFrom l c (suc (l .book .oldest c)) ((t .position + (length ((l .book .entry (oldestName c (l .book))) .blocks) + 2)) % l .shape .journal)
         (l .book .uncommitted c - suc (l .book .oldest c))
     unfolding readList readFrom
     readList-first h =

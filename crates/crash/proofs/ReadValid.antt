@@ -26,11 +26,11 @@ use Rattle.model.proofs.Shrink.{Monotone, shrink-closed, shrink-within, shrink-
 use Rattle.model.proofs.Valid.{sameName-true, sameName-refl, valid-within, valid-largest, valid-names}
 use Rattle.crash.specs.Book.{isCommitted, isRetired, Book}
 use Rattle.crash.specs.Ledger.{Ledger, unretired, metIn, validIn, blocksIn}
+use Rattle.crash.proofs.Tests.{clash, same-test, any-in, in-any, nameEquality}
 use Rattle.crash.proofs.Relation.{Fine, JournalStands, DiskStands}
 use Rattle.crash.proofs.LedgerStages.{closed-present, committed-rank}
 use Rattle.crash.proofs.ReadMaster.{shape-read, tail-read, master-same}
 use Rattle.crash.proofs.ReadRecords.{readList, IsRead, readList-has, readList-is, journal-read, few-records}
-use Rattle.crash.proofs.Tests.{clash, same-test, any-in, in-any, nameEquality}
 
 -- ---- the ledger's valid set
 abbrev belowOldest : Book → Name → Bool
@@ -40,7 +40,7 @@ metIn-monotone : (k : Book) → Monotone (metIn k)
 unfolding metIn
 metIn-monotone k = named-monotone (λ (t : Name). (k .entry t) .names) (λ (t : Name). t) sameName sameName-true sameName-refl (belowOldest k)
 
-valid-unretired : (k : Book) (t : Name) → List·Memᴰ t (validIn k) → List·Memᴰ t (unretired k)
+pub valid-unretired : (k : Book) (t : Name) → List·Memᴰ t (validIn k) → List·Memᴰ t (unretired k)
 unfolding validIn
 valid-unretired k = shrink-within (metIn k) (unretired k)
 

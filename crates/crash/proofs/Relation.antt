@@ -15,8 +15,8 @@ use Rattle.model.specs.Shape.{homeBlock}
 use Rattle.model.specs.Card.{newName, taken, listed, noHolder, tailOf, coreOf, holderOf}
 use Rattle.model.specs.Layout.{Held, newHeld, flagOf, masterBlock, isCommit}
 use Rattle.model.specs.Journal.{journalAt}
-use Rattle.model.specs.Commit.{copyBlock}
 use Rattle.model.specs.Command.{World}
+use Rattle.model.specs.Commit.{copyBlock}
 use Rattle.model.specs.declared.Phase.the-variants.{Up as PhaseUp, Down as PhaseDown}
 use Rattle.model.specs.declared.Shape.{Shape}
 use Rattle.model.specs.declared.Tail.{Tail}
@@ -25,10 +25,11 @@ use Rattle.model.specs.declared.Transaction.{Transaction}
 use Rattle.model.specs.declared.Core.{Core}
 use Rattle.model.specs.declared.Holder.{Holder}
 use Rattle.model.proofs.Limits.{InRange}
+use Rattle.model.proofs.Journal.{recordBlocks as storedBlocks}
 use Rattle.crash.specs.Book.{absent, running, closed, committed, retired, isRunning, isClosed, counted, Entry, Write, Book, holderIn, keptWrites, image, blank}
 use Rattle.crash.specs.Ledger.{recordOf, Ledger, imageNow, validIn, blocksIn, recordBlocks}
 use Rattle.crash.specs.Claims.{IsBytes}
-use Rattle.model.proofs.Journal.{recordBlocks as storedBlocks}
+use Rattle.crash.proofs.BookEntries.{nextName, oldestName, uncommittedName}
 
 -- a block of bytes
 pub record IsBlock (x : Bytes) : Type 0 where
@@ -69,11 +70,11 @@ pub record Ranks (k : Book) (c : ℕ) : Type 0 where
   pub top : k .next c ≤ 4000000001
   pub old : (i : ℕ) → i < k .oldest c → ((k .entry (newName c i)) .stage ≡ absent) ⊎ ((k .entry (newName c i)) .stage ≡ retired)
   pub first : k .oldest c < k .uncommitted c
-      → (n : ℕ) × ((k .entry (newName c (k .oldest c))) .stage ≡ committed n) × (n ≤ length ((k .entry (newName c (k .oldest c))) .blocks))
+      → (n : ℕ) × ((k .entry (oldestName c k)) .stage ≡ committed n) × (n ≤ length ((k .entry (oldestName c k)) .blocks))
   pub done : (i : ℕ) → k .oldest c < i → i < k .uncommitted c → (k .entry (newName c i)) .stage ≡ committed 0
   pub storing : k .uncommitted c < k .next c
-      → (n : ℕ) × ((k .entry (newName c (k .uncommitted c))) .stage ≡ closed n) × (n ≤ length ((k .entry (newName c (k .uncommitted c))) .blocks) + 1)
-  pub current : ((k .entry (newName c (k .next c))) .stage ≡ absent) ⊎ ((k .entry (newName c (k .next c))) .stage ≡ running)
+      → (n : ℕ) × ((k .entry (uncommittedName c k)) .stage ≡ closed n) × (n ≤ length ((k .entry (uncommittedName c k)) .blocks) + 1)
+  pub current : ((k .entry (nextName c k)) .stage ≡ absent) ⊎ ((k .entry (nextName c k)) .stage ≡ running)
   pub rest : (i : ℕ) → k .next c < i → (k .entry (newName c i)) .stage ≡ absent
 
 -- the sum of the next numbers of the cores below n
@@ -101,7 +102,7 @@ pub record Fine (l : Ledger) : Type 0 where
 unfoldable pub contents : Ledger → ℕ → List Bytes
 contents l c =
     let k = l .book in
-    let t = newName c (k .uncommitted c) in
+    let t = uncommittedName c k in
     flatMap (λ (i : ℕ). recordOf l (newName c (k .oldest c + i))) (below (k .uncommitted c - k .oldest c))
     ++ take (counted ((k .entry t) .stage)) (recordOf l t)
 
@@ -113,8 +114,8 @@ pub record JournalStands (l : Ledger) (d : Bytes) (c : ℕ) (t : Tail) : Type 0 
   pub clear : (i q : ℕ) → l .book .uncommitted c ≤ i → isCommit (l .shape) i (journalAt (l .shape) d c q) ≡ false
   -- the records of all closed ones fit, and so will that of the running one
   pub room : recordBlocks (l .book) c (l .book .oldest c) (l .book .next c - l .book .oldest c) ≤ l .shape .journal
-  pub reserved : isRunning ((l .book .entry (newName c (l .book .next c))) .stage) ≡ true
-      → recordBlocks (l .book) c (l .book .oldest c) (l .book .next c - l .book .oldest c) + (length ((l .book .entry (newName c (l .book .next c))) .blocks) + 2) ≤ l .shape .journal
+  pub reserved : isRunning ((l .book .entry (nextName c (l .book))) .stage) ≡ true
+      → recordBlocks (l .book) c (l .book .oldest c) (l .book .next c - l .book .oldest c) + (length ((l .book .entry (nextName c (l .book))) .blocks) + 2) ≤ l .shape .journal
 
 pub record DiskStands (l : Ledger) (d : Bytes) (tailAt : ℕ → Tail) : Type 0 where
   pub size : length d ≡ 32896
@@ -135,15 +136,15 @@ pub record Matches (t : Transaction) (e : Entry) : Type 0 where
 pub record CoreUp (l : Ledger) (m : Bytes) (c : ℕ) (k : Core) : Type 0 where
   pub next : k .next ≡ l .book .next c
   pub used : k .used ≡ recordBlocks (l .book) c (l .book .oldest c) (l .book .uncommitted c - l .book .oldest c)
-  pub runs : isRunning ((l .book .entry (newName c (l .book .next c))) .stage) ≡ true → Matches (k .running) (l .book .entry (newName c (l .book .next c)))
-  pub idle : isRunning ((l .book .entry (newName c (l .book .next c))) .stage) ≡ false → k .running .live ≡ false
-  pub closing : l .book .uncommitted c < l .book .next c → Matches (k .closed) (l .book .entry (newName c (l .book .uncommitted c)))
+  pub runs : isRunning ((l .book .entry (nextName c (l .book))) .stage) ≡ true → Matches (k .running) (l .book .entry (nextName c (l .book)))
+  pub idle : isRunning ((l .book .entry (nextName c (l .book))) .stage) ≡ false → k .running .live ≡ false
+  pub closing : l .book .uncommitted c < l .book .next c → Matches (k .closed) (l .book .entry (uncommittedName c (l .book)))
   pub stored : l .book .uncommitted c < l .book .next c
-      → ((l .book .entry (newName c (l .book .uncommitted c))) .stage ≡ closed (k .stored)) × (k .closed .stamp ≡ l .stamp (newName c (l .book .uncommitted c)))
-  pub copies : l .book .uncommitted c < l .book .next c → (i : ℕ) → i < length ((l .book .entry (newName c (l .book .uncommitted c))) .blocks)
-      → blockAt m (copyBlock c i) ≡ getD (l .images (newName c (l .book .uncommitted c))) i []
+      → ((l .book .entry (uncommittedName c (l .book))) .stage ≡ closed (k .stored)) × (k .closed .stamp ≡ l .stamp (uncommittedName c (l .book)))
+  pub copies : l .book .uncommitted c < l .book .next c → (i : ℕ) → i < length ((l .book .entry (uncommittedName c (l .book))) .blocks)
+      → blockAt m (copyBlock c i) ≡ getD (l .images (uncommittedName c (l .book))) i []
   pub none-closing : l .book .uncommitted c ≡ l .book .next c → k .closed .live ≡ false
-  pub homed : l .book .oldest c < l .book .uncommitted c → (l .book .entry (newName c (l .book .oldest c))) .stage ≡ committed (k .homed)
+  pub homed : l .book .oldest c < l .book .uncommitted c → (l .book .entry (oldestName c (l .book))) .stage ≡ committed (k .homed)
   pub none-homed : l .book .oldest c ≡ l .book .uncommitted c → k .homed ≡ 0
 
 abbrev pub holderAs : Option Name → Holder

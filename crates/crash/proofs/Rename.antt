@@ -1,7 +1,7 @@
 -- Two books that differ in the numbers of the transactions alone: the service book numbers from 1 since the last cut, the
 -- ledger goes on with the card's numbers. Every command keeps such a pair one, and a cut keeps the same writes of both:
 -- whatever a book does with names, it only compares them, and a shift of each core's numbers changes no comparison.
-use Prim.Native.Nat.{ℕ, zero, suc, _+_}
+use Prim.Native.Nat.{ℕ, suc, _+_}
 use native.Mathlib.Nat.{suc-add}
 use native.Mathlib.Omega.{arith}
 use mathlib.Core.Path.{_≡_, refl, sym, _∙_, ap}
@@ -11,58 +11,17 @@ use mathlib.Core.Bool.{Bool, true, false, cond}
 use lib.ListN.{length, getD, length-map}
 use lib.Dec.{eqb, leb, ltb}
 use borrow.Author.Tests.{eqb-true, eqb-false, eq-eqb, ne-eqb, lt-ltb, le-ltb, ltb-true, ltb-false}
-use Rattle.model.specs.Lists.{all, any, select}
+use Rattle.model.specs.Lists.{any, select, all}
 use Rattle.model.specs.Bytes.{Bytes, number, part}
 use Rattle.model.specs.Card.{newName, sameName}
-use Rattle.model.specs.Shrink.{strike, shrinkIn, shrink}
 use Rattle.model.specs.declared.Name.{Name}
-use Rattle.model.proofs.Lists.{cases}
+use Rattle.model.proofs.Lists.{cases, all-map, any-map}
+use Rattle.model.proofs.Select.{select-map}
+use Rattle.model.proofs.Shrink.{shrink-map}
 use Rattle.crash.specs.Book.{running, closed, committed, retired, isRunning, isClosed, isCommitted, isRetired, counted, Entry, Write, Book, emptyBook, change, raise, staged, taking, naming, begin, holderIn, Meeting, no-holder, own, running-holder, closed-holder, meets, ruled, holderAfter, note, wrote, close, store, checkpoint, committedIn, namesIn, kept, keptWrites, image, hasRunning, hasClosed, hasCommitted}
 use Rattle.crash.specs.Service.{noted}
-
--- ---- a test under a function
-
-cond-apply : {A B : Type 0} (f : A → B) (t : Bool) (x y : A) → cond t (f x) (f y) ≡ f (cond t x y)
-cond-apply f true x y = refl
-cond-apply f false x y = refl
-
--- ---- lists renamed
-module _ {A B : Type 0} (f : A → B) (p : A → Bool) (q : B → Bool) (h : (x : A) → q (f x) ≡ p x) where
-  select-map : (xs : List A) → select q (map f xs) ≡ map f (select p xs)
-  unfolding select
-  select-map [] = refl
-  select-map (x ∷ xs) = rw (h x, select-map xs) (cond-apply (map f) (p x) (x ∷ select p xs) (select p xs))
-
-  all-map : (xs : List A) → all q (map f xs) ≡ all p xs
-  unfolding all
-  all-map [] = refl
-  all-map (x ∷ xs) = rw (h x, all-map xs) refl
-
-  any-map : (xs : List A) → any q (map f xs) ≡ any p xs
-  unfolding any
-  any-map [] = refl
-  any-map (x ∷ xs) = rw (h x, any-map xs) refl
-
-shrinkIn-suc : {A : Type 0} (n : ℕ) (stays : List A → A → Bool) (es : List A)
-    → shrinkIn (suc n) stays es ≡ cond (eqb (length (strike stays es)) (length es)) es (shrinkIn n stays (strike stays es))
-unfolding shrinkIn
-shrinkIn-suc n stays es = cases (eqb (length (strike stays es)) (length es)) (λ e. rw (e, shrinkIn) refl) (λ e. rw (e, shrinkIn) refl)
-
-module _ {A B : Type 0} (f : A → B) (stays : List A → A → Bool) (stays′ : List B → B → Bool) (h : (es : List A) (e : A) → stays′ (map f es) (f e) ≡ stays es e) where
-  strike-map : (es : List A) → strike stays′ (map f es) ≡ map f (strike stays es)
-  unfolding strike
-  strike-map es = select-map f (stays es) (stays′ (map f es)) (h es) es
-
-  shrinkIn-map : (n : ℕ) (es : List A) → shrinkIn n stays′ (map f es) ≡ map f (shrinkIn n stays es)
-  unfolding shrinkIn
-  shrinkIn-map zero es = refl
-  shrinkIn-map (suc n) es =
-      rw (shrinkIn-suc n stays′ (map f es), shrinkIn-suc n stays es, strike-map es, length-map (strike stays es) f, length-map es f, shrinkIn-map n (strike stays es))
-      (cond-apply (map f) (eqb (length (strike stays es)) (length es)) es (shrinkIn n stays (strike stays es)))
-
-  shrink-map : (es : List A) → shrink stays′ (map f es) ≡ map f (shrink stays es)
-  unfolding shrink
-  shrink-map es = rw (length-map es f) (shrinkIn-map (length es) es)
+use Rattle.crash.proofs.Tests.{cond-apply}
+use Rattle.crash.proofs.BookEntries.{nextName, oldestName, uncommittedName}
 
 -- ---- names, entries and writes renamed
 unfoldable pub renamed : (ℕ → ℕ) → Name → Name
@@ -208,7 +167,7 @@ module _ {shift : ℕ → ℕ} {k k′ : Book} (r : Renamed shift k k′) where
   wrote-renamed : (c b o : ℕ) (v : Bytes) → Renamed shift (wrote c b o v k) (wrote c b o v k′)
   unfolding wrote
   wrote-renamed c b o v =
-      let t = newName c (k .next c) in
+      let t = nextName c k in
       rw (renamed-number shift c (k .next c) (k′ .next c) (r .next c), r .entry t)
       (note-renamed (cond-renamed (isRunning (k .entry t .stage)) r (begin-renamed r t)) t b o v)
 
@@ -219,7 +178,7 @@ module _ {shift : ℕ → ℕ} {k k′ : Book} (r : Renamed shift k k′) where
         opened = r .opened;
         entry =
             rw (renamed-number shift c (k .next c) (k′ .next c) (r .next c))
-            (change-renamed shift (newName c (k .next c)) (staged (closed 0)) (staged (closed 0)) (λ e. refl) (k .entry) (k′ .entry) (r .entry));
+            (change-renamed shift (nextName c k) (staged (closed 0)) (staged (closed 0)) (λ e. refl) (k .entry) (k′ .entry) (r .entry));
         writes = r .writes;
         oldest = r .oldest;
         uncommitted = r .uncommitted;
@@ -229,7 +188,7 @@ module _ {shift : ℕ → ℕ} {k k′ : Book} (r : Renamed shift k k′) where
   store-renamed : (c : ℕ) → Renamed shift (store c k) (store c k′)
   unfolding store
   store-renamed c =
-      let t = newName c (k .uncommitted c) in
+      let t = uncommittedName c k in
       let e = k .entry t in
       let n = suc (counted (e .stage)) in
       let last = leb (length (e .blocks) + 2) n in
@@ -247,7 +206,7 @@ module _ {shift : ℕ → ℕ} {k k′ : Book} (r : Renamed shift k k′) where
   checkpoint-renamed : (c : ℕ) → Renamed shift (checkpoint c k) (checkpoint c k′)
   unfolding checkpoint
   checkpoint-renamed c =
-      let t = newName c (k .oldest c) in
+      let t = oldestName c k in
       let e = k .entry t in
       let n = suc (counted (e .stage)) in
       let last = leb (length (e .blocks) + 1) n in

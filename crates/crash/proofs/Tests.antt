@@ -3,7 +3,7 @@
 -- The two equalities used are those of names and of block numbers.
 use Prim.Native.Nat.{ℕ}
 use mathlib.Core.Path.{_≡_, refl, sym, _∙_}
-use mathlib.Core.Bool.{Bool, true, false, So, true≢false}
+use mathlib.Core.Bool.{Bool, true, false, So, true≢false, cond}
 use mathlib.Core.List.{List, List·Memᴰ, Memᴰ·cast}
 use lib.Dec.{eqb}
 use borrow.Author.Tests.{eqb-true, eq-eqb}
@@ -25,6 +25,10 @@ false-of false f = refl
 
 pub same-test : {a b : Bool} → (So a → So b) → (So b → So a) → a ≡ b
 same-test {a} {b} f g = cases a (λ h. h ∙ sym (f h)) (λ h. h ∙ sym (false-of b (λ k. clash (g k) h)))
+
+pub cond-apply : {A B : Type 0} (f : A → B) (t : Bool) (x y : A) → cond t (f x) (f y) ≡ f (cond t x y)
+cond-apply f true x y = refl
+cond-apply f false x y = refl
 
 pub record Equality (A : Type 0) : Type 0 where
   pub is : A → A → Bool

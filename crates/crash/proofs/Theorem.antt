@@ -15,35 +15,38 @@ use borrow.Author.Tests.{ne-eqb, eqb-true, eqb-false, ltb-true, ltb-false, leb-f
 use Rattle.model.specs.Lists.{below, any}
 use Rattle.model.specs.Bytes.{Bytes, blockAt, zeroMemory, number, part}
 use Rattle.model.specs.Shape.{between, homeBlock, inRange}
-use Rattle.model.specs.Card.{newName, sameName, blankCard, isBlank, isUp, isDown, shapeOf, downCard, emptyCard, freshCard}
+use Rattle.model.specs.Card.{sameName, blankCard, isBlank, isUp, isDown, shapeOf, downCard, emptyCard, freshCard}
+use Rattle.model.specs.Layout.{maxNumber}
 use Rattle.model.specs.Command.{World, Outcome, refusal, unstored, wrongLength}
+use Rattle.model.specs.Format.{formatted}
+use Rattle.model.specs.Write.{written}
 use Rattle.model.specs.Commit.{closed, stored}
 use Rattle.model.specs.Checkpoint.{checkpointed}
 use Rattle.model.specs.Recovery.{recovered}
 use Rattle.model.specs.Tape.{step, operandLength, operandLengths}
-use Rattle.model.proofs.Limits.{between-known, range-test}
-use Rattle.model.proofs.Command.{Numbered, rowOf, refusedWith, step-refused, step-done, Clear, refusal-clear, step-answer, refusal-passed}
 use Rattle.model.specs.declared.Name.{Name}
 use Rattle.model.specs.declared.Shape.{Shape}
 use Rattle.model.specs.declared.Card.{Card}
 use Rattle.model.specs.declared.Phase.the-variants.{Blank}
+use Rattle.model.specs.declared.Phase.{Phase}
+use Rattle.model.proofs.Limits.{between-known, range-test}
 use Rattle.model.proofs.Lists.{cases, and-left, getD-mem}
-use Rattle.model.specs.Format.{formatted}
+use Rattle.model.proofs.Command.{Numbered, rowOf, refusedWith, step-refused, step-done, Clear, refusal-clear, step-answer, refusal-passed}
+use Rattle.crash.specs.Book.{Book, Write, absent, running, committed, kept, image, blank, isClosed, holderIn, store, checkpoint, keptWrites, isRunning, wrote, meets, emptyBook, hasRunning}
+use Rattle.crash.specs.Service.{noted}
+use Rattle.crash.specs.Ledger.{Ledger, freshLedger, blankLedger, cutLedger, entered, refusalsOf, withBook, closeLedger, validIn, sharesLowerIn, recoverLedger, formatRefusals, writeRefusals, closeRefusals, storeRefusals, checkpointRefusals, notUpFor, namesCount, holderNames, recordBlocks, storedSince, diskAfter, storeCount}
+use Rattle.crash.specs.Claims.{IsBytes, JournalsRead, Claim, Demands}
 use Rattle.crash.proofs.CardFormat.{format-home, format-up, down-start}
 use Rattle.crash.proofs.CardRecover.{recover-home, recovered-home, recover-master, recovered-bytes, recover-up}
 use Rattle.crash.proofs.PhaseAnswers.{down-answers, blank-answers, up-answers}
-use Rattle.crash.specs.Service.{noted}
-use Rattle.model.specs.Layout.{maxNumber}
-use Rattle.model.specs.Write.{written}
 use Rattle.crash.proofs.CardWrite.{write-up}
 use Rattle.crash.proofs.LedgerWrite.{fine-wrote}
 use Rattle.crash.proofs.CardAnswers.{write-answers, close-answers, store-answers, checkpoint-answers}
 use Rattle.crash.proofs.ReadRecords.{journals-read}
-use Rattle.crash.specs.Book.{emptyBook, hasRunning, Book, Write, absent, running, committed, kept, image, blank, isClosed, holderIn, store, checkpoint, keptWrites, isRunning, wrote, meets}
-use Rattle.crash.specs.Ledger.{Ledger, freshLedger, blankLedger, cutLedger, entered, storedSince, diskAfter, storeCount, refusalsOf, withBook, closeLedger, validIn, sharesLowerIn, recoverLedger, formatRefusals, writeRefusals, closeRefusals, storeRefusals, checkpointRefusals, notUpFor, namesCount, holderNames, recordBlocks}
-use Rattle.crash.specs.Claims.{IsBytes, JournalsRead, Claim, Demands}
 use Rattle.crash.proofs.Points.{Kept, Relates, claimed, demanded}
 use Rattle.crash.proofs.Tests.{clash, any-in, in-any, nameEquality, blockEquality}
+use Rattle.crash.proofs.BookEntries.{nextName, oldestName}
+use Rattle.crash.proofs.BlockBytes.{bytes-take, bytes-drop}
 use Rattle.crash.proofs.Largest.{memberOf, RetiredBelow, valid-is-kept}
 use Rattle.crash.proofs.Invariant.{Inv, imageAt, opened-of}
 use Rattle.crash.proofs.InvariantSteps.{inv-fresh, inv-close, inv-store, inv-retire, inv-home-store, lower-retired}
@@ -57,9 +60,7 @@ use Rattle.crash.proofs.CardStore.{store-up, store-homes, stored-bytes}
 use Rattle.crash.proofs.CardClose.{close-up}
 use Rattle.crash.proofs.CardCheckpoint.{checkpoint-up, checkpointed-bytes, home-stored, home-others, homes-stay}
 use Rattle.crash.proofs.ReadMaster.{shape-up}
-use Rattle.crash.proofs.BlockBytes.{bytes-take, bytes-drop}
 use Rattle.crash.proofs.LedgerStages.{running-is, below-oldest}
-use Rattle.model.specs.declared.Phase.{Phase}
 
 -- ---- a card that is up: the bytes and the histories of the blocks agree with the ledger
 record UpAt (l : Ledger) (w : World) : Type 0 where
@@ -95,11 +96,11 @@ module _ {l : Ledger} {w : World} (u : UpAt l w) where
           imaged = imaged-store (u .inv) (u .imaged) c (s .0) (s .1);
         }
 
-    close-at : (k .entry (newName c (k .next c))) .stage ≡ running → k .uncommitted c ≡ k .next c → UpAt (closeLedger c l) ((closed c w) .world)
+    close-at : (k .entry (nextName c k)) .stage ≡ running → k .uncommitted c ≡ k .next c → UpAt (closeLedger c l) ((closed c w) .world)
     unfolding closed closeLedger
     close-at runs free =
         record {
-          up = close-up (u .up) c in-range runs free (λ b m. running-holds (newName c (k .next c)) b runs m) (fine-close l (u .up .fine) c in-range runs free);
+          up = close-up (u .up) c in-range runs free (λ b m. running-holds (nextName c k) b runs m) (fine-close l (u .up .fine) c in-range runs free);
           home = u .home;
           homes = u .homes;
           inv = inv-close (u .inv) c runs;
@@ -108,9 +109,9 @@ module _ {l : Ledger} {w : World} (u : UpAt l w) where
 
     -- CHECKPOINT of a transaction that is valid and shares no block with one of a lower stamp
     module _ (some-committed : k .oldest c < k .uncommitted c)
-        (valid : any (sameName (newName c (k .oldest c))) (validIn k) ≡ true) (lowest : sharesLowerIn l (newName c (k .oldest c)) ≡ false) where
+        (valid : any (sameName (oldestName c k)) (validIn k) ≡ true) (lowest : sharesLowerIn l (oldestName c k) ≡ false) where
       abbrev t : Name
-      t = newName c (k .oldest c)
+      t = oldestName c k
 
       abbrev bs : List ℕ
       bs = (k .entry t) .blocks
@@ -163,8 +164,8 @@ module _ {l : Ledger} {w : World} (u : UpAt l w) where
       let f = u .up .fine in
       cut-up (u .up)
       (record {
-        held = λ b h m. held-newest (u .inv) (u .imaged) (numbered l f) b m;
-        home = λ b h n. u .homes b h ∙ home-target (u .inv) (u .imaged) (numbered l f) b h n;
+        held = λ b h m. held-newest (u .inv) (numbered l f) b (u .imaged) m;
+        home = λ b h n. u .homes b h ∙ home-target (u .inv) (numbered l f) b h n;
       })
 
 -- a card that has just come up, over the area that its saved writes give
@@ -379,12 +380,12 @@ module _ {l : Ledger} {w : World} (u : UpAt l w) (a : Bytes) where
     are-bytes = bytes-take 4 (drop 4 a) (bytes-drop 4 a bytes)
 
     write-at : (in-range : core < l .shape .cores) (low : b < l .shape .blocks) (inside : o ≤ 124)
-        → (ltb 12 (namesCount (wrote core b o v (l .book)) (newName core (l .book .next core)))
-        || ltb 12 (holderNames (wrote core b o v (l .book)) (meets (l .book) (newName core (l .book .next core)) (holderIn (l .book) b (l .book .writes))))) ≡ false
-        → ltb 8 (length (((wrote core b o v (l .book)) .entry (newName core (l .book .next core))) .blocks)) ≡ false
+        → (ltb 12 (namesCount (wrote core b o v (l .book)) (nextName core (l .book)))
+        || ltb 12 (holderNames (wrote core b o v (l .book)) (meets (l .book) (nextName core (l .book)) (holderIn (l .book) b (l .book .writes))))) ≡ false
+        → ltb 8 (length (((wrote core b o v (l .book)) .entry (nextName core (l .book))) .blocks)) ≡ false
         → ltb (l .shape .journal) (recordBlocks (l .book) core (l .book .oldest core) (l .book .next core - l .book .oldest core) + 2
-        + length (((wrote core b o v (l .book)) .entry (newName core (l .book .next core))) .blocks)) ≡ false
-        → (not (isRunning ((l .book .entry (newName core (l .book .next core))) .stage)) && ltb maxNumber (l .book .next core)) ≡ false
+        + length (((wrote core b o v (l .book)) .entry (nextName core (l .book))) .blocks)) ≡ false
+        → (not (isRunning ((l .book .entry (nextName core (l .book))) .stage)) && ltb maxNumber (l .book .next core)) ≡ false
         → UpAt (withBook l (wrote core b o v (l .book))) ((written core b o v w) .world)
     unfolding written
     write-at in-range low inside no-24 no-25 no-26 no-27 =

@@ -5,7 +5,7 @@ use native.Mathlib.Nat.{add-zero}
 use native.Mathlib.Numerals.{add-one}
 use native.Mathlib.Decide.{decLt}
 use mathlib.Core.Path.{_≡_, refl, sym, ap, _∙_}
-use mathlib.Core.Bool.{Bool, true, false, true≢false, cond, not, _||_}
+use mathlib.Core.Bool.{Bool, true, false, true≢false, cond, not}
 use mathlib.Core.List.{List, [], _∷_, map}
 use lib.ListN.{length, getD, List·getD-map, length-map}
 use lib.Dec.{ltb, eqb}
@@ -21,7 +21,7 @@ use Rattle.model.specs.declared.Found.{Found}
 use Rattle.model.specs.declared.Found.the-variants.{Whole, Miss}
 use Rattle.model.proofs.Lists.{cases, length-below, getD-map-below}
 use Rattle.model.proofs.Records.{length-blocksOf}
-use Rattle.journal.specs.Slots.{slotOf, isFilled, entry, foundAs, foundAt, Sized, filledFrom, blocksIn}
+use Rattle.journal.specs.Slots.{slotOf, isFilled, entry, foundAs, foundAt, Sized, filledFrom, blocksIn, oldestAt}
 use Rattle.journal.proofs.Slots.{empty-slot, filled-slot}
 
 -- ---- a slot
@@ -89,7 +89,7 @@ module _ (s : Shape) (d : Bytes) (set : List ℕ) (i v : ℕ) (e : v ≡ slotOf 
       ap Whole (q ∙ ap (λ (k : ℕ). entry s d (i / 12) k v) (sym z)) ∙ sym (filled-slot s d [] set i v (sym e) h)
 
 -- ---- its size
-whole-known : (t : Bool) (x e : Committed) → cond t Miss (Whole x) ≡ Whole e → (t ≡ false) × (x ≡ e)
+pub whole-known : (t : Bool) (x e : Committed) → cond t Miss (Whole x) ≡ Whole e → (t ≡ false) × (x ≡ e)
 whole-known true x e h = let z : _≡_ {A = ℕ} 0 1 = cc in absurd (omega arith)
 whole-known false x e h = (refl, (cc))
 
@@ -125,7 +125,7 @@ pub length-blocksIn : (f : Bytes) (n : ℕ) → length (blocksIn f n) ≡ n
 unfolding blocksIn heldIn pairsIn
 length-blocksIn f n = simp (length-map, length-below)
 
-block-at : (f : Bytes) (n i : ℕ) → i < n → getD (blocksIn f n) i 0 ≡ (pairAt newHeld f 16 i) .block
+pub block-at : (f : Bytes) (n i : ℕ) → i < n → getD (blocksIn f n) i 0 ≡ (pairAt newHeld f 16 i) .block
 unfolding blocksIn heldIn pairsIn
 block-at f n i h = List·getD-map (λ (x : Held). x .block) (map (pairAt newHeld f 16) (below n)) i (newHeld 0 0) ∙ rw (getD-map-below (pairAt newHeld f 16) n i (newHeld 0 0) h)
 
@@ -173,3 +173,17 @@ place-any b (x ∷ xs) =
 pub took-is : (s : Shape) (d : Bytes) (e : Committed) (b p : ℕ) → p ≡ placeOf b (blocksOf s d e) → ltb p (e .count) ≡ took s d b e
 unfolding took
 took-is s d e b p h = ap (ltb p) (sym (length-blocksOf s d e)) ∙ rw h (place-any b (blocksOf s d e))
+
+pub block-is : (s : Shape) (d : Bytes) (e : Committed) (i x : ℕ) (f : Bytes) → f ≡ journalAt s d (e .core) (e .position) → x ≡ (pairAt newHeld f 16 i) .block → i < e .count → x ≡ getD (blocksOf s d e) i 0
+unfolding blocksIn blocksOf heldBy
+block-is s d e i x f q h l = h ∙ sym (block-at f (e .count) i l) ∙ rw q
+
+-- ---- the oldest of a core
+module _ (s : Shape) (d : Bytes) (set : List ℕ) (c k v : ℕ) (e : v ≡ slotOf s set (12 * c)) where
+  pub oldest-none : v ≡ 0 → Miss ≡ oldestAt s d set c k
+  unfolding oldestAt
+  oldest-none h = rw (← e, eq-eqb v 0 h)
+
+  pub oldest-some : (x : Committed) → (v ≡ 0 → ⊥) → x ≡ entry s d c k v → Whole x ≡ oldestAt s d set c k
+  unfolding oldestAt
+  oldest-some x h q = rw (← e, ne-eqb v 0 h, q)

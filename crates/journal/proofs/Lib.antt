@@ -4,4 +4,8 @@ pub mod Slots
 pub mod Entries
 pub mod Sets
 pub mod Shrinking
+pub mod Images
+pub mod Held
+pub mod Model
+pub mod Commands
 pub mod Reading

@@ -6,16 +6,13 @@ use mathlib.Core.Bool.{Bool, true, false, cond, _&&_}
 use lib.ListN.{length, take, drop}
 use lib.Dec.{leb}
 use borrow.Author.Tests.{le-leb, lt-leb, leb-true}
-use Rattle.model.specs.Lists.{all}
 use Rattle.model.specs.Bytes.{Bytes, blockAt, part}
 use Rattle.model.specs.Shape.{clamped, journalBlock}
-use Rattle.model.specs.Layout.{hasHead, maxNumber, isDescriptor, blockCount, heldIn, distinct, isHeld, isCommit, stampIn, nameCount, namesIn, isListable}
+use Rattle.model.specs.Layout.{hasHead, maxNumber, isDescriptor, blockCount, isCommit, stampIn, nameCount}
 use Rattle.model.specs.Journal.{journalAt, recordAt}
 use Rattle.model.specs.declared.Shape.{Shape}
-use Rattle.model.specs.declared.Committed.{Committed}
-use Rattle.model.specs.declared.Found.{Found}
 use Rattle.model.specs.declared.Found.the-variants.{Whole, Miss}
-use Rattle.model.proofs.Lists.{cases, and-left, and-right}
+use Rattle.model.proofs.Lists.{and-left, and-right}
 use Rattle.model.proofs.Limits.{InRange, clamped-same}
 use Rattle.model.proofs.Journal.{journal-low, miss-descriptor}
 use Rattle.model.proofs.Records.{length-journalAt}

@@ -1,15 +1,14 @@
 -- Reading all journals in one loop: what holds before each slot, and that a step keeps it.
-use Prim.Native.Nat.{ℕ, zero, suc, _+_, _*_, _-_, _/_, _%_, _≤_, _<_}
+use Prim.Native.Nat.{ℕ, suc, _+_, _*_, _-_, _/_, _%_, _≤_, _<_}
 use native.Mathlib.Omega.{arith}
 use native.Mathlib.Nat.{mod-lt}
-use native.Mathlib.Numerals.{add-one}
 use native.Mathlib.Decide.{decLt, ℕ-discrete}
-use mathlib.Core.Path.{_≡_, refl, sym, ap, _∙_, subst}
-use mathlib.Core.Bool.{Bool, true, false, cond, _&&_}
+use mathlib.Core.Path.{_≡_, refl, sym, ap, _∙_}
+use mathlib.Core.Bool.{_&&_}
 use mathlib.Core.List.{List, [], _∷_, _++_, append-assoc, append-nil}
 use lib.ListN.{length, getD, set, length-set}
 use lib.Seq.{getD-set-same}
-use lib.Dec.{ltb, leb, eqb}
+use lib.Dec.{ltb, leb}
 use borrow.Author.Tests.{lt-ltb, le-ltb, le-leb, lt-leb, ltb-true, leb-true, leb-false, eq-eqb, ne-eqb}
 use Rattle.model.specs.Bytes.{Bytes}
 use Rattle.model.specs.Layout.{isDescriptor, hasHead, maxNumber}
@@ -24,7 +23,7 @@ use Rattle.model.proofs.Journal.{record-known, records-hit, records-miss, recor
 use Rattle.model.proofs.Limits.{InRange}
 use Rattle.journal.specs.declared.walk.Walk.{Walk}
 use Rattle.journal.specs.declared.walk.Step.{Step}
-use Rattle.journal.specs.Slots.{tailIn, numbersOf, slotOf, entry, foundAt, listOf, entriesOf}
+use Rattle.journal.specs.Slots.{tailIn, numbersOf, slotOf, foundAt, listOf, entriesOf}
 use Rattle.journal.specs.Walk.{readAt, ended, stepOf, start, resumed, Reads}
 use Rattle.journal.proofs.Slots.{number-at, entry-read, empty-slot, filled-slot, entries-before}
 
@@ -76,7 +75,7 @@ module _ (s : Shape) (d : Bytes) (ts : List Tail) (most : List ℕ) where
           number = λ g. absurd (omega arith);
           same =
               λ g.
-              rw (more-entries 0, empty-slot s d (numbersOf ts) (set out (12 * c + j) 0) (12 * c + j) (stored-slot 0 (omega arith) g), empty-rest c ((ended w) .next) refl, append-nil)
+              rw (more-entries 0, empty-slot s d (numbersOf ts) (set out (12 * c + j) 0) (12 * c + j) (stored-slot 0 (omega arith) g), empty-rest c ((ended w) .next) refl, append-nil (entriesOf s d (numbersOf ts) out c j ++ []))
               (rw (missed-rest c w g h) at (u .same g));
         }
 

@@ -2,16 +2,15 @@
 -- many are left.
 use Prim.Native.Nat.{ℕ, zero, suc, _+_, _*_, _-_, _/_, _%_, _≤_, _<_}
 use native.Mathlib.Omega.{arith}
-use native.Mathlib.Nat.{add-zero}
 use native.Mathlib.Decide.{decLt}
-use mathlib.Core.Path.{_≡_, refl, sym, ap, _∙_, subst, fun-ext}
+use mathlib.Core.Path.{_≡_, refl, sym, ap, _∙_, fun-ext}
 use mathlib.Core.Logic.{inl, inr}
-use mathlib.Core.Bool.{Bool, true, false, true≢false, false≢true, cond, not, _&&_, _||_}
-use mathlib.Core.List.{List, [], _∷_, _++_, map, append-nil, List·Memᴰ, List·Memᴰ·head, List·Memᴰ·not-nil, List·Memᴰ·append-cases, List·Memᴰ·eq-of-singleton, Memᴰ·append-left, Memᴰ·append-right}
+use mathlib.Core.Bool.{Bool, true, false, cond, not, _&&_}
+use mathlib.Core.List.{List, [], _∷_, _++_, map, List·Memᴰ, List·Memᴰ·head, List·Memᴰ·not-nil, List·Memᴰ·append-cases, List·Memᴰ·eq-of-singleton, Memᴰ·append-left, Memᴰ·append-right}
 use lib.ListN.{length, getD, length-append}
 use lib.Dec.{ltb, eqb}
-use borrow.Author.Tests.{lt-ltb, le-ltb, ltb-true, ltb-false, eq-eqb, ne-eqb, eqb-true, eqb-false, not-true, not-false}
-use Rattle.model.specs.Lists.{below, all, any, select}
+use borrow.Author.Tests.{lt-ltb, le-ltb, ltb-true, ltb-false, eqb-true, eqb-false, not-true, not-false}
+use Rattle.model.specs.Lists.{below, all, select}
 use Rattle.model.specs.Bytes.{Bytes}
 use Rattle.model.specs.Card.{newName, sameName}
 use Rattle.model.specs.Layout.{pairAt, pairsIn, namesIn}
@@ -24,7 +23,7 @@ use Rattle.model.specs.declared.Name.{Name}
 use Rattle.model.specs.declared.Committed.{Committed}
 use Rattle.model.specs.declared.Found.{Found}
 use Rattle.model.specs.declared.Found.the-variants.{Whole, Miss}
-use Rattle.model.proofs.Lists.{cases, and-left, and-right, and-both, any-mem, mem-any, getD-map-below}
+use Rattle.model.proofs.Lists.{cases, and-left, and-right, any-mem, mem-any, getD-map-below}
 use Rattle.model.proofs.Limits.{InRange}
 use Rattle.model.proofs.Valid.{sameName-true, sameName-refl}
 use Rattle.layout.specs.Loops.{every}
@@ -32,7 +31,7 @@ use Rattle.layout.proofs.Loops.{every-map, Filled, filled-all}
 use Rattle.journal.specs.Slots.{tailIn, numbersOf, numberIn, numbered, slotOf, isFilled, entry, foundAs, foundAt, listOf, entriesTo, entries, entriesOf, filledFrom}
 use Rattle.journal.specs.Sets.{isHere, slotMet, nameMet, keeps, kept, struck}
 use Rattle.journal.proofs.Slots.{empty-slot, filled-slot}
-use Rattle.journal.proofs.Entries.{slot-core, slot-there}
+use Rattle.journal.proofs.Entries.{slot-core}
 
 both-ways : (a b : Bool) → (a ≡ true → b ≡ true) → (b ≡ true → a ≡ true) → a ≡ b
 both-ways true b f g = sym (f refl)

@@ -1,9 +1,9 @@
 -- Shrinking by recursion: any fuel that is enough leaves the same set, so one round first changes nothing.
 use Prim.Native.Nat.{ℕ, zero, suc, _≤_, _<_}
 use native.Mathlib.Omega.{arith}
-use mathlib.Core.Path.{_≡_, refl, sym, ap, _∙_, subst}
+use mathlib.Core.Path.{_≡_, refl, sym, ap, _∙_}
 use mathlib.Core.Bool.{Bool, true, false}
-use mathlib.Core.List.{List, [], _∷_, List·Memᴰ}
+use mathlib.Core.List.{List, [], _∷_}
 use lib.ListN.{length}
 use lib.Dec.{eqb}
 use borrow.Author.Tests.{eqb-true, eqb-false, eq-eqb}
@@ -13,7 +13,6 @@ use Rattle.model.specs.Shrink.{strike, shrinkIn, shrink}
 use Rattle.model.specs.Valid.{namesMet, validSet}
 use Rattle.model.specs.declared.Shape.{Shape}
 use Rattle.model.specs.declared.Tail.{Tail}
-use Rattle.model.specs.declared.Committed.{Committed}
 use Rattle.model.proofs.Lists.{cases}
 use Rattle.model.proofs.Select.{select-length, select-all, select-same}
 use Rattle.journal.specs.Slots.{numbersOf, numbered, entries, filledFrom}
@@ -21,11 +20,11 @@ use Rattle.journal.specs.Sets.{struck}
 use Rattle.journal.proofs.Sets.{entries-length, struck-entries}
 
 module _ {A : Type 0} (stays : List A → A → Bool) where
-  settled : (n : ℕ) (es : List A) → eqb (length (strike stays es)) (length es) ≡ true → shrinkIn (suc n) stays es ≡ es
+  pub settled : (n : ℕ) (es : List A) → eqb (length (strike stays es)) (length es) ≡ true → shrinkIn (suc n) stays es ≡ es
   unfolding shrinkIn
   settled n es h = rw (h, shrinkIn)
 
-  goes-on : (n : ℕ) (es : List A) → eqb (length (strike stays es)) (length es) ≡ false → shrinkIn (suc n) stays es ≡ shrinkIn n stays (strike stays es)
+  pub goes-on : (n : ℕ) (es : List A) → eqb (length (strike stays es)) (length es) ≡ false → shrinkIn (suc n) stays es ≡ shrinkIn n stays (strike stays es)
   unfolding shrinkIn
   goes-on n es h = rw (h, shrinkIn)
 

@@ -3,24 +3,19 @@
 use Prim.Native.Nat.{ℕ, zero, suc, _+_, _*_, _-_, _/_, _%_, _≤_, _<_, min}
 use native.Mathlib.Omega.{arith}
 use native.Mathlib.Nat.{add-zero}
-use native.Mathlib.Decide.{decLt}
-use mathlib.Core.Path.{_≡_, refl, sym, ap, _∙_, subst}
+use mathlib.Core.Path.{_≡_, refl}
 use mathlib.Core.Logic.{_≢_}
-use mathlib.Core.Bool.{Bool, true, false, cond}
-use mathlib.Core.List.{List, [], _∷_, _++_, map, flatMap, append-assoc, append-nil}
-use lib.ListN.{length, getD, set, List·getD-map}
-use lib.Seq.{getD-set-same, getD-set-other}
-use lib.Dec.{ltb, eqb}
-use borrow.Author.Tests.{lt-ltb, le-ltb, ltb-true, eq-eqb, ne-eqb, eqb-true, eqb-false}
+use mathlib.Core.List.{List, [], _++_, flatMap, append-assoc, append-nil}
+use lib.ListN.{getD, set}
+use lib.Seq.{getD-set-other}
+use borrow.Author.Tests.{le-ltb, eq-eqb, ne-eqb}
 use Rattle.model.specs.Lists.{below}
 use Rattle.model.specs.Bytes.{Bytes}
-use Rattle.model.specs.Card.{newTail}
 use Rattle.model.specs.Layout.{blockCount, nameCount}
 use Rattle.model.specs.Journal.{journalAt, recordAt, journal, journals}
 use Rattle.model.specs.declared.Shape.{Shape}
 use Rattle.model.specs.declared.Tail.{Tail}
 use Rattle.model.specs.declared.Committed.{Committed}
-use Rattle.model.specs.declared.Found.{Found}
 use Rattle.model.specs.declared.Found.the-variants.{Whole, Miss}
 use Rattle.model.proofs.Lists.{flatMap-append, getD-map-below}
 use Rattle.model.proofs.Journal.{record-known}
@@ -68,7 +63,7 @@ module _ (s : Shape) (d : Bytes) (ks : List ℕ) where
   entries-before out i x c (suc n) h = rw (entries-before out i x c n (omega arith), found-other out i x (12 * c + n) (omega arith))
 
   -- ---- core by core
-  entries-split : (set : List ℕ) (c n : ℕ) → entriesTo s d ks set (12 * c + n) ≡ entriesTo s d ks set (12 * c) ++ entriesOf s d ks set c n
+  pub entries-split : (set : List ℕ) (c n : ℕ) → entriesTo s d ks set (12 * c + n) ≡ entriesTo s d ks set (12 * c) ++ entriesOf s d ks set c n
   unfolding entriesTo entriesOf
   entries-split set c zero = rw (add-zero, append-nil)
   entries-split set c (suc n) =

@@ -3,3 +3,4 @@ pub mod Record
 pub mod Slots
 pub mod Walk
 pub mod Sets
+pub mod Newest

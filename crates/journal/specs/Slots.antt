@@ -2,8 +2,7 @@
 -- its descriptor, 0 for none. The same slots with some of them zero are a smaller set.
 use Prim.Native.Nat.{ℕ, zero, suc, _+_, _*_, _-_, _/_, _%_, _≤_, _<_, min}
 use mathlib.Core.List.{List, [], _∷_, _++_, map}
-use mathlib.Core.Bool.{Bool, cond, not}
-use mathlib.Core.Path.{_≡_}
+use mathlib.Core.Bool.{Bool, false, cond, not}
 use lib.ListN.{getD}
 use lib.Dec.{ltb, eqb}
 use Rattle.model.specs.Lists.{below}
@@ -88,3 +87,12 @@ filledFrom s set a (suc n) = filledFrom s set a n + cond (isFilled s set (a + n)
 -- the blocks of the first n that a descriptor has
 unfoldable pub blocksIn : Bytes → ℕ → List ℕ
 blocksIn b n = map (λ (h : Held). h .block) (heldIn b n)
+
+-- core c's oldest transaction, whose number is k
+unfoldable pub oldestAt : Shape → Bytes → List ℕ → ℕ → ℕ → Found
+oldestAt s d set c k = let v = slotOf s set (12 * c) in cond (eqb v 0) Miss (Whole (entry s d c k v))
+
+-- a test of the transaction in a slot; none where it is empty
+unfoldable pub asks : (Committed → Bool) → Found → Bool
+asks p Miss = false
+asks p (Whole e) = p e

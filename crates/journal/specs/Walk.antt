@@ -1,7 +1,7 @@
 -- One step of reading the journals, slot by slot, and what the slots read must give.
-use Prim.Native.Nat.{ℕ, zero, suc, _+_, _*_, _-_, _/_, _%_, _<_}
-use mathlib.Core.List.{List, [], _∷_, _++_}
-use mathlib.Core.Bool.{Bool, cond, _&&_}
+use Prim.Native.Nat.{ℕ, _+_, _-_, _%_, _<_}
+use mathlib.Core.List.{List}
+use mathlib.Core.Bool.{cond, _&&_}
 use mathlib.Core.Path.{_≡_}
 use lib.ListN.{getD}
 use lib.Dec.{ltb, leb, eqb}
@@ -9,7 +9,6 @@ use Rattle.model.specs.Bytes.{Bytes}
 use Rattle.model.specs.Journal.{recordAt, journal}
 use Rattle.model.specs.declared.Shape.{Shape}
 use Rattle.model.specs.declared.Tail.{Tail}
-use Rattle.model.specs.declared.Committed.{Committed}
 use Rattle.model.specs.declared.Found.{Found}
 use Rattle.model.specs.declared.Found.the-variants.{Whole, Miss}
 use Rattle.journal.specs.declared.walk.Walk.{Walk}

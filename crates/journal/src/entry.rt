@@ -2,17 +2,15 @@
 ghost use mathlib.Core.Path.{_≡_};
 ghost use mathlib.Core.List.{[]};
 ghost use Prim.Native.Nat.{_+_, _≤_, _<_, min};
-ghost use lib.ListN.{length};
+ghost use lib.ListN.{length, getD};
 ghost use Rattle.model.proofs.Limits.{InRange};
 ghost use Rattle.model.specs.Journal.{blocksOf, took};
 ghost use Rattle.model.specs.Recovery.{placeOf};
-ghost use Rattle.journal.specs.Slots.{slotOf, isFilled, entry, foundAt, Sized, filledFrom, blocksIn};
-
+ghost use Rattle.journal.specs.Slots.{slotOf, isFilled, entry, foundAt, Sized, filledFrom, blocksIn, oldestAt};
+use crate::record::journal_part;
 use model::Committed;
 use model::Found;
 use model::Shape;
-
-use crate::record::journal_part;
 
 // The lower of the two: a slot that no reading filled may lead to any number.
 fn at_most(x: u32, most: u8) -> u8
@@ -126,18 +124,38 @@ fn place_in(block: &[u8], n: usize, b: u32) -> usize
 }
 
 // The place of block b among those that a transaction took, or their count. No public entry.
-pub fn place_of(s: Shape, disk: &[u8], e: Committed, b: u8) -> usize
+pub fn place_of(s: Shape, disk: &[u8], e: Committed, b: u32) -> usize
     requires { ⌜ InRange s × (length (now disk) ≡ 32896) × Sized s e ⌝ }
     ensures { λ r. ⌜ (r ≡ placeOf b (blocksOf s (now (disk .entry)) e)) × (r ≤ e .count) ⌝ }
 {
     let block = journal_part(s, disk, e.core, e.position as usize);
-    place_in(block, e.count as usize, b as u32)
+    place_in(block, e.count as usize, b)
 }
 
 // Whether a transaction took block b. No public entry.
-pub fn took_block(s: Shape, disk: &[u8], e: Committed, b: u8) -> bool
+pub fn took_block(s: Shape, disk: &[u8], e: Committed, b: u32) -> bool
     requires { ⌜ InRange s × (length (now disk) ≡ 32896) × Sized s e ⌝ }
     ensures { λ r. ⌜ r ≡ took s (now (disk .entry)) b e ⌝ }
 {
     place_of(s, disk, e, b) < e.count as usize
+}
+
+// The i-th block that a transaction took. No public entry.
+pub fn block_at(s: Shape, disk: &[u8], e: Committed, i: usize) -> u32
+    requires { ⌜ InRange s × (length (now disk) ≡ 32896) × Sized s e × (i < e .count) ⌝ }
+    ensures { λ r. ⌜ r ≡ getD (blocksOf s (now (disk .entry)) e) i 0 ⌝ }
+{
+    layout::held_block(journal_part(s, disk, e.core, e.position as usize), i)
+}
+
+// Core c's oldest transaction in a set, where its number is the core's tail number. No public entry.
+pub fn oldest_in(s: Shape, disk: &[u8], set: &[u16; 96], c: u8, number: u32) -> Found
+    requires { ⌜ InRange s × (length (now disk) ≡ 32896) × (c < s .cores) ⌝ }
+    ensures { λ r. ⌜ r ≡ oldestAt s (now (disk .entry)) (now (set .entry)) c number ⌝ }
+{
+    let v = slot_of(s, set, 12 * c as usize);
+    if v == 0 {
+        return Found::Miss;
+    }
+    Found::Whole(read_entry(s, disk, c, number, v))
 }

@@ -5,7 +5,6 @@ ghost use lib.ListN.{length};
 ghost use Rattle.model.proofs.Limits.{InRange};
 ghost use Rattle.model.specs.Journal.{journalAt, recordAt};
 ghost use Rattle.journal.specs.Record.{descriptorOf, commitOf};
-
 use model::Committed;
 use model::Found;
 use model::Shape;
@@ -62,14 +61,19 @@ pub fn read_record(s: Shape, disk: &[u8], c: u8, number: u32, position: u8, left
     ensures { λ r. ⌜ r ≡ recordAt s (now (disk .entry)) c number position left ⌝ }
 {
     let at = position as usize;
-    let DescriptorRead::Blocks(count) = read_descriptor(s, number, journal_part(s, disk, c, at)) else {
+    let DescriptorRead::Blocks(count) = read_descriptor(s, number, journal_part(s, disk, c, at))
+    else {
         return Found::Miss;
     };
     let n = count as usize;
     if (left as usize) < n + 2 {
         return Found::Miss;
     }
-    let CommitRead::Stamped(stamp, named) = read_commit(s, number, journal_part(s, disk, c, at + (n + 1))) else {
+    let CommitRead::Stamped(stamp, named) = read_commit(
+        s,
+        number,
+        journal_part(s, disk, c, at + (n + 1)),
+    ) else {
         return Found::Miss;
     };
     Found::Whole(Committed {

@@ -8,16 +8,14 @@ ghost use Rattle.model.specs.Valid.{namesMet, validSet};
 ghost use Rattle.journal.specs.Slots.{numbersOf, numbered, entries, isFilled, Sized, filledFrom};
 ghost use Rattle.layout.specs.Loops.{every};
 ghost use Rattle.journal.specs.Sets.{isHere, slotMet, nameMet, kept, struck};
-
+use crate::entry::count_slots;
+use crate::entry::entry_at;
+use crate::entry::is_filled;
+use crate::record::journal_part;
 use model::Committed;
 use model::Found;
 use model::Shape;
 use model::Tail;
-
-use crate::record::journal_part;
-use crate::entry::is_filled;
-use crate::entry::count_slots;
-use crate::entry::entry_at;
 
 // Whether transaction k of core c, whose tail number is n, is in the set.
 fn is_here(s: Shape, set: &[u16; 96], n: u32, c: u32, k: u32) -> bool

@@ -6,13 +6,11 @@ ghost use Rattle.model.proofs.Limits.{InRange};
 ghost use Rattle.model.specs.Layout.{maxNumber};
 ghost use Rattle.model.specs.declared.Found.the-variants.{Whole};
 ghost use Rattle.journal.specs.Walk.{readAt, stepOf, resumed, Reads};
-
+use crate::record::read_record;
 use model::Committed;
 use model::Found;
 use model::Shape;
 use model::Tail;
-
-use crate::record::read_record;
 
 // Where the reading of a journal stands: the number of the next record and its position, the blocks left of the journal,
 // and how many more records count.

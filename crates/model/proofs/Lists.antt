@@ -77,6 +77,17 @@ module _ {A : Type 0} (p : A → Bool) where
   any-append [] ys = refl
   any-append (x ∷ xs) ys = ap (λ (b : Bool). p x || b) (any-append xs ys) ∙ sym (or-assoc (p x) (any p xs) (any p ys))
 
+module _ {A B : Type 0} (f : A → B) (p : A → Bool) (q : B → Bool) (h : (x : A) → q (f x) ≡ p x) where
+  pub all-map : (xs : List A) → all q (map f xs) ≡ all p xs
+  unfolding all
+  all-map [] = refl
+  all-map (x ∷ xs) = rw (h x, all-map xs) refl
+
+  pub any-map : (xs : List A) → any q (map f xs) ≡ any p xs
+  unfolding any
+  any-map [] = refl
+  any-map (x ∷ xs) = rw (h x, any-map xs) refl
+
 module _ {A : Type 0} where
   pub getD-mem : (xs : List A) (i : ℕ) (d : A) → i < length xs → List·Memᴰ (getD xs i d) xs
   getD-mem [] i d h = absurd (omega arith)

@@ -5,14 +5,14 @@ use native.Mathlib.Omega.{arith}
 use mathlib.Core.Path.{_≡_, refl, sym, ap, _∙_}
 use mathlib.Core.Logic.{_⊎_, inl, inr}
 use mathlib.Core.Bool.{Bool, true, false, true≢false, _||_}
-use mathlib.Core.List.{List, [], _∷_, List·Memᴰ, Memᴰ·cast}
-use lib.ListN.{length}
+use mathlib.Core.List.{List, [], _∷_, map, List·Memᴰ, Memᴰ·cast}
+use lib.ListN.{length, length-map}
 use lib.Dec.{eqb}
 use borrow.Author.Tests.{eqb-true, eqb-false, eq-eqb}
 use Rattle.model.specs.Lists.{all, any}
 use Rattle.model.specs.Shrink.{Closed, Within, strike, shrinkIn, shrink, DependsOn, lists-it, through}
 use Rattle.model.proofs.Lists.{cases, all-mem, mem-all, any-mem, mem-any, or-cases, or-left, or-right}
-use Rattle.model.proofs.Select.{select-length, mem-select, select-mem, select-all, select-same}
+use Rattle.model.proofs.Select.{select-length, mem-select, select-mem, select-all, select-same, select-map}
 
 -- who meets the test in a set meets it in a larger one
 abbrev pub Monotone : {A : Type 0} → (List A → A → Bool) → Type 0
@@ -77,6 +77,29 @@ module _ {A : Type 0} (stays : List A → A → Bool) where
   unfolding shrink shrinkIn strike
   shrink-itself [] c = refl
   shrink-itself (x ∷ es) c = settled (length es) (x ∷ es) (eq-eqb _ _ (ap length (select-same (stays (x ∷ es)) (x ∷ es) c)))
+
+-- ---- shrinking commutes with a function under which the test stays
+module _ {A B : Type 0} (f : A → B) (stays : List A → A → Bool) (stays₂ : List B → B → Bool) (h : (es : List A) (e : A) → stays₂ (map f es) (f e) ≡ stays es e) where
+  strike-map : (es : List A) → strike stays₂ (map f es) ≡ map f (strike stays es)
+  unfolding strike
+  strike-map es = select-map f (stays es) (stays₂ (map f es)) (h es) es
+
+  shrinkIn-map : (n : ℕ) (es : List A) → shrinkIn n stays₂ (map f es) ≡ map f (shrinkIn n stays es)
+  shrinkIn-map zero es = unfold shrinkIn in refl
+  shrinkIn-map (suc n) es =
+      let same : eqb (length (strike stays₂ (map f es))) (length (map f es)) ≡ eqb (length (strike stays es)) (length es) =
+      rw (strike-map es, length-map (strike stays es) f, length-map es f) refl in
+      cases (eqb (length (strike stays es)) (length es))
+      (λ e. settled stays₂ n (map f es) (same ∙ e) ∙ ap (map f) (sym (settled stays n es e)))
+      (λ e.
+      goes-on stays₂ n (map f es) (same ∙ e)
+      ∙ ap (shrinkIn n stays₂) (strike-map es)
+      ∙ shrinkIn-map n (strike stays es)
+      ∙ ap (map f) (sym (goes-on stays n es e)))
+
+  pub shrink-map : (es : List A) → shrink stays₂ (map f es) ≡ map f (shrink stays es)
+  unfolding shrink
+  shrink-map es = rw (length-map es f) (shrinkIn-map (length es) es)
 
 -- ---- 'depends on': a set is closed under it where it is closed under what is listed, and only there
 module _ {A : Type 0} {Lists : A → A → Type 0} (P : A → Type 0) where

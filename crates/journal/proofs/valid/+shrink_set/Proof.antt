@@ -1,5 +1,5 @@
+-- `journal::shrink_set` meets its contract: the count of those remaining falls with each call.
 use denote.Ref.{now}
-use mathlib.Core.Path.{sym}
 use borrow.Author.Needs.{needs}
 use Rattle.journal.specs.Slots.{filledFrom}
 use Rattle.journal.proofs.Shrinking.{shrink-same, shrink-less, shrink-falls}
@@ -25,7 +25,6 @@ abbrev shrink-set-below : ℕ → In 3 shrink-set-kinds.ps
 shrink-set-below t =
     and 3 shrink-set-kinds.ps (falls 3 shrink-set-kinds.ps _<_ μ-shrink-set t) shrink-set.Pre
 
--- src/valid.rt:130:5
 shrink-set-strike-round-requires : (t : ℕ) → shrink-set-lts.Need-strike-round-requires (
   strike-round-reads.Asked,
   strike-round-reads.Learnt,
@@ -36,7 +35,6 @@ shrink-set-strike-round-requires : (t : ℕ) → shrink-set-lts.Need-strike-roun
 ) (shrink-set-at t) shrink-set.Post
 shrink-set-strike-round-requires t c κs = search needs
 
--- src/valid.rt:131:9
 shrink-set-count-slots-requires : (t : ℕ) → shrink-set-lts.Need-count-slots-requires (
   strike-round-reads.Asked,
   strike-round-reads.Learnt,
@@ -47,7 +45,6 @@ shrink-set-count-slots-requires : (t : ℕ) → shrink-set-lts.Need-count-slots-
 ) (shrink-set-at t) shrink-set.Post
 shrink-set-count-slots-requires t c κs = search needs
 
--- src/valid.rt:133:9
 shrink-set-returns : (t : ℕ) → shrink-set-lts.Need-returns (
   strike-round-reads.Asked,
   strike-round-reads.Learnt,
@@ -58,7 +55,6 @@ shrink-set-returns : (t : ℕ) → shrink-set-lts.Need-returns (
 ) (shrink-set-at t) shrink-set.Post
 shrink-set-returns t c = search (needs, shrink-same)
 
--- src/valid.rt:135:5
 shrink-set-shrink-set-requires : (t : ℕ) → shrink-set-lts.Need-shrink-set-requires (
   strike-round-reads.Asked,
   strike-round-reads.Learnt,
@@ -69,7 +65,6 @@ shrink-set-shrink-set-requires : (t : ℕ) → shrink-set-lts.Need-shrink-set-re
 ) (shrink-set-at t) shrink-set.Post
 shrink-set-shrink-set-requires t c κs = let n : _ = c .before .before in let w : _ = n .before .before in let z : _ = w .before .before .before in (rw (← (z .pre .0)) (shrink-falls _ _ _ _ _ _ _ (w .strike-round .ensures) (n .count-slots .ensures .0) (z .pre .1 .2) (c .before .if1 .left)), (z .pre .1 .0, z .pre .1 .1, n .count-slots .ensures .0))
 
--- src/valid.rt:126:1
 shrink-set-returns-2 : (t : ℕ) → shrink-set-lts.Need-returns-2 (
   strike-round-reads.Asked,
   strike-round-reads.Learnt,

@@ -1,15 +1,12 @@
+-- `journal::resume` meets its contract: the two cases of `resumed`.
 use borrow.Author.Needs.{needs}
 use Rattle.journal.proofs.Reading.{resume-start, resume-same}
 use Rattle.journal.proofs.walk.resume.Statement.{statement}
 use Rattle.journal.proofs.walk.resume.Tie as tie
-use Rattle.journal.proofs.walk.resume.Reads as reads
-use Rattle.journal.proofs.walk.resume.Lts as lts
 
--- src/walk.rt:71:9
 returns : tie.Need-returns
 returns c = (search (needs, resume-start), search needs)
 
--- src/walk.rt:67:1
 returns-2 : tie.Need-returns-2
 returns-2 c = (search (needs, resume-same), search needs)
 
