@@ -10,3 +10,4 @@ pub mod EntryLaws
 pub mod CloseLaws
 pub mod StoreLaws
 pub mod TapeLaws
+pub mod RecoverLaws
