@@ -6,6 +6,5 @@ pub mod transaction; // WRITE
 pub mod commit; // CLOSE and STORE
 pub mod recovery; // CUT
 pub mod reading; // a block as its readers see it
-pub mod checkpoint; // CHECKPOINT
 pub mod recover; // RECOVER
 pub mod tape; // one command at an offset of a tape

@@ -41,7 +41,7 @@ fn byte_at(s: &[u8], i: usize) -> u8
 }
 
 // How many bytes of operands command k has; none where there is no such command.
-fn operand_length(k: u8) -> usize
+pub fn operand_length(k: u8) -> usize
     ensures { λ r. ⌜ (r ≡ operandLength k) × (r ≤ 8) ⌝ }
 {
     let i = k as usize;

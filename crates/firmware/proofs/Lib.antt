@@ -1,0 +1,2 @@
+-- Laws that the proofs of sessions cite.
+pub mod RunLaws

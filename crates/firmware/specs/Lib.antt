@@ -1,0 +1,2 @@
+-- What the contracts of sessions say beyond crates `model`, `card` and `crash`.
+pub mod Session
