@@ -11,3 +11,5 @@ pub mod CloseLaws
 pub mod StoreLaws
 pub mod TapeLaws
 pub mod RecoverLaws
+pub mod CheckpointLaws
+pub mod OldestLaws

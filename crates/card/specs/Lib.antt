@@ -2,3 +2,4 @@
 pub mod Answer
 pub mod Writing
 pub mod Recovering
+pub mod Oldest

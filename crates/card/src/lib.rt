@@ -4,7 +4,8 @@ pub mod state; // the answer of a command, parts of the card, refusals that many
 pub mod format; // FORMAT
 pub mod transaction; // WRITE
 pub mod commit; // CLOSE and STORE
+pub mod checkpoint; // CHECKPOINT
 pub mod recovery; // CUT
-pub mod reading; // a block as its readers see it
 pub mod recover; // RECOVER
+pub mod reading; // a block as its readers see it
 pub mod tape; // one command at an offset of a tape
