@@ -1,19 +1,19 @@
 -- CHECKPOINT: a transaction retired, the journals read, and what refuses it.
-use Prim.Native.Nat.{ℕ, zero, suc, _+_, _*_, _-_, _/_, _%_, _≤_, _<_, min}
+use Prim.Native.Nat.{ℕ, _+_, _*_, _-_, _%_, _≤_, _<_, min}
 use native.Mathlib.Omega.{arith}
 use mathlib.Core.Path.{_≡_, refl, sym, ap, _∙_, subst}
-use mathlib.Core.Bool.{Bool, true, false, cond, not, _&&_, _||_}
-use mathlib.Core.List.{List, [], _∷_, _++_, map, flatMap}
+use mathlib.Core.Bool.{Bool, true, false, cond, not}
+use mathlib.Core.List.{List, [], _∷_, _++_, map}
 use lib.ListN.{length, getD, set, take, drop, length-take, List·getD-map}
-use lib.Dec.{ltb, leb, eqb}
-use borrow.Author.Tests.{not-true, not-false, lt-ltb, le-ltb, eq-eqb, ne-eqb, eqb-true, eqb-false}
+use lib.Dec.{leb, eqb}
+use borrow.Author.Tests.{not-true, not-false, lt-ltb, le-ltb, eq-eqb, ne-eqb}
 use Rattle.model.specs.Lists.{below, any}
 use Rattle.model.specs.Bytes.{Bytes, blockAt, store, replaced}
 use Rattle.model.specs.Shape.{clamped, homeBlock, journalBlock}
 use Rattle.model.specs.Card.{newTail, newName, sameName, noHolder, taken, shapeOf, tailOf, coreOf, committedCount, withCore}
-use Rattle.model.specs.Command.{World, Outcome, refusal, notUp, noCore}
+use Rattle.model.specs.Command.{refusal, notUp, noCore}
 use Rattle.model.specs.Layout.{masterBlock, Held, newHeld, pairAt, pairsIn, heldIn, unescaped}
-use Rattle.model.specs.Journal.{nameOf, journalAt, recordAt, heldBy, blocksOf, took, imageOf}
+use Rattle.model.specs.Journal.{journalAt, recordAt, heldBy, blocksOf, took, imageOf}
 use Rattle.model.specs.Checkpoint.{share, released, retiredCard, storedHome, storedMaster}
 use Rattle.model.specs.declared.Shape.{Shape}
 use Rattle.model.specs.declared.Tail.{Tail}
@@ -37,9 +37,9 @@ use Rattle.journal.specs.Slots.{foundAt}
 use Rattle.journal.specs.Walk.{Reads}
 use Rattle.card.specs.Answer.{world, outcomeOf, firstOf}
 use Rattle.card.specs.declared.state.Answer.{Answer}
-use Rattle.card.specs.Oldest.{freed, movedTail, retiredCore, homedCore, countAt, counts, oldestAt, IsRead, lowerFound, lowerSlot, lowerClosed, closedLower, oldestConditions, nextStore}
+use Rattle.card.specs.Oldest.{freed, movedTail, retiredCore, homedCore, countAt, counts, oldestAt, IsRead, lowerFound, lowerSlot, lowerClosed, closedLower, nextStore}
 use Rattle.card.proofs.Parts.{any-none, any-hit, any-more, any-all}
-use Rattle.card.proofs.Refusals.{first-hit, first-pass, refusal-up, refusal-one, refusal-next, refusal-joined, was-refused, was-done}
+use Rattle.card.proofs.Refusals.{first-hit, first-pass, refusal-up, refusal-one}
 
 -- the shape as it is read is within its limits
 pub shape-range : (x : Card) (s : Shape) → s ≡ shapeOf x → InRange s
@@ -262,18 +262,18 @@ module _ (x : Card) (s : Shape) (d : Bytes) (e : Committed) (i : ℕ) (t : Trans
   closed-missed h n = some-out (closedLower x s d e) i r (is-lower x s d e i t p r q) h n
 
 -- ---- an image out of the journal
-module _ (s : Shape) (d : Bytes) (e : Committed) (r : IsRead s d e) (l : InRange s) (i k : ℕ) (z : k ≡ journalBlock (clamped s) (e .core) (e .position + (i + 1))) where
-  near : k ≡ journalBlock s (e .core) (e .position + (i + 1))
+module _ (s : Shape) (d : Bytes) (e : Committed) (r : IsRead s d e) (l : InRange s) (p k : ℕ) (z : k ≡ journalBlock (clamped s) (e .core) p) where
+  near : k ≡ journalBlock s (e .core) p
   near = z ∙ rw (clamped-same s l)
 
   pub image-within : length d ≡ 32896 → 128 * k + 128 ≤ length d
-  image-within n = omega (arith, near, journal-low l (e .core) (e .position + (i + 1)) (r .core))
+  image-within n = omega (arith, near, journal-low l (e .core) p (r .core))
 
-  pub image-is : i < e .count → (b : Bytes) → b ≡ journalAt s d (e .core) (e .position) → (f : ℕ) → f ≡ (pairAt newHeld b 16 i) .flag
-      → (g : Bytes) → g ≡ blockAt d k → (h : Bytes) → h ≡ unescaped f g → h ≡ imageOf s d e i
+  pub image-is : (i : ℕ) → p ≡ e .position + (i + 1) → i < e .count → (b : Bytes) → b ≡ journalAt s d (e .core) (e .position)
+      → (f : ℕ) → f ≡ (pairAt newHeld b 16 i) .flag → (g : Bytes) → g ≡ blockAt d k → (h : Bytes) → h ≡ unescaped f g → h ≡ imageOf s d e i
   unfolding imageOf heldBy heldIn pairsIn journalAt
-  image-is c b p f q g y h x =
-      x ∙ rw (y, near, q, p, getD-map-below (pairAt newHeld (blockAt d (journalBlock s (e .core) (e .position))) 16) (e .count) i (newHeld 0 0) c)
+  image-is i o c b q f u g y h x =
+      x ∙ rw (y, near, o, u, q, getD-map-below (pairAt newHeld (blockAt d (journalBlock s (e .core) (e .position))) 16) (e .count) i (newHeld 0 0) c)
 
 -- ---- a home store
 pub core-homed : (k : Core)

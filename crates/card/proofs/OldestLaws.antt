@@ -5,15 +5,15 @@ use native.Mathlib.Nat.{add-zero}
 use native.Mathlib.Decide.{decLt}
 use mathlib.Core.Path.{_≡_, refl, sym, ap, _∙_, subst, fun-ext}
 use mathlib.Core.Bool.{Bool, true, false, cond, not, _&&_, _||_, or-false}
-use mathlib.Core.List.{List, [], _∷_, _++_, map, flatMap}
+use mathlib.Core.List.{List, [], _∷_, flatMap}
 use lib.ListN.{length, getD, List·getD-eq-default}
-use lib.Dec.{ltb, leb, eqb}
-use borrow.Author.Tests.{not-true, not-false, lt-ltb, le-ltb, eq-eqb, ne-eqb, eqb-true, eqb-false, leb-true, leb-false}
+use lib.Dec.{ltb, eqb}
+use borrow.Author.Tests.{not-true, not-false, lt-ltb, le-ltb, ne-eqb, eqb-true, eqb-false, leb-true, leb-false}
 use Rattle.model.specs.Lists.{below, any, all}
 use Rattle.model.specs.Bytes.{Bytes}
-use Rattle.model.specs.Card.{newTail, newName, taken, shapeOf, tailOf, coreOf, committedCount}
+use Rattle.model.specs.Card.{newTail, shapeOf, tailOf, coreOf, committedCount}
 use Rattle.model.specs.Layout.{hasHead, maxNumber, isDescriptor}
-use Rattle.model.specs.Journal.{recordAt, recordsFrom, journal, journals, journalAt, nameOf, namesOf, heldBy, blocksOf}
+use Rattle.model.specs.Journal.{recordAt, recordsFrom, journal, journals, nameOf, namesOf, heldBy, blocksOf}
 use Rattle.model.specs.Shrink.{shrink}
 use Rattle.model.specs.Valid.{isIn, isMet, namesMet, validSet}
 use Rattle.model.specs.Command.{World, Outcome, refusal, unless, notUp, noCore}

@@ -12,7 +12,7 @@ use Rattle.model.specs.Bytes.{Bytes, be4, part, replaced, blockAt, store}
 use Rattle.model.specs.Shape.{homeBlock, checked, clamped}
 use Rattle.model.specs.Card.{newTail, freshCard, downCard}
 use Rattle.model.specs.Layout.{mark, maxNumber, shapeIn, tailIn, isMaster, masterBlock, unescaped}
-use Rattle.model.specs.Journal.{journal, journals}
+use Rattle.model.specs.Journal.{journal}
 use Rattle.model.specs.Valid.{validSet, newest}
 use Rattle.model.specs.Command.{Outcome, refusal, wrongLength}
 use Rattle.model.specs.Recovery.{shapeOn, tailOn, committedOn, validOn, blocksLeft, newestImage, recoveredTo, emptiedTail, broughtUp, recoverConditions, recoverStep, recovered, recover}
@@ -29,12 +29,11 @@ use Rattle.model.proofs.OneStore.{right-lengths, master-limits, left-below}
 use Rattle.layout.specs.Tails.{tailOrNone}
 use Rattle.layout.proofs.Blocks.{block-lent}
 use Rattle.journal.specs.declared.newest.Image.{Image}
-use Rattle.journal.specs.Slots.{numbersOf, numberIn, numbered, entries, filledFrom}
+use Rattle.journal.specs.Slots.{numbersOf, numbered, entries, filledFrom}
 use Rattle.journal.specs.Walk.{Reads}
 use Rattle.journal.specs.Newest.{foundImage, firstOr, heldFrom}
-use Rattle.journal.proofs.Slots.{number-at, reads-journals}
-use Rattle.journal.proofs.Sets.{core-length}
-use Rattle.journal.proofs.Model.{found-bytes, image-numbers, held-numbers, valid-tails, journals-tails}
+use Rattle.journal.proofs.Model.{found-bytes, image-numbers, held-numbers, read-count}
+use Rattle.journal.proofs.Commands.{core-journal, slots-valid}
 use Rattle.card.specs.Answer.{world}
 use Rattle.card.specs.Recovering.{numbersOn, tailAfter}
 use Rattle.card.proofs.FormatLaws.{master-same}
@@ -123,26 +122,21 @@ module _ (d : Bytes) (s : Shape) (z : s ≡ shapeOn d) (l : InRange s) (ts : Lis
       let k : tailOrNone (take 128 d) c ≡ tailIn (take 128 d) c = rw (lt-ltb c ((shapeIn (take 128 d)) .cores) g) in
       ap (λ (l : List Tail). getD l c (newTail 0 0)) e ∙ getD-map-below (tailOrNone (take 128 d)) 8 c (newTail 0 0) (omega (arith, l .few-cores)) ∙ k
 
-  disk-journal : (c : ℕ) → c < s .cores → journal s d c (getD ts c (newTail 0 0)) (getD (replicate 8 (s .journal)) c 0) ≡ journal s d c (tailOn d c) (s .journal)
-  disk-journal c h = rw (disk-tail c h, getD-replicate 8 c (s .journal) 0 (omega (arith, l .few-cores)))
-
-  same-number : (c : ℕ) → c < s .cores → (numbered (numbersOf ts) c) .number ≡ (tailOn d c) .number
-  unfolding numbered numberIn
-  same-number c h =
-      let g : c < 8 = omega (arith, l .few-cores) in
-      let a : getD (numbersOf ts) c 0 ≡ (tailOn d c) .number = number-at ts c g ∙ ap (λ (t : Tail). t .number) (disk-tail c h) in
-      rw (lt-ltb c 8 g) a
+  whole-read : (c : ℕ) → c < s .cores → journal s d c (tailOn d c) (getD (replicate 8 (s .journal)) c 0) ≡ journal s d c (tailOn d c) (s .journal)
+  whole-read c h = rw (getD-replicate 8 c (s .journal) 0 (omega (arith, l .few-cores)))
 
   module _ (set : List ℕ) (r : Reads s d ts (replicate 8 (s .journal)) set) where
     -- they give the tails that recovery stores
     tail-emptied : (c : ℕ) → c < 8 → tailAfter s ts set c ≡ emptiedTail d c
-    unfolding tailAfter emptiedTail Reads
+    unfolding tailAfter emptiedTail
     tail-emptied c h =
         rw (← z)
         (cases (ltb c (s .cores))
         (λ t.
         let g : c < s .cores = ltb-true c (s .cores) t in
-        let f : filledFrom s set (12 * c) 12 ≡ length (journal s d c (tailOn d c) (s .journal)) = sym (core-length s d (numbersOf ts) set c 12) ∙ ap length (r c g ∙ disk-journal c g) in
+        let f : filledFrom s set (12 * c) 12 ≡ length (journal s d c (tailOn d c) (s .journal)) =
+        read-count l d ts (replicate 8 (s .journal)) set r c g
+        ∙ ap length (core-journal l d ts (replicate 8 (s .journal)) set r (tailOn d) (λ (c : ℕ). s .journal) disk-tail whole-read c g) in
         rw (t, disk-tail c g, f))
         (λ t. rw t))
 
@@ -154,11 +148,7 @@ module _ (d : Bytes) (s : Shape) (z : s ≡ shapeOn d) (l : InRange s) (ts : Lis
     unfolding numbersOn validOn committedOn blockAt part
     valid-read v q =
         let k : numbersOf ts ≡ numbersOf (map (tailOrNone (take 128 d)) (below 8)) = ap numbersOf e in
-        let es : entries s d (numbersOf ts) set ≡ journals s d (tailOn d) (λ (c : ℕ). s .journal) =
-        reads-journals s d ts (replicate 8 (s .journal)) set r l ∙ journals-tails s d _ (tailOn d) _ (λ (c : ℕ). s .journal) disk-journal in
-        let vs : entries s d (numbersOf ts) v ≡ validSet s d (tailOn d) (journals s d (tailOn d) (λ (c : ℕ). s .journal)) =
-        q ∙ ap (validSet s d (numbered (numbersOf ts))) es ∙ valid-tails s d (numbered (numbersOf ts)) (tailOn d) same-number (tailOn d) (λ (c : ℕ). s .journal) in
-        rw (← k, ← z) vs
+        rw (← k, ← z) (slots-valid l d ts (replicate 8 (s .journal)) set r (tailOn d) (λ (c : ℕ). s .journal) disk-tail whole-read v q)
 
 -- ---- the master store
 module _ (d : Bytes) (s : Shape) (z : s ≡ shapeOn d) (l : InRange s) (ts : List Tail) (e : ts ≡ map (emptiedTail d) (below 8)) where

@@ -230,7 +230,7 @@ fn shares_committed(s: Shape, disk: &[u8], e: Committed, f: Committed) -> bool
     let mut i: usize = 0;
     while i < n {
         let b = block_at(s, disk, e, i);
-        if journal::took_block(s, disk, f, b) {
+        if journal::took_block(s, disk, f, b as u32) {
             return true;
         }
         i += 1;

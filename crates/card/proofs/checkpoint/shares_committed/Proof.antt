@@ -24,6 +24,9 @@ loop-holds c = (search needs, search needs, none-shared _ _ _ _)
 block-at-requires : tie.Need-block-at-requires Inv-loop μ-loop
 block-at-requires c κs = search needs
 
+cast-took-block : tie.Need-cast-took-block Inv-loop μ-loop
+cast-took-block c = search needs
+
 took-block-requires : tie.Need-took-block-requires Inv-loop μ-loop
 took-block-requires c κs = search needs
 
@@ -51,6 +54,7 @@ shares-committed-spec =
     cast-n
     loop-holds
     block-at-requires
+    cast-took-block
     took-block-requires
     returns
     add-i

@@ -1,3 +1,4 @@
+-- `card::tape::byte_at` meets its contract: the byte, or 0 past the end.
 use Rattle.card.proofs.TapeLaws.{byte-past}
 use borrow.Author.Needs.{needs}
 use Rattle.card.proofs.tape.byte_at.Statement.{statement}

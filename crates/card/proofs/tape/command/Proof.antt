@@ -1,3 +1,4 @@
+-- `card::tape::command` meets its contract: refused, or carried out with the operands between its byte and the next command.
 use native.Mathlib.Omega.{arith}
 use Rattle.model.specs.Tape.{commandByte}
 use Rattle.card.proofs.TapeLaws.{Whole, at-refused, at-whole, at-done}

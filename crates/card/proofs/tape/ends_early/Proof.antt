@@ -1,3 +1,4 @@
+-- `card::tape::ends_early` meets its contract: the operands reach past the end.
 use Rattle.card.proofs.TapeLaws.{early-past, early-rest}
 use borrow.Author.Needs.{needs}
 use Rattle.card.proofs.tape.ends_early.Statement.{statement}

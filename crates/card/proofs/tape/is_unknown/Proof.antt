@@ -1,3 +1,4 @@
+-- `card::tape::is_unknown` meets its contract: test by test.
 use Rattle.card.proofs.TapeLaws.{unknown-past, unknown-zero, unknown-rest}
 use borrow.Author.Needs.{needs}
 use Rattle.card.proofs.tape.is_unknown.Statement.{statement}

@@ -1,3 +1,4 @@
+-- `card::tape::next_offset` meets its contract: behind the command, or the tape's end.
 use Rattle.card.proofs.TapeLaws.{next-past, next-unknown, next-early, next-whole}
 use borrow.Author.Needs.{needs}
 use Rattle.card.proofs.tape.next_offset.Statement.{statement}

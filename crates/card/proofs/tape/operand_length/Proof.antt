@@ -1,3 +1,4 @@
+-- `card::tape::operand_length` meets its contract: the table is the definition's; past it there is no command.
 use mathlib.Core.Path.{refl}
 use native.Mathlib.Omega.{arith}
 use Rattle.model.specs.Tape.{operandLengths, operandLength}

@@ -1,3 +1,4 @@
+-- `card::tape::perform` meets its contract: one law for each command.
 use Rattle.card.proofs.TapeLaws.{write-length, step-format, step-write, step-close, step-store, step-checkpoint, step-cut, step-recover}
 use borrow.Author.Needs.{needs}
 use Rattle.card.proofs.tape.perform.Statement.{statement}

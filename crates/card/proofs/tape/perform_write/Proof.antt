@@ -1,3 +1,4 @@
+-- `card::tape::perform_write` meets its contract: the operands in order.
 use Rattle.card.proofs.TapeLaws.{write-operands}
 use borrow.Author.Needs.{needs}
 use Rattle.card.proofs.tape.perform_write.Statement.{statement}

@@ -1,3 +1,4 @@
+-- `card::tape::tape_refusal` meets its contract: 1, 2 and 3 in their order.
 use Rattle.card.proofs.TapeLaws.{refused-length, refused-unknown, refused-early, refused-none}
 use borrow.Author.Needs.{needs}
 use Rattle.card.proofs.tape.tape_refusal.Statement.{statement}
