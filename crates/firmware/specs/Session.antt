@@ -20,8 +20,8 @@ use Rattle.crash.specs.Claims.{AreaKept, LedgerKept, downLedger}
 use Rattle.card.specs.Answer.{world}
 use Rattle.firmware.specs.declared.session.Session.{Session}
 
-abbrev pub session : Card → ℕ → Session
-session x n = record { card = x; stores = n }
+abbrev pub newSession : Card → ℕ → Session
+newSession x n = record { card = x; stores = n }
 
 abbrev pub worldOf : Session → Bytes → Bytes → World
 worldOf s d m = world (s .card) d m

@@ -9,7 +9,7 @@ ghost use Rattle.model.specs.Tape.{step, commandByte, nextOffset, run, worldAft
 ghost use Rattle.crash.specs.Service.{emptyService};
 ghost use Rattle.crash.specs.Ledger.{blankLedger};
 ghost use Rattle.crash.specs.Claims.{AreaKept, LedgerKept, blankStart};
-ghost use Rattle.firmware.specs.Session.{session, worldOf, outcomeAt, counted, storesAfter, readInto, DemandsMet};
+ghost use Rattle.firmware.specs.Session.{newSession, worldOf, outcomeAt, counted, storesAfter, readInto, DemandsMet};
 use model::Card;
 
 pub struct Session {
@@ -28,7 +28,7 @@ pub struct Performed {
 
 // A card before its FORMAT.
 pub fn blank() -> Session
-    ensures { λ r. ⌜ r ≡ session blankCard 0 ⌝ }
+    ensures { λ r. ⌜ r ≡ newSession blankCard 0 ⌝ }
 {
     let card = Card::blank();
     Session {
@@ -39,7 +39,7 @@ pub fn blank() -> Session
 
 // A card that is down, over a disk written elsewhere.
 pub fn down() -> Session
-    ensures { λ r. ⌜ r ≡ session downCard 0 ⌝ }
+    ensures { λ r. ⌜ r ≡ newSession downCard 0 ⌝ }
 {
     let card = Card::down();
     Session {
