@@ -10,7 +10,7 @@ use lib.Dec.{ltb, eqb}
 use borrow.Author.Tests.{lt-ltb, eq-eqb, ne-eqb}
 use Rattle.model.specs.Bytes.{Bytes, blockAt}
 use Rattle.model.specs.Shape.{homeBlock}
-use Rattle.model.specs.Card.{holderOf, coreOf, downCard}
+use Rattle.model.specs.Card.{holderOf, coreOf, blankCard, downCard}
 use Rattle.model.specs.Command.{World, Outcome}
 use Rattle.model.specs.Reading.{readNumber, readBlock}
 use Rattle.model.specs.Tape.{Point, step, commandByte, operandsAt, commandAt, nextOffset, run, worldAfter}
@@ -26,11 +26,12 @@ use Rattle.model.proofs.Store.{length-blockAt}
 use Rattle.model.proofs.Tape.{Runs, at-end, one-more, next-past, next-within, run-runs}
 use Rattle.crash.specs.Service.{emptyService}
 use Rattle.crash.specs.Ledger.{blankLedger}
-use Rattle.crash.specs.Claims.{IsBytes, AreaKept, LedgerKept, downLedger}
+use Rattle.crash.specs.Claims.{IsBytes, AreaKept, LedgerKept, blankStart, downLedger}
 use Rattle.crash.proofs.Theorem.{claim, demands}
 use Rattle.card.specs.Answer.{world}
 use Rattle.card.proofs.ReadLaws.{Readable, readable}
-use Rattle.firmware.specs.Session.{counted, storesAfter, readInto, DemandsMet}
+use Rattle.firmware.specs.Session.{newSession, worldOf, counted, storesAfter, readInto, DemandsMet}
+use Rattle.firmware.specs.declared.session.Session.{Session}
 
 -- ---- the count of stores
 pub counted-most : (n k : ℕ) → 18446744073709551615 - n < k → n < 18446744073709551616 → 18446744073709551615 ≡ counted n k
@@ -105,7 +106,10 @@ bounded t (one-more {at} {n} {w} {p = p} {ps = ps} k e r) l =
     omega (arith, few-stores t at w, next-past t at k, bounded t r (next-within t at l))
 
 pub run-stores : (t : Bytes) (w : World) → length t < 18446744073709551616 → counted 0 (storesAfter 0 (run step t w)) ≡ storesAfter 0 (run step t w)
-run-stores t w h = sym (counted-sum 0 (storesAfter 0 (run step t w)) (omega (arith, bounded t (run-runs step t w) (omega arith))) (omega arith))
+run-stores t w h =
+    let k = storesAfter 0 (run step t w) in
+    let e : 0 + k ≡ k = omega arith in
+    sym (counted-sum 0 k (omega (arith, bounded t (run-runs step t w) (omega arith))) (omega arith)) ∙ e
 
 -- what is left of the run from a world w₀, of a session with base stores, at an offset, in a world and with its stores
 pub record Left (t : Bytes) (w₀ : World) (base at : ℕ) (w : World) (stores : ℕ) : Type 0 where
@@ -145,7 +149,7 @@ left-stores t w₀ w base at n l h = l .capped ∙ ap (counted base) (sym (ended
 pub are-bytes : (s : Bytes) → ((i : ℕ) → getD s i 0 < 256) → IsBytes s
 are-bytes s h =
     mem-all (λ (x : ℕ). ltb x 256) s
-    (λ x m. let g = mem-getD m 0 in lt-ltb x 256 (subst (λ (y : ℕ). y < 256) (g .1 .1) (h (g .0))))
+    (λ x m. let g = mem-getD m 0 in lt-ltb x 256 (subst (λ (y : ℕ). y < 256) (g .2) (h (g .0))))
 
 -- ---- the demands, of the run over lent slices
 pub demands-met : (t : Bytes) (x : Card) (d m : Bytes) → IsBytes t → IsBytes d → IsBytes m → DemandsMet t (world x d m)
@@ -161,10 +165,22 @@ demands-met t x d m bt bd bm =
       (sym f) (claim .1 t m s h bt bm k, demands .1 t m s h bt bm k));
     }
 
+-- ---- from a blank card
+module _ (t d m : Bytes) (s : Session) (e : s ≡ newSession blankCard 0) where
+  pub blank-world : (w : World) → w ≡ worldAfter (worldOf s d m) (run step t (worldOf s d m)) → w ≡ worldAfter (blankStart d m) (run step t (blankStart d m))
+  blank-world w p = p ∙ ap (λ (s : Session). worldAfter (worldOf s d m) (run step t (worldOf s d m))) e
+
+  pub blank-stores : (n : ℕ) → n ≡ counted (s .stores) (storesAfter 0 (run step t (worldOf s d m))) → length t < 18446744073709551616 → n ≡ storesAfter 0 (run step t (blankStart d m))
+  blank-stores n p h = p ∙ ap (λ (s : Session). counted (s .stores) (storesAfter 0 (run step t (worldOf s d m)))) e ∙ run-stores t (blankStart d m) h
+
+  pub blank-demands : DemandsMet t (worldOf s d m) → length d ≡ 32896 → length m ≡ 16384
+      → AreaKept (emptyService 0) (run step t (blankStart d m)) × LedgerKept 0 blankLedger (blankStart d m) (run step t (blankStart d m))
+  blank-demands k = (subst (λ (s : Session). DemandsMet t (worldOf s d m)) e k) .from-blank refl
+
 -- ---- reading into a buffer
 module _ (x : Card) (b : ℕ) (d m : Bytes) where
   pub length-read : readNumber b (world x d m) ≡ 0 → length (readBlock b (world x d m)) ≡ 128
-  unfolding readBlock homeBlock
+  unfolding readBlock
   length-read h =
       let r = readable x b d m 0 (sym h) refl in
       rw (eq-eqb _ _ h)

@@ -66,10 +66,8 @@ pub fn command(s: Session, tape: &[u8], at: usize, disk: &mut [u8], memory: &mut
     let done = card::tape::command(s.card, tape, at, disk, memory);
     let answer = done.answer;
     let stores = counted(s.stores, answer.stores);
-    let after = Session {
-        card: answer.card,
-        stores,
-    };
+    let card = answer.card;
+    let after = Session { card, stores };
     Performed {
         session: after,
         number: answer.number,
@@ -86,7 +84,13 @@ pub fn read_number(s: Session, b: u16, disk: &[u8], memory: &[u8]) -> u8
 }
 
 // Block b copied into a lent buffer of 128 bytes. A buffer of another length answers 1; a refusal touches no byte of it.
-pub fn read_block(s: Session, b: u16, disk: &[u8], memory: &[u8], out: &mut [u8]) -> u8
+pub fn read_block<'a>(
+    s: Session,
+    b: u16,
+    disk: &'a [u8],
+    memory: &'a [u8],
+    out: &mut [u8],
+) -> u8
     ensures { λ r. ⌜ (r ≡ cond (eqb (length (now (out .entry))) 128) (readNumber b (worldOf s (now (disk .entry)) (now (memory .entry)))) 1) × (now (out .exit) ≡ readInto r b (worldOf s (now (disk .entry)) (now (memory .entry))) (now (out .entry))) ⌝ }
 {
     if out.len() != 128 {
@@ -105,20 +109,20 @@ pub fn read_block(s: Session, b: u16, disk: &[u8], memory: &[u8], out: &mut [u8]
 pub fn run(s: Session, tape: &[u8], disk: &mut [u8], memory: &mut [u8]) -> Session
     ensures { λ r. ⌜ (worldOf r (now (disk .exit)) (now (memory .exit)) ≡ worldAfter (worldOf s (now (disk .entry)) (now (memory .entry))) (run step (now (tape .entry)) (worldOf s (now (disk .entry)) (now (memory .entry))))) × (r .stores ≡ counted (s .stores) (storesAfter 0 (run step (now (tape .entry)) (worldOf s (now (disk .entry)) (now (memory .entry)))))) × DemandsMet (now (tape .entry)) (worldOf s (now (disk .entry)) (now (memory .entry))) ⌝ }
 {
-    let mut now = s;
+    let mut current = s;
     let mut at: usize = 0;
     while at < tape.len() {
-        let done = command(now, tape, at, disk, memory);
-        now = done.session;
+        let done = command(current, tape, at, disk, memory);
+        current = done.session;
         at = done.next;
     }
-    now
+    current
 }
 
 // Every command of a tape from a blank card on. Its recoveries lose no kept write and its journals read as what was
 // stored, where the slices have their lengths.
 pub fn run_from_blank(tape: &[u8], disk: &mut [u8], memory: &mut [u8]) -> Session
-    ensures { λ r. ⌜ (worldOf r (now (disk .exit)) (now (memory .exit)) ≡ worldAfter (blankStart (now (disk .entry)) (now (memory .entry))) (run step (now (tape .entry)) (blankStart (now (disk .entry)) (now (memory .entry))))) × (r .stores ≡ counted 0 (storesAfter 0 (run step (now (tape .entry)) (blankStart (now (disk .entry)) (now (memory .entry)))))) × (length (now (disk .entry)) ≡ 32896 → length (now (memory .entry)) ≡ 16384 → AreaKept (emptyService 0) (run step (now (tape .entry)) (blankStart (now (disk .entry)) (now (memory .entry)))) × LedgerKept 0 blankLedger (blankStart (now (disk .entry)) (now (memory .entry))) (run step (now (tape .entry)) (blankStart (now (disk .entry)) (now (memory .entry))))) ⌝ }
+    ensures { λ r. ⌜ (worldOf r (now (disk .exit)) (now (memory .exit)) ≡ worldAfter (blankStart (now (disk .entry)) (now (memory .entry))) (run step (now (tape .entry)) (blankStart (now (disk .entry)) (now (memory .entry))))) × (r .stores ≡ storesAfter 0 (run step (now (tape .entry)) (blankStart (now (disk .entry)) (now (memory .entry))))) × (length (now (disk .entry)) ≡ 32896 → length (now (memory .entry)) ≡ 16384 → AreaKept (emptyService 0) (run step (now (tape .entry)) (blankStart (now (disk .entry)) (now (memory .entry)))) × LedgerKept 0 blankLedger (blankStart (now (disk .entry)) (now (memory .entry))) (run step (now (tape .entry)) (blankStart (now (disk .entry)) (now (memory .entry))))) ⌝ }
 {
     let s = blank();
     run(s, tape, disk, memory)
