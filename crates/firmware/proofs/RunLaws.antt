@@ -156,13 +156,13 @@ pub demands-met : (t : Bytes) (x : Card) (d m : Bytes) → IsBytes t → IsBytes
 demands-met t x d m bt bd bm =
     record {
       from-blank = λ e l k.
-      subst (λ (y : Card). AreaKept (emptyService 0) (run step t (world y d m)) × LedgerKept 0 blankLedger (world y d m) (run step t (world y d m)))
-      (sym e) (claim .0 t d m bt bd bm l k, demands .0 t d m bt bd bm l k);
+          subst (λ (y : Card). AreaKept (emptyService 0) (run step t (world y d m)) × LedgerKept 0 blankLedger (world y d m) (run step t (world y d m)))
+          (sym e) (claim .0 t d m bt bd bm l k, demands .0 t d m bt bd bm l k);
       from-down = λ s h e f k.
-      subst (λ (y : Card). AreaKept (emptyService (s .blocks)) (run step t (world y d m)) × LedgerKept 0 (downLedger s) (world y d m) (run step t (world y d m)))
-      (sym e)
-      (subst (λ (z : Bytes). AreaKept (emptyService (s .blocks)) (run step t (world downCard z m)) × LedgerKept 0 (downLedger s) (world downCard z m) (run step t (world downCard z m)))
-      (sym f) (claim .1 t m s h bt bm k, demands .1 t m s h bt bm k));
+          subst (λ (y : Card). AreaKept (emptyService (s .blocks)) (run step t (world y d m)) × LedgerKept 0 (downLedger s) (world y d m) (run step t (world y d m)))
+          (sym e)
+          (subst (λ (z : Bytes). AreaKept (emptyService (s .blocks)) (run step t (world downCard z m)) × LedgerKept 0 (downLedger s) (world downCard z m) (run step t (world downCard z m)))
+          (sym f) (claim .1 t m s h bt bm k, demands .1 t m s h bt bm k));
     }
 
 -- ---- from a blank card

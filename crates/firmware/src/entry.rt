@@ -180,7 +180,12 @@ pub extern "C" fn rev_d_read_block<'a>(
 
 // Every command of a tape.
 #[no_mangle]
-pub extern "C" fn rev_d_tape(x: SessionState, tape: &[u8], disk: &mut [u8], memory: &mut [u8]) -> SessionState
+pub extern "C" fn rev_d_tape(
+    x: SessionState,
+    tape: &[u8],
+    disk: &mut [u8],
+    memory: &mut [u8],
+) -> SessionState
     ensures { λ r. ⌜ (worldOf (sessionOf r) (now (disk .exit)) (now (memory .exit)) ≡ worldAfter (worldOf (sessionOf x) (now (disk .entry)) (now (memory .entry))) (run step (now (tape .entry)) (worldOf (sessionOf x) (now (disk .entry)) (now (memory .entry))))) × ((sessionOf r) .stores ≡ counted (x .stores) (storesAfter 0 (run step (now (tape .entry)) (worldOf (sessionOf x) (now (disk .entry)) (now (memory .entry)))))) × DemandsMet (now (tape .entry)) (worldOf (sessionOf x) (now (disk .entry)) (now (memory .entry))) ⌝ }
 {
     let s = session_of(x);

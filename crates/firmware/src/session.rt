@@ -31,10 +31,7 @@ pub fn blank() -> Session
     ensures { λ r. ⌜ r ≡ newSession blankCard 0 ⌝ }
 {
     let card = Card::blank();
-    Session {
-        card,
-        stores: 0,
-    }
+    Session { card, stores: 0 }
 }
 
 // A card that is down, over a disk written elsewhere.
@@ -42,10 +39,7 @@ pub fn down() -> Session
     ensures { λ r. ⌜ r ≡ newSession downCard 0 ⌝ }
 {
     let card = Card::down();
-    Session {
-        card,
-        stores: 0,
-    }
+    Session { card, stores: 0 }
 }
 
 // The count grown by k; it stays at the largest number, which no run reaches.
@@ -84,13 +78,7 @@ pub fn read_number(s: Session, b: u16, disk: &[u8], memory: &[u8]) -> u8
 }
 
 // Block b copied into a lent buffer of 128 bytes. A buffer of another length answers 1; a refusal touches no byte of it.
-pub fn read_block<'a>(
-    s: Session,
-    b: u16,
-    disk: &'a [u8],
-    memory: &'a [u8],
-    out: &mut [u8],
-) -> u8
+pub fn read_block<'a>(s: Session, b: u16, disk: &'a [u8], memory: &'a [u8], out: &mut [u8]) -> u8
     ensures { λ r. ⌜ (r ≡ cond (eqb (length (now (out .entry))) 128) (readNumber b (worldOf s (now (disk .entry)) (now (memory .entry)))) 1) × (now (out .exit) ≡ readInto r b (worldOf s (now (disk .entry)) (now (memory .entry))) (now (out .entry))) ⌝ }
 {
     if out.len() != 128 {

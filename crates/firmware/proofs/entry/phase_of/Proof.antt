@@ -1,4 +1,5 @@
 -- `firmware::entry::phase_of` meets its contract.
+use borrow.Author.Needs.{needs}
 use Rattle.firmware.proofs.EntryLaws.{phase-blank, phase-up, phase-down}
 use Rattle.firmware.proofs.entry.phase_of.Statement.{statement}
 use Rattle.firmware.proofs.entry.phase_of.Tie as tie

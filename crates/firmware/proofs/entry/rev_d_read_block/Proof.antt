@@ -22,9 +22,10 @@ same-length c = search needs
 returns : tie.Need-returns
 returns c =
     let r = c .before .before .read-block in
-    let e = c .before .before .before .before .session-of .ensures in
-    (r .ensures .0 ∙ ap (λ (s : Session). cond (eqb (length (c .before .before .before .before .before .before .before .before .args .out .now)) 128) (readNumber (c .before .before .before .before .before .before .before .before .args .b) (worldOf s (c .before .before .before .before .before .before .before .before .args .disk .now) (c .before .before .before .before .before .before .before .before .args .memory .now))) 1) e,
-    r .ensures .1 ∙ ap (λ (s : Session). readInto (r .result) (c .before .before .before .before .before .before .before .before .args .b) (worldOf s (c .before .before .before .before .before .before .before .before .args .disk .now) (c .before .before .before .before .before .before .before .before .args .memory .now)) (c .before .before .before .before .before .before .before .before .args .out .now)) e)
+    let e = c .before .before .before .before .session-of .ensures in (
+      r .ensures .0 ∙ ap (λ (s : Session). cond (eqb (length (c .before .before .before .before .before .before .before .before .args .out .now)) 128) (readNumber (c .before .before .before .before .before .before .before .before .args .b) (worldOf s (c .before .before .before .before .before .before .before .before .args .disk .now) (c .before .before .before .before .before .before .before .before .args .memory .now))) 1) e,
+      r .ensures .1 ∙ ap (λ (s : Session). readInto (r .result) (c .before .before .before .before .before .before .before .before .args .b) (worldOf s (c .before .before .before .before .before .before .before .before .args .disk .now) (c .before .before .before .before .before .before .before .before .args .memory .now)) (c .before .before .before .before .before .before .before .before .args .out .now)) e,
+    )
 
 pub rev-d-read-block-spec : {M : Type 1} → statement M
 rev-d-read-block-spec =

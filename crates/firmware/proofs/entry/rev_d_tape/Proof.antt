@@ -26,10 +26,11 @@ same-length-2 c = search needs
 returns : tie.Need-returns
 returns c =
     let r = c .before .before .before .before .before .run .ensures in
-    let e = c .before .before .before .before .before .before .before .before .session-of .ensures in
-    (back-world _ _ (c .state-of .ensures) _ _ _ (r .0 ∙ ap (λ (s : Session). worldAfter (worldOf s (c .before .before .before .before .before .before .before .before .before .before .before .before .args .disk .now) (c .before .before .before .before .before .before .before .before .before .before .before .before .args .memory .now)) (run step (c .before .before .before .before .before .before .before .before .before .before .before .before .args .tape .now) (worldOf s (c .before .before .before .before .before .before .before .before .before .before .before .before .args .disk .now) (c .before .before .before .before .before .before .before .before .before .before .before .before .args .memory .now)))) e),
-    back-stores _ _ (c .state-of .ensures) _ (r .1 ∙ ap (λ (s : Session). counted (s .stores) (storesAfter 0 (run step (c .before .before .before .before .before .before .before .before .before .before .before .before .args .tape .now) (worldOf s (c .before .before .before .before .before .before .before .before .before .before .before .before .args .disk .now) (c .before .before .before .before .before .before .before .before .before .before .before .before .args .memory .now))))) e),
-    subst (λ (s : Session). DemandsMet (c .before .before .before .before .before .before .before .before .before .before .before .before .args .tape .now) (worldOf s (c .before .before .before .before .before .before .before .before .before .before .before .before .args .disk .now) (c .before .before .before .before .before .before .before .before .before .before .before .before .args .memory .now))) e (r .2))
+    let e = c .before .before .before .before .before .before .before .before .session-of .ensures in (
+      back-world _ _ (c .state-of .ensures) _ _ _ (r .0 ∙ ap (λ (s : Session). worldAfter (worldOf s (c .before .before .before .before .before .before .before .before .before .before .before .before .args .disk .now) (c .before .before .before .before .before .before .before .before .before .before .before .before .args .memory .now)) (run step (c .before .before .before .before .before .before .before .before .before .before .before .before .args .tape .now) (worldOf s (c .before .before .before .before .before .before .before .before .before .before .before .before .args .disk .now) (c .before .before .before .before .before .before .before .before .before .before .before .before .args .memory .now)))) e),
+      back-stores _ _ (c .state-of .ensures) _ (r .1 ∙ ap (λ (s : Session). counted (s .stores) (storesAfter 0 (run step (c .before .before .before .before .before .before .before .before .before .before .before .before .args .tape .now) (worldOf s (c .before .before .before .before .before .before .before .before .before .before .before .before .args .disk .now) (c .before .before .before .before .before .before .before .before .before .before .before .before .args .memory .now))))) e),
+      subst (λ (s : Session). DemandsMet (c .before .before .before .before .before .before .before .before .before .before .before .before .args .tape .now) (worldOf s (c .before .before .before .before .before .before .before .before .before .before .before .before .args .disk .now) (c .before .before .before .before .before .before .before .before .before .before .before .before .args .memory .now))) e (r .2),
+    )
 
 pub rev-d-tape-spec : {M : Type 1} → statement M
 rev-d-tape-spec =

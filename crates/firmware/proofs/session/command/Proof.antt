@@ -20,9 +20,13 @@ same-length-2 c = search needs
 
 returns : tie.Need-returns
 returns c =
-    let e = c .before .before .before .before .before .before .before .command .ensures in
-    (ap (λ (o : Outcome). o .answer) (e .0), ap (λ (o : Outcome). o .world) (e .0),
-    c .before .counted .ensures ∙ ap (λ (o : Outcome). counted (c .before .before .before .before .before .before .before .before .before .before .before .before .before .args .s .stores) (o .stores)) (e .0), e .1, e .2)
+    let e = c .before .before .before .before .before .before .before .command .ensures in (
+      ap (λ (o : Outcome). o .answer) (e .0),
+      ap (λ (o : Outcome). o .world) (e .0),
+      c .before .counted .ensures ∙ ap (λ (o : Outcome). counted (c .before .before .before .before .before .before .before .before .before .before .before .before .before .args .s .stores) (o .stores)) (e .0),
+      e .1,
+      e .2,
+    )
 
 pub command-spec : {M : Type 1} → statement M
 command-spec =

@@ -26,9 +26,10 @@ same-length : tie.Need-same-length
 same-length c = search needs
 
 returns-3 : tie.Need-returns-3
-returns-3 c =
-    (number-read (c .before .before .before .before .before .before .before .before .before .before .before .args .s .card) (c .before .before .before .before .before .before .before .before .before .before .before .args .b) (c .before .before .before .before .before .before .before .before .before .before .before .args .disk .now) (c .before .before .before .before .before .before .before .before .before .before .before .args .memory .now) (c .before .before .before .before .before .before .before .before .before .before .before .args .out .now) (c .before .before .before .before .before .before .before .if1 .left) 0 (sym (c .before .before .before .before .before .if2 .left) ∙ c .before .before .before .before .before .before .read-number .ensures),
-    into-block (c .before .before .before .before .before .before .before .before .before .before .before .args .s .card) (c .before .before .before .before .before .before .before .before .before .before .before .args .b) (c .before .before .before .before .before .before .before .before .before .before .before .args .disk .now) (c .before .before .before .before .before .before .before .before .before .before .before .args .memory .now) (c .before .before .before .before .before .before .before .before .before .before .before .args .out .now) _ (c .before .before .copy-block .ensures ∙ c .before .before .before .before .read-block .ensures))
+returns-3 c = (
+  number-read (c .before .before .before .before .before .before .before .before .before .before .before .args .s .card) (c .before .before .before .before .before .before .before .before .before .before .before .args .b) (c .before .before .before .before .before .before .before .before .before .before .before .args .disk .now) (c .before .before .before .before .before .before .before .before .before .before .before .args .memory .now) (c .before .before .before .before .before .before .before .before .before .before .before .args .out .now) (c .before .before .before .before .before .before .before .if1 .left) 0 (sym (c .before .before .before .before .before .if2 .left) ∙ c .before .before .before .before .before .before .read-number .ensures),
+  into-block (c .before .before .before .before .before .before .before .before .before .before .before .args .s .card) (c .before .before .before .before .before .before .before .before .before .before .before .args .b) (c .before .before .before .before .before .before .before .before .before .before .before .args .disk .now) (c .before .before .before .before .before .before .before .before .before .before .before .args .memory .now) (c .before .before .before .before .before .before .before .before .before .before .before .args .out .now) _ (c .before .before .copy-block .ensures ∙ c .before .before .before .before .read-block .ensures),
+)
 
 pub read-block-spec : {M : Type 1} → statement M
 read-block-spec =

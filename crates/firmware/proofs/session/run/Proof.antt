@@ -29,9 +29,11 @@ loop-less c = omega (arith, c .before .before .before .before .before .command .
 loop-again : tie.Need-loop-again Inv-loop μ-loop
 loop-again c =
     let r = c .before .before .before .before .before .command in
-    let l = c .before .before .before .before .before .before .before .before .before .loop .inv in
-    (r .kept .1 .1 .1 .0 ∙ l .0, r .kept .1 .1 .1 .1 .0 ∙ l .1,
-    left-more _ _ _ _ _ _ _ _ _ (l .2) (c .before .before .before .before .before .before .before .before .loop-test .taken) (r .ensures .1) (r .ensures .2) (r .ensures .4))
+    let l = c .before .before .before .before .before .before .before .before .before .loop .inv in (
+      r .kept .1 .1 .1 .0 ∙ l .0,
+      r .kept .1 .1 .1 .1 .0 ∙ l .1,
+      left-more _ _ _ _ _ _ _ _ _ (l .2) (c .before .before .before .before .before .before .before .before .loop-test .taken) (r .ensures .1) (r .ensures .2) (r .ensures .4),
+    )
 
 same-length : tie.Need-same-length Inv-loop μ-loop
 same-length c = search needs
@@ -41,9 +43,11 @@ same-length-2 c = search needs
 
 returns : tie.Need-returns Inv-loop μ-loop
 returns c =
-    let l = c .before .loop .inv .2 in
-    (left-world _ _ _ _ _ _ l (c .loop-test .left), left-stores _ _ _ _ _ _ l (c .loop-test .left),
-    demands-met _ _ _ _ (are-bytes (c .before .before .before .before .before .args .tape .now) (λ i. omega (arith, c .before .before .before .before .shared-slice-known .given i))) (are-bytes (c .before .before .before .before .before .args .disk .now) (λ i. omega (arith, c .before .before .before .slice-known .given i))) (are-bytes (c .before .before .before .before .before .args .memory .now) (λ i. omega (arith, c .before .before .slice-known2 .given i))))
+    let l = c .before .loop .inv .2 in (
+      left-world _ _ _ _ _ _ l (c .loop-test .left),
+      left-stores _ _ _ _ _ _ l (c .loop-test .left),
+      demands-met _ _ _ _ (are-bytes (c .before .before .before .before .before .args .tape .now) (λ i. omega (arith, c .before .before .before .before .shared-slice-known .given i))) (are-bytes (c .before .before .before .before .before .args .disk .now) (λ i. omega (arith, c .before .before .before .slice-known .given i))) (are-bytes (c .before .before .before .before .before .args .memory .now) (λ i. omega (arith, c .before .before .slice-known2 .given i))),
+    )
 
 pub run-spec : {M : Type 1} → statement M
 run-spec =

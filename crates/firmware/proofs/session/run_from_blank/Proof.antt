@@ -18,10 +18,11 @@ same-length-2 c = search needs
 
 returns : tie.Need-returns
 returns c =
-    let r = c .before .before .before .before .run .ensures in
-    (blank-world (c .before .before .before .before .before .before .before .before .before .before .before .args .tape .now) (c .before .before .before .before .before .before .before .before .before .before .before .args .disk .now) (c .before .before .before .before .before .before .before .before .before .before .before .args .memory .now) _ (c .before .before .before .before .before .before .before .blank .ensures) _ (r .0),
-    blank-stores (c .before .before .before .before .before .before .before .before .before .before .before .args .tape .now) (c .before .before .before .before .before .before .before .before .before .before .before .args .disk .now) (c .before .before .before .before .before .before .before .before .before .before .before .args .memory .now) _ (c .before .before .before .before .before .before .before .blank .ensures) _ (r .1) (search needs),
-    blank-demands (c .before .before .before .before .before .before .before .before .before .before .before .args .tape .now) (c .before .before .before .before .before .before .before .before .before .before .before .args .disk .now) (c .before .before .before .before .before .before .before .before .before .before .before .args .memory .now) _ (c .before .before .before .before .before .before .before .blank .ensures) (r .2))
+    let r = c .before .before .before .before .run .ensures in (
+      blank-world (c .before .before .before .before .before .before .before .before .before .before .before .args .tape .now) (c .before .before .before .before .before .before .before .before .before .before .before .args .disk .now) (c .before .before .before .before .before .before .before .before .before .before .before .args .memory .now) _ (c .before .before .before .before .before .before .before .blank .ensures) _ (r .0),
+      blank-stores (c .before .before .before .before .before .before .before .before .before .before .before .args .tape .now) (c .before .before .before .before .before .before .before .before .before .before .before .args .disk .now) (c .before .before .before .before .before .before .before .before .before .before .before .args .memory .now) _ (c .before .before .before .before .before .before .before .blank .ensures) _ (r .1) (search needs),
+      blank-demands (c .before .before .before .before .before .before .before .before .before .before .before .args .tape .now) (c .before .before .before .before .before .before .before .before .before .before .before .args .disk .now) (c .before .before .before .before .before .before .before .before .before .before .before .args .memory .now) _ (c .before .before .before .before .before .before .before .blank .ensures) (r .2),
+    )
 
 pub run-from-blank-spec : {M : Type 1} → statement M
 run-from-blank-spec =
