@@ -6,5 +6,6 @@ pub mod transaction; // WRITE
 pub mod commit; // CLOSE and STORE
 pub mod checkpoint; // CHECKPOINT
 pub mod recovery; // CUT
-mod recover; // RECOVER; private until all seven commands are there, so that none is called before the proof of whole runs
+pub mod recover; // RECOVER
 pub mod reading; // a block as its readers see it
+pub mod tape; // one command at an offset of a tape

@@ -11,6 +11,7 @@ pub enum Phase {
 }
 
 // The disk's shape: C cores, B home blocks, J journal blocks for each core.
+#[repr(C)]
 pub struct Shape {
     pub cores: u8,
     pub blocks: u8,
@@ -24,12 +25,14 @@ pub enum Checked {
 }
 
 // Where a core's journal begins: the number and the position of its oldest unretired record, or of the next one.
+#[repr(C)]
 pub struct Tail {
     pub number: u32,
     pub position: u8,
 }
 
 // The name of a transaction: a core and a number.
+#[repr(C)]
 pub struct Name {
     pub core: u8,
     pub number: u32,
@@ -37,6 +40,7 @@ pub struct Name {
 
 // A transaction that is not committed: the blocks that it took, in order, and the names of those that it depends on.
 // Its stamp is given at CLOSE.
+#[repr(C)]
 pub struct Transaction {
     pub live: bool,
     pub stamp: u64,
@@ -48,6 +52,7 @@ pub struct Transaction {
 
 // A core: the number of its running transaction, or of the next one to open; the blocks of its committed unretired
 // records; the stores done of the closed transaction and of the checkpoint under way.
+#[repr(C)]
 pub struct Core {
     pub next: u32,
     pub used: u8,
@@ -58,6 +63,7 @@ pub struct Core {
 }
 
 // The transaction that holds a block, if one does.
+#[repr(C)]
 pub struct Holder {
     pub held: bool,
     pub name: Name,

@@ -1,0 +1,41 @@
+-- `firmware::entry::rev_d_command` meets its contract: the session's command.
+use Rattle.firmware.proofs.EntryLaws.{back-world, back-stores, same-answer, same-world, same-stores}
+use borrow.Author.Needs.{needs}
+use Rattle.firmware.proofs.entry.rev_d_command.Statement.{statement}
+use Rattle.firmware.proofs.entry.rev_d_command.Tie as tie
+
+session-of-requires : tie.Need-session-of-requires
+session-of-requires c κs = search needs
+
+command-requires : tie.Need-command-requires
+command-requires c κs = search needs
+
+state-of-requires : tie.Need-state-of-requires
+state-of-requires c κs = search needs
+
+same-length : tie.Need-same-length
+same-length c = search needs
+
+same-length-2 : tie.Need-same-length-2
+same-length-2 c = search needs
+
+returns : tie.Need-returns
+returns c =
+    let r = c .before .before .before .before .before .command .ensures in (
+      same-answer _ _ (c .before .before .before .before .before .before .before .before .session-of .ensures) (c .before .before .before .before .before .before .before .before .before .before .before .before .args .tape .now) (c .before .before .before .before .before .before .before .before .before .before .before .before .args .at) (c .before .before .before .before .before .before .before .before .before .before .before .before .args .disk .now) (c .before .before .before .before .before .before .before .before .before .before .before .before .args .memory .now) _ (r .0),
+      back-world _ _ (c .state-of .ensures) _ _ _ (same-world _ _ (c .before .before .before .before .before .before .before .before .session-of .ensures) (c .before .before .before .before .before .before .before .before .before .before .before .before .args .tape .now) (c .before .before .before .before .before .before .before .before .before .before .before .before .args .at) (c .before .before .before .before .before .before .before .before .before .before .before .before .args .disk .now) (c .before .before .before .before .before .before .before .before .before .before .before .before .args .memory .now) _ (r .1)),
+      back-stores _ _ (c .state-of .ensures) _ (same-stores _ _ (c .before .before .before .before .before .before .before .before .session-of .ensures) (c .before .before .before .before .before .before .before .before .before .before .before .before .args .tape .now) (c .before .before .before .before .before .before .before .before .before .before .before .before .args .at) (c .before .before .before .before .before .before .before .before .before .before .before .before .args .disk .now) (c .before .before .before .before .before .before .before .before .before .before .before .before .args .memory .now) _ (r .2)),
+      r .3,
+      r .4,
+    )
+
+pub rev-d-command-spec : {M : Type 1} → statement M
+rev-d-command-spec =
+    tie.close
+    (tie.spec
+    session-of-requires
+    command-requires
+    state-of-requires
+    same-length
+    same-length-2
+    returns)

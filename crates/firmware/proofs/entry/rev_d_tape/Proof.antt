@@ -1,0 +1,38 @@
+-- `firmware::entry::rev_d_tape` meets its contract: the session's run.
+use mathlib.Core.Path.{ap, _∙_, subst}
+use Rattle.model.specs.Tape.{step, run, worldAfter}
+use Rattle.firmware.specs.Session.{worldOf, counted, storesAfter, DemandsMet}
+use Rattle.firmware.specs.declared.session.Session.{Session}
+use Rattle.firmware.proofs.EntryLaws.{back-world, back-stores}
+use borrow.Author.Needs.{needs}
+use Rattle.firmware.proofs.entry.rev_d_tape.Statement.{statement}
+use Rattle.firmware.proofs.entry.rev_d_tape.Tie as tie
+
+session-of-requires : tie.Need-session-of-requires
+session-of-requires c κs = search needs
+
+run-requires : tie.Need-run-requires
+run-requires c κs = search needs
+
+state-of-requires : tie.Need-state-of-requires
+state-of-requires c κs = search needs
+
+same-length : tie.Need-same-length
+same-length c = search needs
+
+same-length-2 : tie.Need-same-length-2
+same-length-2 c = search needs
+
+returns : tie.Need-returns
+returns c =
+    let r = c .before .before .before .before .before .run .ensures in
+    let e = c .before .before .before .before .before .before .before .before .session-of .ensures in (
+      back-world _ _ (c .state-of .ensures) _ _ _ (r .0 ∙ ap (λ (s : Session). worldAfter (worldOf s (c .before .before .before .before .before .before .before .before .before .before .before .before .args .disk .now) (c .before .before .before .before .before .before .before .before .before .before .before .before .args .memory .now)) (run step (c .before .before .before .before .before .before .before .before .before .before .before .before .args .tape .now) (worldOf s (c .before .before .before .before .before .before .before .before .before .before .before .before .args .disk .now) (c .before .before .before .before .before .before .before .before .before .before .before .before .args .memory .now)))) e),
+      back-stores _ _ (c .state-of .ensures) _ (r .1 ∙ ap (λ (s : Session). counted (s .stores) (storesAfter 0 (run step (c .before .before .before .before .before .before .before .before .before .before .before .before .args .tape .now) (worldOf s (c .before .before .before .before .before .before .before .before .before .before .before .before .args .disk .now) (c .before .before .before .before .before .before .before .before .before .before .before .before .args .memory .now))))) e),
+      subst (λ (s : Session). DemandsMet (c .before .before .before .before .before .before .before .before .before .before .before .before .args .tape .now) (worldOf s (c .before .before .before .before .before .before .before .before .before .before .before .before .args .disk .now) (c .before .before .before .before .before .before .before .before .before .before .before .before .args .memory .now))) e (r .2),
+    )
+
+pub rev-d-tape-spec : {M : Type 1} → statement M
+rev-d-tape-spec =
+    tie.close
+    (tie.spec session-of-requires run-requires state-of-requires same-length same-length-2 returns)
