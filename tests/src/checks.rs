@@ -49,17 +49,18 @@ pub struct Failure {
     pub is_foreign: bool,
 }
 
+/// What the card under test answered, and what it left.
+pub struct Seen<'a> {
+    pub outcome: Outcome,
+    pub card: &'a Card,
+    pub disk: &'a [u8],
+    pub memory: &'a [u8],
+}
+
 /// Another card beside the one under test, told of every start and every command.
 pub trait Watcher {
     fn start(&mut self, is_down: bool, disk: &[u8], memory: &[u8]);
-    fn command(
-        &mut self,
-        tape: &[u8],
-        offset: usize,
-        outcome: Outcome,
-        disk: &[u8],
-        memory: &[u8],
-    ) -> Result<(), String>;
+    fn command(&mut self, tape: &[u8], offset: usize, seen: Seen) -> Result<(), String>;
 }
 
 #[derive(Clone, Debug)]
@@ -277,8 +278,9 @@ impl<'w> Bench<'w> {
         };
         checked.map_err(|found| self.failure(found, offset))?;
         if let Some(watcher) = &mut self.watcher {
-            let seen = watcher.command(&self.tape, offset, outcome, &self.disk, &self.memory);
-            seen.map_err(|detail| self.failure(("differs", detail), offset))?;
+            let seen = Seen { outcome, card: &self.card, disk: &self.disk, memory: &self.memory };
+            let watched = watcher.command(&self.tape, offset, seen);
+            watched.map_err(|detail| self.failure(("differs", detail), offset))?;
         }
         Ok(outcome)
     }

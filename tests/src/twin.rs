@@ -1,7 +1,7 @@
 // twin.rs: a watcher that runs the right card beside another one.
 
-use crate::card::{Card, Outcome};
-use crate::checks::Watcher;
+use crate::card::Card;
+use crate::checks::{Seen, Watcher};
 use crate::layout::{DISK, MEMORY};
 
 /// The right card beside the one under test: tells where answers, counts or bytes first differ.
@@ -24,12 +24,12 @@ impl Watcher for Twin {
         self.memory.copy_from_slice(memory);
     }
 
-    fn command(&mut self, tape: &[u8], offset: usize, seen: Outcome, disk: &[u8], memory: &[u8]) -> Result<(), String> {
+    fn command(&mut self, tape: &[u8], offset: usize, seen: Seen) -> Result<(), String> {
         let right = self.card.command(&mut self.disk, &mut self.memory, tape, offset);
         match () {
-            _ if right != seen => Err(format!("{seen:?}, the right card {right:?}")),
-            _ if self.disk != disk => Err("the disk differs".into()),
-            _ if self.memory != memory => Err("the memory differs".into()),
+            _ if right != seen.outcome => Err(format!("{:?}, the right card {right:?}", seen.outcome)),
+            _ if self.disk != seen.disk => Err("the disk differs".into()),
+            _ if self.memory != seen.memory => Err("the memory differs".into()),
             _ => Ok(()),
         }
     }

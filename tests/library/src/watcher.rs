@@ -1,0 +1,66 @@
+// watcher.rs: the library beside the model: answers, counts, offsets, every byte of disk and memory, block readings.
+
+use crate::session::Session;
+use card_tests::checks::{Seen, Watcher};
+use card_tests::layout::{DISK, MEMORY};
+
+/// Blocks that are read in turn: all that a card can have, and some that it cannot.
+const BLOCKS_READ: u64 = 67;
+
+pub struct Library {
+    session: Session,
+    disk: Vec<u8>,
+    memory: Vec<u8>,
+    stores: u64,
+    commands: u64,
+}
+
+impl Default for Library {
+    fn default() -> Self {
+        Library { session: Session::blank(), disk: vec![0; DISK], memory: vec![0; MEMORY], stores: 0, commands: 0 }
+    }
+}
+
+impl Library {
+    /// One block after each command, in turn.
+    fn compare_reading(&self, seen: &Seen) -> Result<(), String> {
+        let block = (self.commands % BLOCKS_READ) as u16;
+        let number = self.session.read_number(block, &self.disk, &self.memory);
+        let mut bytes = [0xA5; 128];
+        let copied = self.session.read_block(block, &self.disk, &self.memory, &mut bytes);
+        let right = seen.card.read_number(seen.disk, seen.memory, block as usize);
+        let part = seen.card.read_block(seen.disk, seen.memory, block as usize);
+        let is_right = if right == 0 { bytes == part } else { bytes == [0xA5; 128] };
+        match number == right && copied == right && is_right {
+            true => Ok(()),
+            false => Err(format!("block {block} is read with {number} and {copied}, the model reads it with {right}")),
+        }
+    }
+}
+
+impl Watcher for Library {
+    fn start(&mut self, is_down: bool, disk: &[u8], memory: &[u8]) {
+        self.session = if is_down { Session::down() } else { Session::blank() };
+        self.disk.copy_from_slice(disk);
+        self.memory.copy_from_slice(memory);
+        self.stores = 0;
+    }
+
+    fn command(&mut self, tape: &[u8], offset: usize, seen: Seen) -> Result<(), String> {
+        let done = self.session.command(tape, offset, &mut self.disk, &mut self.memory);
+        self.stores += seen.outcome.stores as u64;
+        self.commands += 1;
+        let ended = matches!(done.number, 2 | 3) && done.next == tape.len();
+        match () {
+            _ if done.number != seen.outcome.answer => {
+                Err(format!("answer {}, the model {}", done.number, seen.outcome.answer))
+            }
+            _ if done.byte != tape[offset] => Err(format!("command byte {}", done.byte)),
+            _ if done.next != seen.outcome.next && !ended => Err(format!("next offset {}", done.next)),
+            _ if self.session.stores() != self.stores => Err(format!("{} stores", self.session.stores())),
+            _ if self.disk != seen.disk => Err("the disk differs".into()),
+            _ if self.memory != seen.memory => Err("the memory differs".into()),
+            _ => self.compare_reading(&seen),
+        }
+    }
+}

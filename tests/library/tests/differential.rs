@@ -1,0 +1,46 @@
+// differential.rs: the library does what the model does, and the comparison tells every wrong card apart.
+
+use card_library::session::Session;
+use card_library::watcher::Library;
+use card_tests::checks::{Bench, Checks};
+use card_tests::layout::{DISK, MEMORY};
+use card_tests::random::Random;
+use card_tests::wrong::{Wrong, ALL};
+
+fn differs(wrong: Wrong, commands: u64, seed: u64) -> Option<String> {
+    let mut library = Library::default();
+    let mut bench = Bench::new(wrong, Checks::NONE, Some(&mut library));
+    bench.soak(commands, seed).err().map(|failure| failure.detail)
+}
+
+#[test]
+fn the_library_does_what_the_model_does() {
+    let first = std::thread::spawn(|| differs(Wrong::No, 1_000_000, 21));
+    assert_eq!(differs(Wrong::No, 1_000_000, 22), None);
+    assert_eq!(first.join().expect("it ends"), None);
+}
+
+#[test]
+fn every_wrong_card_is_told_apart() {
+    for (wrong, words) in ALL.iter().filter(|(wrong, _)| *wrong != Wrong::Only33Committed) {
+        assert!(differs(*wrong, 400_000, 1).is_some(), "not told apart: {words}");
+    }
+}
+
+/// Slices of any length are answered, and what is lent with a wrong length is not touched.
+#[test]
+fn slices_of_a_wrong_length_are_refused() {
+    let mut random = Random::new(5);
+    for _ in 0..2000 {
+        let (mut disk, mut memory) = (vec![1; random.below(2 * DISK)], vec![2; random.below(2 * MEMORY)]);
+        let (disk_before, memory_before) = (disk.clone(), memory.clone());
+        let tape: Vec<u8> = (0..random.below(12)).map(|_| random.below(9) as u8).collect();
+        let mut session = if random.chance(500) { Session::blank() } else { Session::down() };
+        let done = session.command(&tape, random.below(14), &mut disk, &mut memory);
+        let is_wrong = disk_before.len() != DISK || memory_before.len() != MEMORY;
+        assert!(!is_wrong || (done.number == 1 && disk == disk_before && memory == memory_before));
+        let mut buffer = vec![3; random.below(300)];
+        let number = session.read_block(0, &disk, &memory, &mut buffer);
+        assert!(number != 0 && buffer.iter().all(|byte| *byte == 3));
+    }
+}
