@@ -1,81 +1,62 @@
+-- `tape::print_block` meets its contract: eight bytes of a block.
+use Prim.Native.Nat.{_≤_, _-_}
+use borrow.Author.Needs.{needs}
 use Rattle.tape.proofs.print_block.Statement.{statement}
 use Rattle.tape.proofs.print_block.Tie as tie
-use Rattle.tape.proofs.print_block.Reads as reads
-use Rattle.tape.proofs.print_block.Lts as lts
-use Rattle.io.proofs.print_decimal.Reads as print-decimal-reads
-use Rattle.io.proofs.write_all.Reads as write-all-reads
-use Rattle.tape.proofs.is_zero.Reads as is-zero-reads
-use Rattle.tape.proofs.print_byte.Reads as print-byte-reads
 
 abbrev Inv-loop : tie.InvT-loop
-Inv-loop b block i₀ t6 i = ?
+Inv-loop b block i₀ t6 i = i ≤ 8
 
 abbrev μ-loop : tie.MeasureT-loop
-μ-loop b block i₀ t6 i = ?
+μ-loop b block i₀ t6 i = 8 - i
 
--- src/main.rt:152:8
 is-zero-requires : tie.Need-is-zero-requires Inv-loop μ-loop
-is-zero-requires c κs = ?
+is-zero-requires c κs = search needs
 
--- src/main.rt:153:9
 returns : tie.Need-returns Inv-loop μ-loop
-returns c = ?
+returns c = search needs
 
--- src/main.rt:155:22
 slice-aggregate-write-all : tie.Need-slice-aggregate-write-all Inv-loop μ-loop
-slice-aggregate-write-all c = ?
+slice-aggregate-write-all c = search needs
 
--- src/main.rt:155:5
 write-all-requires : tie.Need-write-all-requires Inv-loop μ-loop
-write-all-requires c κs = ?
+write-all-requires c κs = search needs
 
--- src/main.rt:156:5
 print-decimal-requires : tie.Need-print-decimal-requires Inv-loop μ-loop
-print-decimal-requires c κs = ?
+print-decimal-requires c κs = search needs
 
--- src/main.rt:157:22
 slice-aggregate-write-all-2 : tie.Need-slice-aggregate-write-all-2 Inv-loop μ-loop
-slice-aggregate-write-all-2 c = ?
+slice-aggregate-write-all-2 c = search needs
 
--- src/main.rt:157:5
 write-all-requires-2 : tie.Need-write-all-requires-2 Inv-loop μ-loop
-write-all-requires-2 c κs = ?
+write-all-requires-2 c κs = search needs
 
--- src/main.rt:159:5
 loop-holds : tie.Need-loop-holds Inv-loop μ-loop
-loop-holds c = ?
+loop-holds c = search needs
 
--- src/main.rt:160:20
 shared-slice-read-print-byte : tie.Need-shared-slice-read-print-byte Inv-loop μ-loop
-shared-slice-read-print-byte c = ?
+shared-slice-read-print-byte c = search needs
 
--- src/main.rt:160:9
 print-byte-requires : tie.Need-print-byte-requires Inv-loop μ-loop
-print-byte-requires c κs = ?
+print-byte-requires c κs = search needs
 
--- src/main.rt:161:9
 add-i : tie.Need-add-i Inv-loop μ-loop
-add-i c = ?
+add-i c = search needs
 
--- src/main.rt:159:5
 loop-less : tie.Need-loop-less Inv-loop μ-loop
-loop-less c = ?
+loop-less c = search needs
 
--- src/main.rt:159:5
 loop-again : tie.Need-loop-again Inv-loop μ-loop
-loop-again c = ?
+loop-again c = search needs
 
--- src/main.rt:163:22
 slice-aggregate-write-all-3 : tie.Need-slice-aggregate-write-all-3 Inv-loop μ-loop
-slice-aggregate-write-all-3 c = ?
+slice-aggregate-write-all-3 c = search needs
 
--- src/main.rt:163:5
 write-all-requires-3 : tie.Need-write-all-requires-3 Inv-loop μ-loop
-write-all-requires-3 c κs = ?
+write-all-requires-3 c κs = search needs
 
--- src/main.rt:149:1
 returns-2 : tie.Need-returns-2 Inv-loop μ-loop
-returns-2 c = ?
+returns-2 c = search needs
 
 pub print-block-spec : {M : Type 1} → statement M
 print-block-spec =
