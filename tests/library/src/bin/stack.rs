@@ -8,26 +8,27 @@ use card_tests::wrong::Wrong;
 const PAINTED: usize = 512 * 1024;
 const PAINT: u8 = 0xC7;
 
+/// Paints the stack below the caller, and tells where the painted area begins.
 #[inline(never)]
-fn paint() {
+fn paint() -> usize {
     let mut area = [0u8; PAINTED];
     for byte in area.iter_mut() {
         unsafe { std::ptr::write_volatile(byte, PAINT) };
     }
+    area.as_ptr() as usize
 }
 
 /// The bytes from the area's low end that still have the paint: what lies above them was used.
 #[inline(never)]
-fn left() -> usize {
-    let area = std::mem::MaybeUninit::<[u8; PAINTED]>::uninit();
-    let start = area.as_ptr() as *const u8;
-    (0..PAINTED).take_while(|at| unsafe { std::ptr::read_volatile(start.add(*at)) } == PAINT).count()
+fn left(start: usize) -> usize {
+    let at = |place: usize| unsafe { std::ptr::read_volatile((start + place) as *const u8) };
+    (0..PAINTED).take_while(|place| at(*place) == PAINT).count()
 }
 
 fn used(run: impl FnOnce()) -> usize {
-    paint();
+    let start = paint();
     run();
-    PAINTED - left()
+    PAINTED - left(start)
 }
 
 fn soak(with_library: bool) {
