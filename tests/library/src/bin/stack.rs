@@ -1,11 +1,11 @@
-// stack: how much stack the library's commands use: a thread with a painted stack runs generated tapes, then the paint that
-// is left is counted. The thread's own use is in the figure.
+// stack: how much stack one command of the library uses. Before each command the stack below is painted; afterwards the paint
+// that is left is counted. The wrapper's own frame is in the figure.
 
-use card_library::watcher::Library;
-use card_tests::checks::{Bench, Checks};
+use card_library::session::Session;
+use card_tests::checks::{Bench, Checks, Seen, Watcher};
 use card_tests::wrong::Wrong;
 
-const PAINTED: usize = 512 * 1024;
+const PAINTED: usize = 128 * 1024;
 const PAINT: u8 = 0xC7;
 
 /// Paints the stack below the caller, and tells where the painted area begins.
@@ -25,23 +25,36 @@ fn left(start: usize) -> usize {
     (0..PAINTED).take_while(|place| at(*place) == PAINT).count()
 }
 
-fn used(run: impl FnOnce()) -> usize {
-    let start = paint();
-    run();
-    PAINTED - left(start)
+struct Gauge {
+    session: Session,
+    disk: Vec<u8>,
+    memory: Vec<u8>,
+    /// The most that each command used, by its byte.
+    most: [usize; 8],
 }
 
-fn soak(with_library: bool) {
-    let mut library = Library::default();
-    let watcher: Option<&mut dyn card_tests::checks::Watcher> = if with_library { Some(&mut library) } else { None };
-    let mut bench = Box::new(Bench::new(Wrong::No, Checks::NONE, watcher));
-    bench.soak(300_000, 9).unwrap_or_else(|failure| panic!("{}", failure.detail));
+impl Watcher for Gauge {
+    fn start(&mut self, is_down: bool, disk: &[u8], memory: &[u8]) {
+        self.session = if is_down { Session::down() } else { Session::blank() };
+        self.disk.copy_from_slice(disk);
+        self.memory.copy_from_slice(memory);
+    }
+
+    fn command(&mut self, tape: &[u8], offset: usize, _: Seen) -> Result<(), String> {
+        let start = paint();
+        self.session.command(tape, offset, &mut self.disk, &mut self.memory);
+        let used = PAINTED - left(start);
+        let most = &mut self.most[(tape[offset] as usize).min(7)];
+        *most = used.max(*most);
+        Ok(())
+    }
 }
 
 fn main() {
-    let measure = |with_library| {
-        let thread = std::thread::Builder::new().stack_size(4 * 1024 * 1024);
-        thread.spawn(move || used(|| soak(with_library))).expect("a thread").join().expect("it ends")
-    };
-    println!("model alone {} bytes, with the library {} bytes", measure(false), measure(true));
+    let commands = std::env::args().nth(1).map_or(200_000, |arg| arg.parse().expect("a number"));
+    let (disk, memory) = (vec![0; card_tests::layout::DISK], vec![0; card_tests::layout::MEMORY]);
+    let mut gauge = Gauge { session: Session::blank(), disk, memory, most: [0; 8] };
+    let mut bench = Bench::new(Wrong::No, Checks::NONE, Some(&mut gauge));
+    bench.soak(commands, 9).unwrap_or_else(|failure| panic!("{}", failure.detail));
+    println!("the most stack in bytes, by command 1 to 7: {:?}", &gauge.most[1..]);
 }
