@@ -2,7 +2,13 @@
 // number answered and the stores so far. Then come the home blocks that are not all zero.
 ghost use mathlib.Core.Path.{_≡_};
 ghost use Prim.Native.Nat.{_≤_};
+ghost use mathlib.Core.Bool.{cond};
 ghost use lib.ListN.{length};
+ghost use Rattle.model.specs.Bytes.{Bytes, blockAt};
+ghost use Rattle.model.specs.Layout.{isMaster};
+ghost use Rattle.model.specs.Recovery.{shapeOn};
+ghost use Rattle.model.specs.Tape.{homeCount, isZero};
+ghost use Rattle.card.specs.Answer.{world};
 use firmware::session::Session;
 use model::Card;
 use model::Checked;
@@ -96,40 +102,40 @@ fn run_tape(disk: &mut [u8], memory: &mut [u8]) -> Session {
 }
 
 // The home blocks that the disk's master counts, none where it is unfit.
-fn master_count(disk: &[u8]) -> usize
-    ensures { λ r. ⌜ r ≤ 255 ⌝ }
+fn master_count(disk: &[u8]) -> u8
+    requires { ⌜ length (now disk) ≡ 32896 ⌝ }
+    ensures { λ r. ⌜ r ≡ cond (isMaster (blockAt (now (disk .entry)) 0)) ((shapeOn (now (disk .entry))) .blocks) 0 ⌝ }
 {
-    if disk.len() < 128 {
+    if !layout::is_master(&disk[0..128]) {
         return 0;
     }
-    let master = &disk[0..128];
-    if !layout::is_master(master) {
-        return 0;
-    }
-    let made = layout::read_shape(master);
+    let made = layout::read_shape(&disk[0..128]);
     let Checked::Fits(s) = made else {
         return 0;
     };
-    s.blocks as usize
+    s.blocks
 }
 
 // How many home blocks the card has: a blank one none, one that is down as many as its disk says.
-fn home_count(card: Card, disk: &[u8]) -> usize
-    ensures { λ r. ⌜ r ≤ 255 ⌝ }
+fn home_count(card: Card, disk: &[u8]) -> u8
+    requires { ⌜ length (now disk) ≡ 32896 ⌝ }
+    ensures { λ r. ⌜ ((m : Bytes) → r ≡ homeCount (world card (now (disk .entry)) m)) ⌝ }
 {
     let p = card.phase;
     match p {
         Phase::Blank => 0,
         Phase::Up => {
             let s = card::state::shape_of(card);
-            s.blocks as usize
+            s.blocks
         }
         Phase::Down => master_count(disk),
     }
 }
 
 // Whether every byte is zero.
-fn is_zero(block: &[u8]) -> bool {
+fn is_zero(block: &[u8]) -> bool
+    ensures { λ r. ⌜ r ≡ isZero (now (block .entry)) ⌝ }
+{
     let mut i: usize = 0;
     while i < block.len() {
         if block[i] != 0 {
@@ -184,5 +190,5 @@ fn main() {
     let mut memory = [0u8; 16384];
     let s = run_tape(&mut disk, &mut memory);
     let n = home_count(s.card, &disk);
-    print_blocks(n, &disk);
+    print_blocks(n as usize, &disk);
 }

@@ -1,0 +1,56 @@
+-- Which home blocks are printed: how many there are, and whether one is all zero.
+use Prim.Native.Nat.{ℕ, _+_, _≤_, _<_}
+use native.Mathlib.Numerals.{add-one}
+use mathlib.Core.Path.{_≡_, refl, sym, ap, _∙_}
+use mathlib.Core.Bool.{Bool, true, false, cond}
+use mathlib.Core.List.{List, [], _∷_}
+use lib.ListN.{length, take, getD}
+use lib.Seq.{take-suc, take-all}
+use lib.Dec.{eqb}
+use borrow.Author.Tests.{eqb-true, eq-eqb}
+use Rattle.model.specs.Lists.{all}
+use Rattle.model.specs.Bytes.{Bytes, be4, part, blockAt}
+use Rattle.model.specs.Shape.{checked}
+use Rattle.model.specs.Layout.{isMaster}
+use Rattle.model.specs.Recovery.{shapeOn}
+use Rattle.model.specs.Tape.{isZero}
+use Rattle.model.specs.declared.Shape.{Shape}
+use Rattle.model.specs.declared.Checked.{Checked}
+use Rattle.model.specs.declared.Checked.the-variants.{Fits, OutOfRange}
+use Rattle.model.proofs.Lists.{cases, all-append, all-mem, getD-mem}
+use Rattle.card.proofs.RecoverLaws.{shape-made, shape-missed}
+
+-- ---- all zero
+module _ (b : Bytes) where
+  pub zero-none : all (eqb 0) (take 0 b) ≡ true
+  unfolding all
+  zero-none = refl
+
+  module _ (i : ℕ) (h : i < length b) where
+    pub zero-more : all (eqb 0) (take i b) ≡ true → getD b i 0 ≡ 0 → all (eqb 0) (take (i + 1) b) ≡ true
+    unfolding all
+    zero-more q e = rw (add-one, take-suc b i 0 h, all-append, q, e)
+
+    pub zero-missed : (getD b i 0 ≡ 0 → ⊥) → false ≡ isZero b
+    unfolding isZero
+    zero-missed n = cases (all (eqb 0) b) (λ q. absurd (n (sym (eqb-true 0 (getD b i 0) (all-mem (eqb 0) b q (getD-mem b i 0 h)))))) (λ q. sym q)
+
+  pub zero-all : (i : ℕ) → all (eqb 0) (take i b) ≡ true → length b ≤ i → true ≡ isZero b
+  unfolding isZero
+  zero-all i q h = sym (ap (all (eqb 0)) (sym (take-all i b h)) ∙ q)
+
+-- ---- the home blocks that a disk's master counts
+module _ (d : Bytes) (r : Bool) (e : r ≡ isMaster (take 128 d)) where
+  block-same : r ≡ isMaster (blockAt d 0)
+  unfolding blockAt part
+  block-same = e
+
+  pub count-unfit : r ≡ false → 0 ≡ cond (isMaster (blockAt d 0)) ((shapeOn d) .blocks) 0
+  count-unfit h = rw (← block-same, h)
+
+  module _ (h : r ≡ true) (made : Checked) (f : made ≡ checked (be4 (take 128 d) 12) (be4 (take 128 d) 16) (be4 (take 128 d) 20)) where
+    pub count-made : (s : Shape) → made ≡ Fits s → s .blocks ≡ cond (isMaster (blockAt d 0)) ((shapeOn d) .blocks) 0
+    count-made s g = ap (λ (s : Shape). s .blocks) (shape-made d (sym block-same ∙ h) made f s g) ∙ rw (← block-same, h)
+
+    pub count-missed : made ≡ OutOfRange → 0 ≡ cond (isMaster (blockAt d 0)) ((shapeOn d) .blocks) 0
+    count-missed g = ap (λ (s : Shape). s .blocks) (shape-missed d (sym block-same ∙ h) made f g (record { cores = 0; blocks = 0; journal = 0 })) ∙ rw (← block-same, h)
