@@ -2,11 +2,11 @@
 ghost use mathlib.Core.Path.{_≡_};
 ghost use Rattle.model.specs.Command.{refusal};
 ghost use Rattle.model.specs.Recovery.{cutConditions, cut};
-ghost use Rattle.card.specs.Answer.{world, outcomeOf};
-use crate::state::Answer;
-use crate::state::phase_refusal;
-use crate::state::zero_all;
+ghost use Rattle.state.specs.Answer.{world, outcomeOf};
 use model::Card;
+use state::Answer;
+use state::phase_refusal;
+use state::zero_all;
 
 // A card that is down is cut like one that is up.
 fn cut_refusal(card: Card, disk: &[u8], memory: &[u8]) -> u8

@@ -7,15 +7,16 @@ ghost use Rattle.model.specs.Shape.{clamped};
 ghost use Rattle.model.specs.Card.{isBlank};
 ghost use Rattle.model.specs.Command.{refusal, wrongLength};
 ghost use Rattle.model.specs.Format.{formatted, format};
-ghost use Rattle.card.specs.Answer.{world, outcomeOf};
-use crate::state::Answer;
-use crate::state::phase_refusal;
-use crate::state::up_card;
-use crate::state::zero_all;
+ghost use Rattle.state.specs.Answer.{world, outcomeOf};
 use model::Card;
 use model::Checked;
 use model::Shape;
 use model::Tail;
+use state::Answer;
+use state::phase_refusal;
+use state::store_master;
+use state::up_card;
+use state::zero_all;
 
 // What FORMAT meets before its operands: a wrong length, a card that is not blank.
 fn blank_refusal(card: Card, disk: &[u8], memory: &[u8]) -> u8
@@ -35,7 +36,7 @@ fn formatted(s: Shape, disk: &mut [u8], memory: &mut [u8]) -> Answer
         number: 1,
         position: 0,
     }; 8];
-    layout::write_master(&mut disk[0..128], s, tails);
+    store_master(s, tails, disk);
     let card = up_card(s, tails);
     Answer {
         number: 0,

@@ -1,6 +1,5 @@
 // The life of a transaction up to its commit: FORMAT, WRITE, CLOSE, STORE, CUT, and the reading of a block, one module for each
 // stage. Each command meets one equation with its definition in crate `model`, for all inputs.
-pub mod state; // the answer of a command, parts of the card, refusals that many commands share
 pub mod format; // FORMAT
 pub mod transaction; // WRITE
 pub mod commit; // CLOSE and STORE

@@ -22,8 +22,8 @@ use Rattle.model.specs.Tape.{operandLengths, operandLength, step, commandByte, 
 use Rattle.model.specs.declared.Card.{Card}
 use Rattle.model.proofs.Lists.{cases, all-mem, getD-mem}
 use Rattle.model.proofs.Command.{tapeConditions, refusedWith, refusal-clear}
-use Rattle.card.specs.Answer.{world}
-use Rattle.card.proofs.Refusals.{was-refused, was-done}
+use Rattle.state.specs.Answer.{world}
+use Rattle.state.proofs.Refusals.{was-refused, was-done}
 
 -- past the end of a slice stands 0
 pub byte-past : (s : Bytes) (i : ℕ) → length s ≤ i → 0 ≡ getD s i 0

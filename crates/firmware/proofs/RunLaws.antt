@@ -28,7 +28,7 @@ use Rattle.crash.specs.Service.{emptyService}
 use Rattle.crash.specs.Ledger.{blankLedger}
 use Rattle.crash.specs.Claims.{IsBytes, AreaKept, LedgerKept, blankStart, downLedger}
 use Rattle.crash.proofs.Theorem.{claim, demands}
-use Rattle.card.specs.Answer.{world}
+use Rattle.state.specs.Answer.{world}
 use Rattle.card.proofs.ReadLaws.{readable}
 use Rattle.firmware.specs.Session.{newSession, worldOf, counted, storesAfter, readInto, DemandsMet}
 use Rattle.firmware.specs.declared.session.Session.{Session}

@@ -3,15 +3,14 @@ use Prim.Native.Nat.{ℕ, _+_, _*_, _-_, _%_, _≤_, _<_, min}
 use native.Mathlib.Omega.{arith}
 use mathlib.Core.Path.{_≡_, refl, sym, ap, _∙_, subst}
 use mathlib.Core.Bool.{Bool, true, false, cond, not}
-use mathlib.Core.List.{List, [], _∷_, _++_, map}
+use mathlib.Core.List.{List, [], _++_, map}
 use lib.ListN.{length, getD, set, take, drop, length-take, List·getD-map}
-use lib.Dec.{leb, eqb}
+use lib.Dec.{eqb}
 use borrow.Author.Tests.{not-true, not-false, lt-ltb, le-ltb, eq-eqb, ne-eqb}
 use Rattle.model.specs.Lists.{below, any}
-use Rattle.model.specs.Bytes.{Bytes, blockAt, store, replaced}
+use Rattle.model.specs.Bytes.{Bytes, blockAt, store}
 use Rattle.model.specs.Shape.{clamped, homeBlock, journalBlock}
 use Rattle.model.specs.Card.{newTail, newName, sameName, noHolder, taken, shapeOf, tailOf, coreOf, committedCount, withCore}
-use Rattle.model.specs.Command.{refusal, notUp, noCore}
 use Rattle.model.specs.Layout.{masterBlock, Held, newHeld, pairAt, pairsIn, heldIn, unescaped}
 use Rattle.model.specs.Journal.{journalAt, recordAt, heldBy, blocksOf, took, imageOf}
 use Rattle.model.specs.Checkpoint.{share, released, retiredCard, storedHome, storedMaster}
@@ -35,11 +34,10 @@ use Rattle.layout.proofs.Blocks.{block-lent}
 use Rattle.layout.proofs.Loops.{Filled, filled-all, some-none, some-no, some-in, some-out}
 use Rattle.journal.specs.Slots.{foundAt}
 use Rattle.journal.specs.Walk.{Reads}
-use Rattle.card.specs.Answer.{world, outcomeOf, firstOf}
-use Rattle.card.specs.declared.state.Answer.{Answer}
+use Rattle.state.specs.Answer.{world, outcomeOf}
+use Rattle.state.specs.declared.Answer.{Answer}
 use Rattle.recovery.specs.Oldest.{freed, movedTail, retiredCore, homedCore, countAt, counts, oldestAt, IsRead, lowerFound, lowerSlot, lowerClosed, closedLower, nextStore}
-use Rattle.card.proofs.Parts.{any-none, any-hit, any-more, any-all}
-use Rattle.card.proofs.Refusals.{first-hit, first-pass, refusal-up, refusal-one}
+use Rattle.state.proofs.Parts.{any-none, any-hit, any-more, any-all}
 
 -- the shape as it is read is within its limits
 pub shape-range : (x : Card) (s : Shape) → s ≡ shapeOf x → InRange s
@@ -88,9 +86,9 @@ unfolding retiredCard retiredCore movedTail
 card-retired x c e s p t q old r k z hs y = rw (y, z, r, q, p)
 
 pub master-stored : (x : Card) (c : ℕ) (e : Committed) (d : Bytes) (y : Card) → y ≡ retiredCard c e x
-    → (b : Bytes) → b ≡ masterBlock (clamped (y .shape)) (λ (i : ℕ). getD (y .tails) i (newTail 0 0))
-    → (m : Bytes) → record { answer = 0; world = world y (b ++ drop 128 d) m; stores = 1 } ≡ storedMaster c e (world x d m)
-unfolding storedMaster store replaced shapeOf tailOf
+    → (b : Bytes) → b ≡ store d 0 (masterBlock (clamped (y .shape)) (λ (i : ℕ). getD (y .tails) i (newTail 0 0)))
+    → (m : Bytes) → record { answer = 0; world = world y b m; stores = 1 } ≡ storedMaster c e (world x d m)
+unfolding storedMaster shapeOf tailOf
 master-stored x c e d y p b q m = rw (q, p)
 
 -- ---- counted
@@ -281,10 +279,13 @@ pub core-homed : (k : Core)
 unfolding homedCore
 core-homed k = refl
 
+pub home-lent : (d : Bytes) (b : ℕ) (image : Bytes) (k : ℕ) → k ≡ homeBlock b → (w : Bytes) → w ≡ image
+    → take (128 * k) d ++ (w ++ drop (128 * k + 128 - 128 * k) (drop (128 * k) d)) ≡ store d (homeBlock b) image
+home-lent d b image k r w z = block-lent d k w image z ∙ rw r
+
 pub home-put : (s : Shape) (d : Bytes) (e : Committed) (i b : ℕ) → b ≡ getD (blocksOf s d e) i 0 → (image : Bytes) → image ≡ imageOf s d e i
-    → (k : ℕ) → k ≡ homeBlock b → (w : Bytes) → w ≡ image
-    → take (128 * k) d ++ (w ++ drop (128 * k + 128 - 128 * k) (drop (128 * k) d)) ≡ store d (homeBlock (getD (blocksOf s d e) i 0)) (imageOf s d e i)
-home-put s d e i b p image q k r w z = block-lent d k w (imageOf s d e i) (z ∙ q) ∙ rw (r, p)
+    → (r : Bytes) → r ≡ store d (homeBlock b) image → r ≡ store d (homeBlock (getD (blocksOf s d e) i 0)) (imageOf s d e i)
+home-put s d e i b p image q r h = h ∙ rw (p, q)
 
 module _ (x : Card) (s : Shape) (q : s ≡ shapeOf x) where
   pub read-shape : (d : Bytes) (e : Committed) → IsRead (shapeOf x) d e → IsRead s d e
@@ -311,16 +312,3 @@ module _ (x : Card) (c : ℕ) (k : Core) (p : k ≡ coreOf x c) (e : Committed) 
     pub next-master : e .count ≤ k .homed → ((m : Bytes) → outcomeOf r d₂ m ≡ storedMaster c e (world x d m)) → (m : Bytes) → outcomeOf r d₂ m ≡ nextStore c e (world x d m)
     unfolding nextStore
     next-master h f m = let l : e .count ≤ (coreOf x c) .homed = rw p at h in f m ∙ rw (le-ltb ((coreOf x c) .homed) (e .count) l)
-
--- ---- what comes first
-first-stages : (x : Card) (c : ℕ) (d m : Bytes)
-    → firstOf (refusal (notUp (world x d m) [])) (cond (leb ((shapeOf x) .cores) c) 5 0) ≡ refusal (notUp (world x d m) ((noCore (world x d m) c, 5) ∷ []))
-unfolding noCore
-first-stages x c d m = sym (refusal-up (world x d m) ((noCore (world x d m) c, 5) ∷ []) ∙ rw refusal-one)
-
-module _ (x : Card) (c : ℕ) (d m : Bytes) (n : ℕ) (e : n ≡ refusal (notUp (world x d m) [])) where
-  pub up-refused : (n ≡ 0 → ⊥) → n ≡ refusal (notUp (world x d m) ((noCore (world x d m) c, 5) ∷ []))
-  up-refused h = first-hit n _ _ e h ∙ first-stages x c d m
-
-  pub up-passed : n ≡ 0 → (r : ℕ) → r ≡ cond (leb ((shapeOf x) .cores) c) 5 0 → r ≡ refusal (notUp (world x d m) ((noCore (world x d m) c, 5) ∷ []))
-  up-passed h r q = first-pass n r _ _ e h q ∙ first-stages x c d m

@@ -37,10 +37,10 @@ use Rattle.journal.specs.Sets.{isHere}
 use Rattle.journal.specs.Walk.{Reads}
 use Rattle.journal.proofs.Slots.{number-at, reads-journals}
 use Rattle.journal.proofs.Sets.{in-slot}
-use Rattle.card.specs.Answer.{world, outcomeOf, firstOf}
-use Rattle.card.specs.declared.state.Answer.{Answer}
+use Rattle.state.specs.Answer.{world, outcomeOf, firstOf}
+use Rattle.state.specs.declared.Answer.{Answer}
 use Rattle.recovery.specs.Oldest.{countAt, counts, oldestAt, IsRead, lowerFound, lowerSlot, lowerClosed, closedLower, TellsValid, oldestConditions, nextStore, oldestOutcome}
-use Rattle.card.proofs.Refusals.{first-hit, first-pass, refusal-joined, refusal-next, was-refused, was-done}
+use Rattle.state.proofs.Refusals.{first-hit, first-pass, refusal-joined, refusal-next, was-refused, was-done}
 
 -- ---- the oldest transaction
 whole-known : (t : Bool) (f : Found) (e : Committed) → cond t Miss f ≡ Whole e → (t ≡ false) × (f ≡ Whole e)

@@ -3,12 +3,12 @@ use Prim.Native.Nat.{ℕ, suc, _+_, _*_, _-_, _≤_, _<_, min}
 use native.Mathlib.Omega.{arith}
 use mathlib.Core.Path.{_≡_, refl, sym, ap, _∙_, subst}
 use mathlib.Core.Bool.{Bool, true, false, cond, not, _&&_}
-use mathlib.Core.List.{List, [], _∷_, _++_, map, List·Memᴰ, List·Memᴰ·head}
-use lib.ListN.{length, getD, take, drop, replicate, getD-replicate}
+use mathlib.Core.List.{List, [], _∷_, map, List·Memᴰ, List·Memᴰ·head}
+use lib.ListN.{length, getD, take, replicate, getD-replicate}
 use lib.Dec.{ltb, eqb}
 use borrow.Author.Tests.{lt-ltb, le-ltb, ltb-true, not-false}
 use Rattle.model.specs.Lists.{below}
-use Rattle.model.specs.Bytes.{Bytes, be4, part, replaced, blockAt, store}
+use Rattle.model.specs.Bytes.{Bytes, be4, part, blockAt, store}
 use Rattle.model.specs.Shape.{homeBlock, checked, clamped}
 use Rattle.model.specs.Card.{newTail, freshCard, downCard}
 use Rattle.model.specs.Layout.{mark, maxNumber, shapeIn, tailIn, isMaster, masterBlock, unescaped}
@@ -27,17 +27,16 @@ use Rattle.model.proofs.Lists.{cases, and-left, and-right, map-below, getD-map-
 use Rattle.model.proofs.Limits.{InRange, clamped-same}
 use Rattle.model.proofs.OneStore.{right-lengths, master-limits, left-below}
 use Rattle.layout.specs.Tails.{tailOrNone}
-use Rattle.layout.proofs.Blocks.{block-lent}
+use Rattle.layout.proofs.Pairs.{master-tails}
 use Rattle.journal.specs.declared.newest.Image.{Image}
 use Rattle.journal.specs.Slots.{numbersOf, numbered, entries, filledFrom}
 use Rattle.journal.specs.Walk.{Reads}
 use Rattle.journal.specs.Newest.{foundImage, firstOr, heldFrom}
 use Rattle.journal.proofs.Model.{found-bytes, image-numbers, held-numbers, read-count}
 use Rattle.journal.proofs.Commands.{core-journal, slots-valid}
-use Rattle.card.specs.Answer.{world}
-use Rattle.recovery.specs.Recovering.{numbersOn, tailAfter}
-use Rattle.card.proofs.FormatLaws.{master-same}
-use Rattle.card.proofs.Refusals.{was-done, none-held}
+use Rattle.state.specs.Answer.{world}
+use Rattle.recovery.specs.Recovering.{numbersOn, tailAfter, OnDisk}
+use Rattle.state.proofs.Refusals.{was-done, none-held}
 
 -- ---- refusals
 pub disk-right : (d m : Bytes) (r : Bool) → ((x : Card) → r ≡ wrongLength (world x d m)) → r ≡ false → length d ≡ 32896
@@ -140,28 +139,47 @@ module _ (d : Bytes) (s : Shape) (z : s ≡ shapeOn d) (l : InRange s) (ts : Lis
         rw (t, disk-tail c g, f))
         (λ t. rw t))
 
-    pub tails-emptied : (out : List Tail) → out ≡ map (tailAfter s ts set) (below 8) → out ≡ map (emptiedTail d) (below 8)
+    tails-emptied : (out : List Tail) → out ≡ map (tailAfter s ts set) (below 8) → out ≡ map (emptiedTail d) (below 8)
     tails-emptied out q = q ∙ map-below _ _ 8 tail-emptied
 
     -- and of them the valid set
-    pub valid-read : (v : List ℕ) → entries s d (numbersOf ts) v ≡ validSet s d (numbered (numbersOf ts)) (entries s d (numbersOf ts) set) → entries s d (numbersOn d) v ≡ validOn d
+    valid-read : (v : List ℕ) → entries s d (numbersOf ts) v ≡ validSet s d (numbered (numbersOf ts)) (entries s d (numbersOf ts) set) → entries s d (numbersOn d) v ≡ validOn d
     unfolding numbersOn validOn committedOn blockAt part
     valid-read v q =
         let k : numbersOf ts ≡ numbersOf (map (tailOrNone (take 128 d)) (below 8)) = ap numbersOf e in
         rw (← k, ← z) (slots-valid l d ts (replicate 8 (s .journal)) set r (tailOn d) (λ (c : ℕ). s .journal) disk-tail whole-read v q)
+
+pub all-read : (s : Shape) (d : Bytes) (ts : List Tail) → ts ≡ map (tailOrNone (take 128 d)) (below 8)
+    → (set : List ℕ) → Reads s d ts (replicate 8 (s .journal)) set → OnDisk s d ts set
+unfolding blockAt part
+all-read s d ts e set r = record { tails = e; slots = r }
+
+master-tails-read : (d : Bytes) (s : Shape) (ts : List Tail) (set : List ℕ) → OnDisk s d ts set → ts ≡ map (tailOrNone (take 128 d)) (below 8)
+unfolding blockAt part
+master-tails-read d s ts set r = r .tails
 
 -- ---- the master store
 module _ (d : Bytes) (s : Shape) (z : s ≡ shapeOn d) (l : InRange s) (ts : List Tail) (e : ts ≡ map (emptiedTail d) (below 8)) where
   emptied-master : masterBlock (clamped s) (λ (c : ℕ). getD ts c (newTail 0 0)) ≡ masterBlock s (emptiedTail d)
   emptied-master =
       rw (clamped-same s l)
-      (master-same s _ (emptiedTail d) (λ c h. rw e (getD-map-below (emptiedTail d) 8 c (newTail 0 0) (omega (arith, l .few-cores)))))
+      (master-tails s _ (emptiedTail d) (λ c h. rw e (getD-map-below (emptiedTail d) 8 c (newTail 0 0) (omega (arith, l .few-cores)))))
 
-  pub brought-up : (b : Bytes) → b ≡ masterBlock (clamped s) (λ (c : ℕ). getD ts c (newTail 0 0))
+  brought-up : (d′ : Bytes) → d′ ≡ store d 0 (masterBlock (clamped s) (λ (c : ℕ). getD ts c (newTail 0 0)))
       → (y : Card) → y ≡ freshCard Up s ts
-      → (x : Card) (m : Bytes) → record { answer = 0; world = world y (b ++ drop 128 d) m; stores = 1 } ≡ recoverStep [] (world x d m)
-  unfolding recoverStep broughtUp store replaced
-  brought-up b q y p x m = rw (q, p, emptied-master, e, z)
+      → (x : Card) (m : Bytes) → record { answer = 0; world = world y d′ m; stores = 1 } ≡ recoverStep [] (world x d m)
+  unfolding recoverStep broughtUp
+  brought-up d′ q y p x m = rw (q, p, emptied-master, e, z)
+
+module _ (d : Bytes) (s : Shape) (z : s ≡ shapeOn d) (l : InRange s) (ts : List Tail) (set : List ℕ) (r : OnDisk s d ts set) where
+  pub all-emptied : (after : List Tail) → after ≡ map (tailAfter s ts set) (below 8)
+      → (d′ : Bytes) → d′ ≡ store d 0 (masterBlock (clamped s) (λ (c : ℕ). getD after c (newTail 0 0)))
+      → (y : Card) → y ≡ freshCard Up s after
+      → (x : Card) (m : Bytes) → record { answer = 0; world = world y d′ m; stores = 1 } ≡ recoverStep [] (world x d m)
+  all-emptied after q = brought-up d s z l after (tails-emptied d s z l ts (master-tails-read d s ts set r) set (r .slots) after q)
+
+  pub all-valid : (v : List ℕ) → entries s d (numbersOf ts) v ≡ validSet s d (numbered (numbersOf ts)) (entries s d (numbersOf ts) set) → entries s d (numbersOn d) v ≡ validOn d
+  all-valid v q = valid-read d s z l ts (master-tails-read d s ts set r) set (r .slots) v q
 
 -- ---- a home store
 module _ (d : Bytes) (s : Shape) (z : s ≡ shapeOn d) (set : List ℕ) (v : entries s d (numbersOn d) set ≡ validOn d) where
@@ -177,11 +195,11 @@ module _ (d : Bytes) (s : Shape) (z : s ≡ shapeOn d) (set : List ℕ) (v : ent
   unfolding heldFrom blocksLeft
   left-first x m b q = q ∙ held-numbers s d set [] (numbersOn d) (x .recovered) ∙ rw (v, z)
 
-pub home-stored : (x : Card) (d : Bytes) (b : ℕ) (i : Bytes) → i ≡ newestImage d b → (k : ℕ) → k ≡ homeBlock b → (w : Bytes) → w ≡ i
+pub home-stored : (x : Card) (d : Bytes) (b : ℕ) (i : Bytes) → i ≡ newestImage d b → (d′ : Bytes) → d′ ≡ store d (homeBlock b) i
     → (bs : List ℕ) (m : Bytes)
-    → record { answer = 0; world = world (recoveredTo x (b + 1)) (take (128 * k) d ++ (w ++ drop (128 * k + 128 - 128 * k) (drop (128 * k) d))) m; stores = 1 } ≡ recoverStep (b ∷ bs) (world x d m)
+    → record { answer = 0; world = world (recoveredTo x (b + 1)) d′ m; stores = 1 } ≡ recoverStep (b ∷ bs) (world x d m)
 unfolding recoverStep
-home-stored x d b i q k p w h bs m = rw (block-lent d k w (newestImage d b) (h ∙ q), p)
+home-stored x d b i q d′ h bs m = rw (h, q)
 
 -- ---- which of the two comes next
 first-some : (n b : ℕ) (xs : List ℕ) → b ≡ firstOr n xs → b < n → (bs : List ℕ) × (xs ≡ b ∷ bs)

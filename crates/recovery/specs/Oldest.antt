@@ -23,7 +23,7 @@ use Rattle.model.specs.declared.Found.{Found}
 use Rattle.model.specs.declared.Found.the-variants.{Whole, Miss}
 use Rattle.model.proofs.Journal.{Known}
 use Rattle.journal.specs.Slots.{foundAt}
-use Rattle.card.specs.Answer.{world}
+use Rattle.state.specs.Answer.{world}
 
 -- ---- retired
 -- no holder any more where it was the transaction of this name

@@ -1,7 +1,6 @@
 // CHECKPOINT: a core's oldest committed transaction is stored home, one block with each call, then the master retires it.
 ghost use mathlib.Core.Path.{_≡_};
 ghost use mathlib.Core.Bool.{cond};
-ghost use mathlib.Core.List.{[], _∷_};
 ghost use Prim.Native.Nat.{_+_, _-_, _≤_, _<_, min};
 ghost use lib.Dec.{eqb};
 ghost use lib.ListN.{length, getD};
@@ -12,23 +11,15 @@ ghost use Rattle.model.specs.Card.{taken, shapeOf, coreOf};
 ghost use Rattle.model.specs.Layout.{maxNumber};
 ghost use Rattle.model.specs.Journal.{blocksOf, imageOf};
 ghost use Rattle.model.specs.Checkpoint.{share, sharesLower, released, retiredCard, storedHome, storedMaster, checkpoint};
-ghost use Rattle.model.specs.Command.{refusal, notUp, noCore};
+ghost use Rattle.model.specs.Command.{refusal};
 ghost use Rattle.model.specs.declared.Found.the-variants.{Whole};
 ghost use Rattle.model.proofs.Limits.{InRange};
 ghost use Rattle.layout.specs.Loops.{some};
 ghost use Rattle.journal.specs.Slots.{Sized};
 ghost use Rattle.journal.specs.Walk.{Reads};
-ghost use Rattle.card.specs.Answer.{world, outcomeOf};
+ghost use Rattle.state.specs.Answer.{world, outcomeOf};
 ghost use Rattle.recovery.specs.Oldest.{freed, movedTail, retiredCore, homedCore, countAt, counts, oldestAt, IsRead, lowerSlot, lowerClosed, closedLower, TellsValid, oldestConditions, nextStore, oldestOutcome};
-use card::state::Answer;
-use card::state::block_count;
-use card::state::core_at;
-use card::state::core_refusal;
-use card::state::same_name;
-use card::state::shape_of;
-use card::state::state_refusal;
-use card::state::tail_at;
-use card::state::with_core;
+use crate::home::store_home;
 use model::Card;
 use model::Committed;
 use model::Core;
@@ -38,6 +29,15 @@ use model::Name;
 use model::Shape;
 use model::Tail;
 use model::Transaction;
+use state::Answer;
+use state::block_count;
+use state::core_at;
+use state::entry_refusal;
+use state::same_name;
+use state::shape_of;
+use state::store_master;
+use state::tail_at;
+use state::with_core;
 
 // A block's holder after the transaction of this name is retired.
 fn freed(h: Holder, n: Name) -> Holder
@@ -134,7 +134,7 @@ fn stored_master(card: Card, c: u8, e: Committed, disk: &mut [u8]) -> Answer
     let after = retired_card(card, c, e);
     let s = after.shape;
     let tails = after.tails;
-    layout::write_master(&mut disk[0..128], s, tails);
+    store_master(s, tails, disk);
     Answer {
         number: 0,
         stores: 1,
@@ -356,9 +356,7 @@ fn put_home(s: Shape, e: Committed, i: usize, disk: &mut [u8])
 {
     let b = block_at(s, disk, e, i);
     let image = home_image(s, disk, e, i);
-    let from = 128 * s.home_block(b);
-    let to = from + 128;
-    layout::write_image(&mut disk[from..to], image);
+    store_home(s, b, image, disk);
 }
 
 // A core after one more home store.
@@ -454,22 +452,11 @@ fn checkpoint_oldest(card: Card, c: u8, e: Committed, disk: &mut [u8]) -> Answer
     checkpointed(card, c, e, disk)
 }
 
-// What comes before the journals: lengths, the phase, the core.
-fn first_refusal(card: Card, c: u8, disk: &[u8], memory: &[u8]) -> u8
-    ensures { λ r. ⌜ r ≡ refusal (notUp (world card (now (disk .entry)) (now (memory .entry))) ((noCore (world card (now (disk .entry)) (now (memory .entry))) c, 5) ∷ [])) ⌝ }
-{
-    let n = state_refusal(card, disk, memory);
-    if n != 0 {
-        return n;
-    }
-    core_refusal(card, c)
-}
-
 // CHECKPOINT.
 pub fn checkpoint(card: Card, c: u8, disk: &mut [u8], memory: &[u8]) -> Answer
     ensures { λ r. ⌜ outcomeOf r (now (disk .exit)) (now (memory .entry)) ≡ checkpoint c (world card (now (disk .entry)) (now (memory .entry))) ⌝ }
 {
-    let n = first_refusal(card, c, disk, memory);
+    let n = entry_refusal(card, c, disk, memory);
     if n != 0 {
         return Answer {
             number: n,

@@ -10,18 +10,20 @@ ghost use Rattle.model.specs.Bytes.{Bytes, blockAt};
 ghost use Rattle.model.specs.Card.{newTail};
 ghost use Rattle.model.specs.Layout.{maxNumber, isMaster};
 ghost use Rattle.model.specs.Command.{refusal};
-ghost use Rattle.model.specs.Recovery.{shapeOn, validOn, newestImage, emptiedTail, recoverConditions, recoverStep, recovered, recover};
+ghost use Rattle.model.specs.Recovery.{shapeOn, validOn, newestImage, recoverConditions, recoverStep, recovered, recover};
 ghost use Rattle.model.proofs.Limits.{InRange};
 ghost use Rattle.journal.specs.Slots.{entries};
-ghost use Rattle.card.specs.Answer.{world, outcomeOf};
-ghost use Rattle.recovery.specs.Recovering.{numbersOn, tailAfter};
-use card::state::Answer;
-use card::state::phase_refusal;
-use card::state::up_card;
+ghost use Rattle.state.specs.Answer.{world, outcomeOf};
+ghost use Rattle.recovery.specs.Recovering.{numbersOn, tailAfter, OnDisk};
+use crate::home::store_home;
 use model::Card;
 use model::Checked;
 use model::Shape;
 use model::Tail;
+use state::Answer;
+use state::phase_refusal;
+use state::store_master;
+use state::up_card;
 
 // Refusal 8, a first block that is no master.
 fn master_refusal(disk: &[u8]) -> u8
@@ -46,7 +48,7 @@ fn recover_refusal(card: Card, disk: &[u8], memory: &[u8]) -> u8
 }
 
 // The shape that the disk's master gives: one that was taken for a master has it within the limits.
-fn disk_shape(disk: &[u8]) -> Shape
+pub fn disk_shape(disk: &[u8]) -> Shape
     requires { ⌜ (length (now disk) ≡ 32896) × (isMaster (blockAt (now disk) 0) ≡ true) ⌝ }
     ensures { λ r. ⌜ (r ≡ shapeOn (now (disk .entry))) × InRange r ⌝ }
 {
@@ -111,24 +113,30 @@ fn emptied_tails(s: Shape, tails: [Tail; 8], slots: &[u16; 96]) -> [Tail; 8]
     out
 }
 
-// The tails that empty all journals of a disk.
-fn tails_after(s: Shape, disk: &[u8]) -> [Tail; 8]
+// All journals of a disk, read whole: the tails of its master, and its committed transactions as slots.
+pub struct Journals {
+    pub tails: [Tail; 8],
+    pub committed: [u16; 96],
+}
+
+fn read_disk(s: Shape, disk: &[u8]) -> Journals
     requires { ⌜ (length (now disk) ≡ 32896) × (isMaster (blockAt (now disk) 0) ≡ true) × (s ≡ shapeOn (now disk)) × InRange s ⌝ }
-    ensures { λ r. ⌜ r ≡ map (emptiedTail (now (disk .entry))) (below 8) ⌝ }
+    ensures { λ r. ⌜ OnDisk s (now (disk .entry)) (r .tails) (r .committed) ⌝ }
 {
     let tails = layout::read_tails(&disk[0..128]);
-    let slots = journal::read_journals(s, disk, tails, [s.journal; 8]);
-    emptied_tails(s, tails, &slots)
+    let committed = journal::read_journals(s, disk, tails, [s.journal; 8]);
+    Journals { tails, committed }
 }
 
 // The last store of recovery: one master with all journals empty. The card is up.
-fn bring_up(disk: &mut [u8]) -> Answer
-    requires { ⌜ (length (now disk) ≡ 32896) × (isMaster (blockAt (now disk) 0) ≡ true) ⌝ }
+fn bring_up(s: Shape, all: Journals, disk: &mut [u8]) -> Answer
+    requires { ⌜ (length (now disk) ≡ 32896) × (s ≡ shapeOn (now disk)) × InRange s × OnDisk s (now disk) (all .tails) (all .committed) ⌝ }
     ensures { λ r. ⌜ ((x : Card) (m : Bytes) → outcomeOf r (now (disk .exit)) m ≡ recoverStep [] (world x (now (disk .entry)) m)) ⌝ }
 {
-    let s = disk_shape(disk);
-    let tails = tails_after(s, disk);
-    layout::write_master(&mut disk[0..128], s, tails);
+    let before = all.tails;
+    let committed = all.committed;
+    let tails = emptied_tails(s, before, &committed);
+    store_master(s, tails, disk);
     let card = up_card(s, tails);
     Answer {
         number: 0,
@@ -138,12 +146,12 @@ fn bring_up(disk: &mut [u8]) -> Answer
 }
 
 // The slots of the valid set of a disk.
-fn valid_set(s: Shape, disk: &[u8]) -> [u16; 96]
-    requires { ⌜ (length (now disk) ≡ 32896) × (isMaster (blockAt (now disk) 0) ≡ true) × (s ≡ shapeOn (now disk)) × InRange s ⌝ }
+fn valid_set(s: Shape, disk: &[u8], all: Journals) -> [u16; 96]
+    requires { ⌜ (length (now disk) ≡ 32896) × (s ≡ shapeOn (now disk)) × InRange s × OnDisk s (now disk) (all .tails) (all .committed) ⌝ }
     ensures { λ r. ⌜ entries s (now (disk .entry)) (numbersOn (now (disk .entry))) r ≡ validOn (now (disk .entry)) ⌝ }
 {
-    let tails = layout::read_tails(&disk[0..128]);
-    let committed = journal::read_journals(s, disk, tails, [s.journal; 8]);
+    let tails = all.tails;
+    let committed = all.committed;
     journal::valid_slots(s, disk, tails, committed)
 }
 
@@ -163,9 +171,7 @@ fn restore_block(card: Card, s: Shape, disk: &mut [u8], valid: &[u16; 96], b: u8
     ensures { λ r. ⌜ ((bs : List ℕ) (m : Bytes) → outcomeOf r (now (disk .exit)) m ≡ recoverStep (b ∷ bs) (world card (now (disk .entry)) m)) ⌝ }
 {
     let image = newest_block(s, disk, valid, b);
-    let from = 128 * s.home_block(b);
-    let to = from + 128;
-    layout::write_image(&mut disk[from..to], image);
+    store_home(s, b, image, disk);
     let mut next = card;
     next.recovered = b + 1;
     Answer {
@@ -181,12 +187,13 @@ fn recovered(card: Card, disk: &mut [u8]) -> Answer
     ensures { λ r. ⌜ ((m : Bytes) → outcomeOf r (now (disk .exit)) m ≡ recovered (world card (now (disk .entry)) m)) ⌝ }
 {
     let s = disk_shape(disk);
-    let valid = valid_set(s, disk);
+    let all = read_disk(s, disk);
+    let valid = valid_set(s, disk, all);
     let b = journal::next_held(s, disk, &valid, card.recovered);
     if b < s.blocks {
         return restore_block(card, s, disk, &valid, b);
     }
-    bring_up(disk)
+    bring_up(s, all, disk)
 }
 
 // RECOVER. Memory takes no part: only its length is asked for.

@@ -2,7 +2,7 @@
 use borrow.Author.Needs.{needs}
 use Rattle.model.specs.Recovery.{cut}
 use Rattle.card.proofs.CutLaws.{cut-done}
-use Rattle.card.proofs.Refusals.{was-refused}
+use Rattle.state.proofs.Refusals.{was-refused}
 use Rattle.card.proofs.cut.cut.Statement.{statement}
 use Rattle.card.proofs.cut.cut.Tie as tie
 

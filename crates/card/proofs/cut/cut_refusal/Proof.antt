@@ -1,7 +1,7 @@
 -- `card::cut::cut_refusal` meets its contract: the length, then the phase.
 use borrow.Author.Needs.{needs}
 use mathlib.Core.Path.{_∙_}
-use Rattle.card.proofs.Refusals.{cut-numbers}
+use Rattle.state.proofs.Refusals.{cut-numbers}
 use Rattle.card.proofs.cut.cut_refusal.Statement.{statement}
 use Rattle.card.proofs.cut.cut_refusal.Tie as tie
 

@@ -1,7 +1,7 @@
 -- `card::format::blank_refusal` meets its contract: the length, then the phase.
 use borrow.Author.Needs.{needs}
 use mathlib.Core.Path.{_∙_}
-use Rattle.card.proofs.Refusals.{blank-numbers}
+use Rattle.state.proofs.Refusals.{blank-numbers}
 use Rattle.card.proofs.format.blank_refusal.Statement.{statement}
 use Rattle.card.proofs.format.blank_refusal.Tie as tie
 

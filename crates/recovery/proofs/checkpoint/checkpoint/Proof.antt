@@ -4,8 +4,8 @@ use borrow.Author.Needs.{needs}
 use Rattle.recovery.proofs.checkpoint.checkpoint.Statement.{statement}
 use Rattle.recovery.proofs.checkpoint.checkpoint.Tie as tie
 
-first-refusal-requires : tie.Need-first-refusal-requires
-first-refusal-requires c κs = search needs
+entry-refusal-requires : tie.Need-entry-refusal-requires
+entry-refusal-requires c κs = search needs
 
 same-length : tie.Need-same-length
 same-length c = search needs
@@ -41,7 +41,7 @@ pub checkpoint-spec : {M : Type 1} → statement M
 checkpoint-spec =
     tie.close
     (tie.spec
-    first-refusal-requires
+    entry-refusal-requires
     same-length
     returns
     oldest-of-requires

@@ -1,5 +1,5 @@
 -- `recovery::checkpoint::is_valid` meets its contract.
-use Rattle.card.proofs.Parts.{facts}
+use Rattle.state.proofs.Parts.{facts}
 use Rattle.recovery.proofs.CheckpointLaws.{shape-range, core-below}
 use Rattle.recovery.proofs.OldestLaws.{valid-told}
 use borrow.Author.Needs.{needs}

@@ -5,7 +5,7 @@ use native.Mathlib.Omega.{arith}
 use mathlib.Core.Path.{_≡_, sym, _∙_}
 use lib.ListN.{length, length-set}
 use Rattle.recovery.specs.Oldest.{freed}
-use Rattle.card.proofs.Parts.{facts, filled, filled-none, filled-more, filled-all}
+use Rattle.state.proofs.Parts.{facts, filled, filled-none, filled-more, filled-all}
 use Rattle.recovery.proofs.CheckpointLaws.{all-freed}
 use Rattle.recovery.proofs.checkpoint.release.Statement.{statement}
 use Rattle.recovery.proofs.checkpoint.release.Tie as tie

@@ -1,5 +1,5 @@
 -- `recovery::checkpoint::retired_card` meets its contract.
-use Rattle.card.proofs.Parts.{facts}
+use Rattle.state.proofs.Parts.{facts}
 use Rattle.recovery.proofs.CheckpointLaws.{shape-range, card-retired}
 use borrow.Author.Needs.{needs}
 use Rattle.recovery.proofs.checkpoint.retired_card.Statement.{statement}

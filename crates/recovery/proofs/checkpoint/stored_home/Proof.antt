@@ -1,5 +1,5 @@
 -- `recovery::checkpoint::stored_home` meets its contract.
-use Rattle.card.proofs.Parts.{facts}
+use Rattle.state.proofs.Parts.{facts}
 use Rattle.recovery.proofs.CheckpointLaws.{shape-range, read-shape, home-left, home-stored}
 use borrow.Author.Needs.{needs}
 use Rattle.recovery.proofs.checkpoint.stored_home.Statement.{statement}

@@ -1,5 +1,5 @@
 -- `recovery::checkpoint::stored_master` meets its contract: the master in block 0.
-use Rattle.card.proofs.Parts.{facts}
+use Rattle.state.proofs.Parts.{facts}
 use Rattle.recovery.proofs.CheckpointLaws.{master-stored}
 use borrow.Author.Needs.{needs}
 use Rattle.recovery.proofs.checkpoint.stored_master.Statement.{statement}
@@ -8,17 +8,8 @@ use Rattle.recovery.proofs.checkpoint.stored_master.Tie as tie
 retired-card-requires : tie.Need-retired-card-requires
 retired-card-requires c κs = search needs
 
-sub-write-master : tie.Need-sub-write-master
-sub-write-master c = search needs
-
-part-write-master-start : tie.Need-part-write-master-start
-part-write-master-start c = search needs
-
-part-write-master-end : tie.Need-part-write-master-end
-part-write-master-end c = search needs
-
-write-master-requires : tie.Need-write-master-requires
-write-master-requires c κs = search needs
+store-master-requires : tie.Need-store-master-requires
+store-master-requires c κs = search needs
 
 same-length : tie.Need-same-length
 same-length c = search needs
@@ -31,9 +22,6 @@ stored-master-spec =
     tie.close
     (tie.spec
     retired-card-requires
-    sub-write-master
-    part-write-master-start
-    part-write-master-end
-    write-master-requires
+    store-master-requires
     same-length
     returns)

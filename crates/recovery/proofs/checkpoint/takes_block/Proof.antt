@@ -8,7 +8,7 @@ use lib.Dec.{eqb}
 use lib.ListN.{length, take}
 use Rattle.model.specs.Card.{taken}
 use Rattle.model.specs.Lists.{any}
-use Rattle.card.proofs.Parts.{facts}
+use Rattle.state.proofs.Parts.{facts}
 use Rattle.recovery.proofs.CheckpointLaws.{few-taken, none-taken, block-hit, block-missed, not-taken}
 use Rattle.recovery.proofs.checkpoint.takes_block.Statement.{statement}
 use Rattle.recovery.proofs.checkpoint.takes_block.Tie as tie

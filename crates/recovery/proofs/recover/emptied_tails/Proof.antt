@@ -3,7 +3,7 @@ use Prim.Native.Nat.{_-_}
 use borrow.Author.Needs.{needs}
 use Rattle.layout.proofs.Loops.{Filled, filled-none, filled-more, filled-all}
 use Rattle.recovery.specs.Recovering.{tailAfter}
-use Rattle.card.proofs.Parts.{facts}
+use Rattle.state.proofs.Parts.{facts}
 use Rattle.recovery.proofs.recover.emptied_tails.Statement.{statement}
 use Rattle.recovery.proofs.recover.emptied_tails.Tie as tie
 

@@ -2,7 +2,7 @@
 use borrow.Author.Needs.{needs}
 use Rattle.model.specs.Recovery.{recover}
 use Rattle.recovery.proofs.RecoverLaws.{recover-clear, recover-done}
-use Rattle.card.proofs.Refusals.{was-refused}
+use Rattle.state.proofs.Refusals.{was-refused}
 use Rattle.recovery.proofs.recover.recover.Statement.{statement}
 use Rattle.recovery.proofs.recover.recover.Tie as tie
 

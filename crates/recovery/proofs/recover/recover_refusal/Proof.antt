@@ -1,7 +1,7 @@
 -- `recovery::recover::recover_refusal` meets its contract: the length, the phase, then the first block.
 use borrow.Author.Needs.{needs}
 use mathlib.Core.Path.{_∙_}
-use Rattle.card.proofs.Refusals.{first-hit, first-pass, recover-numbers, passed-lengths}
+use Rattle.state.proofs.Refusals.{first-hit, first-pass, recover-numbers, passed-lengths}
 use Rattle.recovery.proofs.recover.recover_refusal.Statement.{statement}
 use Rattle.recovery.proofs.recover.recover_refusal.Tie as tie
 
