@@ -9,7 +9,3 @@ pub mod WriteLaws
 pub mod EntryLaws
 pub mod CloseLaws
 pub mod StoreLaws
-pub mod TapeLaws
-pub mod RecoverLaws
-pub mod CheckpointLaws
-pub mod OldestLaws

@@ -2,18 +2,23 @@
 use Prim.Native.Nat.{ℕ, _<_}
 use native.Mathlib.Omega.{arith}
 use mathlib.Core.Path.{_≡_, refl, sym, _∙_}
-use mathlib.Core.Bool.{Bool, false, cond}
+use mathlib.Core.Bool.{Bool, true, false, cond, not}
 use mathlib.Core.List.{List, [], _∷_, _++_}
 use lib.Dec.{eqb}
 use lib.ListN.{length}
 use borrow.Author.Tests.{eqb-true, eqb-false, ne-eqb}
-use Rattle.model.specs.Command.{World, Outcome, refusal, unless, notUp}
-use Rattle.model.specs.Bytes.{Bytes}
+use Rattle.model.specs.Card.{isBlank, isUp, isDown}
+use Rattle.model.specs.Command.{World, Outcome, refusal, unless, notUp, wrongLength}
+use Rattle.model.specs.Layout.{isMaster}
+use Rattle.model.specs.Recovery.{cutConditions, recoverConditions}
+use Rattle.model.specs.Bytes.{Bytes, blockAt}
 use Rattle.model.specs.declared.Card.{Card}
+use Rattle.model.specs.declared.Phase.{Phase}
+use Rattle.model.specs.declared.Phase.the-variants.{Blank, Up, Down}
 use Rattle.model.proofs.Lists.{cases}
 use Rattle.model.proofs.OneStore.{right-lengths}
 use Rattle.model.proofs.Command.{Clear, Numbered, refusal-clear, refusedWith, unless-refused, unless-done}
-use Rattle.card.specs.Answer.{world, firstOf}
+use Rattle.card.specs.Answer.{world, firstOf, byPhase, phaseRefusal}
 
 -- ---- the first of two stages that refuses
 pub first-hit : (n a b : ℕ) → n ≡ a → (n ≡ 0 → ⊥) → n ≡ firstOf a b
@@ -81,3 +86,55 @@ module _ (ts : List (Bool × ℕ)) (w : World) (done : Outcome) (n : ℕ) (e : n
   -- then no condition holds
   pub none-held : n ≡ 0 → Numbered ts → Clear ts
   none-held h p = refusal-clear ts p (sym e ∙ h)
+
+-- ---- what each command meets first, by its numbers for the phases
+module _ (t : Bool) where
+  up-by-phase : (p : Phase) → cond t 1 (byPhase p 20 0 22) ≡ refusal ((t, 1) ∷ (isBlank p, 20) ∷ (isDown p, 22) ∷ [])
+  unfolding byPhase refusal
+  up-by-phase Blank = refl
+  up-by-phase Up = refl
+  up-by-phase Down = refl
+
+  blank-by-phase : (p : Phase) → cond t 1 (byPhase p 0 21 21) ≡ refusal ((t, 1) ∷ (not (isBlank p), 21) ∷ [])
+  unfolding byPhase refusal
+  blank-by-phase Blank = refl
+  blank-by-phase Up = refl
+  blank-by-phase Down = refl
+
+  cut-by-phase : (p : Phase) → cond t 1 (byPhase p 20 0 0) ≡ refusal ((t, 1) ∷ (isBlank p, 20) ∷ [])
+  unfolding byPhase refusal
+  cut-by-phase Blank = refl
+  cut-by-phase Up = refl
+  cut-by-phase Down = refl
+
+  recover-by-phase : (p : Phase) → cond t 1 (byPhase p 20 23 0) ≡ refusal ((t, 1) ∷ (isBlank p, 20) ∷ (isUp p, 23) ∷ [])
+  unfolding byPhase refusal
+  recover-by-phase Blank = refl
+  recover-by-phase Up = refl
+  recover-by-phase Down = refl
+
+module _ (w : World) where
+  pub up-numbers : phaseRefusal w 20 0 22 ≡ refusal (notUp w [])
+  unfolding phaseRefusal
+  up-numbers = up-by-phase (wrongLength w) (w .card .phase)
+
+  pub blank-numbers : phaseRefusal w 0 21 21 ≡ refusal ((wrongLength w, 1) ∷ (not (isBlank (w .card .phase)), 21) ∷ [])
+  unfolding phaseRefusal
+  blank-numbers = blank-by-phase (wrongLength w) (w .card .phase)
+
+  pub cut-numbers : phaseRefusal w 20 0 0 ≡ refusal (cutConditions w)
+  unfolding phaseRefusal cutConditions
+  cut-numbers = cut-by-phase (wrongLength w) (w .card .phase)
+
+  -- RECOVER looks at the first block last
+  pub recover-numbers : firstOf (phaseRefusal w 20 23 0) (cond (not (isMaster (blockAt (w .disk) 0))) 8 0) ≡ refusal (recoverConditions w)
+  unfolding phaseRefusal recoverConditions
+  recover-numbers =
+      rw (recover-by-phase (wrongLength w) (w .card .phase), ← refusal-one (not (isMaster (blockAt (w .disk) 0))) 8)
+      (sym (refusal-joined ((wrongLength w, 1) ∷ (isBlank (w .card .phase), 20) ∷ (isUp (w .card .phase), 23) ∷ []) ((not (isMaster (blockAt (w .disk) 0)), 8) ∷ []) (omega arith, (omega arith, (omega arith, tt)))))
+
+  -- passed: the slices have their lengths
+  pub passed-lengths : (n b u d : ℕ) → n ≡ phaseRefusal w b u d → n ≡ 0 → length (w .disk) ≡ 32896
+  unfolding phaseRefusal
+  passed-lengths n b u d e h =
+      cases (wrongLength w) (λ t. let z : n ≡ 1 = rw t at e in absurd (omega arith)) (λ t. right-lengths w t .0)

@@ -9,12 +9,11 @@ ghost use Rattle.model.specs.Command.{refusal, wrongLength};
 ghost use Rattle.model.specs.Format.{formatted, format};
 ghost use Rattle.card.specs.Answer.{world, outcomeOf};
 use crate::state::Answer;
+use crate::state::phase_refusal;
 use crate::state::up_card;
-use crate::state::wrong_length;
 use crate::state::zero_all;
 use model::Card;
 use model::Checked;
-use model::Phase;
 use model::Shape;
 use model::Tail;
 
@@ -22,15 +21,7 @@ use model::Tail;
 fn blank_refusal(card: Card, disk: &[u8], memory: &[u8]) -> u8
     ensures { λ r. ⌜ r ≡ refusal ((wrongLength (world card (now (disk .entry)) (now (memory .entry))), 1) ∷ (not (isBlank (card .phase)), 21) ∷ []) ⌝ }
 {
-    if wrong_length(disk, memory) {
-        return 1;
-    }
-    let p = card.phase;
-    match p {
-        Phase::Blank => 0,
-        Phase::Up => 21,
-        Phase::Down => 21,
-    }
+    phase_refusal(card, disk, memory, 0, 21, 21)
 }
 
 // A card that comes up over zeroed slices and a master with empty journals. The shape is within its limits.

@@ -8,7 +8,7 @@ ghost use lib.ListN.{length, replicate};
 ghost use Rattle.model.specs.Card.{sameName, taken, freshCore, freshCard, listed, lists, shapeOf, tailOf, coreOf, holderOf, withCore, withHolder};
 ghost use Rattle.model.specs.Command.{refusal, wrongLength, notUp};
 ghost use Rattle.model.specs.declared.Phase.the-variants.{Up};
-ghost use Rattle.card.specs.Answer.{world};
+ghost use Rattle.card.specs.Answer.{world, phaseRefusal};
 use model::Card;
 use model::Core;
 use model::Holder;
@@ -189,19 +189,26 @@ pub fn wrong_length(disk: &[u8], memory: &[u8]) -> bool
     memory.len() != 16384
 }
 
-// What WRITE, CLOSE, STORE, CHECKPOINT and reading meet first: a wrong length, a card that is not up.
-pub fn state_refusal(card: Card, disk: &[u8], memory: &[u8]) -> u8
-    ensures { λ r. ⌜ r ≡ refusal (notUp (world card (now (disk .entry)) (now (memory .entry))) []) ⌝ }
+// What every command meets first: a wrong length, then its number for the card's phase, 0 where it goes on.
+pub fn phase_refusal(card: Card, disk: &[u8], memory: &[u8], blank: u8, up: u8, down: u8) -> u8
+    ensures { λ r. ⌜ r ≡ phaseRefusal (world card (now (disk .entry)) (now (memory .entry))) blank up down ⌝ }
 {
     if wrong_length(disk, memory) {
         return 1;
     }
     let p = card.phase;
     match p {
-        Phase::Blank => 20,
-        Phase::Up => 0,
-        Phase::Down => 22,
+        Phase::Blank => blank,
+        Phase::Up => up,
+        Phase::Down => down,
     }
+}
+
+// What WRITE, CLOSE, STORE, CHECKPOINT and reading meet first: a wrong length, a card that is not up.
+pub fn state_refusal(card: Card, disk: &[u8], memory: &[u8]) -> u8
+    ensures { λ r. ⌜ r ≡ refusal (notUp (world card (now (disk .entry)) (now (memory .entry))) []) ⌝ }
+{
+    phase_refusal(card, disk, memory, 20, 0, 22)
 }
 
 // Refusal 5, a core that the disk's shape has not.

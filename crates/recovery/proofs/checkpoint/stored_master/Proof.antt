@@ -1,0 +1,39 @@
+-- `recovery::checkpoint::stored_master` meets its contract: the master in block 0.
+use Rattle.card.proofs.Parts.{facts}
+use Rattle.recovery.proofs.CheckpointLaws.{master-stored}
+use borrow.Author.Needs.{needs}
+use Rattle.recovery.proofs.checkpoint.stored_master.Statement.{statement}
+use Rattle.recovery.proofs.checkpoint.stored_master.Tie as tie
+
+retired-card-requires : tie.Need-retired-card-requires
+retired-card-requires c κs = search needs
+
+sub-write-master : tie.Need-sub-write-master
+sub-write-master c = search needs
+
+part-write-master-start : tie.Need-part-write-master-start
+part-write-master-start c = search needs
+
+part-write-master-end : tie.Need-part-write-master-end
+part-write-master-end c = search needs
+
+write-master-requires : tie.Need-write-master-requires
+write-master-requires c κs = search needs
+
+same-length : tie.Need-same-length
+same-length c = search needs
+
+returns : tie.Need-returns
+returns c = λ m. search (facts, master-stored)
+
+pub stored-master-spec : {M : Type 1} → statement M
+stored-master-spec =
+    tie.close
+    (tie.spec
+    retired-card-requires
+    sub-write-master
+    part-write-master-start
+    part-write-master-end
+    write-master-requires
+    same-length
+    returns)

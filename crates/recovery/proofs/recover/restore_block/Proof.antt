@@ -1,0 +1,54 @@
+-- `recovery::recover::restore_block` meets its contract: what was written to the block is a store.
+use borrow.Author.Needs.{needs}
+use Rattle.recovery.proofs.RecoverLaws.{home-stored}
+use Rattle.recovery.proofs.recover.restore_block.Statement.{statement}
+use Rattle.recovery.proofs.recover.restore_block.Tie as tie
+
+newest-block-requires : tie.Need-newest-block-requires
+newest-block-requires c κs = search needs
+
+home-block-requires : tie.Need-home-block-requires
+home-block-requires c κs = search needs
+
+mul-from : tie.Need-mul-from
+mul-from c = search needs
+
+add-to : tie.Need-add-to
+add-to c = search needs
+
+sub-write-image : tie.Need-sub-write-image
+sub-write-image c = search needs
+
+part-write-image-start : tie.Need-part-write-image-start
+part-write-image-start c = search needs
+
+part-write-image-end : tie.Need-part-write-image-end
+part-write-image-end c = search needs
+
+write-image-requires : tie.Need-write-image-requires
+write-image-requires c κs = search needs
+
+add-next : tie.Need-add-next
+add-next c = search needs
+
+same-length : tie.Need-same-length
+same-length c = search needs
+
+returns : tie.Need-returns
+returns c = λ bs m. search (needs, home-stored)
+
+pub restore-block-spec : {M : Type 1} → statement M
+restore-block-spec =
+    tie.close
+    (tie.spec
+    newest-block-requires
+    home-block-requires
+    mul-from
+    add-to
+    sub-write-image
+    part-write-image-start
+    part-write-image-end
+    write-image-requires
+    add-next
+    same-length
+    returns)
