@@ -9,15 +9,12 @@ use mathlib.Core.List.{List, [], _∷_, _++_, map, map-append}
 use lib.ListN.{length, take, set, length-set}
 use lib.Seq.{take-suc-set, take-all}
 use borrow.Author.Tests.{not-true, not-false}
+use borrow.Author.Needs.{needs}
 use Rattle.model.specs.Lists.{below, all, any}
 use Rattle.model.proofs.Lists.{cases, all-mem, all-append, any-append, mem-any, below-mem}
 use Rattle.layout.specs.Loops.{every, some}
 
 -- ---- a test at each index
-pub every-all : (p : ℕ → Bool) (n : ℕ) → every n p ≡ all p (below n)
-unfolding every
-every-all p n = refl
-
 all-map : {A : Type 0} (p : A → Bool) (f : ℕ → A) (xs : List ℕ) → all (λ (i : ℕ). p (f i)) xs ≡ all p (map f xs)
 unfolding all
 all-map p f [] = refl
@@ -46,18 +43,36 @@ every-no p i n h q = cases (every n p) (λ t. absurd (false≢true (sym q ∙ al
 pub every-yes : (p : ℕ → Bool) (i n : ℕ) → every i p ≡ true → i ≤ n → n ≤ i → true ≡ every n p
 every-yes p i n h q r = let e : i ≡ n = omega arith in sym h ∙ ap (λ (k : ℕ). every k p) e
 
--- with what a call answered: r
-module _ (p : ℕ → Bool) (i : ℕ) (r : Bool) (e : r ≡ p i) where
-  pub every-out : (n : ℕ) → not r ≡ true → i < n → false ≡ every n p
-  every-out n h q = every-no p i n q (sym e ∙ not-true r h)
+-- a loop that leaves at the first index where the test fails; r is what a call answered there
+pub record Each (p : ℕ → Bool) (n i : ℕ) : Type 0 where
+  pub most : i ≤ n
+  pub holds : every i p ≡ true
 
-  pub every-in : every i p ≡ true → not r ≡ false → every (i + 1) p ≡ true
-  every-in h q = every-more p i h (sym e ∙ not-false r q)
+module _ (p : ℕ → Bool) (n : ℕ) where
+  pub each-start : Each p n 0
+  each-start = record { most = omega arith; holds = every-none p }
+
+  module _ (i : ℕ) where
+    pub each-out : (r : Bool) → r ≡ p i → not r ≡ true → i < n → false ≡ every n p
+    each-out r e h q = every-no p i n q (sym e ∙ not-true r h)
+
+    pub each-more : (r : Bool) → Each p n i → r ≡ p i → not r ≡ false → i < n → Each p n (i + 1)
+    each-more r w e h q = record { most = omega arith; holds = every-more p i (w .holds) (sym e ∙ not-false r h) }
+
+    pub each-end : Each p n i → n ≤ i → true ≡ every n p
+    each-end w h = every-yes p i n (w .holds) (w .most) h
+
+pub ruleset each = (needs, each-start, each-out, each-more, each-end)
 
 -- ---- a test at some index
-pub some-any : (p : ℕ → Bool) (n : ℕ) → some n p ≡ any p (below n)
+any-map : {A : Type 0} (p : A → Bool) (f : ℕ → A) (xs : List ℕ) → any (λ (i : ℕ). p (f i)) xs ≡ any p (map f xs)
+unfolding any
+any-map p f [] = refl
+any-map p f (x ∷ xs) = ap (λ (b : Bool). p (f x) || b) (any-map p f xs)
+
+pub some-map : {A : Type 0} (p : A → Bool) (f : ℕ → A) (n : ℕ) → some n (λ (i : ℕ). p (f i)) ≡ any p (map f (below n))
 unfolding some
-some-any p n = refl
+some-map p f n = any-map p f (below n)
 
 pub some-none : (p : ℕ → Bool) → some 0 p ≡ false
 unfolding some below any
@@ -83,6 +98,24 @@ module _ (p : ℕ → Bool) (i : ℕ) (r : Bool) (e : r ≡ p i) where
 
   pub some-out : some i p ≡ false → r ≡ false → some (i + 1) p ≡ false
   some-out h q = some-more p i h (sym e ∙ q)
+
+-- a loop that leaves at the first index where the test holds
+pub record None (p : ℕ → Bool) (n i : ℕ) : Type 0 where
+  pub most : i ≤ n
+  pub fails : some i p ≡ false
+
+module _ (p : ℕ → Bool) (n : ℕ) where
+  pub none-start : None p n 0
+  none-start = record { most = omega arith; fails = some-none p }
+
+  module _ (i : ℕ) where
+    pub none-more : (r : Bool) → None p n i → r ≡ p i → r ≡ false → i < n → None p n (i + 1)
+    none-more r w e h q = record { most = omega arith; fails = some-out p i r e (w .fails) h }
+
+    pub none-end : None p n i → n ≤ i → false ≡ some n p
+    none-end w h = some-no p i n (w .fails) (w .most) h
+
+pub ruleset none = (needs, none-start, some-in, none-more, none-end)
 
 -- ---- lists given by an index
 module _ {A : Type 0} (f g : ℕ → A) where
