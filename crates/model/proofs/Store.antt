@@ -113,24 +113,3 @@ module _ (n : ℕ) (d : Bytes) (len : length d ≡ 128 * n) (k : ℕ) (a : Bytes
             (block-stored (store d k a) k b g sb ∙ sym (block-stored d k b fits sb))
         | no ne ↦ block-other (store d k a) k b g sb j ne ∙ block-other d k a fits sa j ne ∙ sym (block-other d k b fits sb j ne)
       ])
-
-  pub store-comm : (j : ℕ) (b : Bytes) → j < n → length b ≡ 128 → j ≢ k → store (store d k a) j b ≡ store (store d j b) k a
-  store-comm j b jb sb ne =
-      let fj : 128 * j + 128 ≤ length d = omega arith in
-      let l₁ : length (store d k a) ≡ length d = length-store d k a fits sa in
-      let l₂ : length (store d j b) ≡ length d = length-store d j b fj sb in
-      let g₁ : 128 * j + 128 ≤ length (store d k a) = omega arith in
-      let g₂ : 128 * k + 128 ≤ length (store d j b) = omega (arith, fits) in
-      ext-blocks n (store (store d k a) j b) (store (store d j b) k a)
-      (length-store (store d k a) j b g₁ sb ∙ l₁ ∙ len) (length-store (store d j b) k a g₂ sa ∙ l₂ ∙ len)
-      (λ i h.
-      elim (ℕ-discrete i j) [
-        | yes e ↦ subst (λ (m : ℕ). blockAt (store (store d k a) j b) m ≡ blockAt (store (store d j b) k a) m) (sym e)
-            (block-stored (store d k a) j b g₁ sb ∙ sym (block-other (store d j b) k a g₂ sa j ne ∙ block-stored d j b fj sb))
-        | no nj ↦ block-other (store d k a) j b g₁ sb i nj
-            ∙ elim (ℕ-discrete i k) [
-              | yes e ↦ subst (λ (m : ℕ). blockAt (store d k a) m ≡ blockAt (store (store d j b) k a) m) (sym e)
-                  (block-stored d k a fits sa ∙ sym (block-stored (store d j b) k a g₂ sa))
-              | no nk ↦ block-other d k a fits sa i nk ∙ sym (block-other (store d j b) k a g₂ sa i nk ∙ block-other d j b fj sb i nj)
-            ]
-      ])
