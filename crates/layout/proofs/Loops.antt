@@ -1,29 +1,24 @@
 -- Loops over an index: a test at each index below a count, at some, and an array filled one after another.
 -- Each law has the form in which a loop needs it: none, one more, all.
-use Prim.Native.Nat.{ℕ, zero, suc, _+_, _≤_, _<_}
+use Prim.Native.Nat.{ℕ, suc, _+_, _≤_, _<_}
 use native.Mathlib.Omega.{arith}
 use native.Mathlib.Numerals.{add-one}
-use mathlib.Core.Path.{_≡_, refl, ap, _∙_, sym, ap₂}
+use mathlib.Core.Path.{_≡_, refl, ap, _∙_, sym}
 use mathlib.Core.Bool.{Bool, true, false, false≢true, not, _&&_, _||_, and-true, or-false}
-use mathlib.Core.List.{List, [], _∷_, _++_, map, map-append}
+use mathlib.Core.List.{List, [], _∷_, map, map-append}
 use lib.ListN.{length, take, set, length-set}
 use lib.Seq.{take-suc-set, take-all}
 use borrow.Author.Tests.{not-true, not-false}
 use borrow.Author.Needs.{needs}
 use Rattle.model.specs.Lists.{below, all, any}
-use Rattle.model.proofs.Lists.{cases, all-mem, all-append, any-append, mem-any, below-mem}
+use Rattle.model.proofs.Lists.{cases, all-mem, all-append, any-append, all-map, any-map, mem-any, below-mem, map-below}
 use Rattle.layout.specs.Loops.{every, some}
 
 -- ---- a test at each index
-all-map : {A : Type 0} (p : A → Bool) (f : ℕ → A) (xs : List ℕ) → all (λ (i : ℕ). p (f i)) xs ≡ all p (map f xs)
-unfolding all
-all-map p f [] = refl
-all-map p f (x ∷ xs) = ap (λ (b : Bool). p (f x) && b) (all-map p f xs)
-
 -- a test of each element of a list that is given by its index
 pub every-map : {A : Type 0} (p : A → Bool) (f : ℕ → A) (n : ℕ) → every n (λ (i : ℕ). p (f i)) ≡ all p (map f (below n))
 unfolding every
-every-map p f n = all-map p f (below n)
+every-map p f n = sym (all-map f (λ (i : ℕ). p (f i)) p (λ i. refl) (below n))
 
 pub every-none : (p : ℕ → Bool) → every 0 p ≡ true
 unfolding every below all
@@ -44,35 +39,30 @@ pub every-yes : (p : ℕ → Bool) (i n : ℕ) → every i p ≡ true → i ≤ 
 every-yes p i n h q r = let e : i ≡ n = omega arith in sym h ∙ ap (λ (k : ℕ). every k p) e
 
 -- a loop that leaves at the first index where the test fails; r is what a call answered there
-pub record Each (p : ℕ → Bool) (n i : ℕ) : Type 0 where
+pub record Passed (p : ℕ → Bool) (n i : ℕ) : Type 0 where
   pub most : i ≤ n
   pub holds : every i p ≡ true
 
 module _ (p : ℕ → Bool) (n : ℕ) where
-  pub each-start : Each p n 0
-  each-start = record { most = omega arith; holds = every-none p }
+  pub passed-start : Passed p n 0
+  passed-start = record { most = omega arith; holds = every-none p }
 
   module _ (i : ℕ) where
-    pub each-out : (r : Bool) → r ≡ p i → not r ≡ true → i < n → false ≡ every n p
-    each-out r e h q = every-no p i n q (sym e ∙ not-true r h)
+    pub passed-out : (r : Bool) → r ≡ p i → not r ≡ true → i < n → false ≡ every n p
+    passed-out r e h q = every-no p i n q (sym e ∙ not-true r h)
 
-    pub each-more : (r : Bool) → Each p n i → r ≡ p i → not r ≡ false → i < n → Each p n (i + 1)
-    each-more r w e h q = record { most = omega arith; holds = every-more p i (w .holds) (sym e ∙ not-false r h) }
+    pub passed-more : (r : Bool) → Passed p n i → r ≡ p i → not r ≡ false → i < n → Passed p n (i + 1)
+    passed-more r w e h q = record { most = omega arith; holds = every-more p i (w .holds) (sym e ∙ not-false r h) }
 
-    pub each-end : Each p n i → n ≤ i → true ≡ every n p
-    each-end w h = every-yes p i n (w .holds) (w .most) h
+    pub passed-end : Passed p n i → n ≤ i → true ≡ every n p
+    passed-end w h = every-yes p i n (w .holds) (w .most) h
 
-pub ruleset each = (needs, each-start, each-out, each-more, each-end)
+pub ruleset passed = (needs, passed-start, passed-out, passed-more, passed-end)
 
 -- ---- a test at some index
-any-map : {A : Type 0} (p : A → Bool) (f : ℕ → A) (xs : List ℕ) → any (λ (i : ℕ). p (f i)) xs ≡ any p (map f xs)
-unfolding any
-any-map p f [] = refl
-any-map p f (x ∷ xs) = ap (λ (b : Bool). p (f x) || b) (any-map p f xs)
-
 pub some-map : {A : Type 0} (p : A → Bool) (f : ℕ → A) (n : ℕ) → some n (λ (i : ℕ). p (f i)) ≡ any p (map f (below n))
 unfolding some
-some-map p f n = any-map p f (below n)
+some-map p f n = sym (any-map f (λ (i : ℕ). p (f i)) p (λ i. refl) (below n))
 
 pub some-none : (p : ℕ → Bool) → some 0 p ≡ false
 unfolding some below any
@@ -100,32 +90,26 @@ module _ (p : ℕ → Bool) (i : ℕ) (r : Bool) (e : r ≡ p i) where
   some-out h q = some-more p i h (sym e ∙ q)
 
 -- a loop that leaves at the first index where the test holds
-pub record None (p : ℕ → Bool) (n i : ℕ) : Type 0 where
+pub record Missed (p : ℕ → Bool) (n i : ℕ) : Type 0 where
   pub most : i ≤ n
   pub fails : some i p ≡ false
 
 module _ (p : ℕ → Bool) (n : ℕ) where
-  pub none-start : None p n 0
-  none-start = record { most = omega arith; fails = some-none p }
+  pub missed-start : Missed p n 0
+  missed-start = record { most = omega arith; fails = some-none p }
 
   module _ (i : ℕ) where
-    pub none-more : (r : Bool) → None p n i → r ≡ p i → r ≡ false → i < n → None p n (i + 1)
-    none-more r w e h q = record { most = omega arith; fails = some-out p i r e (w .fails) h }
+    pub missed-more : (r : Bool) → Missed p n i → r ≡ p i → r ≡ false → i < n → Missed p n (i + 1)
+    missed-more r w e h q = record { most = omega arith; fails = some-out p i r e (w .fails) h }
 
-    pub none-end : None p n i → n ≤ i → false ≡ some n p
-    none-end w h = some-no p i n (w .fails) (w .most) h
+    pub missed-end : Missed p n i → n ≤ i → false ≡ some n p
+    missed-end w h = some-no p i n (w .fails) (w .most) h
 
-pub ruleset none = (needs, none-start, some-in, none-more, none-end)
+pub ruleset missed = (needs, missed-start, some-in, missed-more, missed-end)
 
 -- ---- lists given by an index
-module _ {A : Type 0} (f g : ℕ → A) where
-  pub same-below : (n : ℕ) → ((i : ℕ) → i < n → f i ≡ g i) → map f (below n) ≡ map g (below n)
-  unfolding below
-  same-below zero h = refl
-  same-below (suc n) h =
-      map-append f (below n) (n ∷ [])
-      ∙ ap₂ (λ (l : List A) (x : A). l ++ (x ∷ [])) (same-below n (λ i k. h i (omega arith))) (h n (omega arith))
-      ∙ sym (map-append g (below n) (n ∷ []))
+pub same-below : {A : Type 0} (f g : ℕ → A) (n : ℕ) → ((i : ℕ) → i < n → f i ≡ g i) → map f (below n) ≡ map g (below n)
+same-below = map-below
 
 -- ---- an array filled
 module _ {A : Type 0} (f : ℕ → A) where
@@ -152,3 +136,5 @@ module _ {A : Type 0} (f : ℕ → A) where
   filled-all n out i w h =
       let e : i ≡ n = omega (arith, w .most) in
       sym (take-all i out (omega (arith, w .size))) ∙ w .same ∙ ap (λ (k : ℕ). map f (below k)) e
+
+pub ruleset filled = (needs, filled-none, filled-more, filled-all)

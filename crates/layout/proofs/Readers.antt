@@ -21,7 +21,7 @@ use Rattle.model.proofs.OneStore.{master-limits}
 use Rattle.layout.specs.Loops.{every}
 use Rattle.layout.specs.Tails.{tailOrNone}
 use Rattle.layout.specs.Distinct.{heldAt, isOther, isNew}
-use Rattle.layout.proofs.Loops.{every-none, every-map, every-step, every-no, Each, each-more, each-end}
+use Rattle.layout.proofs.Loops.{every-none, every-map, every-step, every-no, Passed, passed-more, passed-end}
 use Rattle.layout.proofs.Tests.{fails, and-last, and-holds, and-here, and-before}
 
 -- ---- descriptor
@@ -83,13 +83,13 @@ module _ (b : Bytes) (i j x y : ℕ) (e : x ≡ (pairAt newHeld b 16 i) .block) 
   unfolding isNew isOther
   new-no h l = every-no (isOther b i) j i l (ap not (eq-eqb _ _ (sym q ∙ h ∙ e)))
 
-  pub new-more : (y ≡ x → ⊥) → Each (isOther b i) i j → j < i → Each (isOther b i) i (j + 1)
+  pub new-more : (y ≡ x → ⊥) → Passed (isOther b i) i j → j < i → Passed (isOther b i) i (j + 1)
   unfolding isOther
-  new-more h w l = each-more (isOther b i) i j true w (sym (ap not (ne-eqb _ _ (λ z. h (q ∙ z ∙ sym e))))) refl l
+  new-more h w l = passed-more (isOther b i) i j true w (sym (ap not (ne-eqb _ _ (λ z. h (q ∙ z ∙ sym e))))) refl l
 
-pub new-yes : (b : Bytes) (i j : ℕ) → Each (isOther b i) i j → i ≤ j → true ≡ isNew b i
+pub new-yes : (b : Bytes) (i j : ℕ) → Passed (isOther b i) i j → i ≤ j → true ≡ isNew b i
 unfolding isNew
-new-yes b i j w h = each-end (isOther b i) i j w h
+new-yes b i j w h = passed-end (isOther b i) i j w h
 
 -- ---- commit
 pub listable-same : (s : Shape) (b : Bytes) (n : ℕ) (r : Bool) → r ≡ every n (λ (i : ℕ). isListable s (pairAt newName b 24 i)) → n ≡ nameCount b

@@ -2,12 +2,12 @@
 use Prim.Native.Nat.{_-_, ℕ}
 use borrow.Author.Needs.{needs}
 use Rattle.model.specs.Layout.{isTail, tailIn}
-use Rattle.layout.proofs.Loops.{Each, each}
+use Rattle.layout.proofs.Loops.{Passed, passed}
 use Rattle.layout.proofs.master.are_tails.Statement.{statement}
 use Rattle.layout.proofs.master.are_tails.Tie as tie
 
 abbrev Inv-loop : tie.InvT-loop
-Inv-loop s block cores c₀ c = Each (λ (j : ℕ). isTail s (tailIn block j)) cores c
+Inv-loop s block cores c₀ c = Passed (λ (j : ℕ). isTail s (tailIn block j)) cores c
 
 abbrev μ-loop : tie.MeasureT-loop
 μ-loop s block cores c₀ c = cores - c
@@ -15,5 +15,5 @@ abbrev μ-loop : tie.MeasureT-loop
 pub are-tails-spec : {M : Type 1} → statement M
 are-tails-spec =
     tie.close
-    (tie.spec Inv-loop μ-loop (λ c. search each) (λ c κs. search needs) (λ c. search each) (λ c. search needs)
-    (λ c. search needs) (λ c. search each) (λ c. search each))
+    (tie.spec Inv-loop μ-loop (λ c. search passed) (λ c κs. search needs) (λ c. search passed) (λ c. search needs)
+    (λ c. search needs) (λ c. search passed) (λ c. search passed))
