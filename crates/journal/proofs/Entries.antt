@@ -1,5 +1,5 @@
 -- The functions over slots and over one transaction: what each answers at its returns.
-use Prim.Native.Nat.{ℕ, zero, suc, _+_, _*_, _-_, _/_, _%_, _≤_, _<_, min}
+use Prim.Native.Nat.{ℕ, zero, suc, _+_, _-_, _/_, _%_, _≤_, _<_, min}
 use native.Mathlib.Omega.{arith}
 use native.Mathlib.Nat.{add-zero}
 use native.Mathlib.Numerals.{add-one}
@@ -21,7 +21,7 @@ use Rattle.model.specs.declared.Found.{Found}
 use Rattle.model.specs.declared.Found.the-variants.{Whole, Miss}
 use Rattle.model.proofs.Lists.{cases, length-below, getD-map-below}
 use Rattle.model.proofs.Records.{length-blocksOf}
-use Rattle.journal.specs.Slots.{slotOf, isFilled, entry, foundAs, foundAt, Sized, filledFrom, blocksIn, oldestAt}
+use Rattle.journal.specs.Slots.{slotOf, isFilled, entry, foundAs, foundAt, Sized, filledFrom, blocksIn}
 use Rattle.journal.proofs.Slots.{empty-slot, filled-slot}
 
 -- ---- a slot
@@ -173,17 +173,3 @@ place-any b (x ∷ xs) =
 pub took-is : (s : Shape) (d : Bytes) (e : Committed) (b p : ℕ) → p ≡ placeOf b (blocksOf s d e) → ltb p (e .count) ≡ took s d b e
 unfolding took
 took-is s d e b p h = ap (ltb p) (sym (length-blocksOf s d e)) ∙ rw h (place-any b (blocksOf s d e))
-
-pub block-is : (s : Shape) (d : Bytes) (e : Committed) (i x : ℕ) (f : Bytes) → f ≡ journalAt s d (e .core) (e .position) → x ≡ (pairAt newHeld f 16 i) .block → i < e .count → x ≡ getD (blocksOf s d e) i 0
-unfolding blocksIn blocksOf heldBy
-block-is s d e i x f q h l = h ∙ sym (block-at f (e .count) i l) ∙ rw q
-
--- ---- the oldest of a core
-module _ (s : Shape) (d : Bytes) (set : List ℕ) (c k v : ℕ) (e : v ≡ slotOf s set (12 * c)) where
-  pub oldest-none : v ≡ 0 → Miss ≡ oldestAt s d set c k
-  unfolding oldestAt
-  oldest-none h = rw (← e, eq-eqb v 0 h)
-
-  pub oldest-some : (x : Committed) → (v ≡ 0 → ⊥) → x ≡ entry s d c k v → Whole x ≡ oldestAt s d set c k
-  unfolding oldestAt
-  oldest-some x h q = rw (← e, ne-eqb v 0 h, q)
