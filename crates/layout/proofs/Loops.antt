@@ -79,6 +79,9 @@ pub some-yes : (p : ℕ → Bool) (i n : ℕ) → i < n → p i ≡ true → tru
 unfolding some
 some-yes p i n h q = sym (mem-any p (below-mem n i h) q)
 
+pub some-not : (p : ℕ → Bool) (n : ℕ) → some n p ≡ false → (i : ℕ) → i < n → p i ≡ false
+some-not p n h i l = cases (p i) (λ t. absurd (false≢true (sym h ∙ sym (some-yes p i n l t)))) (λ t. t)
+
 pub some-no : (p : ℕ → Bool) (i n : ℕ) → some i p ≡ false → i ≤ n → n ≤ i → false ≡ some n p
 some-no p i n h q r = let e : i ≡ n = omega arith in sym h ∙ ap (λ (k : ℕ). some k p) e
 
