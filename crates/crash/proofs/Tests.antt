@@ -1,4 +1,4 @@
--- Tests: a test that holds and fails, two tests that hold together, and types whose equality is tested.
+-- Tests: a test that holds and fails, a function of either case, and types whose equality is tested.
 -- A set of transactions is given by a test throughout the proof, so that histories can be cut by it.
 -- The two equalities used are those of names and of block numbers.
 use Prim.Native.Nat.{ℕ}

@@ -1,4 +1,4 @@
--- The functions of this crate in the words of RECOVER and CHECKPOINT: what a command needs of the slots that it read.
+-- The slots that a command read are the journals; what it made of them is the valid set; what it asked was asked of all.
 use Prim.Native.Nat.{ℕ, _<_}
 use native.Mathlib.Omega.{arith}
 use mathlib.Core.Path.{_≡_, ap, _∙_}

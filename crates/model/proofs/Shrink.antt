@@ -1,5 +1,5 @@
--- The set that shrinking leaves is the largest one in which each meets the test; where the test is of names, it is the
--- largest in which each has all that it depends on, transitively. Of the test only that it is monotone is needed.
+-- The set that shrinking leaves is the largest one in which each meets the test, if the test is monotone; where the test
+-- is of names, each of the set has all that it depends on, transitively.
 use Prim.Native.Nat.{ℕ, zero, suc, _≤_}
 use native.Mathlib.Omega.{arith}
 use mathlib.Core.Path.{_≡_, refl, sym, ap, _∙_}

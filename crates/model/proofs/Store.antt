@@ -1,5 +1,5 @@
 -- What a store changes, and what it leaves: the block stored is read back, every other block stays, and a disk is
--- known by its blocks. So the order of stores matters only at one and the same block.
+-- known by its blocks. Of two stores to one block the last counts.
 use Prim.Native.Nat.{ℕ, zero, suc, _+_, _*_, _-_, _≤_, _<_}
 use native.Mathlib.Omega.{arith}
 use mathlib.Core.Path.{_≡_, refl, ap, _∙_, sym, subst, ap₂}
