@@ -14,7 +14,7 @@ use Rattle.model.specs.Layout.{mark, shapeIn, tailIn, isTail, isMaster, Held, n
 use Rattle.model.specs.declared.Shape.{Shape}
 use Rattle.model.specs.declared.Checked.{Checked}
 use Rattle.model.specs.declared.Checked.the-variants.{Fits, OutOfRange}
-use Rattle.model.proofs.Lists.{and-right, all-mem, all-append, below-mem}
+use Rattle.model.proofs.Lists.{and-both, and-right, all-mem, all-append, below-mem}
 use Rattle.model.proofs.Limits.{InRange, range-test}
 use Rattle.model.proofs.Encoding.{tail-limits}
 use Rattle.model.proofs.OneStore.{master-limits}
@@ -22,7 +22,7 @@ use Rattle.layout.specs.Loops.{every}
 use Rattle.layout.specs.Tails.{tailOrNone}
 use Rattle.layout.specs.Distinct.{heldAt, isOther, isNew}
 use Rattle.layout.proofs.Loops.{every-none, every-map, every-step, every-no, Passed, passed-more, passed-end}
-use Rattle.layout.proofs.Tests.{fails, and-last, and-holds, and-here, and-before}
+use Rattle.layout.proofs.Tests.{fails, and-last, and-here, and-before}
 
 -- ---- descriptor
 -- the blocks are distinct where each is none of those before it
@@ -141,7 +141,7 @@ module _ (m : Bytes) (f : Checked) (e : f ≡ checked (be4 m 12) (be4 m 16) (be4
     master-yes x y r p a q b t =
         t
         ∙ rw (← (in-range .1))
-        (and-last _ _ _ (and-holds _ _ (and-holds _ _ (eq-eqb (be4 m 0) mark (sym p ∙ a)) (eq-eqb (be4 m 4) 4 (sym q ∙ b))) (in-range .0)) refl)
+        (and-last _ _ _ (and-both (and-both (eq-eqb (be4 m 0) mark (sym p ∙ a)) (eq-eqb (be4 m 4) 4 (sym q ∙ b))) (in-range .0)) refl)
 
 -- ---- tails
 module _ (m : Bytes) (c x : ℕ) (e : x ≡ be4 m 12) where
