@@ -78,7 +78,9 @@ module _ (s : Shape) (d : Bytes) (ks xs ys : List ℕ) (m n : ℕ) (e : ys ≡ s
   pub shrink-falls : (m ≡ n → ⊥) → filledFrom s ys 0 96 < filledFrom s xs 0 96
   shrink-falls h = omega (arith, h, size ys, size xs, ap length round, strike-length (namesMet s d (numbered ks)) (entries s d ks xs))
 
-pub valid-is : (s : Shape) (d : Bytes) (ts : List Tail) (ks xs ys : List ℕ) → ks ≡ numbersOf ts → entries s d ks ys ≡ shrink (namesMet s d (numbered ks)) (entries s d ks xs)
-    → entries s d (numbersOf ts) ys ≡ validSet s d (numbered (numbersOf ts)) (entries s d (numbersOf ts) xs)
+-- the first round, then the recursion
+pub valid-is : (s : Shape) (d : Bytes) (ts : List Tail) (ks xs ys zs : List ℕ) → ks ≡ numbersOf ts → ys ≡ struck s d ks xs
+    → entries s d ks zs ≡ shrink (namesMet s d (numbered ks)) (entries s d ks ys)
+    → entries s d (numbersOf ts) zs ≡ validSet s d (numbered (numbersOf ts)) (entries s d (numbersOf ts) xs)
 unfolding validSet
-valid-is s d ts ks xs ys e h = rw e at h
+valid-is s d ts ks xs ys zs e r h = let g = shrink-less s d ks xs ys _ _ r refl refl zs h in rw e at g
