@@ -1,0 +1,3 @@
+-- Why the wrong cards fail.
+pub mod Checks
+pub mod Refuted

@@ -1,0 +1,2 @@
+-- Cards that are the model's save in one rule.
+pub mod Wrong
