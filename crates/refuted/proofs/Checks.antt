@@ -36,6 +36,16 @@ same-itself (x ∷ xs) = and-both (eq-eqb x x refl) (same-itself xs)
 same-bytes : {s t : Bytes} → s ≡ t → sameBytes s t ≡ true
 same-bytes {s} e = subst (λ (t : Bytes). sameBytes s t ≡ true) e (same-itself s)
 
+same-as-itself : (a : Bool) → cond a a (not a) ≡ true
+same-as-itself true = refl
+same-as-itself false = refl
+
+abbrev pub sameTruth : Bool → Bool → Bool
+sameTruth a b = cond a b (not b)
+
+same-truth : {a b : Bool} → a ≡ b → sameTruth a b ≡ true
+same-truth {a} e = subst (λ (b : Bool). sameTruth a b ≡ true) e (same-as-itself a)
+
 -- a test that is asked for where another holds
 asked : (b : Bool) {t : Bool} → (b ≡ true → t ≡ true) → cond b t true ≡ true
 asked true h = h refl
@@ -112,6 +122,19 @@ bytes-follow l p k = same-bytes (ap (take (usedBytes (l .shape))) (k .disk))
 
 abbrev pub stored : Check
 stored = record { test = bytesTest; follows = bytes-follow }
+
+-- the card comes up with the master store, once no block is left
+unfoldable pub upTest : Ledger → Point → Bool
+upTest l p = cond (eqb (p .byte) 7 && eqb (p .outcome .answer) 0) (sameTruth (isUp (p .outcome .world .card .phase)) (eqb (length (l .left)) 0)) true
+
+pub up-follows : (l : Ledger) (p : Point) → PointKept l p → upTest l p ≡ true
+unfolding upTest
+up-follows l p k =
+    let done = eqb (p .outcome .answer) 0 in
+    asked (eqb (p .byte) 7 && done) (λ h. same-truth (k .comes-up (eqb-true _ _ (and-left (eqb (p .byte) 7) done h)) (eqb-true _ _ (and-right (eqb (p .byte) 7) done h))))
+
+abbrev pub coming-up : Check
+coming-up = record { test = upTest; follows = up-follows }
 
 -- at every point of a run
 unfoldable pub holds : (Ledger → Point → Bool) → Ledger → List Point → Bool

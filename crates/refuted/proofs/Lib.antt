@@ -1,3 +1,6 @@
 -- Why the wrong cards fail.
 pub mod Checks
-pub mod Refuted
+pub mod Parts
+pub mod Tapes
+pub mod Astray
+pub mod Others

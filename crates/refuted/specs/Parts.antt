@@ -1,5 +1,5 @@
 -- The model's card with a part of a command replaced. With the model's own parts each is the model's card (`proofs/Parts.antt`).
-use Prim.Native.Nat.{ℕ, suc}
+use Prim.Native.Nat.{ℕ, _+_}
 use mathlib.Core.List.{List, [], _∷_, map}
 use mathlib.Core.Bool.{Bool, cond, not}
 use lib.ListN.{length, getD}
@@ -78,7 +78,7 @@ abbrev pub recoverStepBy : (Bytes → ℕ → Bytes) → (Bytes → ℕ → Tail
 recoverStepBy image tail [] w =
     let s = shapeOn (w .disk) in
     storing w (freshCard Up s (map (tail (w .disk)) (below 8))) 0 (masterBlock s (tail (w .disk)))
-recoverStepBy image tail (b ∷ bs) w = storing w (recoveredTo (w .card) (suc b)) (homeBlock b) (image (w .disk) b)
+recoverStepBy image tail (b ∷ bs) w = storing w (recoveredTo (w .card) (b + 1)) (homeBlock b) (image (w .disk) b)
 
 abbrev pub recoverBy : (World → List ℕ) → (Bytes → ℕ → Bytes) → (Bytes → ℕ → Tail) → Step
 recoverBy left image tail = instead 7 (λ (a : Bytes) (w : World). unless (recoverConditions w) w (recoverStepBy image tail (left w) w))

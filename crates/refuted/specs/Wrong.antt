@@ -1,11 +1,11 @@
 -- Cards that are the model's save in one rule: those of paper 01's section 'Where a card goes astray', then others.
-use Prim.Native.Nat.{ℕ, suc, _+_, _-_, max, min}
+use Prim.Native.Nat.{ℕ, suc, _+_, _*_, _-_, max, min}
 use mathlib.Core.List.{List, [], _∷_, map}
 use mathlib.Core.Bool.{Bool, cond, not, _&&_, _||_}
 use lib.ListN.{length, getD, set, take, replicate}
 use lib.Dec.{eqb, leb, ltb}
 use Rattle.model.specs.Lists.{below, select, any}
-use Rattle.model.specs.Bytes.{Bytes, blockAt, part, zeroMemory}
+use Rattle.model.specs.Bytes.{Bytes, blockAt, part, replaced}
 use Rattle.model.specs.Shape.{homeBlock, journalBlock}
 use Rattle.model.specs.Card.{isUp, newTail, newName, taken, listed, lists, stamped, withBlock, withHolder, freshCard, shapeOf, tailOf, coreOf, holderOf}
 use Rattle.model.specs.Layout.{maxNumber, masterBlock, Held, newHeld, descriptorBlock, commitBlock}
@@ -108,3 +108,204 @@ storeAlways30 = instead 4 (λ (a : Bytes) (w : World). refuses 30 w)
 
 abbrev pub checkpointAlways32 : Step
 checkpointAlways32 = instead 5 (λ (a : Bytes) (w : World). refuses 32 w)
+
+-- ---- tails and stamps after recovery
+-- 'a tail number two above the last committed one read in its journal': one above
+abbrev pub tailOneAbove : Step
+tailOneAbove = recoverTail (λ (t n : ℕ). min (t + max n 1) (suc maxNumber))
+
+-- '(with none, one above the old tail)': the old tail
+abbrev pub tailKept : Step
+tailKept = recoverTail (λ (t n : ℕ). cond (eqb n 0) t (min (t + (n + 1)) (suc maxNumber)))
+
+-- 'at most 4,000,000,001': no bound
+abbrev pub capMissing : Step
+capMissing = recoverTail (λ (t n : ℕ). t + (n + 1))
+
+-- 'stamps start again at 1': they go on
+abbrev pub stampsGoOn : Step
+stampsGoOn k a w = cond (eqb k 6 || eqb k 7) (patched (withCloses (w .card .closes)) (step k a w)) (step k a w)
+
+-- ---- recovery
+-- 'The valid set is the largest set ..': one whose names are all committed counts, whatever these name
+abbrev pub validityOneDeep : Step
+validityOneDeep = recoverSet (λ (d : Bytes). strike (namesMet (shapeOn d) d (tailOn d)) (committedOn d))
+
+-- all committed ones count
+abbrev pub allCommittedValid : Step
+allCommittedValid = recoverSet committedOn
+
+-- 'from the lowest block to the highest': from the highest
+abbrev reversed : List ℕ → List ℕ
+reversed bs = map (λ (i : ℕ). getD bs (length bs - suc i) 0) (below (length bs))
+
+abbrev pub highestFirst : Step
+highestFirst =
+    recoverBy (λ (w : World).
+      let n = w .card .recovered in
+      reversed (select (λ (b : ℕ). eqb n 0 || ltb (suc b) n) (blocksHeld (shapeOn (w .disk)) (w .disk) (validOn (w .disk)))))
+    newestImage emptiedTail
+
+-- 'wherever the flag is 1, the image read has the mark as its first four bytes': the flag is not looked at
+abbrev bareImage : Bytes → ℕ → Found → Bytes
+bareImage d b Miss = blockAt d (homeBlock b)
+bareImage d b (Whole e) = let s = shapeOn d in journalAt s d (e .core) (e .position + (placeOf b (blocksOf s d e) + 1))
+
+abbrev pub flagIgnored : Step
+flagIgnored = recoverBy blocksLeft (λ (d : Bytes) (b : ℕ). bareImage d b (newest (shapeOn d) d b Miss (validOn d))) emptiedTail
+
+-- CUT: 'a recovery under way starts over': it goes on where it was
+abbrev pub cutKeepsPlace : Step
+cutKeepsPlace = instead 6 (λ (a : Bytes) (w : World). patched (λ (x : Card). recoveredTo x (w .card .recovered)) (step 6 a w))
+
+-- CUT: 'memory lost': it stays
+abbrev pub cutKeepsMemory : Step
+cutKeepsMemory =
+    instead 6 (λ (a : Bytes) (w : World).
+      let o = step 6 a w in
+      record { answer = o .answer; world = record { card = o .world .card; disk = o .world .disk; memory = w .memory }; stores = o .stores })
+
+-- ---- WRITE
+-- 'U keeps it': T takes a running holder's block
+abbrev pub writerTakesRunning : Step
+writerTakesRunning =
+    instead 2 (λ (a : Bytes) (w : World).
+      let c = coreIn a in
+      let b = blockIn a in
+      cond (isNamedBack (ruleFor (w .card) c b))
+      (patched (λ (x : Card). withHolder (onRunning c (λ (t : Transaction). withBlock t b) x) b (writerName x c)) (step 2 a w))
+      (step 2 a w))
+
+-- 'T's list names U and U's list names T': only T's, only U's
+abbrev pub onlyWriterNames : Step
+onlyWriterNames =
+    instead 2 (λ (a : Bytes) (w : World).
+      let x = w .card in
+      let u = ((holderOf x (blockIn a)) .name) .core in
+      cond (isNamedBack (ruleFor x (coreIn a) (blockIn a))) (patched (onRunning u (namesOf ((coreOf x u) .running))) (step 2 a w)) (step 2 a w))
+
+abbrev pub onlyHolderNames : Step
+onlyHolderNames =
+    instead 2 (λ (a : Bytes) (w : World).
+      let x = w .card in
+      let c = coreIn a in
+      cond (isNamedBack (ruleFor x c (blockIn a))) (patched (onRunning c (namesOf (writer x c))) (step 2 a w)) (step 2 a w))
+
+-- 'A name stands once in a list.': it is added again
+abbrev nameAgain : Name → Transaction → Transaction
+nameAgain n t =
+    record { live = t .live; stamp = t .stamp; count = t .count; blocks = t .blocks; named = t .named + 1; names = set (t .names) (t .named) n }
+
+abbrev pub nameTwice : Step
+nameTwice =
+    instead 2 (λ (a : Bytes) (w : World).
+      let x = w .card in
+      let c = coreIn a in
+      let n = (holderOf x (blockIn a)) .name in
+      cond (namesHolder (ruleFor x c (blockIn a)) && lists (writer x c) n) (patched (onRunning c (nameAgain n)) (step 2 a w)) (step 2 a w))
+
+-- 'loaded from home when taken without a holder': memory is taken as it stands
+abbrev pub notLoaded : Step
+notLoaded =
+    instead 2 (λ (a : Bytes) (w : World).
+      let o = step 2 a w in
+      cond (eqb (o .answer) 0)
+      (record { answer = 0; world = record { card = o .world .card; disk = w .disk; memory = replaced (128 * blockIn a + getD a 3 0) 4 (w .memory) (part 4 4 a) }; stores = 0 })
+      o)
+
+-- 26 is not tested for a WRITE that opens a transaction and takes no block
+abbrev pub no26OnOpen : Step
+no26OnOpen =
+    instead 2 (λ (a : Bytes) (w : World).
+      let c = coreIn a in
+      let b = blockIn a in
+      let ts = writeConditions c b (getD a 3 0) w in
+      unless (cond (takesBlock (ruleFor (w .card) c b)) ts (without 26 ts)) w (written c b (getD a 3 0) (part 4 4 a) w))
+
+-- ---- CLOSE
+-- '29 CLOSE, the previous is not fully stored': a second CLOSE replaces it
+abbrev pub no29 : Step
+no29 = instead 3 (λ (a : Bytes) (w : World). unless (without 29 (closeConditions (coreIn a) w)) w (closed (coreIn a) w))
+
+-- 'CLOSE .. gives it a stamp': the stamp is given when the transaction opens
+abbrev pub stampAtOpen : Step
+stampAtOpen k a w =
+    let c = coreIn a in
+    let t = (coreOf (w .card) c) .running in
+    let n = w .card .closes in
+    let stampedNow : Card → Card = λ x. withCloses (n + 1) (onRunning c (λ (t : Transaction). stamped t (n + 1)) x) in
+    let stampedBefore : Card → Card = λ x. withCloses n (onClosed c (λ (u : Transaction). stamped u (t .stamp)) x) in
+    cond (eqb k 2 && not (t .live)) (patched stampedNow (step k a w))
+    (cond (eqb k 3) (patched stampedBefore (step k a w)) (step k a w))
+
+-- .. or when its commit is stored
+abbrev pub stampAtCommit : Step
+stampAtCommit k a w =
+    let x = w .card in
+    let c = coreIn a in
+    let n = x .closes in
+    let isCommit = ltb (length (taken ((coreOf x c) .closed))) ((coreOf x c) .stored) in
+    cond (eqb k 3) (patched (withCloses n) (step k a w))
+    (cond (eqb k 4 && isCommit) (step k a (withCard w (withCloses (n + 1) (onClosed c (λ (t : Transaction). stamped t (n + 1)) x)))) (step k a w))
+
+-- ---- STORE
+abbrev rightPlace : Card → ℕ → ℕ
+rightPlace x c = journalBlock (shapeOf x) c (nextPosition x c)
+
+-- 'A data block beginning with the mark has those four bytes zeroed in the journal and flag 1': it is stored as it is
+abbrev pub noEscape : Step
+noEscape =
+    storeBy rightPlace (λ (c : ℕ) (k : Core) (m : Bytes).
+      cond (eqb (k .stored) 0) (descriptorBlock (closedNumber k) (map (λ (b : ℕ). newHeld b 0) (taken (k .closed))))
+      (cond (leb (k .stored) (length (taken (k .closed)))) (blockAt m (copyBlock c (k .stored - 1))) (nextStored c k m)))
+
+-- 'A list has at most 12 names': the twelfth is not stored
+abbrev pub twelfthDropped : Step
+twelfthDropped =
+    storeBy rightPlace (λ (c : ℕ) (k : Core) (m : Bytes).
+      cond (leb (k .stored) (length (taken (k .closed)))) (nextStored c k m)
+      (commitBlock (closedNumber k) (k .closed .stamp) (take 11 (listed (k .closed)))))
+
+-- 'CLOSE copies the transaction's block images': data is stored from the images as they are by then
+abbrev pub storesImages : Step
+storesImages =
+    storeBy rightPlace (λ (c : ℕ) (k : Core) (m : Bytes).
+      let n = k .stored in
+      cond (leb 1 n && leb n (length (taken (k .closed)))) (blockAt m (getD (taken (k .closed)) (n - 1) 0)) (nextStored c k m))
+
+-- 'Positions count round modulo J': the blocks of a record follow its first one
+abbrev pub noWrap : Step
+noWrap =
+    storeBy (λ (x : Card) (c : ℕ). journalBlock (shapeOf x) c ((tailOf x c) .position + (coreOf x c) .used) + (coreOf x c) .stored) nextStored
+
+-- ---- CHECKPOINT
+-- '32 CHECKPOINT, oldest not valid', '33 .. a lower-stamped unretired transaction shares a block': not tested
+abbrev pub no32 : Step
+no32 = instead 5 (λ (a : Bytes) (w : World). unless (without 32 (checkpointConditions (coreIn a) w)) w (checkpointed (coreIn a) w))
+
+abbrev pub no33 : Step
+no33 = instead 5 (λ (a : Bytes) (w : World). unless (without 33 (checkpointConditions (coreIn a) w)) w (checkpointed (coreIn a) w))
+
+-- 'stores its images home in the order taken, then the master': the master at once
+abbrev pub retiresAtOnce : Step
+retiresAtOnce =
+    instead 5 (λ (a : Bytes) (w : World).
+      unless (checkpointConditions (coreIn a) w) w (storedMaster (coreIn a) (oldest (committedOf w (coreIn a))) w))
+
+-- 'A block's home image comes from the journal, never from later memory.'
+abbrev pub homeFromMemory : Step
+homeFromMemory =
+    instead 5 (λ (a : Bytes) (w : World).
+      let c = coreIn a in
+      let o = step 5 a w in
+      let e = oldest (committedOf w c) in
+      let k = coreOf (w .card) c in
+      let b = getD (blocksOf (shapeOf (w .card)) (w .disk) e) (k .homed) 0 in
+      cond (eqb (o .answer) 0 && ltb (k .homed) (e .count)) (storing w (o .world .card) (homeBlock b) (blockAt (w .memory) b)) o)
+
+-- 'until that one is retired': its blocks stay held
+abbrev pub holderStays : Step
+holderStays =
+    instead 5 (λ (a : Bytes) (w : World).
+      patched (λ (x : Card). record { phase = x .phase; shape = x .shape; closes = x .closes; recovered = x .recovered; tails = x .tails; cores = x .cores; holders = w .card .holders })
+      (step 5 a w))
