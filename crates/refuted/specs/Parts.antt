@@ -69,9 +69,9 @@ onClosed c g x =
 abbrev pub storeBy : (Card → ℕ → ℕ) → (ℕ → Core → Bytes → Bytes) → Step
 storeBy place bytes =
     instead 4 (λ (a : Bytes) (w : World).
-      let c = coreIn a in
-      let k = coreOf (w .card) c in
-      unless (storeConditions c w) w (storing w (withCore (w .card) c (coreStored k)) (place (w .card) c) (bytes c k (w .memory))))
+    let c = coreIn a in
+    let k = coreOf (w .card) c in
+    unless (storeConditions c w) w (storing w (withCore (w .card) c (coreStored k)) (place (w .card) c) (bytes c k (w .memory))))
 
 -- ---- RECOVER: the blocks left, the image that a block gets, the tails that the master store gives
 abbrev pub recoverStepBy : (Bytes → ℕ → Bytes) → (Bytes → ℕ → Tail) → List ℕ → World → Outcome
@@ -93,6 +93,6 @@ recoverSet set =
 abbrev pub recoverTail : (ℕ → ℕ → ℕ) → Step
 recoverTail next =
     recoverBy blocksLeft newestImage (λ (d : Bytes) (c : ℕ).
-      let s = shapeOn d in
-      let t = tailOn d c in
-      cond (ltb c (s .cores)) (newTail (next (t .number) (length (journal s d c t (s .journal)))) 0) (newTail 0 0))
+    let s = shapeOn d in
+    let t = tailOn d c in
+    cond (ltb c (s .cores)) (newTail (next (t .number) (length (journal s d c t (s .journal)))) 0) (newTail 0 0))

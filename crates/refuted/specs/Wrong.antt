@@ -40,11 +40,11 @@ isClosedNow x n = let k = coreOf x (n .core) in k .closed .live && eqb (closedNu
 abbrev pub noNameForCommitted : Step
 noNameForCommitted =
     instead 2 (λ (a : Bytes) (w : World).
-      let x = w .card in
-      let c = coreIn a in
-      let r = ruleFor x c (blockIn a) in
-      let isCommitted = takesBlock r && namesHolder r && not (isClosedNow x ((holderOf x (blockIn a)) .name)) in
-      cond isCommitted (patched (onRunning c (namesOf (writer x c))) (step 2 a w)) (step 2 a w))
+    let x = w .card in
+    let c = coreIn a in
+    let r = ruleFor x c (blockIn a) in
+    let isCommitted = takesBlock r && namesHolder r && not (isClosedNow x ((holderOf x (blockIn a)) .name)) in
+    cond isCommitted (patched (onRunning c (namesOf (writer x c))) (step 2 a w)) (step 2 a w))
 
 -- 'Trusting that a block cannot be in both of two tied transactions .. The stamp decides.': the last in order of core
 -- and number decides
@@ -83,16 +83,16 @@ upBeforeHome = recoverBy (λ (w : World). []) newestImage emptiedTail
 abbrev pub firstRecordOnly : Step
 firstRecordOnly =
     instead 4 (λ (a : Bytes) (w : World).
-      let o = step 4 a w in
-      cond (leb (closedNumber (coreOf (w .card) (coreIn a))) 1) o
-      (record { answer = o .answer; world = record { card = o .world .card; disk = w .disk; memory = o .world .memory }; stores = o .stores }))
+    let o = step 4 a w in
+    cond (leb (closedNumber (coreOf (w .card) (coreIn a))) 1) o
+    (record { answer = o .answer; world = record { card = o .world .card; disk = w .disk; memory = o .world .memory }; stores = o .stores }))
 
 -- 'one printing an invented store count': CLOSE counts one
 abbrev pub inventedCount : Step
 inventedCount =
     instead 3 (λ (a : Bytes) (w : World).
-      let o = step 3 a w in
-      record { answer = o .answer; world = o .world; stores = 1 })
+    let o = step 3 a w in
+    record { answer = o .answer; world = o .world; stores = 1 })
 
 -- 'one whose commands change nothing', after FORMAT; each store is counted
 abbrev pub nothingChanges : Step
@@ -142,8 +142,8 @@ reversed bs = map (λ (i : ℕ). getD bs (length bs - suc i) 0) (below (length b
 abbrev pub highestFirst : Step
 highestFirst =
     recoverBy (λ (w : World).
-      let n = w .card .recovered in
-      reversed (select (λ (b : ℕ). eqb n 0 || ltb (suc b) n) (blocksHeld (shapeOn (w .disk)) (w .disk) (validOn (w .disk)))))
+    let n = w .card .recovered in
+    reversed (select (λ (b : ℕ). eqb n 0 || ltb (suc b) n) (blocksHeld (shapeOn (w .disk)) (w .disk) (validOn (w .disk)))))
     newestImage emptiedTail
 
 -- 'wherever the flag is 1, the image read has the mark as its first four bytes': the flag is not looked at
@@ -162,34 +162,34 @@ cutKeepsPlace = instead 6 (λ (a : Bytes) (w : World). patched (λ (x : Card). r
 abbrev pub cutKeepsMemory : Step
 cutKeepsMemory =
     instead 6 (λ (a : Bytes) (w : World).
-      let o = step 6 a w in
-      record { answer = o .answer; world = record { card = o .world .card; disk = o .world .disk; memory = w .memory }; stores = o .stores })
+    let o = step 6 a w in
+    record { answer = o .answer; world = record { card = o .world .card; disk = o .world .disk; memory = w .memory }; stores = o .stores })
 
 -- ---- WRITE
 -- 'U keeps it': T takes a running holder's block
 abbrev pub writerTakesRunning : Step
 writerTakesRunning =
     instead 2 (λ (a : Bytes) (w : World).
-      let c = coreIn a in
-      let b = blockIn a in
-      cond (isNamedBack (ruleFor (w .card) c b))
-      (patched (λ (x : Card). withHolder (onRunning c (λ (t : Transaction). withBlock t b) x) b (writerName x c)) (step 2 a w))
-      (step 2 a w))
+    let c = coreIn a in
+    let b = blockIn a in
+    cond (isNamedBack (ruleFor (w .card) c b))
+    (patched (λ (x : Card). withHolder (onRunning c (λ (t : Transaction). withBlock t b) x) b (writerName x c)) (step 2 a w))
+    (step 2 a w))
 
 -- 'T's list names U and U's list names T': only T's, only U's
 abbrev pub onlyWriterNames : Step
 onlyWriterNames =
     instead 2 (λ (a : Bytes) (w : World).
-      let x = w .card in
-      let u = ((holderOf x (blockIn a)) .name) .core in
-      cond (isNamedBack (ruleFor x (coreIn a) (blockIn a))) (patched (onRunning u (namesOf ((coreOf x u) .running))) (step 2 a w)) (step 2 a w))
+    let x = w .card in
+    let u = ((holderOf x (blockIn a)) .name) .core in
+    cond (isNamedBack (ruleFor x (coreIn a) (blockIn a))) (patched (onRunning u (namesOf ((coreOf x u) .running))) (step 2 a w)) (step 2 a w))
 
 abbrev pub onlyHolderNames : Step
 onlyHolderNames =
     instead 2 (λ (a : Bytes) (w : World).
-      let x = w .card in
-      let c = coreIn a in
-      cond (isNamedBack (ruleFor x c (blockIn a))) (patched (onRunning c (namesOf (writer x c))) (step 2 a w)) (step 2 a w))
+    let x = w .card in
+    let c = coreIn a in
+    cond (isNamedBack (ruleFor x c (blockIn a))) (patched (onRunning c (namesOf (writer x c))) (step 2 a w)) (step 2 a w))
 
 -- 'A name stands once in a list.': it is added again
 abbrev nameAgain : Name → Transaction → Transaction
@@ -199,28 +199,28 @@ nameAgain n t =
 abbrev pub nameTwice : Step
 nameTwice =
     instead 2 (λ (a : Bytes) (w : World).
-      let x = w .card in
-      let c = coreIn a in
-      let n = (holderOf x (blockIn a)) .name in
-      cond (namesHolder (ruleFor x c (blockIn a)) && lists (writer x c) n) (patched (onRunning c (nameAgain n)) (step 2 a w)) (step 2 a w))
+    let x = w .card in
+    let c = coreIn a in
+    let n = (holderOf x (blockIn a)) .name in
+    cond (namesHolder (ruleFor x c (blockIn a)) && lists (writer x c) n) (patched (onRunning c (nameAgain n)) (step 2 a w)) (step 2 a w))
 
 -- 'loaded from home when taken without a holder': memory is taken as it stands
 abbrev pub notLoaded : Step
 notLoaded =
     instead 2 (λ (a : Bytes) (w : World).
-      let o = step 2 a w in
-      cond (eqb (o .answer) 0)
-      (record { answer = 0; world = record { card = o .world .card; disk = w .disk; memory = replaced (128 * blockIn a + getD a 3 0) 4 (w .memory) (part 4 4 a) }; stores = 0 })
-      o)
+    let o = step 2 a w in
+    cond (eqb (o .answer) 0)
+    (record { answer = 0; world = record { card = o .world .card; disk = w .disk; memory = replaced (128 * blockIn a + getD a 3 0) 4 (w .memory) (part 4 4 a) }; stores = 0 })
+    o)
 
 -- 26 is not tested for a WRITE that opens a transaction and takes no block
 abbrev pub no26OnOpen : Step
 no26OnOpen =
     instead 2 (λ (a : Bytes) (w : World).
-      let c = coreIn a in
-      let b = blockIn a in
-      let ts = writeConditions c b (getD a 3 0) w in
-      unless (cond (takesBlock (ruleFor (w .card) c b)) ts (without 26 ts)) w (written c b (getD a 3 0) (part 4 4 a) w))
+    let c = coreIn a in
+    let b = blockIn a in
+    let ts = writeConditions c b (getD a 3 0) w in
+    unless (cond (takesBlock (ruleFor (w .card) c b)) ts (without 26 ts)) w (written c b (getD a 3 0) (part 4 4 a) w))
 
 -- ---- CLOSE
 -- '29 CLOSE, the previous is not fully stored': a second CLOSE replaces it
@@ -256,22 +256,22 @@ rightPlace x c = journalBlock (shapeOf x) c (nextPosition x c)
 abbrev pub noEscape : Step
 noEscape =
     storeBy rightPlace (λ (c : ℕ) (k : Core) (m : Bytes).
-      cond (eqb (k .stored) 0) (descriptorBlock (closedNumber k) (map (λ (b : ℕ). newHeld b 0) (taken (k .closed))))
-      (cond (leb (k .stored) (length (taken (k .closed)))) (blockAt m (copyBlock c (k .stored - 1))) (nextStored c k m)))
+    cond (eqb (k .stored) 0) (descriptorBlock (closedNumber k) (map (λ (b : ℕ). newHeld b 0) (taken (k .closed))))
+    (cond (leb (k .stored) (length (taken (k .closed)))) (blockAt m (copyBlock c (k .stored - 1))) (nextStored c k m)))
 
 -- 'A list has at most 12 names': the twelfth is not stored
 abbrev pub twelfthDropped : Step
 twelfthDropped =
     storeBy rightPlace (λ (c : ℕ) (k : Core) (m : Bytes).
-      cond (leb (k .stored) (length (taken (k .closed)))) (nextStored c k m)
-      (commitBlock (closedNumber k) (k .closed .stamp) (take 11 (listed (k .closed)))))
+    cond (leb (k .stored) (length (taken (k .closed)))) (nextStored c k m)
+    (commitBlock (closedNumber k) (k .closed .stamp) (take 11 (listed (k .closed)))))
 
 -- 'CLOSE copies the transaction's block images': data is stored from the images as they are by then
 abbrev pub storesImages : Step
 storesImages =
     storeBy rightPlace (λ (c : ℕ) (k : Core) (m : Bytes).
-      let n = k .stored in
-      cond (leb 1 n && leb n (length (taken (k .closed)))) (blockAt m (getD (taken (k .closed)) (n - 1) 0)) (nextStored c k m))
+    let n = k .stored in
+    cond (leb 1 n && leb n (length (taken (k .closed)))) (blockAt m (getD (taken (k .closed)) (n - 1) 0)) (nextStored c k m))
 
 -- 'Positions count round modulo J': the blocks of a record follow its first one
 abbrev pub noWrap : Step
@@ -290,22 +290,22 @@ no33 = instead 5 (λ (a : Bytes) (w : World). unless (without 33 (checkpointCond
 abbrev pub retiresAtOnce : Step
 retiresAtOnce =
     instead 5 (λ (a : Bytes) (w : World).
-      unless (checkpointConditions (coreIn a) w) w (storedMaster (coreIn a) (oldest (committedOf w (coreIn a))) w))
+    unless (checkpointConditions (coreIn a) w) w (storedMaster (coreIn a) (oldest (committedOf w (coreIn a))) w))
 
 -- 'A block's home image comes from the journal, never from later memory.'
 abbrev pub homeFromMemory : Step
 homeFromMemory =
     instead 5 (λ (a : Bytes) (w : World).
-      let c = coreIn a in
-      let o = step 5 a w in
-      let e = oldest (committedOf w c) in
-      let k = coreOf (w .card) c in
-      let b = getD (blocksOf (shapeOf (w .card)) (w .disk) e) (k .homed) 0 in
-      cond (eqb (o .answer) 0 && ltb (k .homed) (e .count)) (storing w (o .world .card) (homeBlock b) (blockAt (w .memory) b)) o)
+    let c = coreIn a in
+    let o = step 5 a w in
+    let e = oldest (committedOf w c) in
+    let k = coreOf (w .card) c in
+    let b = getD (blocksOf (shapeOf (w .card)) (w .disk) e) (k .homed) 0 in
+    cond (eqb (o .answer) 0 && ltb (k .homed) (e .count)) (storing w (o .world .card) (homeBlock b) (blockAt (w .memory) b)) o)
 
 -- 'until that one is retired': its blocks stay held
 abbrev pub holderStays : Step
 holderStays =
     instead 5 (λ (a : Bytes) (w : World).
-      patched (λ (x : Card). record { phase = x .phase; shape = x .shape; closes = x .closes; recovered = x .recovered; tails = x .tails; cores = x .cores; holders = w .card .holders })
-      (step 5 a w))
+    patched (λ (x : Card). record { phase = x .phase; shape = x .shape; closes = x .closes; recovered = x .recovered; tails = x .tails; cores = x .cores; holders = w .card .holders })
+    (step 5 a w))
