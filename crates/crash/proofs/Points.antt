@@ -66,20 +66,20 @@ pub record Relates (At : Ledger → World → Type 0) : Type 0 where
 
 module _ (At : Ledger → World → Type 0) (r : Relates At) where
   -- a point and the relation after it
-  record Goes (l : Ledger) (p : Point) : Type 0 where
+  pub record Goes (l : Ledger) (p : Point) : Type 0 where
     pub kept : PointKept l p
     pub next : At (entered (p .byte) (p .operands) (p .outcome .answer) l) (p .outcome .world)
     pub home : p .byte ≡ 7 → p .outcome .answer ≡ 0 → l .left ≡ [] → (b : ℕ) → b < l .shape .blocks
         → blockAt (p .outcome .world .disk) (homeBlock b) ≡ image blank (keptWrites (l .book) ++ l .saved) b
 
   module _ (t : Bytes) (bytes : IsBytes t) (at n : ℕ) (on-tape : at < length t) (l : Ledger) (w : World) (here : At l w) where
-    abbrev k : ℕ
+    abbrev pub k : ℕ
     k = commandByte t at
 
-    abbrev a : Bytes
+    abbrev pub a : Bytes
     a = operandsAt t at
 
-    abbrev p : Point
+    abbrev pub p : Point
     p = pointAt step t at n w
 
     -- a command refused with 2 or 3
@@ -127,7 +127,7 @@ module _ (At : Ledger → World → Type 0) (r : Relates At) where
           home = λ s z f b q. ap (λ (x : Outcome). blockAt (x .world .disk) (homeBlock b)) o ∙ g .home s (sym (ap (λ (x : Outcome). x .answer) o) ∙ z) f b q;
         }
 
-    goes : Goes l p
+    pub goes : Goes l p
     unfolding commandAt answerOf refusal
     goes =
         let z = r .sizes l w here in

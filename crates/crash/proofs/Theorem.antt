@@ -63,7 +63,7 @@ use Rattle.crash.proofs.ReadMaster.{shape-up}
 use Rattle.crash.proofs.LedgerStages.{running-is, below-oldest}
 
 -- ---- a card that is up: the bytes and the histories of the blocks agree with the ledger
-record UpAt (l : Ledger) (w : World) : Type 0 where
+pub record UpAt (l : Ledger) (w : World) : Type 0 where
   pub up : Up l w
   pub home : ℕ → Bytes
   pub homes : (b : ℕ) → b < l .shape .blocks → blockAt (w .disk) (homeBlock b) ≡ home b
@@ -71,7 +71,7 @@ record UpAt (l : Ledger) (w : World) : Type 0 where
   pub imaged : Imaged l
 
 -- names below a core's oldest number are those of retired transactions
-numbered : (l : Ledger) → Fine l → RetiredBelow (l .book)
+pub numbered : (l : Ledger) → Fine l → RetiredBelow (l .book)
 numbered l f t u h n =
     let named = f .named t u (any-in nameEquality u _ n) in
     below-oldest (f .ranks (u .core) (f .limits u named .core)) (u .number) named
@@ -176,13 +176,13 @@ fresh-at s saved first w up homes =
     record { up = up; home = image blank saved; homes = homes; inv = inv-fresh s saved first; imaged = imaged-fresh s saved first }
 
 -- ---- blank, up or down
-record BlankAt (l : Ledger) (w : World) : Type 0 where
+pub record BlankAt (l : Ledger) (w : World) : Type 0 where
   pub card : w .card ≡ blankCard
   pub ledger : l ≡ blankLedger
   pub disk : length (w .disk) ≡ 32896
   pub memory : length (w .memory) ≡ 16384
 
-data At (l : Ledger) (w : World) : Type 0 where
+pub data At (l : Ledger) (w : World) : Type 0 where
   at-blank : BlankAt l w → At l w
   at-up : UpAt l w → At l w
   at-down : DownBy l w → At l w
@@ -442,7 +442,7 @@ blank-phase : {l : Ledger} {w : World} → BlankAt l w → w .card .phase ≡ Bl
 unfolding blankCard emptyCard freshCard
 blank-phase b = ap (λ (x : Card). x .phase) (b .card)
 
-relates : Relates At
+pub relates : Relates At
 relates =
     record {
       sizes = sizes;

@@ -4,3 +4,4 @@ pub mod Parts
 pub mod Tapes
 pub mod Astray
 pub mod Others
+pub mod Committed33

@@ -21,11 +21,14 @@ use Rattle.refuted.specs.Parts.{instead, storeBy, recoverStepBy, recover
 abbrev pub IsModel : Step → Type 0
 IsModel f = (k : ℕ) (a : Bytes) (w : World) → f k a w ≡ step k a w
 
-instead-same : (n : ℕ) (g : Bytes → World → Outcome) → ((a : Bytes) (w : World) → g a w ≡ step n a w) → IsModel (instead n g)
-instead-same n g h k a w =
+pub instead-same-at : (n : ℕ) (g : Bytes → World → Outcome) (w : World) → ((a : Bytes) → g a w ≡ step n a w) → (k : ℕ) (a : Bytes) → instead n g k a w ≡ step k a w
+instead-same-at n g w h k a =
     cases (eqb k n)
-    (λ e. ap (λ (b : Bool). cond b (g a w) (step k a w)) e ∙ h a w ∙ ap (λ (i : ℕ). step i a w) (sym (eqb-true k n e)))
+    (λ e. ap (λ (b : Bool). cond b (g a w) (step k a w)) e ∙ h a ∙ ap (λ (i : ℕ). step i a w) (sym (eqb-true k n e)))
     (λ e. ap (λ (b : Bool). cond b (g a w) (step k a w)) e)
+
+instead-same : (n : ℕ) (g : Bytes → World → Outcome) → ((a : Bytes) (w : World) → g a w ≡ step n a w) → IsModel (instead n g)
+instead-same n g h k a w = instead-same-at n g w (λ a. h a w) k a
 
 pub store-by : IsModel (storeBy (λ (x : Card) (c : ℕ). journalBlock (shapeOf x) c (nextPosition x c)) nextStored)
 unfolding step storeNext stored

@@ -11,11 +11,11 @@ use Rattle.model.specs.Card.{isUp, newTail, newName, taken, listed, lists, stam
 use Rattle.model.specs.Layout.{maxNumber, masterBlock, Held, newHeld, descriptorBlock, commitBlock}
 use Rattle.model.specs.Journal.{journalAt, nameOf, blocksOf}
 use Rattle.model.specs.Shrink.{strike}
-use Rattle.model.specs.Valid.{namesMet, blocksHeld, newest}
-use Rattle.model.specs.Command.{World, Outcome, storing, unless}
+use Rattle.model.specs.Valid.{isIn, namesMet, blocksHeld, newest}
+use Rattle.model.specs.Command.{World, Outcome, storing, unless, notUp, noCore}
 use Rattle.model.specs.Write.{writer, writerName, ruleFor, takesBlock, namesHolder, isNamedBack, writeConditions, written}
 use Rattle.model.specs.Commit.{copyBlock, closeConditions, closed, heldCopies, closedNumber, nextStored, nextPosition}
-use Rattle.model.specs.Checkpoint.{committedOf, oldest, checkpointConditions, checkpointed, storedMaster}
+use Rattle.model.specs.Checkpoint.{committedNow, validNow, committedOf, oldest, share, checkpointConditions, checkpointed, storedMaster}
 use Rattle.model.specs.Recovery.{shapeOn, tailOn, committedOn, validOn, recoverConditions, blocksLeft, placeOf, imageFound, newestImage, recoveredTo, emptiedTail, recoverStep}
 use Rattle.model.specs.Tape.{Step, step}
 use Rattle.model.specs.declared.Phase.the-variants.{Up}
@@ -309,3 +309,24 @@ holderStays =
     instead 5 (λ (a : Bytes) (w : World).
     patched (λ (x : Card). record { phase = x .phase; shape = x .shape; closes = x .closes; recovered = x .recovered; tails = x .tails; cores = x .cores; holders = w .card .holders })
     (step 5 a w))
+
+-- ---- a card that is not wrong
+-- '33 .. a lower-stamped unretired transaction': only committed ones are looked at. No run tells it from the model's.
+abbrev pub sharesCommitted : World → Committed → Bool
+sharesCommitted w e =
+    let s = shapeOf (w .card) in
+    let bs = blocksOf s (w .disk) e in
+    any (λ (f : Committed). ltb (f .stamp) (e .stamp) && share bs (blocksOf s (w .disk) f)) (committedNow w)
+
+abbrev pub committedConditions : ℕ → World → List (Bool × ℕ)
+committedConditions c w =
+    let e = oldest (committedOf w c) in
+    notUp w
+    ((noCore w c, 5)
+    ∷ (eqb (length (committedOf w c)) 0, 31)
+    ∷ (not (isIn (validNow w) (nameOf e)), 32)
+    ∷ (sharesCommitted w e, 33)
+    ∷ [])
+
+abbrev pub onlyCommitted33 : Step
+onlyCommitted33 = instead 5 (λ (a : Bytes) (w : World). unless (committedConditions (coreIn a) w) w (checkpointed (coreIn a) w))

@@ -1,0 +1,121 @@
+-- A card whose 33 looks at committed transactions alone has the runs of the model's card, so it meets the same demands.
+-- Let T be valid, and U closed with a lower stamp and a block that T took too. In the block's history U held it before T.
+-- Each later holder names the one before it, or that one is retired: so with T all before it are kept, and U is committed.
+-- 32 is answered before 33, so where 33 is asked T is valid.
+use Prim.Native.Nat.{ℕ, _+_, _<_}
+use native.Mathlib.Omega.{arith}
+use native.Mathlib.Decide.{decLt}
+use mathlib.Core.Path.{_≡_, refl, sym, ap, _∙_, subst}
+use mathlib.Core.Logic.{inl, inr, ⊎-elim}
+use mathlib.Core.Bool.{Bool, true, false, So, cond, not, _&&_, _||_}
+use mathlib.Core.List.{List, [], _∷_, List·Memᴰ}
+use lib.ListN.{length}
+use lib.Dec.{eqb, ltb}
+use borrow.Author.Tests.{eqb-true, leb-false, ltb-true, not-false}
+use Rattle.model.specs.Lists.{any, below}
+use Rattle.model.specs.Bytes.{Bytes}
+use Rattle.model.specs.Shape.{inRange}
+use Rattle.model.specs.Card.{newName, sameName, isBlank, isDown, shapeOf}
+use Rattle.model.specs.Journal.{nameOf}
+use Rattle.model.specs.Command.{World, Outcome, refusal, unless, noCore}
+use Rattle.model.specs.Checkpoint.{committedOf, oldest, share, sharesLower, checkpointConditions, checkpointed, checkpoint}
+use Rattle.model.specs.Tape.{Step, Point, step, run, commandByte, operandsAt, commandAt}
+use Rattle.model.specs.declared.Shape.{Shape}
+use Rattle.model.specs.declared.Name.{Name}
+use Rattle.model.proofs.Lists.{cases, and-left, any-mem, mem-below}
+use Rattle.model.proofs.Tape.{pointAt, Runs, at-end, one-more, run-runs, runs-same}
+use Rattle.crash.specs.Book.{Book, isClosed, isCommitted, kept}
+use Rattle.crash.specs.Ledger.{Ledger, blankLedger, validIn}
+use Rattle.crash.specs.Claims.{IsBytes, blankStart, downStart, Claim, Demands}
+use Rattle.crash.proofs.Tests.{clash, false-of, in-any, blockEquality}
+use Rattle.crash.proofs.BookEntries.{oldestName, uncommittedName, nextName}
+use Rattle.crash.proofs.History.{Event, Took, Status, Sound, Chain, older, kept-link}
+use Rattle.crash.proofs.Largest.{memberOf, stageOf, RetiredBelow, kept-largest, valid-is-kept}
+use Rattle.crash.proofs.Invariant.{Inv, historyOf, homed, status, opened-of, sound-of}
+use Rattle.crash.proofs.Relation.{Up}
+use Rattle.crash.proofs.ReadMaster.{shape-up}
+use Rattle.crash.proofs.ReadCheckpoint.{Lower, lowerClosed, closed-lower, oldest-is, oldest-name, none-committed, oldest-valid}
+use Rattle.crash.proofs.CardAnswers.{Same, none-left, then, same-refusal}
+use Rattle.crash.proofs.CardFormat.{down-start}
+use Rattle.crash.proofs.Points.{Goes, goes}
+use Rattle.crash.proofs.Theorem.{UpAt, BlankAt, At, at-blank, at-up, at-down, numbered, relates, claim, demands}
+use Rattle.refuted.specs.Wrong.{sharesCommitted, committedConditions, onlyCommitted33}
+use Rattle.refuted.proofs.Parts.{instead-same-at}
+
+-- ---- one block's history
+module _ {Txn : Type 0} (s : Status Txn) (sound : Sound s) (stored : Txn → Bool) {Image : Type 0} where
+  -- whoever took the block before a kept holder is kept
+  kept-before : (e : Event Txn Image) (es : List (Event Txn Image)) → Chain s stored (e ∷ es) → So (s .kept (e .holder)) → (u : Txn) → Took u (e ∷ es) → So (s .kept u)
+  kept-before e [] c h u k = ⊎-elim (λ p. rw p at h) (λ m. absurd m) k
+  kept-before e (x ∷ es) c h u k = ⊎-elim (λ p. rw p at h) (λ m. kept-before x es (c .2) (kept-link s sound stored (c .1) h) u m) k
+
+  -- one with a lower stamp did not take it later
+  not-later : (e : Event Txn Image) (es : List (Event Txn Image)) → Chain s stored (e ∷ es) → (t u : Txn) → Took t es → e .holder ≡ u
+      → So (s .closed u) → s .stamp u < s .stamp t → ⊥
+  not-later e es c t u k q o l =
+      ⊎-elim
+      (λ p. let d : s .stamp u ≡ s .stamp t = ap (s .stamp) (sym q ∙ p) in omega arith)
+      (λ r. omega (arith, r .lower (rw q o), ap (s .stamp) q))
+      (older s stored e es c t (inr k))
+
+  -- one that took it with a lower stamp than a kept one is kept
+  lower-kept : (es : List (Event Txn Image)) → Chain s stored es → (t u : Txn) → Took t es → Took u es
+      → So (s .kept t) → So (s .closed u) → s .stamp u < s .stamp t → So (s .kept u)
+  lower-kept [] c t u k m h o l = absurd k
+  lower-kept (e ∷ es) c t u k m h o l =
+      ⊎-elim
+      (λ p. kept-before e es c (rw p h) u m)
+      (λ k. ⊎-elim (λ q. absurd (not-later e es c t u k q o l)) (λ m. lower-kept es (c .2) t u k m h o l) m)
+      k
+
+-- ---- the ledger
+module _ {home : ℕ → Bytes} {l : Ledger} (v : Inv home l) (below-tail : RetiredBelow (l .book)) where
+  valid-kept : (t : Name) → So (memberOf (validIn (l .book)) t) → So (memberOf (kept (l .book)) t)
+  valid-kept t h =
+      and-left (memberOf (kept (l .book)) t) _
+      (sym (valid-is-kept (l .book) (opened-of (l .book) (v .known)) below-tail (v .retired-kept) t) ∙ h)
+
+  lower-committed : (t u : Name) → So (memberOf (validIn (l .book)) t) → Lower l t u → So (isCommitted (stageOf (l .book) u))
+  unfolding share
+  lower-committed t u valid low =
+      let r = any-mem (λ (b : ℕ). any (eqb b) ((l .book .entry u) .blocks)) ((l .book .entry t) .blocks) (low .shares) in
+      let b = r .0 in
+      kept-largest (l .book) (opened-of (l .book) (v .known)) .sub u
+      (lower-kept (status l) (sound-of l (v .known) (v .retired-kept)) (homed l b) (historyOf l b) (v .good b .chain) t u
+      (v .took b t (in-any blockEquality (r .1))) (v .took b u (r .2)) (valid-kept t valid) (low .is-closed) (low .lower))
+
+-- ---- the card
+or-false : (a b : Bool) → b ≡ false → (a || b) ≡ a
+or-false true b h = refl
+or-false false b h = h
+
+module _ {l : Ledger} {w : World} (u : UpAt l w) (c : ℕ) (in-range : c < l .shape .cores) (some : l .book .oldest c < l .book .uncommitted c)
+    (valid : memberOf (validIn (l .book)) (oldestName c (l .book)) ≡ true) where
+  -- the closed one of a core that is not committed
+  not-committed : (i : ℕ) → i < l .shape .cores → isCommitted (stageOf (l .book) (uncommittedName i (l .book))) ≡ false
+  not-committed i h =
+      let r = u .up .fine .ranks i h in
+      elim (decLt (l .book .uncommitted i) (l .book .next i)) [
+        | yes busy ↦ ap isCommitted (r .storing busy .1)
+        | no free ↦ (let e : l .book .uncommitted i ≡ l .book .next i = omega (arith, r .mid) in
+            subst (λ (n : ℕ). isCommitted (stageOf (l .book) (newName i n)) ≡ false) (sym e)
+            (elim (r .current) [ inl a ↦ ap isCommitted a | inr a ↦ ap isCommitted a ]))
+      ]
+
+  none-closed : any (lowerClosed (u .up) c (oldest (committedOf w c)) (oldest-is (u .up) c in-range some)) (below ((shapeOf (w .card)) .cores)) ≡ false
+  none-closed =
+      let e = oldest (committedOf w c) in
+      let x = oldest-is (u .up) c in-range some in
+      false-of _
+      (λ h.
+      let r = any-mem (lowerClosed (u .up) c e x) (below ((shapeOf (w .card)) .cores)) h in
+      let i : r .0 < l .shape .cores = subst (λ (s : Shape). r .0 < s .cores) (shape-up (u .up)) (mem-below ((shapeOf (w .card)) .cores) (r .1)) in
+      let low = closed-lower (u .up) c e x (r .0) i (r .2) in
+      clash
+      (lower-committed (u .inv) (numbered l (u .up .fine)) (oldestName c (l .book)) (uncommittedName (r .0) (l .book)) valid
+      (subst (λ (t : Name). Lower l t (uncommittedName (r .0) (l .book))) (oldest-name (u .up) c in-range some) low))
+      (not-committed (r .0) i))
+
+  same-33 : sharesCommitted w (oldest (committedOf w c)) ≡ sharesLower w (oldest (committedOf w c))
+  unfolding sharesLower
+  same-33 = sym (or-false (sharesCommitted w (oldest (committedOf w c))) _ none-closed)
