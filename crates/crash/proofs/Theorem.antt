@@ -438,7 +438,7 @@ module _ {l : Ledger} {w : World} (u : UpAt l w) (a : Bytes) where
       k known size)
 
 -- ---- every command keeps the relation, and the claims follow
-blank-phase : {l : Ledger} {w : World} → BlankAt l w → w .card .phase ≡ Blank
+pub blank-phase : {l : Ledger} {w : World} → BlankAt l w → w .card .phase ≡ Blank
 unfolding blankCard emptyCard freshCard
 blank-phase b = ap (λ (x : Card). x .phase) (b .card)
 

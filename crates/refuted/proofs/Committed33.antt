@@ -10,23 +10,25 @@ use mathlib.Core.Logic.{inl, inr, ⊎-elim}
 use mathlib.Core.Bool.{Bool, true, false, So, cond, not, _&&_, _||_}
 use mathlib.Core.List.{List, [], _∷_, List·Memᴰ}
 use lib.ListN.{length}
-use lib.Dec.{eqb, ltb}
+use lib.Dec.{eqb, leb}
 use borrow.Author.Tests.{eqb-true, leb-false, ltb-true, not-false}
 use Rattle.model.specs.Lists.{any, below}
 use Rattle.model.specs.Bytes.{Bytes}
 use Rattle.model.specs.Shape.{inRange}
 use Rattle.model.specs.Card.{newName, sameName, isBlank, isDown, shapeOf}
 use Rattle.model.specs.Journal.{nameOf}
+use Rattle.model.specs.Valid.{isIn}
 use Rattle.model.specs.Command.{World, Outcome, refusal, unless, noCore}
-use Rattle.model.specs.Checkpoint.{committedOf, oldest, share, sharesLower, checkpointConditions, checkpointed, checkpoint}
+use Rattle.model.specs.Checkpoint.{validNow, committedOf, oldest, share, sharesLower, checkpointConditions, checkpointed, checkpoint}
 use Rattle.model.specs.Tape.{Step, Point, step, run, commandByte, operandsAt, commandAt}
 use Rattle.model.specs.declared.Shape.{Shape}
 use Rattle.model.specs.declared.Name.{Name}
 use Rattle.model.proofs.Lists.{cases, and-left, any-mem, mem-below}
 use Rattle.model.proofs.Tape.{pointAt, Runs, at-end, one-more, run-runs, runs-same}
 use Rattle.crash.specs.Book.{Book, isClosed, isCommitted, kept}
+use Rattle.crash.specs.Service.{emptyService}
 use Rattle.crash.specs.Ledger.{Ledger, blankLedger, validIn}
-use Rattle.crash.specs.Claims.{IsBytes, blankStart, downStart, Claim, Demands}
+use Rattle.crash.specs.Claims.{IsBytes, blankStart, downStart, downLedger, AreaKept, LedgerKept, Claim, Demands}
 use Rattle.crash.proofs.Tests.{clash, false-of, in-any, blockEquality}
 use Rattle.crash.proofs.BookEntries.{oldestName, uncommittedName, nextName}
 use Rattle.crash.proofs.History.{Event, Took, Status, Sound, Chain, older, kept-link}
@@ -38,8 +40,9 @@ use Rattle.crash.proofs.ReadCheckpoint.{Lower, lowerClosed, closed-lower, oldes
 use Rattle.crash.proofs.CardAnswers.{Same, none-left, then, same-refusal}
 use Rattle.crash.proofs.CardFormat.{down-start}
 use Rattle.crash.proofs.Points.{Goes, goes}
-use Rattle.crash.proofs.Theorem.{UpAt, BlankAt, At, at-blank, at-up, at-down, numbered, relates, claim, demands}
+use Rattle.crash.proofs.Theorem.{UpAt, blank-phase, At, at-blank, at-up, at-down, numbered, relates, claim, demands}
 use Rattle.refuted.specs.Wrong.{sharesCommitted, committedConditions, onlyCommitted33}
+use Rattle.refuted.specs.Parts.{coreIn}
 use Rattle.refuted.proofs.Parts.{instead-same-at}
 
 -- ---- one block's history
@@ -119,3 +122,77 @@ module _ {l : Ledger} {w : World} (u : UpAt l w) (c : ℕ) (in-range : c < l .sh
   same-33 : sharesCommitted w (oldest (committedOf w c)) ≡ sharesLower w (oldest (committedOf w c))
   unfolding sharesLower
   same-33 = sym (or-false (sharesCommitted w (oldest (committedOf w c))) _ none-closed)
+
+-- ---- one command in a world of a run
+module _ {l : Ledger} {w : World} (here : At l w) (c : ℕ) where
+  last-same : (a : At l w) → isBlank (w .card .phase) ≡ false → isDown (w .card .phase) ≡ false → noCore w c ≡ false
+      → eqb (length (committedOf w c)) 0 ≡ false → not (isIn (validNow w) (nameOf (oldest (committedOf w c)))) ≡ false
+      → sharesCommitted w (oldest (committedOf w c)) ≡ sharesLower w (oldest (committedOf w c))
+  unfolding noCore
+  last-same (at-blank b) up low core some valid = clash (ap isBlank (blank-phase b)) up
+  last-same (at-down d) up low core some valid = clash (ap isDown (d .phase)) low
+  last-same (at-up u) up low core some valid =
+      let in-range : c < l .shape .cores = leb-false _ c (subst (λ (s : Shape). leb (s .cores) c ≡ false) (shape-up (u .up)) core) in
+      let more : l .book .oldest c < l .book .uncommitted c = ltb-true _ _ (not-false _ (sym (none-committed (u .up) c in-range) ∙ some)) in
+      same-33 u c in-range more (sym (oldest-valid (u .up) c in-range more) ∙ not-false _ valid)
+
+  same-conditions : Same (committedConditions c w) (checkpointConditions c w)
+  unfolding checkpointConditions
+  same-conditions =
+      then refl (λ size.
+      then refl (λ up.
+      then refl (λ low.
+      then refl (λ core.
+      then refl (λ some.
+      then refl (λ valid.
+      then (last-same here up low core some valid) (λ _. none-left)))))))
+
+unless-same : (xs ys : List (Bool × ℕ)) (w : World) (o : Outcome) → refusal xs ≡ refusal ys → unless xs w o ≡ unless ys w o
+unfolding unless
+unless-same xs ys w o e = rw (e, unless) refl
+
+pub same-step : (l : Ledger) (w : World) → At l w → (k : ℕ) (a : Bytes) → onlyCommitted33 k a w ≡ step k a w
+unfolding step checkpoint
+same-step l w here =
+    instead-same-at 5 (λ (a : Bytes) (w : World). unless (committedConditions (coreIn a) w) w (checkpointed (coreIn a) w)) w
+    (λ a. unless-same (committedConditions (coreIn a) w) (checkpointConditions (coreIn a) w) w (checkpointed (coreIn a) w) (same-refusal (same-conditions here (coreIn a))))
+
+-- ---- along a tape
+-- a card that does as the model's in every world of a run
+module _ (f : Step) (same : (l : Ledger) (w : World) → At l w → (k : ℕ) (a : Bytes) → f k a w ≡ step k a w) where
+  command-same : (t : Bytes) (at : ℕ) (l : Ledger) (w : World) → At l w → commandAt step t at w ≡ commandAt f t at w
+  unfolding commandAt
+  command-same t at l w here = ap (unless _ w) (sym (same l w here (commandByte t at) (operandsAt t at)))
+
+  runs-too : (t : Bytes) → IsBytes t → {at n : ℕ} {l : Ledger} {w : World} {ps : List Point} → At l w → Runs step t at n w ps → Runs f t at n w ps
+  runs-too t b here (at-end h) = at-end h
+  runs-too t b {at} {n} {l} {w} here (one-more {p = p} h e rest) =
+      let g : Goes At relates l p = subst (Goes At relates l) (sym e) (goes At relates t b at n h l w here) in
+      let i : pointAt step t at n w ≡ pointAt f t at n w =
+      ap (λ (o : Outcome). record { offset = at; byte = commandByte t at; operands = operandsAt t at; before = w; outcome = o; stores = n + o .stores }) (command-same t at l w here) in
+      one-more h (e ∙ i) (runs-too t b (g .next) rest)
+
+  run-same : (t : Bytes) → IsBytes t → (l : Ledger) (w : World) → At l w → run step t w ≡ run f t w
+  run-same t b l w here = runs-same f t (runs-too t b here (run-runs step t w)) (run-runs f t w)
+
+-- The runs are the same, from both starts.
+pub same-from-blank : (t d m : Bytes) → IsBytes t → length d ≡ 32896 → length m ≡ 16384 → run step t (blankStart d m) ≡ run onlyCommitted33 t (blankStart d m)
+same-from-blank t d m b ld lm =
+    run-same onlyCommitted33 same-step t b blankLedger (blankStart d m) (at-blank (record { card = refl; ledger = refl; disk = ld; memory = lm }))
+
+pub same-from-down : (t m : Bytes) (s : Shape) → inRange (s .cores) (s .blocks) (s .journal) ≡ true → IsBytes t → IsBytes m → length m ≡ 16384
+    → run step t (downStart s m) ≡ run onlyCommitted33 t (downStart s m)
+same-from-down t m s h b bm lm = run-same onlyCommitted33 same-step t b (downLedger s) (downStart s m) (at-down (down-start s m h bm lm))
+
+-- so no demand tells it from the model's card
+pub claim-33 : Claim onlyCommitted33
+claim-33 = (
+  λ t d m bt bd bm ld lm. subst (AreaKept (emptyService 0)) (same-from-blank t d m bt ld lm) (claim .0 t d m bt bd bm ld lm),
+  λ t m s h bt bm lm. subst (AreaKept (emptyService (s .blocks))) (same-from-down t m s h bt bm lm) (claim .1 t m s h bt bm lm),
+)
+
+pub demands-33 : Demands onlyCommitted33
+demands-33 = (
+  λ t d m bt bd bm ld lm. subst (LedgerKept 0 blankLedger (blankStart d m)) (same-from-blank t d m bt ld lm) (demands .0 t d m bt bd bm ld lm),
+  λ t m s h bt bm lm. subst (LedgerKept 0 (downLedger s) (downStart s m)) (same-from-down t m s h bt bm lm) (demands .1 t m s h bt bm lm),
+)
