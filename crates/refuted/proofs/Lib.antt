@@ -5,3 +5,4 @@ pub mod Tapes
 pub mod Astray
 pub mod Others
 pub mod Committed33
+pub mod CapMissing

@@ -1,18 +1,16 @@
 -- Other wrong cards, by the rule that they break, each refuted by a tape that is computed.
--- Two of them no short tape from a blank card shows: they are told from the model's card itself, which the code is equal to.
+-- The last is seen by no demand and told from the model's card, which the code is equal to.
 use Prim.Native.Nat.{ℕ, _+_}
-use mathlib.Core.Path.{_≡_, refl, sym, _∙_, ap}
-use mathlib.Core.List.{List, [], _∷_, _++_, map, flatMap}
+use mathlib.Core.Path.{_≡_, refl}
+use mathlib.Core.List.{List, [], _∷_, _++_, flatMap}
 use lib.ListN.{getD}
 use Rattle.model.specs.Lists.{below}
-use Rattle.model.specs.Bytes.{Bytes, store, zeroDisk, zeroMemory}
-use Rattle.model.specs.Card.{newTail, downCard}
-use Rattle.model.specs.Layout.{mark, masterBlock}
-use Rattle.model.specs.Command.{World}
-use Rattle.model.specs.Tape.{Step, Point, step, run, worldAfter, blankWorld}
+use Rattle.model.specs.Bytes.{Bytes}
+use Rattle.model.specs.Layout.{mark}
+use Rattle.model.specs.Tape.{Step, step, run, worldAfter, blankWorld}
 use Rattle.crash.specs.Claims.{Claim, Demands}
-use Rattle.refuted.specs.Wrong.{tailOneAbove, tailKept, capMissing, stampsGoOn, validityOneDeep, allCommittedValid, highestFirst, flagIgnored, cutKeepsPlace, cutKeepsMemory, writerTakesRunning, onlyWriterNames, onlyHolderNames, nameTwice, notLoaded, no26OnOpen, no29, stampAtOpen, stampAtCommit, noEscape, twelfthDropped, storesImages, noWrap, no32, no33, retiresAtOnce, homeFromMemory, holderStays}
-use Rattle.refuted.proofs.Checks.{refutes-claim, refutes-demands, answers, stored}
+use Rattle.refuted.specs.Wrong.{tailOneAbove, tailKept, stampsGoOn, validityOneDeep, allCommittedValid, highestFirst, flagIgnored, cutKeepsPlace, cutKeepsMemory, writerTakesRunning, onlyWriterNames, onlyHolderNames, nameTwice, notLoaded, no26OnOpen, no29, stampAtOpen, stampAtCommit, noEscape, twelfthDropped, storesImages, noWrap, no32, no33, retiresAtOnce, homeFromMemory, holderStays}
+use Rattle.refuted.proofs.Checks.{refutes-claim, refutes-demands, stored}
 use Rattle.refuted.proofs.Tapes.{tests, format, write, writeWord, close, stores, checkpoints, cut, recovers, lostWriter, oneKept}
 
 -- ---- tails and stamps after recovery
@@ -192,23 +190,7 @@ holder-stays =
     (format 1 1 4 ++ write 0 0 0 1 ++ close 0 ++ stores 0 3 ++ checkpoints 0 2 ++ write 0 0 0 2 ++ close 0 ++ stores 0 3)
     refl
 
--- ---- not seen by the demands on a short tape
-abbrev answersOver : Step → Bytes → World → List ℕ
-answersOver f t w = map (λ (p : Point). p .outcome .answer) (run f t w)
-
--- a card that is down over a disk whose tail number is the highest
-abbrev highest : World
-highest = record { card = downCard; disk = store zeroDisk 0 (masterBlock (record { cores = 1; blocks = 1; journal = 4 }) (λ (c : ℕ). newTail 4000000001 0)); memory = zeroMemory }
-
--- The cap: no short tape reaches such numbers from FORMAT. Over this disk the master that is stored is unfit for the next recovery.
-pub cap-missing : answersOver capMissing (recovers 1 ++ cut ++ recovers 1) highest ≡ 0 ∷ 0 ∷ 8 ∷ []
-unfolding tests
-cap-missing = refl
-
-pub cap-there : answersOver step (recovers 1 ++ cut ++ recovers 1) highest ≡ 0 ∷ 0 ∷ 0 ∷ []
-unfolding tests
-cap-there = refl
-
+-- ---- not seen by the demands
 -- Memory that lives through a cut is never read again, so neither demand sees it. The card's own equation does.
 abbrev firstByte : Step → ℕ
 firstByte f = getD ((worldAfter blankWorld (run f (format 1 1 4 ++ write 0 0 0 1 ++ cut) blankWorld)) .memory) 0 9

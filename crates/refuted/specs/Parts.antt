@@ -90,9 +90,11 @@ recoverSet set =
     (λ (d : Bytes) (b : ℕ). imageFound d b (newest (shapeOn d) d b Miss (set d))) emptiedTail
 
 -- by the new tail number, from the old one and the count of transactions read
-abbrev pub recoverTail : (ℕ → ℕ → ℕ) → Step
-recoverTail next =
-    recoverBy blocksLeft newestImage (λ (d : Bytes) (c : ℕ).
+abbrev pub tailBy : (ℕ → ℕ → ℕ) → Bytes → ℕ → Tail
+tailBy next d c =
     let s = shapeOn d in
     let t = tailOn d c in
-    cond (ltb c (s .cores)) (newTail (next (t .number) (length (journal s d c t (s .journal)))) 0) (newTail 0 0))
+    cond (ltb c (s .cores)) (newTail (next (t .number) (length (journal s d c t (s .journal)))) 0) (newTail 0 0)
+
+abbrev pub recoverTail : (ℕ → ℕ → ℕ) → Step
+recoverTail next = recoverBy blocksLeft newestImage (tailBy next)
