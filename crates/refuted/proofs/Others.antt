@@ -1,17 +1,17 @@
 -- Other wrong cards, by the rule that they break, each refuted by a tape that is computed.
 -- The last is seen by no demand and told from the model's card, which the code is equal to.
-use Prim.Native.Nat.{ℕ, _+_}
+use Prim.Native.Nat.{ℕ}
 use mathlib.Core.Path.{_≡_, refl}
-use mathlib.Core.List.{List, [], _∷_, _++_, flatMap}
+use mathlib.Core.List.{List, [], _∷_, _++_}
 use lib.ListN.{getD}
-use Rattle.model.specs.Lists.{below}
 use Rattle.model.specs.Bytes.{Bytes}
 use Rattle.model.specs.Layout.{mark}
 use Rattle.model.specs.Tape.{Step, step, run, worldAfter, blankWorld}
 use Rattle.crash.specs.Claims.{Claim, Demands}
-use Rattle.refuted.specs.Wrong.{tailOneAbove, tailKept, stampsGoOn, validityOneDeep, allCommittedValid, highestFirst, flagIgnored, cutKeepsPlace, cutKeepsMemory, writerTakesRunning, onlyWriterNames, onlyHolderNames, nameTwice, notLoaded, no26OnOpen, no29, stampAtOpen, stampAtCommit, noEscape, twelfthDropped, storesImages, noWrap, no32, no33, retiresAtOnce, homeFromMemory, holderStays}
+use Rattle.refuted.specs.Parts.{ignoring}
+use Rattle.refuted.specs.Wrong.{tailOneAbove, tailKept, stampsGoOn, validityOneDeep, allCommittedValid, highestFirst, flagIgnored, cutKeepsPlace, cutKeepsMemory, writerTakesRunning, onlyWriterNames, onlyHolderNames, nameTwice, notLoaded, no26OnOpen, stampAtOpen, stampAtCommit, noEscape, twelfthDropped, storesImages, noWrap, retiresAtOnce, homeFromMemory, holderStays}
 use Rattle.refuted.proofs.Checks.{refutes-claim, refutes-demands, stored}
-use Rattle.refuted.proofs.Tapes.{tests, format, write, writeWord, close, stores, checkpoints, cut, recovers, lostWriter, oneKept}
+use Rattle.refuted.proofs.Tapes.{tests, format, write, writeWord, close, stores, checkpoints, cut, recovers, lostWriter, oneKept, twelveNames}
 
 -- ---- tails and stamps after recovery
 pub tail-one-above : Demands tailOneAbove → ⊥
@@ -103,9 +103,9 @@ no-26-on-open =
 
 -- ---- CLOSE
 -- The three stores are of number 2, where the journal is read from number 1.
-pub no-29 : Claim no29 → ⊥
+pub no-29 : Claim (ignoring 29) → ⊥
 unfolding tests
-no-29 = refutes-claim no29 (format 1 2 6 ++ write 0 0 0 1 ++ close 0 ++ write 0 1 0 2 ++ close 0 ++ stores 0 3 ++ cut ++ recovers 1) refl
+no-29 = refutes-claim (ignoring 29) (format 1 2 6 ++ write 0 0 0 1 ++ close 0 ++ write 0 1 0 2 ++ close 0 ++ stores 0 3 ++ cut ++ recovers 1) refl
 
 -- Core 0 opens first and takes core 1's closed block.
 pub stamp-at-open : Claim stampAtOpen → ⊥
@@ -134,15 +134,11 @@ no-escape =
     cut ++ recovers 3 ++ write 0 1 0 2 ++ close 0 ++ stores 0 1 ++ cut ++ recovers 2)
     refl
 
--- Seven cores write into core 0's block, five of them close and write into it again.
-abbrev writers : ℕ → Bytes
-writers n = flatMap (λ (c : ℕ). write (1 + c) 0 4 2) (below n)
-
 pub twelfth-dropped : Demands twelfthDropped → ⊥
 unfolding tests
 twelfth-dropped =
     refutes-demands twelfthDropped stored
-    (format 8 1 4 ++ write 0 0 0 1 ++ writers 7 ++ flatMap (λ (c : ℕ). close (1 + c)) (below 5) ++ writers 5 ++ close 0 ++ stores 0 3)
+    (twelveNames ++ close 0 ++ stores 0 3)
     refl
 
 -- Core 1 writes into the closed block before its data is stored, and is lost.
@@ -160,15 +156,15 @@ no-wrap =
 
 -- ---- CHECKPOINT
 -- Core 1 writes into core 0's block and is lost; core 0's image goes home all the same.
-pub no-32 : Claim no32 → ⊥
+pub no-32 : Claim (ignoring 32) → ⊥
 unfolding tests
-no-32 = refutes-claim no32 (format 2 1 4 ++ write 0 0 0 1 ++ write 1 0 4 2 ++ close 0 ++ stores 0 3 ++ checkpoints 0 1 ++ cut ++ recovers 1) refl
+no-32 = refutes-claim (ignoring 32) (format 2 1 4 ++ write 0 0 0 1 ++ write 1 0 4 2 ++ close 0 ++ stores 0 3 ++ checkpoints 0 1 ++ cut ++ recovers 1) refl
 
 -- Core 0's later image goes home first, and recovery puts core 1's over it.
-pub no-33 : Claim no33 → ⊥
+pub no-33 : Claim (ignoring 33) → ⊥
 unfolding tests
 no-33 =
-    refutes-claim no33
+    refutes-claim (ignoring 33)
     (format 2 1 4 ++ write 1 0 0 1 ++ close 1 ++ stores 1 3 ++ write 0 0 4 2 ++ close 0 ++ stores 0 3 ++ checkpoints 0 2 ++ cut ++ recovers 2)
     refl
 

@@ -1,5 +1,5 @@
 -- Tapes by their commands, and every definition that a test of a run computes with, on one `unfolding` line.
-use Prim.Native.Nat.{ℕ}
+use Prim.Native.Nat.{ℕ, _+_}
 use mathlib.Core.List.{List, [], _∷_, _++_, flatMap}
 use lib.ListN.{replicate}
 use Rattle.model.specs.Lists.{below}
@@ -8,10 +8,11 @@ use Rattle.crash.specs.Claims.{homeArea, fedPoint, answerOf}
 use Rattle.crash.specs.Service.{bookArea}
 use Rattle.crash.specs.Ledger.{blankLedger, freshLedger, imageNow, closeLedger, unretired, metIn, validIn, blocksIn, cutLedger, recoverLedger, entered, storedOf, storedSince, heldOf, recordOf, recordBlocks, recordStored, tailsPast, checkpointStored, recoverStored, diskAfter, storeCount, namesCount, holderNames, formatRefusals, writeRefusals, closeRefusals, storeRefusals, sharesLowerIn, checkpointRefusals, refusalsOf}
 use Rattle.crash.proofs.BookExamples.{books}
+use Rattle.model.proofs.Command.{rowOf}
 use Rattle.refuted.proofs.Checks.{sameBytes, comesUp, areaHolds, answerTest, countTest, usedBytes, bytesTest, upTest, holds}
 
 unfoldable pub tests : Unit {0}
-unfolding books homeArea fedPoint answerOf bookArea blankLedger freshLedger imageNow closeLedger unretired metIn validIn blocksIn cutLedger recoverLedger entered storedOf storedSince heldOf recordOf recordBlocks recordStored tailsPast checkpointStored recoverStored diskAfter storeCount namesCount holderNames formatRefusals writeRefusals closeRefusals storeRefusals sharesLowerIn checkpointRefusals refusalsOf sameBytes comesUp areaHolds answerTest countTest usedBytes bytesTest upTest holds
+unfolding books rowOf homeArea fedPoint answerOf bookArea blankLedger freshLedger imageNow closeLedger unretired metIn validIn blocksIn cutLedger recoverLedger entered storedOf storedSince heldOf recordOf recordBlocks recordStored tailsPast checkpointStored recoverStored diskAfter storeCount namesCount holderNames formatRefusals writeRefusals closeRefusals storeRefusals sharesLowerIn checkpointRefusals refusalsOf sameBytes comesUp areaHolds answerTest countTest usedBytes bytesTest upTest holds
 tests = tt
 
 -- ---- commands of a tape
@@ -48,3 +49,10 @@ lostWriter = format 3 1 4 ++ write 0 0 0 1 ++ write 1 0 4 2 ++ close 0 ++ stores
 -- one transaction is committed and kept
 abbrev pub oneKept : Bytes
 oneKept = format 1 1 4 ++ write 0 0 0 1 ++ close 0 ++ stores 0 3 ++ cut ++ recovers 2
+
+-- Core 0's list has 12 names: seven cores write into its block, five of them close and write into it again.
+abbrev pub writers : ℕ → Bytes
+writers n = flatMap (λ (c : ℕ). write (1 + c) 0 4 2) (below n)
+
+abbrev pub twelveNames : Bytes
+twelveNames = format 8 1 4 ++ write 0 0 0 1 ++ writers 7 ++ flatMap (λ (c : ℕ). close (1 + c)) (below 5) ++ writers 5

@@ -15,6 +15,7 @@ use Rattle.model.specs.Command.{World, Outcome, storing, unless}
 use Rattle.model.specs.Commit.{coreStored, storeConditions}
 use Rattle.model.specs.Recovery.{shapeOn, tailOn, recoverConditions, blocksLeft, imageFound, newestImage, recoveredTo, emptiedTail}
 use Rattle.model.specs.Tape.{Step, step}
+use Rattle.model.proofs.Command.{rowOf}
 use Rattle.model.specs.declared.Phase.the-variants.{Up}
 use Rattle.model.specs.declared.Found.the-variants.{Miss}
 use Rattle.model.specs.declared.Tail.{Tail}
@@ -38,9 +39,17 @@ blockIn a = number 0 (part 1 2 a)
 abbrev pub refuses : ℕ → World → Outcome
 refuses n w = record { answer = n; world = w; stores = 0 }
 
+-- a command that always says n
+abbrev pub refusing : ℕ → ℕ → Step
+refusing k n = instead k (λ (a : Bytes) (w : World). refuses n w)
+
 -- conditions without that of number n
 abbrev pub without : ℕ → List (Bool × ℕ) → List (Bool × ℕ)
 without n ts = select (λ (t : Bool × ℕ). not (eqb (t .1) n)) ts
+
+-- the model's card save that no command tests the condition of number n
+abbrev pub ignoring : ℕ → Step
+ignoring n k a w = unless (without n ((rowOf k a w) .conditions)) w ((rowOf k a w) .done)
 
 -- where a command is carried out, the card that it leaves is changed once more
 abbrev pub patched : (Card → Card) → Outcome → Outcome

@@ -14,7 +14,7 @@ use Rattle.model.specs.Shrink.{strike}
 use Rattle.model.specs.Valid.{isIn, namesMet, blocksHeld, newest}
 use Rattle.model.specs.Command.{World, Outcome, storing, unless, notUp, noCore}
 use Rattle.model.specs.Write.{writer, writerName, ruleFor, takesBlock, namesHolder, isNamedBack, writeConditions, written}
-use Rattle.model.specs.Commit.{copyBlock, closeConditions, closed, heldCopies, closedNumber, nextStored, nextPosition}
+use Rattle.model.specs.Commit.{copyBlock, closedNumber, nextStored, nextPosition}
 use Rattle.model.specs.Checkpoint.{committedNow, validNow, committedOf, oldest, share, checkpointConditions, checkpointed, storedMaster}
 use Rattle.model.specs.Recovery.{shapeOn, tailOn, committedOn, validOn, recoverConditions, blocksLeft, placeOf, imageFound, newestImage, recoveredTo, emptiedTail, recoverStep}
 use Rattle.model.specs.Tape.{Step, step}
@@ -27,7 +27,7 @@ use Rattle.model.specs.declared.Transaction.{Transaction}
 use Rattle.model.specs.declared.Core.{Core}
 use Rattle.model.specs.declared.Card.{Card}
 use Rattle.model.specs.declared.Committed.{Committed}
-use Rattle.refuted.specs.Parts.{instead, coreIn, blockIn, refuses, without, patched, withCard, withCloses, onRunning, onClosed, storeBy, recoverBy, recoverSet, recoverTail}
+use Rattle.refuted.specs.Parts.{instead, coreIn, blockIn, refusing, without, patched, withCard, withCloses, onRunning, onClosed, storeBy, recoverBy, recoverSet, recoverTail}
 
 -- ---- 'Where a card goes astray'
 -- 'No name for a holder already committed': the writer's list stays as it was
@@ -104,10 +104,10 @@ blankAlways = recoverBy blocksLeft (λ (d : Bytes) (b : ℕ). replicate 128 0) e
 
 -- 'one whose STORE always says 30 or CHECKPOINT always 32'
 abbrev pub storeAlways30 : Step
-storeAlways30 = instead 4 (λ (a : Bytes) (w : World). refuses 30 w)
+storeAlways30 = refusing 4 30
 
 abbrev pub checkpointAlways32 : Step
-checkpointAlways32 = instead 5 (λ (a : Bytes) (w : World). refuses 32 w)
+checkpointAlways32 = refusing 5 32
 
 -- ---- tails and stamps after recovery
 -- 'a tail number two above the last committed one read in its journal': one above
@@ -223,10 +223,6 @@ no26OnOpen =
     unless (cond (takesBlock (ruleFor (w .card) c b)) ts (without 26 ts)) w (written c b (getD a 3 0) (part 4 4 a) w))
 
 -- ---- CLOSE
--- '29 CLOSE, the previous is not fully stored': a second CLOSE replaces it
-abbrev pub no29 : Step
-no29 = instead 3 (λ (a : Bytes) (w : World). unless (without 29 (closeConditions (coreIn a) w)) w (closed (coreIn a) w))
-
 -- 'CLOSE .. gives it a stamp': the stamp is given when the transaction opens
 abbrev pub stampAtOpen : Step
 stampAtOpen k a w =
@@ -279,13 +275,6 @@ noWrap =
     storeBy (λ (x : Card) (c : ℕ). journalBlock (shapeOf x) c ((tailOf x c) .position + (coreOf x c) .used) + (coreOf x c) .stored) nextStored
 
 -- ---- CHECKPOINT
--- '32 CHECKPOINT, oldest not valid', '33 .. a lower-stamped unretired transaction shares a block': not tested
-abbrev pub no32 : Step
-no32 = instead 5 (λ (a : Bytes) (w : World). unless (without 32 (checkpointConditions (coreIn a) w)) w (checkpointed (coreIn a) w))
-
-abbrev pub no33 : Step
-no33 = instead 5 (λ (a : Bytes) (w : World). unless (without 33 (checkpointConditions (coreIn a) w)) w (checkpointed (coreIn a) w))
-
 -- 'stores its images home in the order taken, then the master': the master at once
 abbrev pub retiresAtOnce : Step
 retiresAtOnce =
