@@ -1,7 +1,6 @@
 -- The cards of paper 01's section 'Where a card goes astray', each refuted by a tape that is computed.
-use Prim.Native.Nat.{ℕ}
-use mathlib.Core.Path.{_≡_, refl}
-use mathlib.Core.List.{List, [], _∷_, _++_}
+use mathlib.Core.Path.{refl}
+use mathlib.Core.List.{_++_}
 use Rattle.model.specs.Bytes.{Bytes}
 use Rattle.crash.specs.Claims.{Claim, Demands}
 use Rattle.refuted.specs.Wrong.{noNameForCommitted, newestByOrder, tailsCoreByCore, tailUnchanged, numbersFromOne, upBeforeHome, firstRecordOnly, inventedCount, nothingChanges, blankAlways, storeAlways30, checkpointAlways32}

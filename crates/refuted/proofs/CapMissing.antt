@@ -4,13 +4,13 @@
 use Prim.Native.Nat.{ℕ, zero, suc, _+_, _-_, min, _<_}
 use native.Mathlib.Omega.{arith}
 use mathlib.Core.Path.{_≡_, refl, sym, ap, ap₂, _∙_, subst}
-use mathlib.Core.Bool.{Bool, true, false, cond, not}
-use mathlib.Core.List.{List, [], _∷_, map}
-use lib.ListN.{length, getD, drop, replicate, length-drop, length-map, length-replicate}
+use mathlib.Core.Bool.{Bool, true}
+use mathlib.Core.List.{List, [], _∷_}
+use lib.ListN.{length, getD, drop, length-drop, length-map, length-replicate}
 use lib.Seq.{getD-drop, drop-drop}
-use lib.Dec.{eqb, ltb}
+use lib.Dec.{eqb}
 use borrow.Author.Tests.{lt-ltb, le-ltb}
-use Rattle.model.specs.Lists.{all, below}
+use Rattle.model.specs.Lists.{all}
 use Rattle.model.specs.Bytes.{Bytes, part, store, zeroMemory}
 use Rattle.model.specs.Shape.{between, inRange}
 use Rattle.model.specs.Card.{newTail, isBlank, isUp}
@@ -21,7 +21,7 @@ use Rattle.model.specs.Recovery.{shapeOn, tailOn, recoverConditions, blocksLeft
 use Rattle.model.specs.Tape.{Step, Point, run, operandLength, commandByte, operandsAt, isUnknown, endsEarly, commandAt, nextOffset}
 use Rattle.model.specs.declared.Shape.{Shape}
 use Rattle.model.specs.declared.Phase.the-variants.{Down}
-use Rattle.model.proofs.Command.{unless-done, unless-refused, refusedWith}
+use Rattle.model.proofs.Command.{unless-done, unless-refused}
 use Rattle.model.proofs.Tape.{pointAt, Runs, at-end, one-more, run-runs}
 use Rattle.crash.specs.Book.{emptyBook}
 use Rattle.crash.specs.Ledger.{Ledger, freshLedger, cutLedger, entered, storedSince, diskAfter, refusalsOf}

@@ -1,8 +1,8 @@
 -- Tests that a run can be put to by computing. Each is met wherever its demand is, so a run that fails one refutes the demand.
 -- Nothing here is to be believed: a test that asked too much could not be proved to follow from the demand.
 use Prim.Native.Nat.{ℕ, _+_, _*_}
-use mathlib.Core.Path.{_≡_, refl, sym, _∙_, ap, subst}
-use mathlib.Core.Bool.{Bool, true, false, cond, not, _&&_, _||_}
+use mathlib.Core.Path.{_≡_, refl, ap, subst}
+use mathlib.Core.Bool.{Bool, true, false, cond, not, _&&_}
 use mathlib.Core.List.{List, [], _∷_}
 use lib.ListN.{length, length-replicate, take}
 use lib.Dec.{eqb, ltb}
@@ -14,7 +14,7 @@ use Rattle.model.specs.Command.{World}
 use Rattle.model.specs.Reading.{readNumber}
 use Rattle.model.specs.Tape.{Step, Point, step, run, blankWorld}
 use Rattle.model.specs.declared.Shape.{Shape}
-use Rattle.model.proofs.Lists.{cases, and-both, and-left, and-right}
+use Rattle.model.proofs.Lists.{and-both, and-left, and-right}
 use Rattle.crash.specs.Service.{Service, emptyService, bookArea}
 use Rattle.crash.specs.Ledger.{Ledger, blankLedger, entered, diskAfter, storeCount}
 use Rattle.crash.specs.Claims.{IsBytes, ComesUp, homeArea, fedPoint, AreaKept, Claim, answerOf, PointKept, LedgerKept, Demands}

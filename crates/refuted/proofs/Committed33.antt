@@ -7,15 +7,15 @@ use native.Mathlib.Omega.{arith}
 use native.Mathlib.Decide.{decLt}
 use mathlib.Core.Path.{_≡_, refl, sym, ap, _∙_, subst}
 use mathlib.Core.Logic.{inl, inr, ⊎-elim}
-use mathlib.Core.Bool.{Bool, true, false, So, cond, not, _&&_, _||_}
-use mathlib.Core.List.{List, [], _∷_, List·Memᴰ}
+use mathlib.Core.Bool.{Bool, true, false, So, not, _||_}
+use mathlib.Core.List.{List, [], _∷_}
 use lib.ListN.{length}
 use lib.Dec.{eqb, leb}
-use borrow.Author.Tests.{eqb-true, leb-false, ltb-true, not-false}
+use borrow.Author.Tests.{leb-false, ltb-true, not-false}
 use Rattle.model.specs.Lists.{any, below}
 use Rattle.model.specs.Bytes.{Bytes}
 use Rattle.model.specs.Shape.{inRange}
-use Rattle.model.specs.Card.{newName, sameName, isBlank, isDown, shapeOf}
+use Rattle.model.specs.Card.{newName, isBlank, isDown, shapeOf}
 use Rattle.model.specs.Journal.{nameOf}
 use Rattle.model.specs.Valid.{isIn}
 use Rattle.model.specs.Command.{World, Outcome, refusal, unless, noCore}
@@ -23,18 +23,17 @@ use Rattle.model.specs.Checkpoint.{validNow, committedOf, oldest, share, shares
 use Rattle.model.specs.Tape.{Step, Point, step, run, commandByte, operandsAt, commandAt}
 use Rattle.model.specs.declared.Shape.{Shape}
 use Rattle.model.specs.declared.Name.{Name}
-use Rattle.model.proofs.Lists.{cases, and-left, any-mem, mem-below}
+use Rattle.model.proofs.Lists.{and-left, any-mem, mem-below}
 use Rattle.model.proofs.Tape.{pointAt, Runs, at-end, one-more, run-runs, runs-same}
-use Rattle.crash.specs.Book.{Book, isClosed, isCommitted, kept}
+use Rattle.crash.specs.Book.{isCommitted, kept}
 use Rattle.crash.specs.Service.{emptyService}
 use Rattle.crash.specs.Ledger.{Ledger, blankLedger, validIn}
 use Rattle.crash.specs.Claims.{IsBytes, blankStart, downStart, downLedger, AreaKept, LedgerKept, Claim, Demands}
 use Rattle.crash.proofs.Tests.{clash, false-of, in-any, blockEquality}
-use Rattle.crash.proofs.BookEntries.{oldestName, uncommittedName, nextName}
+use Rattle.crash.proofs.BookEntries.{oldestName, uncommittedName}
 use Rattle.crash.proofs.History.{Event, Took, Status, Sound, Chain, older, kept-link}
 use Rattle.crash.proofs.Largest.{memberOf, stageOf, RetiredBelow, kept-largest, valid-is-kept}
 use Rattle.crash.proofs.Invariant.{Inv, historyOf, homed, status, opened-of, sound-of}
-use Rattle.crash.proofs.Relation.{Up}
 use Rattle.crash.proofs.ReadMaster.{shape-up}
 use Rattle.crash.proofs.ReadCheckpoint.{Lower, lowerClosed, closed-lower, oldest-is, oldest-name, none-committed, oldest-valid}
 use Rattle.crash.proofs.CardAnswers.{Same, none-left, then, same-refusal}

@@ -6,8 +6,8 @@ use lib.ListN.{length, getD}
 use lib.Dec.{eqb, ltb, leb}
 use Rattle.model.specs.Lists.{below, select}
 use Rattle.model.specs.Bytes.{Bytes, number, part}
-use Rattle.model.specs.Shape.{homeBlock, journalBlock}
-use Rattle.model.specs.Card.{newTail, freshCard, shapeOf, coreOf, withCore, withRunning}
+use Rattle.model.specs.Shape.{homeBlock}
+use Rattle.model.specs.Card.{newTail, freshCard, coreOf, withCore, withRunning}
 use Rattle.model.specs.Layout.{masterBlock}
 use Rattle.model.specs.Journal.{journal}
 use Rattle.model.specs.Valid.{blocksHeld, newest}

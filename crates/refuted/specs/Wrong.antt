@@ -7,8 +7,8 @@ use lib.Dec.{eqb, leb, ltb}
 use Rattle.model.specs.Lists.{below, select, any}
 use Rattle.model.specs.Bytes.{Bytes, blockAt, part, replaced}
 use Rattle.model.specs.Shape.{homeBlock, journalBlock}
-use Rattle.model.specs.Card.{isUp, newTail, newName, taken, listed, lists, stamped, withBlock, withHolder, freshCard, shapeOf, tailOf, coreOf, holderOf}
-use Rattle.model.specs.Layout.{maxNumber, masterBlock, Held, newHeld, descriptorBlock, commitBlock}
+use Rattle.model.specs.Card.{taken, listed, lists, stamped, withBlock, withHolder, freshCard, shapeOf, tailOf, coreOf, holderOf}
+use Rattle.model.specs.Layout.{maxNumber, masterBlock, newHeld, descriptorBlock, commitBlock}
 use Rattle.model.specs.Journal.{journalAt, nameOf, blocksOf}
 use Rattle.model.specs.Shrink.{strike}
 use Rattle.model.specs.Valid.{isIn, namesMet, blocksHeld, newest}
