@@ -9,9 +9,9 @@ use Rattle.model.specs.Layout.{mark}
 use Rattle.model.specs.Tape.{Step, step, run, worldAfter, blankWorld}
 use Rattle.crash.specs.Claims.{Claim, Demands}
 use Rattle.refuted.specs.Parts.{ignoring}
-use Rattle.refuted.specs.Wrong.{tailOneAbove, tailKept, stampsGoOn, validityOneDeep, allCommittedValid, highestFirst, flagIgnored, cutKeepsPlace, cutKeepsMemory, writerTakesRunning, onlyWriterNames, onlyHolderNames, nameTwice, notLoaded, no26OnOpen, stampAtOpen, stampAtCommit, noEscape, twelfthDropped, storesImages, noWrap, retiresAtOnce, homeFromMemory, holderStays}
-use Rattle.refuted.proofs.Checks.{refutes-claim, refutes-demands, stored}
-use Rattle.refuted.proofs.Tapes.{tests, format, write, writeWord, close, stores, checkpoints, cut, recovers, lostWriter, oneKept, twelveNames}
+use Rattle.refuted.specs.Wrong.{tailOneAbove, tailKept, stampsGoOn, validityOneDeep, allCommittedValid, highestFirst, flagIgnored, cutKeepsPlace, cutKeepsMemory, writerTakesRunning, onlyWriterNames, onlyHolderNames, nameTwice, notLoaded, no26OnOpen, only26Stored, no24OfHolder, stampAtOpen, stampAtCommit, noEscape, twelfthDropped, storesImages, noWrap, retiresAtOnce, homeFromMemory, holderStays}
+use Rattle.refuted.proofs.Checks.{refutes-claim, refutes-demands, answers, stored}
+use Rattle.refuted.proofs.Tapes.{tests, format, write, writeWord, close, stores, checkpoints, cut, recovers, lostWriter, oneKept, twelveNames, thirteenth}
 
 -- ---- tails and stamps after recovery
 pub tail-one-above : Demands tailOneAbove → ⊥
@@ -100,6 +100,18 @@ no-26-on-open =
     refutes-claim no26OnOpen
     (format 2 3 4 ++ write 1 0 0 1 ++ write 1 1 0 2 ++ close 1 ++ stores 1 4 ++ write 0 2 0 3 ++ write 1 2 4 4 ++ close 1 ++ stores 1 1 ++ cut ++ recovers 1)
     refl
+
+-- The second transaction of the core is let in, and its data overwrites the first one's descriptor.
+pub only-26-stored : Claim only26Stored → ⊥
+unfolding tests
+only-26-stored =
+    refutes-claim only26Stored
+    (format 1 1 4 ++ write 0 0 0 1 ++ close 0 ++ write 0 0 4 2 ++ stores 0 3 ++ close 0 ++ stores 0 2 ++ cut ++ recovers 2)
+    refl
+
+pub no-24-of-holder : Demands no24OfHolder → ⊥
+unfolding tests
+no-24-of-holder = refutes-demands no24OfHolder answers thirteenth refl
 
 -- ---- CLOSE
 -- The three stores are of number 2, where the journal is read from number 1.

@@ -12,7 +12,7 @@ use Rattle.crash.specs.Ledger.{blankLedger}
 use Rattle.crash.specs.Claims.{Demands}
 use Rattle.refuted.specs.Parts.{ignoring, refusing}
 use Rattle.refuted.proofs.Checks.{answerTest, answers, holds, areBytes, refutes-demands}
-use Rattle.refuted.proofs.Tapes.{tests, format, write, close, stores, checkpoints, cut, recovers, twelveNames}
+use Rattle.refuted.proofs.Tapes.{tests, format, write, close, stores, checkpoints, cut, recovers, thirteenth}
 
 unfoldable failsAnswers : Step → Bytes → Bool
 failsAnswers f t = areBytes t && not (holds answerTest blankLedger (run f t blankWorld))
@@ -29,7 +29,7 @@ conditionTapes =
     ∷ (21, format 1 1 4 ++ format 1 1 4)
     ∷ (22, format 1 1 4 ++ cut ++ write 0 0 0 1)
     ∷ (23, format 1 1 4 ++ recovers 1)
-    ∷ (24, twelveNames ++ close 6 ++ write 6 0 4 2)
+    ∷ (24, thirteenth)
     ∷ (25, format 1 9 11 ++ flatMap (λ (b : ℕ). write 0 b 0 1) (below 9))
     ∷ (26, format 1 3 4 ++ flatMap (λ (b : ℕ). write 0 b 0 1) (below 3))
     ∷ (28, format 1 1 4 ++ close 0)

@@ -56,3 +56,7 @@ writers n = flatMap (λ (c : ℕ). write (1 + c) 0 4 2) (below n)
 
 abbrev pub twelveNames : Bytes
 twelveNames = format 8 1 4 ++ write 0 0 0 1 ++ writers 7 ++ flatMap (λ (c : ℕ). close (1 + c)) (below 5) ++ writers 5
+
+-- a sixth one closes and would be the thirteenth
+abbrev pub thirteenth : Bytes
+thirteenth = twelveNames ++ close 6 ++ write 6 0 4 2

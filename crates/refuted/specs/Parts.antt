@@ -1,7 +1,7 @@
 -- The model's card with a part of a command replaced. With the model's own parts each is the model's card (`proofs/Parts.antt`).
 use Prim.Native.Nat.{ℕ, _+_}
 use mathlib.Core.List.{List, [], _∷_, map}
-use mathlib.Core.Bool.{Bool, cond, not}
+use mathlib.Core.Bool.{Bool, false, cond}
 use lib.ListN.{length, getD}
 use lib.Dec.{eqb, ltb, leb}
 use Rattle.model.specs.Lists.{below, select}
@@ -43,13 +43,14 @@ refuses n w = record { answer = n; world = w; stores = 0 }
 abbrev pub refusing : ℕ → ℕ → Step
 refusing k n = instead k (λ (a : Bytes) (w : World). refuses n w)
 
--- conditions without that of number n
-abbrev pub without : ℕ → List (Bool × ℕ) → List (Bool × ℕ)
-without n ts = select (λ (t : Bool × ℕ). not (eqb (t .1) n)) ts
+-- the condition of number n is another one
+abbrev pub asking : ℕ → (Bytes → World → Bool) → Step
+asking n test k a w =
+    unless (map (λ (t : Bool × ℕ). cond (eqb (t .1) n) (test a w, n) t) ((rowOf k a w) .conditions)) w ((rowOf k a w) .done)
 
--- the model's card save that no command tests the condition of number n
+-- the condition of number n is not asked
 abbrev pub ignoring : ℕ → Step
-ignoring n k a w = unless (without n ((rowOf k a w) .conditions)) w ((rowOf k a w) .done)
+ignoring n = asking n (λ (a : Bytes) (w : World). false)
 
 -- where a command is carried out, the card that it leaves is changed once more
 abbrev pub patched : (Card → Card) → Outcome → Outcome

@@ -7,13 +7,13 @@ use lib.Dec.{eqb, leb, ltb}
 use Rattle.model.specs.Lists.{below, select, any}
 use Rattle.model.specs.Bytes.{Bytes, blockAt, part, replaced}
 use Rattle.model.specs.Shape.{homeBlock, journalBlock}
-use Rattle.model.specs.Card.{taken, listed, lists, stamped, withBlock, withHolder, freshCard, shapeOf, tailOf, coreOf, holderOf}
+use Rattle.model.specs.Card.{taken, listed, lists, stamped, withBlock, withHolder, recordSize, freshCard, shapeOf, tailOf, coreOf, holderOf}
 use Rattle.model.specs.Layout.{maxNumber, masterBlock, newHeld, descriptorBlock, commitBlock}
 use Rattle.model.specs.Journal.{journalAt, nameOf, blocksOf}
 use Rattle.model.specs.Shrink.{strike}
 use Rattle.model.specs.Valid.{isIn, namesMet, blocksHeld, newest}
 use Rattle.model.specs.Command.{World, Outcome, storing, unless, notUp, noCore}
-use Rattle.model.specs.Write.{writer, writerName, ruleFor, takesBlock, namesHolder, isNamedBack, writeConditions, written}
+use Rattle.model.specs.Write.{writer, writerName, ruleFor, takesBlock, namesHolder, isNamedBack, writerAfter, passesTwelve, journalFull}
 use Rattle.model.specs.Commit.{copyBlock, closedNumber, nextStored, nextPosition}
 use Rattle.model.specs.Checkpoint.{committedNow, validNow, committedOf, oldest, share, checkpointConditions, checkpointed, storedMaster}
 use Rattle.model.specs.Recovery.{shapeOn, tailOn, committedOn, validOn, recoverConditions, blocksLeft, placeOf, imageFound, newestImage, recoveredTo, emptiedTail, recoverStep}
@@ -27,12 +27,12 @@ use Rattle.model.specs.declared.Transaction.{Transaction}
 use Rattle.model.specs.declared.Core.{Core}
 use Rattle.model.specs.declared.Card.{Card}
 use Rattle.model.specs.declared.Committed.{Committed}
-use Rattle.refuted.specs.Parts.{instead, coreIn, blockIn, refusing, without, patched, withCard, withCloses, onRunning, onClosed, storeBy, recoverBy, recoverSet, recoverTail}
+use Rattle.refuted.specs.Parts.{instead, coreIn, blockIn, refusing, asking, patched, withCard, withCloses, onRunning, onClosed, storeBy, recoverBy, recoverSet, recoverTail}
 
 -- ---- 'Where a card goes astray'
 -- 'No name for a holder already committed': the writer's list stays as it was
-abbrev namesOf : Transaction → Transaction → Transaction
-namesOf t u = record { live = u .live; stamp = u .stamp; count = u .count; blocks = u .blocks; named = t .named; names = t .names }
+abbrev withNamesOf : Transaction → Transaction → Transaction
+withNamesOf t u = record { live = u .live; stamp = u .stamp; count = u .count; blocks = u .blocks; named = t .named; names = t .names }
 
 abbrev isClosedNow : Card → Name → Bool
 isClosedNow x n = let k = coreOf x (n .core) in k .closed .live && eqb (closedNumber k) (n .number)
@@ -44,7 +44,7 @@ noNameForCommitted =
     let c = coreIn a in
     let r = ruleFor x c (blockIn a) in
     let isCommitted = takesBlock r && namesHolder r && not (isClosedNow x ((holderOf x (blockIn a)) .name)) in
-    cond isCommitted (patched (onRunning c (namesOf (writer x c))) (step 2 a w)) (step 2 a w))
+    cond isCommitted (patched (onRunning c (withNamesOf (writer x c))) (step 2 a w)) (step 2 a w))
 
 -- 'Trusting that a block cannot be in both of two tied transactions .. The stamp decides.': the last in order of core
 -- and number decides
@@ -79,7 +79,7 @@ numbersFromOne = recoverTail (λ (t n : ℕ). 1)
 abbrev pub upBeforeHome : Step
 upBeforeHome = recoverBy (λ (w : World). []) newestImage emptiedTail
 
--- 'one that stores the first record and afterwards only counts'
+-- 'one that stores the first record and afterwards only counts', of each core
 abbrev pub firstRecordOnly : Step
 firstRecordOnly =
     instead 4 (λ (a : Bytes) (w : World).
@@ -166,7 +166,7 @@ cutKeepsMemory =
     record { answer = o .answer; world = record { card = o .world .card; disk = o .world .disk; memory = w .memory }; stores = o .stores })
 
 -- ---- WRITE
--- 'U keeps it': T takes a running holder's block
+-- 'U keeps it': T takes a running holder's block too
 abbrev pub writerTakesRunning : Step
 writerTakesRunning =
     instead 2 (λ (a : Bytes) (w : World).
@@ -182,14 +182,14 @@ onlyWriterNames =
     instead 2 (λ (a : Bytes) (w : World).
     let x = w .card in
     let u = ((holderOf x (blockIn a)) .name) .core in
-    cond (isNamedBack (ruleFor x (coreIn a) (blockIn a))) (patched (onRunning u (namesOf ((coreOf x u) .running))) (step 2 a w)) (step 2 a w))
+    cond (isNamedBack (ruleFor x (coreIn a) (blockIn a))) (patched (onRunning u (withNamesOf ((coreOf x u) .running))) (step 2 a w)) (step 2 a w))
 
 abbrev pub onlyHolderNames : Step
 onlyHolderNames =
     instead 2 (λ (a : Bytes) (w : World).
     let x = w .card in
     let c = coreIn a in
-    cond (isNamedBack (ruleFor x c (blockIn a))) (patched (onRunning c (namesOf (writer x c))) (step 2 a w)) (step 2 a w))
+    cond (isNamedBack (ruleFor x c (blockIn a))) (patched (onRunning c (withNamesOf (writer x c))) (step 2 a w)) (step 2 a w))
 
 -- 'A name stands once in a list.': it is added again
 abbrev nameAgain : Name → Transaction → Transaction
@@ -213,14 +213,28 @@ notLoaded =
     (record { answer = 0; world = record { card = o .world .card; disk = w .disk; memory = replaced (128 * blockIn a + getD a 3 0) 4 (w .memory) (part 4 4 a) }; stores = 0 })
     o)
 
--- 26 is not tested for a WRITE that opens a transaction and takes no block
+-- 26 is not asked of a WRITE that opens a transaction and takes no block
 abbrev pub no26OnOpen : Step
 no26OnOpen =
-    instead 2 (λ (a : Bytes) (w : World).
+    asking 26 (λ (a : Bytes) (w : World).
+    takesBlock (ruleFor (w .card) (coreIn a) (blockIn a)) && journalFull (w .card) (coreIn a) (blockIn a))
+
+-- 26 'stored yet or not': a closed one counts from its first store on
+abbrev pub only26Stored : Step
+only26Stored =
+    asking 26 (λ (a : Bytes) (w : World).
+    let x = w .card in
+    let k = coreOf x (coreIn a) in
+    let closedOne = cond (k .closed .live && ltb 0 (k .stored)) (recordSize (k .closed)) 0 in
+    ltb ((shapeOf x) .journal) (k .used + closedOne + recordSize (writerAfter x (coreIn a) (blockIn a))))
+
+-- 24 'a list, the writer's or the holder's': the holder's is not asked
+abbrev pub no24OfHolder : Step
+no24OfHolder =
+    asking 24 (λ (a : Bytes) (w : World).
+    let x = w .card in
     let c = coreIn a in
-    let b = blockIn a in
-    let ts = writeConditions c b (getD a 3 0) w in
-    unless (cond (takesBlock (ruleFor (w .card) c b)) ts (without 26 ts)) w (written c b (getD a 3 0) (part 4 4 a) w))
+    namesHolder (ruleFor x c (blockIn a)) && passesTwelve (writer x c) ((holderOf x (blockIn a)) .name))
 
 -- ---- CLOSE
 -- 'CLOSE .. gives it a stamp': the stamp is given when the transaction opens
