@@ -184,7 +184,7 @@ module _ (l : Ledger) where
   unfolding refusalsOf
   recover-suits a k e z = down-suits (rw e at z)
 
-  suits : (p : Point) → p .outcome .answer ≡ answerOf l p → p .outcome .answer ≡ 0 → Suits (p .byte) (l .phase)
+  pub suits : (p : Point) → p .outcome .answer ≡ answerOf l p → p .outcome .answer ≡ 0 → Suits (p .byte) (l .phase)
   unfolding answerOf
   suits p h z =
       let y = refusal-passed _ 3 _ (omega arith) (refusal-passed _ 2 _ (omega arith) (sym h ∙ z) .1) .1 in
@@ -197,7 +197,7 @@ unfolding recoverLedger freshLedger
 recover-shape l [] = refl
 recover-shape l (b ∷ bs) = refl
 
-fed-blocks : (k : ℕ) (a : Bytes) (n : ℕ) (v : Service) (l : Ledger) → v .blocks ≡ l .shape .blocks → (fed k a n v) .blocks ≡ (entered k a n l) .shape .blocks
+pub fed-blocks : (k : ℕ) (a : Bytes) (n : ℕ) (v : Service) (l : Ledger) → v .blocks ≡ l .shape .blocks → (fed k a n v) .blocks ≡ (entered k a n l) .shape .blocks
 unfolding fed entered emptyService cutService freshLedger cutLedger closeLedger
 fed-blocks k a (suc n) v l e = e
 fed-blocks k a zero v l e =
@@ -243,7 +243,7 @@ module _ (At : Ledger → World → Type 0) (r : Relates At) where
         let d : isDown (p .outcome .world .card .phase) ≡ true = ap isDown (r .phase _ _ n) in
         absurd (c .is-up (down-reads _ _ n d))
 
-    area-at : v .blocks ≡ l .shape .blocks → homeArea (v .blocks) (p .outcome .world) ≡ bookArea (fedPoint p v)
+    pub area-at : v .blocks ≡ l .shape .blocks → homeArea (v .blocks) (p .outcome .world) ≡ bookArea (fedPoint p v)
     unfolding homeArea bookArea recoverLedger freshLedger fedPoint
     area-at same =
         let e = none-left (l .left) refl in

@@ -7,3 +7,4 @@ pub mod Refusals
 pub mod Others
 pub mod CapMissing
 pub mod Committed33
+pub mod CutMemory
