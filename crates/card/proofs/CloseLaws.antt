@@ -15,9 +15,9 @@ use Rattle.model.specs.declared.Transaction.{Transaction}
 use Rattle.model.specs.declared.Core.{Core}
 use Rattle.model.specs.declared.Card.{Card}
 use Rattle.layout.proofs.Blocks.{block-lent}
-use Rattle.card.specs.Answer.{world}
-use Rattle.card.proofs.Refusals.{was-done}
-use Rattle.card.proofs.EntryLaws.{entry, entry-hit, entry-pass, Entered, entered}
+use Rattle.state.specs.Answer.{world}
+use Rattle.state.proofs.Refusals.{was-done}
+use Rattle.state.proofs.EntryLaws.{entry, entry-hit, entry-pass, Entered, entered}
 
 -- ---- refusals
 -- what CLOSE asks of the core

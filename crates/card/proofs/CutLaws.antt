@@ -9,9 +9,9 @@ use Rattle.model.specs.Command.{unstored, refusal}
 use Rattle.model.specs.Recovery.{cutConditions, cut}
 use Rattle.model.specs.declared.Card.{Card}
 use Rattle.model.proofs.OneStore.{right-lengths}
-use Rattle.card.specs.Answer.{world}
-use Rattle.card.proofs.Parts.{zero-memory}
-use Rattle.card.proofs.Refusals.{was-done, none-held}
+use Rattle.state.specs.Answer.{world}
+use Rattle.state.proofs.Parts.{zero-memory}
+use Rattle.state.proofs.Refusals.{was-done, none-held}
 
 module _ (x : Card) (d m : Bytes) (n : ℕ) (e : n ≡ refusal (cutConditions (world x d m))) (h : n ≡ 0) where
   pub cut-done : (y : Card) → y ≡ downCard → (z : Bytes) → z ≡ replicate (length m) 0 → unstored (world x d m) y z ≡ cut (world x d m)

@@ -1,12 +1,11 @@
 -- FORMAT: its refusals in two stages, and what the code leaves where it is carried out.
-use Prim.Native.Nat.{ℕ, zero, suc, _<_}
+use Prim.Native.Nat.{ℕ, _<_}
 use native.Mathlib.Omega.{arith}
 use mathlib.Core.Path.{_≡_, refl, sym, ap, _∙_, subst}
 use mathlib.Core.Bool.{Bool, not}
-use mathlib.Core.List.{List, [], _∷_, _++_, map, map-append}
-use lib.ListN.{length, getD, drop, replicate, getD-replicate}
-use Rattle.model.specs.Lists.{below}
-use Rattle.model.specs.Bytes.{Bytes, replaced, store, zeroDisk}
+use mathlib.Core.List.{List, [], _∷_}
+use lib.ListN.{length, getD, replicate, getD-replicate}
+use Rattle.model.specs.Bytes.{Bytes, store, zeroDisk}
 use Rattle.model.specs.Shape.{inRange, checked, checkedAnswer, clamped}
 use Rattle.model.specs.Card.{isBlank, newTail, freshCard}
 use Rattle.model.specs.Layout.{masterBlock}
@@ -22,9 +21,10 @@ use Rattle.model.proofs.Lists.{cases}
 use Rattle.model.proofs.Limits.{InRange, range-test, clamped-range, clamped-same}
 use Rattle.model.proofs.Command.{refusedWith, refusal-clear}
 use Rattle.model.proofs.OneStore.{right-lengths}
-use Rattle.card.specs.Answer.{world, firstOf}
-use Rattle.card.proofs.Parts.{zero-memory}
-use Rattle.card.proofs.Refusals.{first-hit, first-pass, refusal-joined, was-refused, was-done}
+use Rattle.layout.proofs.Pairs.{master-tails}
+use Rattle.state.specs.Answer.{world, firstOf}
+use Rattle.state.proofs.Parts.{zero-memory}
+use Rattle.state.proofs.Refusals.{first-hit, first-pass, refusal-joined, was-refused, was-done}
 
 -- ---- the two stages
 -- what comes before the operands
@@ -63,17 +63,6 @@ module _ (x : Card) (d m : Bytes) (n : ℕ) (e : n ≡ refusal (notBlank (world 
   blank-memory = lengths .1
 
 -- ---- the master
--- equal on the cores of the shape
-map-below-same : {A : Type 0} (f g : ℕ → A) (n : ℕ) → ((i : ℕ) → i < n → f i ≡ g i) → map f (below n) ≡ map g (below n)
-unfolding below
-map-below-same f g zero h = refl
-map-below-same f g (suc n) h =
-    rw (map-append f (below n) (n ∷ []), map-append g (below n) (n ∷ []), map-below-same f g n (λ i l. h i (omega arith)), h n (omega arith))
-
-pub master-same : (s : Shape) (f g : ℕ → Tail) → ((i : ℕ) → i < s .cores → f i ≡ g i) → masterBlock s f ≡ masterBlock s g
-unfolding masterBlock
-master-same s f g h = rw (map-below-same f g (s .cores) h)
-
 -- what the constructor made is the shape asked for, within its limits
 fits-range : (c b j : ℕ) (s : Shape) → Fits s ≡ checked c b j → InRange s × (s ≡ record { cores = c; blocks = b; journal = j })
 unfolding checked
@@ -97,7 +86,7 @@ first-tail i h = getD-replicate 8 i (newTail 1 0) (newTail 0 0) h
 first-master : (s : Shape) → clamped s ≡ s → masterBlock (clamped s) (λ (c : ℕ). getD firstTails c (newTail 0 0)) ≡ masterBlock s (λ (c : ℕ). newTail 1 0)
 first-master s e =
     let r : InRange s = subst InRange e (clamped-range s) in
-    rw e (master-same s _ (λ (c : ℕ). newTail 1 0) (λ i h. first-tail i (omega arith)))
+    rw e (master-tails s _ (λ (c : ℕ). newTail 1 0) (λ i h. first-tail i (omega arith)))
 
 zero-disk : (d : Bytes) → length d ≡ 32896 → replicate (length d) 0 ≡ zeroDisk
 unfolding zeroDisk
@@ -106,11 +95,11 @@ zero-disk d h = ap (λ (n : ℕ). replicate n 0) h
 -- what the code leaves: both slices zeroed, the master in block 0
 pub format-left : (s : Shape) → clamped s ≡ s
     → (d m : Bytes) → length d ≡ 32896 → length m ≡ 16384
-    → (d′ m′ b : Bytes) → d′ ≡ replicate (length d) 0 → m′ ≡ replicate (length m) 0 → b ≡ masterBlock (clamped s) (λ (c : ℕ). getD firstTails c (newTail 0 0))
+    → (d′ m′ b : Bytes) → d′ ≡ replicate (length d) 0 → m′ ≡ replicate (length m) 0 → b ≡ store d′ 0 (masterBlock (clamped s) (λ (c : ℕ). getD firstTails c (newTail 0 0)))
     → (x : Card) → x ≡ freshCard Up s firstTails
-    → record { answer = 0; world = world x (b ++ drop 128 d′) m′; stores = 0 } ≡ formatted s
-unfolding formatted store replaced
-format-left s e d m dl ml d′ m′ b p q r x y = rw (p, q, r, y, zero-disk d dl, zero-memory m ml, first-master s e)
+    → record { answer = 0; world = world x b m′; stores = 0 } ≡ formatted s
+unfolding formatted
+format-left s e d m dl ml d′ m′ b p q r x y = rw (r, p, q, y, zero-disk d dl, zero-memory m ml, first-master s e)
 
 -- carried out
 pub format-done : (c b j : ℕ) (x : Card) (d m : Bytes) (n : ℕ) → n ≡ refusal (notBlank (world x d m)) → n ≡ 0

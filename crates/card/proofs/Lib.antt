@@ -1,15 +1,7 @@
 -- Laws that the proofs of the commands cite.
-pub mod Parts
-pub mod Refusals
 pub mod CutLaws
 pub mod ReadLaws
 pub mod FormatLaws
-pub mod WriterLaws
 pub mod WriteLaws
-pub mod EntryLaws
 pub mod CloseLaws
 pub mod StoreLaws
-pub mod TapeLaws
-pub mod RecoverLaws
-pub mod CheckpointLaws
-pub mod OldestLaws

@@ -16,8 +16,8 @@ use Rattle.model.specs.declared.Card.{Card}
 use Rattle.model.specs.declared.Holder.{Holder}
 use Rattle.model.proofs.Command.{Clear, refusal-clear}
 use Rattle.model.proofs.OneStore.{shape-limits, right-lengths}
-use Rattle.card.specs.Answer.{world, firstOf}
-use Rattle.card.proofs.Refusals.{refusal-up, refusal-one}
+use Rattle.state.specs.Answer.{world, firstOf}
+use Rattle.state.proofs.Refusals.{refusal-up, refusal-one}
 
 pub read-stages : (x : Card) (b : ℕ) (d m : Bytes)
     → firstOf (refusal (notUp (world x d m) [])) (cond (leb ((shapeOf x) .blocks) b) 6 0) ≡ readNumber b (world x d m)

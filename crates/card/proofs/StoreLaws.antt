@@ -21,9 +21,9 @@ use Rattle.model.proofs.Lists.{getD-map-below}
 use Rattle.model.proofs.OneStore.{shape-limits, stored-low, position}
 use Rattle.layout.proofs.Blocks.{block-lent}
 use Rattle.layout.proofs.Loops.{same-below}
-use Rattle.card.specs.Answer.{world}
-use Rattle.card.proofs.Refusals.{was-done}
-use Rattle.card.proofs.EntryLaws.{entry, entry-hit, entry-pass, Entered, entered}
+use Rattle.state.specs.Answer.{world}
+use Rattle.state.proofs.Refusals.{was-done}
+use Rattle.state.proofs.EntryLaws.{entry, entry-hit, entry-pass, Entered, entered}
 use Rattle.card.proofs.CloseLaws.{taken-at}
 
 -- ---- refusals

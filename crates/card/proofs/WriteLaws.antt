@@ -18,9 +18,9 @@ use Rattle.model.specs.declared.Rule.{Rule}
 use Rattle.model.proofs.Command.{Clear, refusedWith}
 use Rattle.model.proofs.OneStore.{shape-limits, right-lengths}
 use Rattle.layout.proofs.Blocks.{sets-replaced}
-use Rattle.card.specs.Answer.{world, firstOf}
-use Rattle.card.proofs.Refusals.{refusal-up, refusal-joined, was-refused, was-done, none-held}
-use Rattle.card.specs.Writing.{writerListFull, holderListFull, ninthBlock, numbersEnd, operandConditions, roomConditions, Room, Within}
+use Rattle.state.specs.Answer.{world, firstOf}
+use Rattle.state.proofs.Refusals.{refusal-up, refusal-joined, was-refused, was-done, none-held}
+use Rattle.state.specs.Writing.{writerListFull, holderListFull, ninthBlock, numbersEnd, operandConditions, roomConditions, Room, Within}
 
 -- ---- the refusals in stages
 three-stages : (p q r : Bool) → firstOf (cond p 5 0) (firstOf (cond q 6 0) (cond r 7 0)) ≡ refusal ((p, 5) ∷ (q, 6) ∷ (r, 7) ∷ [])

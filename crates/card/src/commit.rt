@@ -9,28 +9,16 @@ ghost use Rattle.model.specs.Card.{taken};
 ghost use Rattle.model.specs.Layout.{descriptorBlock, flagOf};
 ghost use Rattle.model.specs.Command.{refusal, notUp, noCore};
 ghost use Rattle.model.specs.Commit.{copyBlock, copied, closeConditions, closedCard, close, heldCopies, closedNumber, nextStored, nextPosition, coreStored, storeConditions, storeNext};
-ghost use Rattle.card.specs.Answer.{world, outcomeOf};
-use crate::state::Answer;
-use crate::state::block_count;
-use crate::state::core_at;
-use crate::state::core_refusal;
-use crate::state::state_refusal;
-use crate::state::tail_at;
-use crate::state::with_core;
+ghost use Rattle.state.specs.Answer.{world, outcomeOf};
 use model::Card;
 use model::Core;
 use model::Transaction;
-
-// What CLOSE and STORE both meet first: a wrong length, a card that is not up, a core that the disk has not.
-fn entry_refusal(card: Card, c: u8, disk: &[u8], memory: &[u8]) -> u8
-    ensures { λ r. ⌜ r ≡ refusal (notUp (world card (now (disk .entry)) (now (memory .entry))) ((noCore (world card (now (disk .entry)) (now (memory .entry))) c, 5) ∷ [])) ⌝ }
-{
-    let n = state_refusal(card, disk, memory);
-    if n != 0 {
-        return n;
-    }
-    core_refusal(card, c)
-}
+use state::Answer;
+use state::block_count;
+use state::core_at;
+use state::entry_refusal;
+use state::tail_at;
+use state::with_core;
 
 // A core without a running transaction has none to close, and one is closed only when the one before is stored.
 fn close_refusal(card: Card, c: u8, disk: &[u8], memory: &[u8]) -> u8

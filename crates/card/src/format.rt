@@ -7,30 +7,22 @@ ghost use Rattle.model.specs.Shape.{clamped};
 ghost use Rattle.model.specs.Card.{isBlank};
 ghost use Rattle.model.specs.Command.{refusal, wrongLength};
 ghost use Rattle.model.specs.Format.{formatted, format};
-ghost use Rattle.card.specs.Answer.{world, outcomeOf};
-use crate::state::Answer;
-use crate::state::up_card;
-use crate::state::wrong_length;
-use crate::state::zero_all;
+ghost use Rattle.state.specs.Answer.{world, outcomeOf};
 use model::Card;
 use model::Checked;
-use model::Phase;
 use model::Shape;
 use model::Tail;
+use state::Answer;
+use state::phase_refusal;
+use state::store_master;
+use state::up_card;
+use state::zero_all;
 
 // What FORMAT meets before its operands: a wrong length, a card that is not blank.
 fn blank_refusal(card: Card, disk: &[u8], memory: &[u8]) -> u8
     ensures { λ r. ⌜ r ≡ refusal ((wrongLength (world card (now (disk .entry)) (now (memory .entry))), 1) ∷ (not (isBlank (card .phase)), 21) ∷ []) ⌝ }
 {
-    if wrong_length(disk, memory) {
-        return 1;
-    }
-    let p = card.phase;
-    match p {
-        Phase::Blank => 0,
-        Phase::Up => 21,
-        Phase::Down => 21,
-    }
+    phase_refusal(card, disk, memory, 0, 21, 21)
 }
 
 // A card that comes up over zeroed slices and a master with empty journals. The shape is within its limits.
@@ -44,7 +36,7 @@ fn formatted(s: Shape, disk: &mut [u8], memory: &mut [u8]) -> Answer
         number: 1,
         position: 0,
     }; 8];
-    layout::write_master(&mut disk[0..128], s, tails);
+    store_master(s, tails, disk);
     let card = up_card(s, tails);
     Answer {
         number: 0,

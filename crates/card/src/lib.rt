@@ -1,11 +1,7 @@
-// The commands of the revision D card, one module for each stage of a transaction's life. Each meets one equation with
-// its definition in crate `model`, for all inputs.
-pub mod state; // the answer of a command, parts of the card, refusals that many commands share
+// The life of a transaction up to its commit: FORMAT, WRITE, CLOSE, STORE, CUT, and the reading of a block, one module for each
+// stage. Each command meets one equation with its definition in crate `model`, for all inputs.
 pub mod format; // FORMAT
 pub mod transaction; // WRITE
 pub mod commit; // CLOSE and STORE
-pub mod checkpoint; // CHECKPOINT
-pub mod recovery; // CUT
-pub mod recover; // RECOVER
+pub mod cut; // CUT
 pub mod reading; // a block as its readers see it
-pub mod tape; // one command at an offset of a tape

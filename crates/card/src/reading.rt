@@ -1,12 +1,12 @@
 // Reading a block of a card that is up, without copying.
 ghost use mathlib.Core.Path.{_≡_};
 ghost use Rattle.model.specs.Reading.{readNumber, readBlock};
-ghost use Rattle.card.specs.Answer.{world};
-use crate::state::block_refusal;
-use crate::state::holder_at;
-use crate::state::shape_of;
-use crate::state::state_refusal;
+ghost use Rattle.state.specs.Answer.{world};
 use model::Card;
+use state::block_refusal;
+use state::holder_at;
+use state::shape_of;
+use state::state_refusal;
 
 // The number of the refusal that reading block b meets, 0 for none.
 pub fn read_number(card: Card, b: u16, disk: &[u8], memory: &[u8]) -> u8

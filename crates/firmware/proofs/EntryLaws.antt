@@ -1,7 +1,7 @@
 -- A session given to a foreign caller and taken back: the number of its phase gives the phase again.
 use Prim.Native.Nat.{ℕ}
-use mathlib.Core.Path.{_≡_, refl, sym, ap, _∙_}
-use borrow.Author.Tests.{eq-eqb, ne-eqb}
+use mathlib.Core.Path.{_≡_, refl, ap, _∙_}
+use borrow.Author.Tests.{ne-eqb}
 use Rattle.model.specs.Bytes.{Bytes}
 use Rattle.model.specs.Command.{World}
 use Rattle.model.specs.declared.Phase.{Phase}

@@ -1,14 +1,14 @@
 -- A whole tape: what is left of a run at an offset. The counts of stores, bytes of lent slices, a block read.
-use Prim.Native.Nat.{ℕ, _+_, _-_, _≤_, _<_, min}
+use Prim.Native.Nat.{ℕ, _+_, _-_, _≤_, _<_}
 use native.Mathlib.Omega.{arith}
 use native.Mathlib.Nat.{min-eq-left, min-eq-right}
 use mathlib.Core.Path.{_≡_, refl, sym, ap, _∙_, subst}
-use mathlib.Core.Bool.{Bool, true, false, cond}
+use mathlib.Core.Bool.{Bool, cond}
 use mathlib.Core.List.{List, [], _∷_}
 use lib.ListN.{length, getD}
 use lib.Dec.{ltb, eqb}
 use borrow.Author.Tests.{lt-ltb, eq-eqb, ne-eqb}
-use Rattle.model.specs.Bytes.{Bytes, blockAt}
+use Rattle.model.specs.Bytes.{Bytes}
 use Rattle.model.specs.Shape.{homeBlock}
 use Rattle.model.specs.Card.{holderOf, coreOf, blankCard, downCard}
 use Rattle.model.specs.Command.{World, Outcome}
@@ -28,8 +28,8 @@ use Rattle.crash.specs.Service.{emptyService}
 use Rattle.crash.specs.Ledger.{blankLedger}
 use Rattle.crash.specs.Claims.{IsBytes, AreaKept, LedgerKept, blankStart, downLedger}
 use Rattle.crash.proofs.Theorem.{claim, demands}
-use Rattle.card.specs.Answer.{world}
-use Rattle.card.proofs.ReadLaws.{Readable, readable}
+use Rattle.state.specs.Answer.{world}
+use Rattle.card.proofs.ReadLaws.{readable}
 use Rattle.firmware.specs.Session.{newSession, worldOf, counted, storesAfter, readInto, DemandsMet}
 use Rattle.firmware.specs.declared.session.Session.{Session}
 

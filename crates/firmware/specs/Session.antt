@@ -17,7 +17,7 @@ use Rattle.model.specs.declared.Card.{Card}
 use Rattle.crash.specs.Service.{emptyService}
 use Rattle.crash.specs.Ledger.{blankLedger}
 use Rattle.crash.specs.Claims.{AreaKept, LedgerKept, downLedger}
-use Rattle.card.specs.Answer.{world}
+use Rattle.state.specs.Answer.{world}
 use Rattle.firmware.specs.declared.session.Session.{Session}
 
 abbrev pub newSession : Card → ℕ → Session

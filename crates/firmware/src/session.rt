@@ -4,7 +4,7 @@ ghost use mathlib.Core.Bool.{cond};
 ghost use lib.Dec.{eqb};
 ghost use lib.ListN.{length};
 ghost use Rattle.model.specs.Card.{blankCard, downCard};
-ghost use Rattle.model.specs.Reading.{readNumber, readBlock};
+ghost use Rattle.model.specs.Reading.{readNumber};
 ghost use Rattle.model.specs.Tape.{step, commandByte, nextOffset, run, worldAfter};
 ghost use Rattle.crash.specs.Service.{emptyService};
 ghost use Rattle.crash.specs.Ledger.{blankLedger};
@@ -57,7 +57,7 @@ fn counted(n: u64, k: u8) -> u64
 pub fn command(s: Session, tape: &[u8], at: usize, disk: &mut [u8], memory: &mut [u8]) -> Performed
     ensures { λ r. ⌜ (r .number ≡ (outcomeAt s (now (tape .entry)) at (now (disk .entry)) (now (memory .entry))) .answer) × (worldOf (r .session) (now (disk .exit)) (now (memory .exit)) ≡ (outcomeAt s (now (tape .entry)) at (now (disk .entry)) (now (memory .entry))) .world) × (r .session .stores ≡ counted (s .stores) ((outcomeAt s (now (tape .entry)) at (now (disk .entry)) (now (memory .entry))) .stores)) × (r .byte ≡ commandByte (now (tape .entry)) at) × (r .next ≡ nextOffset (now (tape .entry)) at) ⌝ }
 {
-    let done = card::tape::command(s.card, tape, at, disk, memory);
+    let done = command::command(s.card, tape, at, disk, memory);
     let answer = done.answer;
     let stores = counted(s.stores, answer.stores);
     let card = answer.card;

@@ -3,11 +3,11 @@ use Prim.Native.Nat.{ℕ, _+_, _≤_, _<_}
 use native.Mathlib.Numerals.{add-one}
 use mathlib.Core.Path.{_≡_, refl, sym, ap, _∙_}
 use mathlib.Core.Bool.{Bool, true, false, cond}
-use mathlib.Core.List.{List, [], _∷_}
+use mathlib.Core.List.{[], _∷_}
 use lib.ListN.{length, take, getD}
 use lib.Seq.{take-suc, take-all}
 use lib.Dec.{eqb}
-use borrow.Author.Tests.{eqb-true, eq-eqb}
+use borrow.Author.Tests.{eqb-true}
 use Rattle.model.specs.Lists.{all}
 use Rattle.model.specs.Bytes.{Bytes, be4, part, blockAt}
 use Rattle.model.specs.Shape.{checked}
@@ -18,7 +18,7 @@ use Rattle.model.specs.declared.Shape.{Shape}
 use Rattle.model.specs.declared.Checked.{Checked}
 use Rattle.model.specs.declared.Checked.the-variants.{Fits, OutOfRange}
 use Rattle.model.proofs.Lists.{cases, all-append, all-mem, getD-mem}
-use Rattle.card.proofs.RecoverLaws.{shape-made, shape-missed}
+use Rattle.recovery.proofs.RecoverLaws.{shape-made, shape-missed}
 
 -- ---- all zero
 module _ (b : Bytes) where

@@ -8,7 +8,7 @@ ghost use Rattle.model.specs.Bytes.{Bytes, blockAt};
 ghost use Rattle.model.specs.Layout.{isMaster};
 ghost use Rattle.model.specs.Recovery.{shapeOn};
 ghost use Rattle.model.specs.Tape.{homeCount, isZero};
-ghost use Rattle.card.specs.Answer.{world};
+ghost use Rattle.state.specs.Answer.{world};
 use firmware::session::Session;
 use model::Card;
 use model::Checked;
@@ -41,7 +41,7 @@ fn read_command(text: &mut [u8]) -> usize
     if io::read_full(0, &mut text[0..1]) == 0 {
         return 0;
     }
-    let end = 1 + card::tape::operand_length(text[0]);
+    let end = 1 + command::operand_length(text[0]);
     let got = io::read_full(0, &mut text[1..end]);
     1 + got
 }
@@ -125,7 +125,7 @@ fn home_count(card: Card, disk: &[u8]) -> u8
     match p {
         Phase::Blank => 0,
         Phase::Up => {
-            let s = card::state::shape_of(card);
+            let s = state::shape_of(card);
             s.blocks
         }
         Phase::Down => master_count(disk),

@@ -1,5 +1,5 @@
 -- `tape::home_count` meets its contract: by the phase.
-use mathlib.Core.Path.{ap, _∙_}
+use mathlib.Core.Path.{ap}
 use Rattle.model.specs.Tape.{homeCount}
 use Rattle.model.specs.declared.Shape.{Shape}
 use borrow.Author.Needs.{needs}

@@ -1,6 +1,6 @@
 -- `card::commit::close` meets its contract: refused, or the images copied and the transaction closed.
 use Rattle.model.specs.Commit.{close}
-use Rattle.card.proofs.Refusals.{was-refused}
+use Rattle.state.proofs.Refusals.{was-refused}
 use Rattle.card.proofs.CloseLaws.{close-entered, close-done}
 use borrow.Author.Needs.{needs}
 use Rattle.card.proofs.commit.close.Statement.{statement}

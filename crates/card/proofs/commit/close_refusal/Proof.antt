@@ -1,5 +1,5 @@
 -- `card::commit::close_refusal` meets its contract: what comes first, then the two of the core.
-use Rattle.card.proofs.Parts.{tests}
+use Rattle.state.proofs.Parts.{tests}
 use Rattle.card.proofs.CloseLaws.{close-first, close-none, close-early, close-free}
 use borrow.Author.Needs.{needs}
 use Rattle.card.proofs.commit.close_refusal.Statement.{statement}

@@ -5,7 +5,7 @@ use borrow.Author.Needs.{needs}
 use lib.ListN.{length, drop}
 use Rattle.model.specs.Card.{taken}
 use Rattle.model.specs.Commit.{copied}
-use Rattle.card.proofs.Parts.{facts}
+use Rattle.state.proofs.Parts.{facts}
 use Rattle.card.proofs.CloseLaws.{copied-more, copied-all}
 use Rattle.card.proofs.commit.copy_images.Statement.{statement}
 use Rattle.card.proofs.commit.copy_images.Tie as tie

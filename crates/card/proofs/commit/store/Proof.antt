@@ -2,8 +2,8 @@
 use Prim.Native.Nat.{_<_}
 use native.Mathlib.Omega.{arith}
 use Rattle.model.specs.Commit.{storeNext}
-use Rattle.card.proofs.Refusals.{was-refused}
-use Rattle.card.proofs.EntryLaws.{Entered}
+use Rattle.state.proofs.Refusals.{was-refused}
+use Rattle.state.proofs.EntryLaws.{Entered}
 use Rattle.card.proofs.StoreLaws.{store-entered, store-low, store-done}
 use borrow.Author.Needs.{needs}
 use Rattle.card.proofs.commit.store.Statement.{statement}

@@ -1,5 +1,5 @@
 -- `card::commit::store_refusal` meets its contract: what comes first, then the one of the core.
-use Rattle.card.proofs.Parts.{tests}
+use Rattle.state.proofs.Parts.{tests}
 use Rattle.card.proofs.StoreLaws.{store-first, store-none, store-free}
 use borrow.Author.Needs.{needs}
 use Rattle.card.proofs.commit.store_refusal.Statement.{statement}

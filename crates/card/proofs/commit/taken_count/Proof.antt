@@ -1,6 +1,6 @@
 -- `card::commit::taken_count` meets its contract: the array has eight places.
 use native.Mathlib.Omega.{arith}
-use Rattle.card.proofs.Parts.{facts}
+use Rattle.state.proofs.Parts.{facts}
 use Rattle.card.proofs.CloseLaws.{few-taken}
 use borrow.Author.Needs.{needs}
 use Rattle.card.proofs.commit.taken_count.Statement.{statement}

@@ -1,5 +1,5 @@
 -- `card::commit::write_first` meets its contract: the first of the eight flags belong to the blocks taken.
-use Rattle.card.proofs.Parts.{facts}
+use Rattle.state.proofs.Parts.{facts}
 use Rattle.card.proofs.StoreLaws.{first-written}
 use borrow.Author.Needs.{needs}
 use Rattle.card.proofs.commit.write_first.Statement.{statement}

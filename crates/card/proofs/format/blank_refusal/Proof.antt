@@ -1,46 +1,12 @@
 -- `card::format::blank_refusal` meets its contract: the length, then the phase.
 use borrow.Author.Needs.{needs}
-use Rattle.model.specs.Command.{refusal}
+use mathlib.Core.Path.{_∙_}
+use Rattle.state.proofs.Refusals.{blank-numbers}
 use Rattle.card.proofs.format.blank_refusal.Statement.{statement}
 use Rattle.card.proofs.format.blank_refusal.Tie as tie
 
-wrong-length-requires : tie.Need-wrong-length-requires
-wrong-length-requires c κs = search needs
-
 returns : tie.Need-returns
-unfolding refusal
-returns c = rw (← c .before .wrong-length .ensures _, c .if1 .taken)
-
-enum-told : tie.Need-enum-told
-enum-told c = search needs
-
-enum-told-2 : tie.Need-enum-told-2
-enum-told-2 c = search needs
-
-enum-told-3 : tie.Need-enum-told-3
-enum-told-3 c = search needs
-
-returns-2 : tie.Need-returns-2
-unfolding refusal
-returns-2 c = rw (← c .before .before .before .wrong-length .ensures _, c .before .before .if1 .left, c .enum-told .given .1)
-
-returns-3 : tie.Need-returns-3
-unfolding refusal
-returns-3 c = rw (← c .before .before .before .wrong-length .ensures _, c .before .before .if1 .left, c .enum-told2 .given .1)
-
-returns-4 : tie.Need-returns-4
-unfolding refusal
-returns-4 c = rw (← c .before .before .before .wrong-length .ensures _, c .before .before .if1 .left, c .enum-told3 .given .1)
+returns c = c .phase-refusal .ensures ∙ blank-numbers _
 
 pub blank-refusal-spec : {M : Type 1} → statement M
-blank-refusal-spec =
-    tie.close
-    (tie.spec
-    wrong-length-requires
-    returns
-    enum-told
-    enum-told-2
-    enum-told-3
-    returns-2
-    returns-3
-    returns-4)
+blank-refusal-spec = tie.close (tie.spec (λ c κs. search needs) returns)

@@ -1,7 +1,7 @@
 -- `card::format::formatted` meets its contract: both slices zeroed, the master in block 0.
 use borrow.Author.Needs.{needs}
 use Rattle.card.proofs.FormatLaws.{format-left}
-use Rattle.card.proofs.Parts.{facts}
+use Rattle.state.proofs.Parts.{facts}
 use Rattle.card.proofs.format.formatted.Statement.{statement}
 use Rattle.card.proofs.format.formatted.Tie as tie
 
@@ -11,17 +11,8 @@ zero-all-requires c κs = search needs
 zero-all-requires-2 : tie.Need-zero-all-requires-2
 zero-all-requires-2 c κs = search needs
 
-sub-write-master : tie.Need-sub-write-master
-sub-write-master c = search needs
-
-part-write-master-start : tie.Need-part-write-master-start
-part-write-master-start c = search needs
-
-part-write-master-end : tie.Need-part-write-master-end
-part-write-master-end c = search needs
-
-write-master-requires : tie.Need-write-master-requires
-write-master-requires c κs = search needs
+store-master-requires : tie.Need-store-master-requires
+store-master-requires c κs = search needs
 
 up-card-requires : tie.Need-up-card-requires
 up-card-requires c κs = search needs
@@ -41,10 +32,7 @@ formatted-spec =
     (tie.spec
     zero-all-requires
     zero-all-requires-2
-    sub-write-master
-    part-write-master-start
-    part-write-master-end
-    write-master-requires
+    store-master-requires
     up-card-requires
     same-length
     same-length-2

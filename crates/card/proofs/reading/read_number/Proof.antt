@@ -2,7 +2,7 @@
 use mathlib.Core.Path.{_∙_}
 use borrow.Author.Needs.{needs}
 use Rattle.card.proofs.ReadLaws.{read-stages}
-use Rattle.card.proofs.Refusals.{first-hit, first-pass}
+use Rattle.state.proofs.Refusals.{first-hit, first-pass}
 use Rattle.card.proofs.reading.read_number.Statement.{statement}
 use Rattle.card.proofs.reading.read_number.Tie as tie
 

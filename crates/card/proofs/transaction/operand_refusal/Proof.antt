@@ -1,6 +1,6 @@
 -- `card::transaction::operand_refusal` meets its contract: core, block, offset.
 use Rattle.card.proofs.WriteLaws.{operand-stages, offset-high, offset-low}
-use Rattle.card.proofs.Refusals.{first-hit, first-pass}
+use Rattle.state.proofs.Refusals.{first-hit, first-pass}
 use mathlib.Core.Path.{_∙_}
 use borrow.Author.Needs.{needs}
 use Rattle.card.proofs.transaction.operand_refusal.Statement.{statement}

@@ -1,6 +1,6 @@
 -- `card::transaction::write_refusal` meets its contract: state, input, room.
 use Rattle.card.proofs.WriteLaws.{write-stages, operand-clear}
-use Rattle.card.proofs.Refusals.{first-hit, first-pass}
+use Rattle.state.proofs.Refusals.{first-hit, first-pass}
 use mathlib.Core.Path.{_∙_}
 use native.Mathlib.Omega.{arith}
 use borrow.Author.Needs.{needs}

@@ -1,5 +1,0 @@
--- What the contracts of the commands say beyond crate `model`.
-pub mod Answer
-pub mod Writing
-pub mod Recovering
-pub mod Oldest

@@ -1,0 +1,2 @@
+-- Laws that the proofs of one command at an offset cite.
+pub mod TapeLaws

@@ -1,0 +1,219 @@
+-- A command of the tape: its byte and operands, where the next one stands, and which of the seven it is.
+use Prim.Native.Nat.{ℕ, _+_, _*_, _-_, _≤_, _<_, max}
+use native.Mathlib.Omega.{arith}
+use native.Mathlib.Nat.{le-max-left, le-max-right, max-le}
+use mathlib.Core.Path.{_≡_, refl, sym, ap, _∙_}
+use mathlib.Core.Bool.{Bool, true, false, not, _&&_}
+use mathlib.Core.List.{[], _∷_}
+use lib.ListN.{length, take, drop, getD, length-take, length-drop, List·getD-eq-default}
+use lib.Seq.{drop-cons}
+use lib.Dec.{leb, ltb}
+use borrow.Author.Tests.{leb-true, leb-false, ltb-true, ltb-false, le-leb, lt-leb, lt-ltb, le-ltb, ne-eqb}
+use Rattle.model.specs.Lists.{all}
+use Rattle.model.specs.Bytes.{Bytes, number, part}
+use Rattle.model.specs.Shape.{between}
+use Rattle.model.specs.Command.{World, Outcome, refusal, wrongLength}
+use Rattle.model.specs.Format.{format}
+use Rattle.model.specs.Write.{write}
+use Rattle.model.specs.Commit.{close, storeNext}
+use Rattle.model.specs.Checkpoint.{checkpoint}
+use Rattle.model.specs.Recovery.{cut, recover}
+use Rattle.model.specs.Tape.{operandLengths, operandLength, step, commandByte, operandsAt, isUnknown, endsEarly, commandAt, nextOffset}
+use Rattle.model.specs.declared.Card.{Card}
+use Rattle.model.proofs.Lists.{cases, all-mem, getD-mem}
+use Rattle.model.proofs.Command.{tapeConditions, refusedWith, refusal-clear}
+use Rattle.state.specs.Answer.{world}
+use Rattle.state.proofs.Refusals.{was-refused, was-done}
+
+-- past the end of a slice stands 0
+pub byte-past : (s : Bytes) (i : ℕ) → length s ≤ i → 0 ≡ getD s i 0
+byte-past s i h = sym (List·getD-eq-default s 0 h)
+
+-- ---- the table of operand lengths
+pub length-past : (k : ℕ) → 8 ≤ k → 0 ≡ operandLength k
+unfolding operandLength operandLengths
+length-past k h = sym (List·getD-eq-default operandLengths 0 h)
+
+pub length-few : (k : ℕ) → k < 8 → operandLength k ≤ 8
+unfolding operandLength operandLengths all
+length-few k h = leb-true _ 8 (all-mem (λ (x : ℕ). leb x 8) operandLengths refl (getD-mem operandLengths k 0 h))
+
+-- ---- refusals 2 and 3
+module _ (t : Bytes) (at : ℕ) where
+  pub unknown-past : length t ≤ at → false ≡ isUnknown t at
+  unfolding isUnknown
+  unknown-past h = simp (le-ltb at (length t) h)
+
+  pub early-past : length t ≤ at → true ≡ endsEarly t at
+  unfolding endsEarly
+  early-past h = sym (lt-ltb (length t) _ (omega arith))
+
+  module _ (h : at < length t) (k : ℕ) (e : k ≡ getD t at 0) where
+    pub unknown-zero : k < 1 → true ≡ isUnknown t at
+    unfolding isUnknown commandByte between
+    unknown-zero l = rw (← e) (simp (lt-ltb at (length t) h, lt-leb 1 k l))
+
+    pub unknown-rest : 1 ≤ k → ltb 7 k ≡ isUnknown t at
+    unfolding isUnknown commandByte between
+    unknown-rest l =
+        rw (← e)
+        (cases (ltb 7 k)
+        (λ q. rw q (simp (lt-ltb at (length t) h, le-leb 1 k l, lt-leb k 7 (ltb-true 7 k q))))
+        (λ q. rw q (simp (lt-ltb at (length t) h, le-leb 1 k l, le-leb k 7 (ltb-false 7 k q)))))
+
+    pub early-rest : (n : ℕ) → n ≡ operandLength k → leb (length t - at) n ≡ endsEarly t at
+    unfolding endsEarly commandByte
+    early-rest n f =
+        rw (← e, ← f)
+        (cases (leb (length t - at) n)
+        (λ q. rw q (sym (lt-ltb (length t) (at + 1 + n) (omega (arith, leb-true (length t - at) n q)))))
+        (λ q. rw q (sym (le-ltb (length t) (at + 1 + n) (omega (arith, leb-false (length t - at) n q))))))
+
+  -- ---- where the next command stands
+  last : not (isUnknown t at) && not (endsEarly t at) ≡ false → nextOffset t at ≡ max at (length t)
+  unfolding nextOffset
+  last h = rw h
+
+  pub next-past : length t ≤ at → at ≡ nextOffset t at
+  next-past h =
+      let e : not (isUnknown t at) && not (endsEarly t at) ≡ false = rw (← unknown-past h, ← early-past h) in
+      let q : max at (length t) ≤ at = max-le (omega arith) h in
+      omega (arith, last e, le-max-left at (length t))
+
+  end : not (isUnknown t at) && not (endsEarly t at) ≡ false → at < length t → length t ≡ nextOffset t at
+  end e h =
+      let q : max at (length t) ≤ length t = max-le (omega arith) (omega arith) in
+      omega (arith, last e, le-max-right at (length t))
+
+  module _ (h : at < length t) (g : Bool) (e : g ≡ isUnknown t at) where
+    pub next-unknown : g ≡ true → length t ≡ nextOffset t at
+    next-unknown q = end (rw (← e, q)) h
+
+    module _ (q : g ≡ false) (r : Bool) (f : r ≡ endsEarly t at) where
+      pub next-early : r ≡ true → length t ≡ nextOffset t at
+      next-early p = end (rw (← e, q, ← f, p)) h
+
+      pub next-whole : r ≡ false → (k : ℕ) → k ≡ getD t at 0 → (n : ℕ) → n ≡ operandLength k → at + 1 + n ≡ nextOffset t at
+      unfolding nextOffset commandByte
+      next-whole p k a n b = rw (← e, q, ← f, p, ← a, ← b)
+
+  -- a command that is known and whole
+  module _ (k : isUnknown t at ≡ false) (e : endsEarly t at ≡ false) where
+    pub whole-next : nextOffset t at ≡ at + 1 + operandLength (commandByte t at)
+    unfolding nextOffset
+    whole-next = rw (k, e)
+
+    pub whole-within : at + 1 + operandLength (commandByte t at) ≤ length t
+    unfolding endsEarly
+    whole-within = ltb-false (length t) _ e
+
+-- ---- 1, 2 and 3 in their order
+module _ (t : Bytes) (at : ℕ) (w : World) (g : Bool) (e : g ≡ wrongLength w) where
+  pub refused-length : g ≡ true → 1 ≡ refusal (tapeConditions t at w)
+  unfolding refusal
+  refused-length q = rw (← e, q)
+
+  module _ (q : g ≡ false) (u : Bool) (f : u ≡ isUnknown t at) where
+    pub refused-unknown : u ≡ true → 2 ≡ refusal (tapeConditions t at w)
+    unfolding refusal
+    refused-unknown p = rw (← e, q, ← f, p)
+
+    module _ (p : u ≡ false) (r : Bool) (i : r ≡ endsEarly t at) where
+      pub refused-early : r ≡ true → 3 ≡ refusal (tapeConditions t at w)
+      unfolding refusal
+      refused-early j = rw (← e, q, ← f, p, ← i, j)
+
+      pub refused-none : r ≡ false → 0 ≡ refusal (tapeConditions t at w)
+      unfolding refusal
+      refused-none j = rw (← e, q, ← f, p, ← i, j)
+
+-- ---- the operands of WRITE
+module _ (a : Bytes) (h : length a ≡ 8) where
+  pub block-operand : getD a 1 0 * 256 + getD a 2 0 ≡ number 0 (part 1 2 a)
+  unfolding number part
+  block-operand =
+      let e : getD a 1 0 * 256 + getD a 2 0 ≡ (0 * 256 + getD a 1 0) * 256 + getD a 2 0 = omega arith in
+      rw (drop-cons a 1 0 (omega arith), drop-cons a 2 0 (omega arith)) e
+
+  pub bytes-operand : getD a 4 0 ∷ getD a 5 0 ∷ getD a 6 0 ∷ getD a 7 0 ∷ [] ≡ part 4 4 a
+  unfolding part
+  bytes-operand = rw (drop-cons a 4 0 (omega arith), drop-cons a 5 0 (omega arith), drop-cons a 6 0 (omega arith), drop-cons a 7 0 (omega arith))
+
+  pub write-operands : (w : World) (o : Outcome) (x y : ℕ) → x ≡ getD a 1 0 → y ≡ getD a 2 0
+      → o ≡ write (getD a 0 0) (x * 256 + y) (getD a 3 0) (getD a 4 0 ∷ getD a 5 0 ∷ getD a 6 0 ∷ getD a 7 0 ∷ []) w
+      → o ≡ write (getD a 0 0) (number 0 (part 1 2 a)) (getD a 3 0) (part 4 4 a) w
+  write-operands w o x y p q e = rw (← block-operand, ← bytes-operand, ← p, ← q) e
+
+-- ---- which of the seven
+module _ (k : ℕ) (a : Bytes) (w : World) (o : Outcome) (c : ℕ) (e : c ≡ getD a 0 0) where
+  pub step-format : k ≡ 1 → (x : ℕ) → x ≡ getD a 1 0 → (y : ℕ) → y ≡ getD a 2 0 → o ≡ format c x y w → o ≡ step k a w
+  unfolding step
+  step-format h x p y q f = f ∙ rw (h, e, p, q)
+
+  pub step-write : k ≡ 2 → o ≡ write (getD a 0 0) (number 0 (part 1 2 a)) (getD a 3 0) (part 4 4 a) w → o ≡ step k a w
+  unfolding step
+  step-write h f = f ∙ rw h
+
+  pub step-close : k ≡ 3 → o ≡ close c w → o ≡ step k a w
+  unfolding step
+  step-close h f = f ∙ rw (h, e)
+
+  pub step-store : k ≡ 4 → o ≡ storeNext c w → o ≡ step k a w
+  unfolding step
+  step-store h f = f ∙ rw (h, e)
+
+  pub step-checkpoint : k ≡ 5 → o ≡ checkpoint c w → o ≡ step k a w
+  unfolding step
+  step-checkpoint h f = f ∙ rw (h, e)
+
+  pub step-cut : k ≡ 6 → o ≡ cut w → o ≡ step k a w
+  unfolding step
+  step-cut h f = f ∙ rw h
+
+  pub step-recover : (k ≡ 1 → ⊥) → (k ≡ 2 → ⊥) → (k ≡ 3 → ⊥) → (k ≡ 4 → ⊥) → (k ≡ 5 → ⊥) → (k ≡ 6 → ⊥) → o ≡ recover w → o ≡ step k a w
+  unfolding step
+  step-recover h₁ h₂ h₃ h₄ h₅ h₆ f = f ∙ simp (ne-eqb k 1 h₁, ne-eqb k 2 h₂, ne-eqb k 3 h₃, ne-eqb k 4 h₄, ne-eqb k 5 h₅, ne-eqb k 6 h₆)
+
+pub write-length : (a : Bytes) (k : ℕ) → length a ≡ operandLength k → k ≡ 2 → length a ≡ 8
+unfolding operandLength operandLengths
+write-length a k h e = h ∙ rw e
+
+-- ---- the command at an offset
+-- where its operands stand
+pub record Whole (t : Bytes) (at k next : ℕ) : Type 0 where
+  pub next-is : next ≡ at + 1 + operandLength k
+  pub within : next ≤ length t
+  pub operands : length (take (next - (at + 1)) (drop (at + 1) t)) ≡ operandLength k
+
+module _ (t : Bytes) (at : ℕ) (x : Card) (d m : Bytes) (n : ℕ) (e : (y : Card) → n ≡ refusal (tapeConditions t at (world y d m))) where
+  pub at-refused : (n ≡ 0 → ⊥) → refusedWith n (world x d m) ≡ commandAt step t at (world x d m)
+  unfolding commandAt
+  at-refused h = was-refused (tapeConditions t at (world x d m)) (world x d m) _ n (e x) h
+
+  module _ (h : n ≡ 0) (k : ℕ) (b : k ≡ getD t at 0) (next : ℕ) (f : next ≡ nextOffset t at) where
+    clear : (isUnknown t at ≡ false) × (endsEarly t at ≡ false)
+    clear = let c = refusal-clear (tapeConditions t at (world x d m)) (omega arith, (omega arith, (omega arith, tt))) (sym (e x) ∙ h) in (c .1 .0, c .1 .1 .0)
+
+    byte-same : commandByte t at ≡ k
+    unfolding commandByte
+    byte-same = sym b
+
+    next-same : next ≡ at + 1 + operandLength k
+    next-same = f ∙ whole-next t at (clear .0) (clear .1) ∙ ap (λ (k : ℕ). at + 1 + operandLength k) byte-same
+
+    next-within : next ≤ length t
+    next-within = omega (arith, f, whole-next t at (clear .0) (clear .1), whole-within t at (clear .0) (clear .1))
+
+    pub at-whole : Whole t at k next
+    at-whole =
+        record {
+          next-is = next-same;
+          within = next-within;
+          operands = simp (length-take, length-drop) (omega (arith, next-same, next-within));
+        }
+
+    pub at-done : (o : Outcome) → o ≡ step k (take (next - (at + 1)) (drop (at + 1) t)) (world x d m) → o ≡ commandAt step t at (world x d m)
+    unfolding commandAt operandsAt part
+    at-done o q =
+        let z : next - (at + 1) ≡ operandLength k = omega (arith, next-same) in
+        was-done (tapeConditions t at (world x d m)) (world x d m) _ n (e x) h o (rw (byte-same, ← z) q)

@@ -1,0 +1,21 @@
+-- `recovery::checkpoint::committed_slots` meets its contract.
+use Rattle.recovery.proofs.CheckpointLaws.{shape-range, reads-card}
+use borrow.Author.Needs.{needs}
+use Rattle.recovery.proofs.checkpoint.committed_slots.Statement.{statement}
+use Rattle.recovery.proofs.checkpoint.committed_slots.Tie as tie
+
+shape-of-requires : tie.Need-shape-of-requires
+shape-of-requires c κs = search needs
+
+counts-requires : tie.Need-counts-requires
+counts-requires c κs = search needs
+
+read-journals-requires : tie.Need-read-journals-requires
+read-journals-requires c κs = search (needs, shape-range)
+
+returns : tie.Need-returns
+returns c = search (needs, reads-card)
+
+pub committed-slots-spec : {M : Type 1} → statement M
+committed-slots-spec =
+    tie.close (tie.spec shape-of-requires counts-requires read-journals-requires returns)

@@ -1,0 +1,3 @@
+-- What the contracts of CHECKPOINT and RECOVER say beyond crate `model`.
+pub mod Recovering
+pub mod Oldest

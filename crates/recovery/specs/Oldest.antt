@@ -1,0 +1,95 @@
+-- CHECKPOINT: a core's oldest transaction as the code finds it, and the tests of those that share a block with it.
+use Prim.Native.Nat.{ℕ, _+_, _-_, _%_, _<_, min}
+use mathlib.Core.Path.{_≡_}
+use mathlib.Core.List.{List, [], _∷_, map}
+use mathlib.Core.Bool.{Bool, false, cond, not, _&&_}
+use lib.Dec.{ltb, eqb}
+use Rattle.model.specs.Lists.{below}
+use Rattle.model.specs.Bytes.{Bytes}
+use Rattle.model.specs.Card.{newTail, sameName, noHolder, taken, shapeOf, tailOf, coreOf, committedCount}
+use Rattle.model.specs.Journal.{recordAt, nameOf, blocksOf}
+use Rattle.model.specs.Valid.{isIn}
+use Rattle.model.specs.Checkpoint.{share, validNow, sharesLower, storedHome, storedMaster}
+use Rattle.model.specs.Command.{World, Outcome, unless}
+use Rattle.model.specs.declared.Shape.{Shape}
+use Rattle.model.specs.declared.Tail.{Tail}
+use Rattle.model.specs.declared.Name.{Name}
+use Rattle.model.specs.declared.Transaction.{Transaction}
+use Rattle.model.specs.declared.Core.{Core}
+use Rattle.model.specs.declared.Holder.{Holder}
+use Rattle.model.specs.declared.Card.{Card}
+use Rattle.model.specs.declared.Committed.{Committed}
+use Rattle.model.specs.declared.Found.{Found}
+use Rattle.model.specs.declared.Found.the-variants.{Whole, Miss}
+use Rattle.model.proofs.Journal.{Known}
+use Rattle.journal.specs.Slots.{foundAt}
+use Rattle.state.specs.Answer.{world}
+
+-- ---- retired
+-- no holder any more where it was the transaction of this name
+unfoldable pub freed : Name → Holder → Holder
+freed n h = cond (h .held && sameName (h .name) n) noHolder h
+
+-- the tail past a transaction
+unfoldable pub movedTail : Shape → Committed → Tail
+movedTail s e = newTail (e .number + 1) ((e .position + (e .count + 2)) % s .journal)
+
+-- the core without it
+unfoldable pub retiredCore : Core → Committed → Core
+retiredCore k e =
+    record { next = k .next; used = k .used - (e .count + 2); stored = k .stored; homed = 0; running = k .running; closed = k .closed }
+
+-- the core after one more home store
+unfoldable pub homedCore : Core → Core
+homedCore k = record { next = k .next; used = k .used; stored = k .stored; homed = k .homed + 1; running = k .running; closed = k .closed }
+
+-- ---- read
+-- core c's count; a journal has no more than twelve records
+unfoldable pub countAt : Card → ℕ → ℕ
+countAt x c = min (committedCount x c) 12
+
+unfoldable pub counts : Card → List ℕ
+counts x = map (countAt x) (below 8)
+
+-- core c's oldest transaction, if the card counts one
+unfoldable pub oldestAt : Card → Bytes → ℕ → Found
+oldestAt x d c =
+    cond (eqb (countAt x c) 0) Miss (recordAt (shapeOf x) d c ((tailOf x c) .number) ((tailOf x c) .position) ((shapeOf x) .journal))
+
+-- a transaction that was read from its record
+pub record IsRead (s : Shape) (d : Bytes) (e : Committed) : Type 0 where
+  pub core : e .core < s .cores
+  pub known : Known s d (e .core) (e .number) e
+
+-- ---- those of lower stamp that share a block with e
+unfoldable pub lowerFound : Shape → Bytes → Committed → Found → Bool
+lowerFound s d e Miss = false
+lowerFound s d e (Whole f) = ltb (f .stamp) (e .stamp) && share (blocksOf s d e) (blocksOf s d f)
+
+unfoldable pub lowerClosed : Shape → Bytes → Committed → Transaction → Bool
+lowerClosed s d e t = t .live && ltb (t .stamp) (e .stamp) && share (blocksOf s d e) (taken t)
+
+-- the transaction in slot i is one
+unfoldable pub lowerSlot : Shape → Bytes → Committed → List ℕ → ℕ → Bool
+lowerSlot s d e set i = lowerFound s d e (foundAt s d [] set i)
+
+-- core i's closed transaction is one
+unfoldable pub closedLower : Card → Shape → Bytes → Committed → ℕ → Bool
+closedLower x s d e i = lowerClosed s d e ((coreOf x i) .closed)
+
+-- the code's answer: core c's oldest transaction, if there is one, is in the valid set
+unfoldable pub TellsValid : Card → Bytes → ℕ → Bool → Type 0
+TellsValid x d c r = (e : Committed) → oldestAt x d c ≡ Whole e → (m : Bytes) → r ≡ isIn (validNow (world x d m)) (nameOf e)
+
+-- ---- the command
+-- what refuses the checkpoint of core c's oldest transaction
+unfoldable pub oldestConditions : Committed → World → List (Bool × ℕ)
+oldestConditions e w = (not (isIn (validNow w) (nameOf e)), 32) ∷ (sharesLower w e, 33) ∷ []
+
+-- its next store
+unfoldable pub nextStore : ℕ → Committed → World → Outcome
+nextStore c e w = cond (ltb ((coreOf (w .card) c) .homed) (e .count)) (storedHome c e w) (storedMaster c e w)
+
+-- refused, or its next store
+unfoldable pub oldestOutcome : ℕ → Committed → World → Outcome
+oldestOutcome c e w = unless (oldestConditions e w) w (nextStore c e w)

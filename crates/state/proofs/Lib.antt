@@ -1,0 +1,5 @@
+-- Laws of the card's parts and of refusals in stages.
+pub mod Parts
+pub mod Refusals
+pub mod EntryLaws
+pub mod WriterLaws
