@@ -23,7 +23,7 @@ use Rattle.model.specs.Write.{written}
 use Rattle.model.specs.Commit.{closed, stored}
 use Rattle.model.specs.Checkpoint.{checkpointed}
 use Rattle.model.specs.Recovery.{recovered}
-use Rattle.model.specs.Tape.{step, operandLength, operandLengths}
+use Rattle.model.specs.Tape.{Step, step, operandLength, operandLengths}
 use Rattle.model.specs.declared.Name.{Name}
 use Rattle.model.specs.declared.Shape.{Shape}
 use Rattle.model.specs.declared.Card.{Card}
@@ -43,7 +43,7 @@ use Rattle.crash.proofs.CardWrite.{write-up}
 use Rattle.crash.proofs.LedgerWrite.{fine-wrote}
 use Rattle.crash.proofs.CardAnswers.{write-answers, close-answers, store-answers, checkpoint-answers}
 use Rattle.crash.proofs.ReadRecords.{journals-read}
-use Rattle.crash.proofs.Points.{Kept, Relates, claimed, demanded}
+use Rattle.crash.proofs.Points.{Kept, Relates, Going, goes, claimed, demanded}
 use Rattle.crash.proofs.Tests.{clash, any-in, in-any, nameEquality, blockEquality}
 use Rattle.crash.proofs.BookEntries.{nextName, oldestName}
 use Rattle.crash.proofs.BlockBytes.{bytes-take, bytes-drop}
@@ -471,13 +471,20 @@ relates =
     keeps l w (at-up u) k a known size bytes = up-keeps u a k known size bytes
     keeps l w (at-down d) k a known size bytes = down-keeps d a k known
 
+-- a card whose commands go as the model's meets the claims
+pub claim-of : (f : Step) → Going At relates f → Claim f
+claim-of = claimed At relates (λ d m bd bm ld lm. at-blank (record { card = refl; ledger = refl; disk = ld; memory = lm })) (λ s m h bm lm. at-down (down-start s m h bm lm))
+
+pub demands-of : (f : Step) → Going At relates f → Demands f
+demands-of = demanded At relates (λ d m bd bm ld lm. at-blank (record { card = refl; ledger = refl; disk = ld; memory = lm })) (λ s m h bm lm. at-down (down-start s m h bm lm))
+
 -- Demand 3: whenever recovery brings the card up, the home area is the blank one with the kept writes, in issue order.
 pub claim : Claim step
-claim = claimed At relates (λ d m bd bm ld lm. at-blank (record { card = refl; ledger = refl; disk = ld; memory = lm })) (λ s m h bm lm. at-down (down-start s m h bm lm))
+claim = claim-of step (goes At relates)
 
 -- Demands 1 and 2 of the ledger, and the course of recovery.
 pub demands : Demands step
-demands = demanded At relates (λ d m bd bm ld lm. at-blank (record { card = refl; ledger = refl; disk = ld; memory = lm })) (λ s m h bm lm. at-down (down-start s m h bm lm))
+demands = demands-of step (goes At relates)
 
 -- 'A transaction uncommitted at a cut never commits': a card that has come up reads no transaction in any journal, and
 -- by `demands` none ever but those opened since. A later bearer of its number is another one.

@@ -1,28 +1,29 @@
 -- A card whose CUT leaves memory as it was meets all demands: no command reads what a cut has left there. The claims say
 -- nothing of memory; the equation of the code with the model's card does.
-use Prim.Native.Nat.{ℕ, zero, suc, _+_, _<_}
+use Prim.Native.Nat.{ℕ, zero, suc, _+_}
 use native.Mathlib.Omega.{arith}
-use mathlib.Core.Path.{_≡_, refl, sym, ap, _∙_, subst}
+use mathlib.Core.Path.{_≡_, refl, sym, ap, subst}
 use mathlib.Core.Logic.{_⊎_, inl, inr}
 use mathlib.Core.Bool.{Bool, true, false, cond}
-use mathlib.Core.List.{List, [], _∷_}
-use lib.ListN.{length}
+use mathlib.Core.List.{List, _++_}
+use lib.ListN.{length, getD}
 use lib.Dec.{eqb}
 use borrow.Author.Tests.{eqb-true}
 use Rattle.model.specs.Bytes.{Bytes, zeroMemory}
 use Rattle.model.specs.Card.{isBlank, isDown, downCard, emptyCard, freshCard}
 use Rattle.model.specs.Command.{World, Outcome, refusal, unless, unstored}
 use Rattle.model.specs.Recovery.{cutConditions, cut}
-use Rattle.model.specs.Tape.{Point, step, run, commandByte, operandsAt, commandAt}
+use Rattle.model.specs.Tape.{Step, step, run, worldAfter, blankWorld, commandByte, operandsAt, commandAt}
 use Rattle.model.proofs.Lists.{cases}
 use Rattle.model.proofs.Command.{unless-done, unless-refused, refusedWith, refusal-passed}
-use Rattle.model.proofs.Tape.{pointAt, Runs, at-end, one-more, run-runs}
-use Rattle.crash.specs.Ledger.{Ledger, blankLedger}
-use Rattle.crash.specs.Claims.{IsBytes, answerOf}
+use Rattle.model.proofs.Tape.{pointAt}
+use Rattle.crash.specs.Ledger.{Ledger}
+use Rattle.crash.specs.Claims.{IsBytes, answerOf, Claim, Demands}
 use Rattle.crash.proofs.Tests.{clash}
-use Rattle.crash.proofs.Points.{Goes, goes}
-use Rattle.crash.proofs.Theorem.{At, at-blank, at-up, at-down, blank-phase, relates}
+use Rattle.crash.proofs.Points.{Goes, Going, goes}
+use Rattle.crash.proofs.Theorem.{At, at-blank, at-up, at-down, blank-phase, relates, claim-of, demands-of}
 use Rattle.refuted.specs.Wrong.{cutKeepsMemory}
+use Rattle.refuted.proofs.Tapes.{tests, format, write, cut as cutting}
 
 -- an outcome with other memory
 abbrev withMemory : Bytes → Outcome → Outcome
@@ -96,9 +97,9 @@ unless-but ts w {o} {p} b = go (refusal ts) refl
     go (suc n) e = rw (unless-refused ts w o (suc n) e (omega arith), unless-refused ts w p (suc n) e (omega arith)) (itself (refusedWith (suc n) w))
 
 -- ---- along a tape
-goes-too : (t : Bytes) → IsBytes t → (at n : ℕ) → at < length t → (l : Ledger) (w : World) → At l w → Goes At relates l (pointAt cutKeepsMemory t at n w)
+keeps-going : Going At relates cutKeepsMemory
 unfolding commandAt answerOf
-goes-too t b at n h l w here =
+keeps-going t b at n h l w here =
     let g : Goes At relates l (pointAt step t at n w) = goes At relates t b at n h l w here in
     let x : But (commandAt cutKeepsMemory t at w) (commandAt step t at w) = unless-but _ w (step-but here (commandByte t at) (operandsAt t at)) in
     subst
@@ -117,3 +118,21 @@ goes-too t b at n h l w here =
       next = at-but (x .memory) (g .next) (x .left);
       home = g .home;
     })
+
+pub claim-memory : Claim cutKeepsMemory
+claim-memory = claim-of cutKeepsMemory keeps-going
+
+pub demands-memory : Demands cutKeepsMemory
+demands-memory = demands-of cutKeepsMemory keeps-going
+
+-- ---- where it differs
+abbrev firstByte : Step → ℕ
+firstByte f = getD ((worldAfter blankWorld (run f (format 1 1 4 ++ write 0 0 0 1 ++ cutting) blankWorld)) .memory) 0 9
+
+pub cut-keeps-memory : firstByte cutKeepsMemory ≡ 1
+unfolding tests
+cut-keeps-memory = refl
+
+pub cut-zeroes-memory : firstByte step ≡ 0
+unfolding tests
+cut-zeroes-memory = refl

@@ -1,15 +1,11 @@
 -- Other wrong cards, by the rule that they break, each refuted by a tape that is computed.
--- The last is seen by no demand and told from the model's card, which the code is equal to.
-use Prim.Native.Nat.{ℕ}
-use mathlib.Core.Path.{_≡_, refl}
+use mathlib.Core.Path.{refl}
 use mathlib.Core.List.{_++_}
-use lib.ListN.{getD}
 use Rattle.model.specs.Bytes.{Bytes}
 use Rattle.model.specs.Layout.{mark}
-use Rattle.model.specs.Tape.{Step, step, run, worldAfter, blankWorld}
 use Rattle.crash.specs.Claims.{Claim, Demands}
 use Rattle.refuted.specs.Parts.{ignoring}
-use Rattle.refuted.specs.Wrong.{tailOneAbove, tailKept, stampsGoOn, validityOneDeep, allCommittedValid, highestFirst, flagIgnored, cutKeepsPlace, cutKeepsMemory, writerTakesRunning, onlyWriterNames, onlyHolderNames, nameTwice, notLoaded, no26OnOpen, only26Stored, no24OfHolder, stampAtOpen, stampAtCommit, noEscape, twelfthDropped, storesImages, noWrap, retiresAtOnce, homeFromMemory, holderStays}
+use Rattle.refuted.specs.Wrong.{tailOneAbove, tailKept, stampsGoOn, validityOneDeep, allCommittedValid, highestFirst, flagIgnored, cutKeepsPlace, writerTakesRunning, onlyWriterNames, onlyHolderNames, nameTwice, notLoaded, no26OnOpen, only26Stored, no24OfHolder, stampAtOpen, stampAtCommit, noEscape, twelfthDropped, storesImages, noWrap, retiresAtOnce, homeFromMemory, holderStays}
 use Rattle.refuted.proofs.Checks.{refutes-claim, refutes-demands, answers, stored}
 use Rattle.refuted.proofs.Tapes.{tests, format, write, writeWord, close, stores, checkpoints, cut, recovers, lostWriter, oneKept, twelveNames, thirteenth}
 
@@ -197,16 +193,3 @@ holder-stays =
     refutes-demands holderStays stored
     (format 1 1 4 ++ write 0 0 0 1 ++ close 0 ++ stores 0 3 ++ checkpoints 0 2 ++ write 0 0 0 2 ++ close 0 ++ stores 0 3)
     refl
-
--- ---- not seen by the demands
--- Memory that lives through a cut is never read again, so neither demand sees it. The card's own equation does.
-abbrev firstByte : Step → ℕ
-firstByte f = getD ((worldAfter blankWorld (run f (format 1 1 4 ++ write 0 0 0 1 ++ cut) blankWorld)) .memory) 0 9
-
-pub cut-keeps-memory : firstByte cutKeepsMemory ≡ 1
-unfolding tests
-cut-keeps-memory = refl
-
-pub cut-zeroes-memory : firstByte step ≡ 0
-unfolding tests
-cut-zeroes-memory = refl
