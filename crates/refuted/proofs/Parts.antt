@@ -14,6 +14,7 @@ use Rattle.model.specs.Commit.{nextStored, nextPosition, stored, storeNext}
 use Rattle.model.specs.Recovery.{validOn, recoverConditions, blocksLeft, newestImage, emptiedTail, broughtUp, recoverStep, recovered, recover}
 use Rattle.model.specs.Tape.{Step, step}
 use Rattle.model.specs.declared.Card.{Card}
+use Rattle.model.proofs.Command.{rowOf, step-row}
 use Rattle.model.proofs.Lists.{cases}
 use Rattle.refuted.specs.Parts.{instead, storeBy, recoverStepBy, recoverBy, recoverSet, recoverTail}
 
@@ -29,6 +30,10 @@ instead-same-at n g w h k a =
 
 instead-same : (n : ℕ) (g : Bytes → World → Outcome) → ((a : Bytes) (w : World) → g a w ≡ step n a w) → IsModel (instead n g)
 instead-same n g h k a w = instead-same-at n g w (λ a. h a w) k a
+
+-- `asking` changes a condition of these rows
+pub by-rows : IsModel (λ (k : ℕ) (a : Bytes) (w : World). unless ((rowOf k a w) .conditions) w ((rowOf k a w) .done))
+by-rows k a w = sym (step-row k a w)
 
 pub store-by : IsModel (storeBy (λ (x : Card) (c : ℕ). journalBlock (shapeOf x) c (nextPosition x c)) nextStored)
 unfolding step storeNext stored
