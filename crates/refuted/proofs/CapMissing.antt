@@ -10,7 +10,7 @@ use lib.ListN.{length, getD, drop, length-drop, length-map, length-replicate}
 use lib.Seq.{getD-drop, drop-drop}
 use lib.Dec.{eqb}
 use borrow.Author.Tests.{lt-ltb, le-ltb}
-use Rattle.model.specs.Lists.{all}
+use Rattle.model.specs.Lists.{all, below}
 use Rattle.model.specs.Bytes.{Bytes, part, store, zeroMemory}
 use Rattle.model.specs.Shape.{between, inRange}
 use Rattle.model.specs.Card.{newTail, isBlank, isUp}
@@ -21,6 +21,7 @@ use Rattle.model.specs.Recovery.{shapeOn, tailOn, recoverConditions, blocksLeft
 use Rattle.model.specs.Tape.{Step, Point, run, operandLength, commandByte, operandsAt, isUnknown, endsEarly, commandAt, nextOffset}
 use Rattle.model.specs.declared.Shape.{Shape}
 use Rattle.model.specs.declared.Phase.the-variants.{Down}
+use Rattle.model.specs.declared.Tail.{Tail}
 use Rattle.model.proofs.Command.{unless-done, unless-refused}
 use Rattle.model.proofs.Tape.{pointAt, Runs, at-end, one-more, run-runs}
 use Rattle.crash.specs.Book.{emptyBook}
@@ -28,7 +29,6 @@ use Rattle.crash.specs.Ledger.{Ledger, freshLedger, cutLedger, entered, storedS
 use Rattle.crash.specs.Claims.{IsBytes, answerOf, PointKept, LedgerKept, JournalsRead, downStart, downLedger, Demands}
 use Rattle.crash.proofs.BlockBytes.{zero-bytes}
 use Rattle.crash.proofs.Tests.{clash}
-use Rattle.crash.proofs.ReadMaster.{master-same}
 use Rattle.refuted.specs.Parts.{recoverStepBy, tailBy}
 use Rattle.refuted.specs.Wrong.{capMissing}
 use Rattle.refuted.proofs.Tapes.{tests}
@@ -160,10 +160,15 @@ done-of ts w o h = go (refusal ts) refl
 abbrev unbounded : ℕ → ℕ → ℕ
 unbounded t n = t + (n + 1)
 
+-- a master of one core has one tail
+one-tail : (f g : ℕ → Tail) → f 0 ≡ g 0 → masterBlock small f ≡ masterBlock small g
+unfolding masterBlock below
+one-tail f g e = ap (λ (t : Tail). masterBlock small (λ (c : ℕ). t)) e
+
 module _ (first : ℕ → ℕ) (top : first 0 ≡ suc maxNumber) (w : World) (o : Outcome) where
   -- the master that is due, and the one that this card stores
   due : masterBlock small (λ (c : ℕ). newTail (raised first c) 0) ≡ masterBlock small (λ (c : ℕ). newTail 4000000001 0)
-  due = master-same small _ _ (λ c h. let e : c ≡ 0 = omega arith in ap (λ (n : ℕ). newTail n 0) (rw (e, top)))
+  due = one-tail _ _ (ap (λ (n : ℕ). newTail n 0) (rw top refl))
 
   stored-instead : JournalsRead (downBy first) (w .disk) → masterBlock (shapeOn (w .disk)) (tailBy unbounded (w .disk)) ≡ masterBlock small (λ (c : ℕ). newTail 4000000002 0)
   unfolding cutLedger freshLedger emptyBook
@@ -172,7 +177,7 @@ module _ (first : ℕ → ℕ) (top : first 0 ≡ suc maxNumber) (w : World) (o 
       let n : (tailOn d 0) .number ≡ 4000000001 = r .tails 0 (omega arith) ∙ top in
       let s : shapeOn d ≡ small = r .shape in
       let j : length (journal small d 0 (tailOn d 0) 4) ≡ 0 = sym (length-map (journal small d 0 (tailOn d 0) 4) _) ∙ ap length (r .records 0 (omega arith) ∙ none-stored first) in
-      rw s (master-same small _ _ (λ c h. let e : c ≡ 0 = omega arith in rw (e, s, j, n) refl))
+      rw s (one-tail _ _ (rw (s, j, n) refl))
 
   differ : (d : Bytes) → store d 0 (masterBlock small (λ (c : ℕ). newTail 4000000002 0)) ≡ store d 0 (masterBlock small (λ (c : ℕ). newTail 4000000001 0)) → ⊥
   unfolding tests

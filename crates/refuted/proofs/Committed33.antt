@@ -2,7 +2,7 @@
 -- Let T be valid, and U closed with a lower stamp and a block that T took too. In the block's history U held it before T.
 -- Each later holder names the one before it, or that one is retired: so with T all before it are kept, and U is committed.
 -- 32 is answered before 33, so where 33 is asked T is valid.
-use Prim.Native.Nat.{ℕ, _+_, _<_}
+use Prim.Native.Nat.{ℕ, zero, suc, _+_, _<_}
 use native.Mathlib.Omega.{arith}
 use native.Mathlib.Decide.{decLt}
 use mathlib.Core.Path.{_≡_, refl, sym, ap, _∙_, subst}
@@ -10,7 +10,7 @@ use mathlib.Core.Logic.{inl, inr, ⊎-elim}
 use mathlib.Core.Bool.{Bool, true, false, So, not, _||_}
 use mathlib.Core.List.{List, [], _∷_}
 use lib.ListN.{length}
-use lib.Dec.{eqb, leb}
+use lib.Dec.{eqb, leb, ltb}
 use borrow.Author.Tests.{leb-false, ltb-true, not-false}
 use Rattle.model.specs.Lists.{any, below}
 use Rattle.model.specs.Bytes.{Bytes}
@@ -20,11 +20,11 @@ use Rattle.model.specs.Journal.{nameOf}
 use Rattle.model.specs.Valid.{isIn}
 use Rattle.model.specs.Command.{World, Outcome, refusal, unless, noCore}
 use Rattle.model.specs.Checkpoint.{validNow, committedOf, oldest, share, sharesLower, checkpointConditions, checkpointed, checkpoint}
-use Rattle.model.specs.Tape.{Step, Point, step, run, commandByte, operandsAt, commandAt}
+use Rattle.model.specs.Tape.{Step, Point, step, runFrom, run, commandByte, operandsAt, commandAt, nextOffset}
 use Rattle.model.specs.declared.Shape.{Shape}
 use Rattle.model.specs.declared.Name.{Name}
-use Rattle.model.proofs.Lists.{and-left, any-mem, mem-below}
-use Rattle.model.proofs.Tape.{pointAt, Runs, at-end, one-more, run-runs, runs-same}
+use Rattle.model.proofs.Lists.{cases, and-left, any-mem, mem-below}
+use Rattle.model.proofs.Tape.{pointAt}
 use Rattle.crash.specs.Book.{isCommitted, kept}
 use Rattle.crash.specs.Service.{emptyService}
 use Rattle.crash.specs.Ledger.{Ledger, blankLedger, validIn}
@@ -158,21 +158,30 @@ same-step l w here =
 
 -- ---- along a tape
 -- a card that does as the model's in every world of a run
-module _ (f : Step) (same : (l : Ledger) (w : World) → At l w → (k : ℕ) (a : Bytes) → f k a w ≡ step k a w) where
-  command-same : (t : Bytes) (at : ℕ) (l : Ledger) (w : World) → At l w → commandAt step t at w ≡ commandAt f t at w
+module _ (f : Step) (same : (l : Ledger) (w : World) → At l w → (k : ℕ) (a : Bytes) → f k a w ≡ step k a w) (t : Bytes) (bytes : IsBytes t) where
+  command-same : (at : ℕ) (l : Ledger) (w : World) → At l w → commandAt step t at w ≡ commandAt f t at w
   unfolding commandAt
-  command-same t at l w here = ap (unless _ w) (sym (same l w here (commandByte t at) (operandsAt t at)))
+  command-same at l w here = ap (unless _ w) (sym (same l w here (commandByte t at) (operandsAt t at)))
 
-  runs-too : (t : Bytes) → IsBytes t → {at n : ℕ} {l : Ledger} {w : World} {ps : List Point} → At l w → Runs step t at n w ps → Runs f t at n w ps
-  runs-too t b here (at-end h) = at-end h
-  runs-too t b {at} {n} {l} {w} here (one-more {p = p} h e rest) =
-      let g : Goes At relates l p = subst (Goes At relates l) (sym e) (goes At relates t b at n h l w here) in
-      let i : pointAt step t at n w ≡ pointAt f t at n w =
-      ap (λ (o : Outcome). record { offset = at; byte = commandByte t at; operands = operandsAt t at; before = w; outcome = o; stores = n + o .stores }) (command-same t at l w here) in
-      one-more h (e ∙ i) (runs-too t b (g .next) rest)
+  same-from : (most at n : ℕ) (l : Ledger) (w : World) → At l w → runFrom most step t at n w ≡ runFrom most f t at n w
+  unfolding runFrom
+  same-from zero at n l w here = refl
+  same-from (suc most) at n l w here =
+      cases (ltb at (length t))
+      (λ h.
+      let o = commandAt step t at w in
+      let g : Goes At relates l (pointAt step t at n w) = goes At relates t bytes at n (ltb-true at (length t) h) l w here in
+      let rest : runFrom most step t (nextOffset t at) (n + o .stores) (o .world) ≡ runFrom most f t (nextOffset t at) (n + o .stores) (o .world) =
+      same-from most (nextOffset t at) (n + o .stores) _ (o .world) (g .next) in
+      rw (h, runFrom)
+      (ap (λ (ps : List Point). pointAt step t at n w ∷ ps) rest
+      ∙ ap (λ (o : Outcome). record { offset = at; byte = commandByte t at; operands = operandsAt t at; before = w; outcome = o; stores = n + o .stores } ∷ runFrom most f t (nextOffset t at) (n + o .stores) (o .world))
+      (command-same at l w here)))
+      (λ h. rw (h, runFrom) refl)
 
-  run-same : (t : Bytes) → IsBytes t → (l : Ledger) (w : World) → At l w → run step t w ≡ run f t w
-  run-same t b l w here = runs-same f t (runs-too t b here (run-runs step t w)) (run-runs f t w)
+  run-same : (l : Ledger) (w : World) → At l w → run step t w ≡ run f t w
+  unfolding run
+  run-same l w here = same-from (length t) 0 0 l w here
 
 -- The runs are the same, from both starts.
 pub same-from-blank : (t d m : Bytes) → IsBytes t → length d ≡ 32896 → length m ≡ 16384 → run step t (blankStart d m) ≡ run onlyCommitted33 t (blankStart d m)
