@@ -8,8 +8,8 @@ use mathlib.Core.Bool.{Bool, true, false, So, cond}
 use mathlib.Core.Logic.{_⊎_, inl, inr, ⊎-elim}
 use mathlib.Core.List.{List, [], _∷_}
 use mathlib.Core.Option.{Option, none, some}
-use Rattle.model.proofs.Lists.{cases}
-use Rattle.crash.proofs.Tests.{clash, false-of, same-test, Equality, impossible}
+use Rattle.model.proofs.Lists.{cases, both-ways}
+use Rattle.crash.proofs.Tests.{clash, false-of, Equality, impossible}
 
 -- ---- a history
 -- a write of the block: its transaction, the one that holds the block after it, and what it makes of the image
@@ -146,7 +146,7 @@ module _ {Txn : Type 0} (s : Status Txn) where
     kept-writer : (e : Event Txn Image) → Own homed e → s .kept (e .writer) ≡ s .kept (e .holder)
     kept-writer e o =
         ⊎-elim (ap (s .kept))
-        (λ d. same-test (λ h. sound .kept-names _ _ h (d .0)) (λ h. sound .kept-names _ _ h (d .1)))
+        (λ d. both-ways (λ h. sound .kept-names _ _ h (d .0)) (λ h. sound .kept-names _ _ h (d .1)))
         (o .writer-holder)
 
     kept-next : (t : Txn) (es : List (Event Txn Image)) → Next homed t es → So (s .kept t) → upto (s .kept) es ≡ es

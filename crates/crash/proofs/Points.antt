@@ -13,7 +13,7 @@ use borrow.Author.Tests.{eqb-true, ne-eqb, lt-ltb, le-ltb, ltb-true, ltb-false, 
 use Rattle.model.specs.Lists.{below}
 use Rattle.model.specs.Bytes.{Bytes, part, blockAt}
 use Rattle.model.specs.Shape.{between, inRange, homeBlock}
-use Rattle.model.specs.Card.{isBlank, isUp, isDown, shapeOf}
+use Rattle.model.specs.Card.{isBlank, isUp, isDown}
 use Rattle.model.specs.Command.{World, Outcome, refusal, wrongLength}
 use Rattle.model.specs.Reading.{readConditions, readNumber}
 use Rattle.model.specs.Tape.{Step, step, operandLength, commandByte, operandsAt, isUnknown, endsEarly, commandAt, Point}

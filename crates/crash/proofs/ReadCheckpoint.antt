@@ -20,10 +20,10 @@ use Rattle.model.specs.Checkpoint.{committedNow, validNow, committedOf, oldest,
 use Rattle.model.specs.declared.Shape.{Shape}
 use Rattle.model.specs.declared.Name.{Name}
 use Rattle.model.specs.declared.Committed.{Committed}
-use Rattle.model.proofs.Lists.{and-both, and-left, and-right, or-left, or-right, or-cases, any-mem, mem-any, mem-below, below-mem}
+use Rattle.model.proofs.Lists.{and-both, and-left, and-right, or-left, or-right, or-cases, any-mem, mem-any, mem-below, below-mem, both-ways}
 use Rattle.crash.specs.Book.{isClosed, isRetired}
 use Rattle.crash.specs.Ledger.{Ledger, validIn, sharesLowerIn}
-use Rattle.crash.proofs.Tests.{clash, same-test}
+use Rattle.crash.proofs.Tests.{clash}
 use Rattle.crash.proofs.BookEntries.{oldestName, uncommittedName}
 use Rattle.crash.proofs.Relation.{Fine, Up}
 use Rattle.crash.proofs.LedgerStages.{closed-present, unretired-rank, closing-stage}
@@ -185,7 +185,7 @@ module _ {l : Ledger} {w : World} (u : Up l w) (c : ℕ) (e : Committed) (x : Is
 
   shares-same : sharesLower w e ≡ sharesLowerIn l (nameOf e)
   shares-same =
-      same-test
+      both-ways
       (λ h. let r = found-lower h in lower-in (u .fine) (nameOf e) (r .0) (r .1))
       (λ h. let r = in-lower l (nameOf e) h in lower-found (r .0) (r .1))
 

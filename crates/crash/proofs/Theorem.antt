@@ -15,7 +15,7 @@ use borrow.Author.Tests.{ne-eqb, eqb-true, eqb-false, ltb-true, ltb-false, leb-f
 use Rattle.model.specs.Lists.{below, any}
 use Rattle.model.specs.Bytes.{Bytes, blockAt, zeroMemory, number, part}
 use Rattle.model.specs.Shape.{between, homeBlock, inRange}
-use Rattle.model.specs.Card.{sameName, blankCard, isBlank, isUp, isDown, shapeOf, downCard, emptyCard, freshCard}
+use Rattle.model.specs.Card.{sameName, blankCard, isBlank, isUp, isDown, downCard, emptyCard, freshCard}
 use Rattle.model.specs.Layout.{maxNumber}
 use Rattle.model.specs.Command.{World, Outcome, refusal, unstored, wrongLength}
 use Rattle.model.specs.Format.{formatted}
@@ -59,7 +59,6 @@ use Rattle.crash.proofs.Given.{held-newest, home-target}
 use Rattle.crash.proofs.CardStore.{store-up, store-homes, stored-bytes}
 use Rattle.crash.proofs.CardClose.{close-up}
 use Rattle.crash.proofs.CardCheckpoint.{checkpoint-up, checkpointed-bytes, home-stored, home-others, homes-stay}
-use Rattle.crash.proofs.ReadMaster.{shape-up}
 use Rattle.crash.proofs.LedgerStages.{running-is, below-oldest}
 
 -- ---- a card that is up: the bytes and the histories of the blocks agree with the ledger

@@ -6,14 +6,12 @@ use mathlib.Core.Path.{_≡_, refl, _∙_, sym}
 use mathlib.Core.Bool.{Bool, true, false, not, cond, _&&_}
 use lib.Dec.{eqb, ltb, leb}
 use borrow.Author.Tests.{not-true, not-false, le-leb, lt-leb, lt-ltb, le-ltb, eq-eqb, ne-eqb}
+use Rattle.model.proofs.Lists.{and-both}
 
 -- ---- and
 -- the last condition decides where those before it hold
 pub and-last : (a b r : Bool) → a ≡ true → r ≡ b → r ≡ (a && b)
 and-last a b r h q = q ∙ rw h
-
-pub and-holds : (a b : Bool) → a ≡ true → b ≡ true → (a && b) ≡ true
-and-holds a b h q = rw (h, q)
 
 -- the last of them fails, or one before it
 pub fails : (a : Bool) → a ≡ false → false ≡ a
@@ -81,7 +79,7 @@ call-yes r x e h = sym e ∙ not-false r h
 pub ruleset tests = (
   fails,
   and-last,
-  and-holds,
+  and-both,
   and-here,
   and-before,
   cond-yes,
