@@ -137,7 +137,7 @@ module _ {Txn : Type 0} (s : Status Txn) where
 
   -- ---- the kept writes are the oldest ones
   module _ (sound : Sound) (homed : Txn → Bool) where
-    kept-link : {t u : Txn} → Link homed t u → So (s .kept t) → So (s .kept u)
+    pub kept-link : {t u : Txn} → Link homed t u → So (s .kept t) → So (s .kept u)
     kept-link (inl p) h = rw p at h
     kept-link (inr (l, inl d)) h = sound .kept-names _ _ h d
     kept-link (inr (l, inr r)) h = sound .retired-kept _ r
