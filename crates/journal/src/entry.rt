@@ -123,7 +123,7 @@ fn place_in(block: &[u8], n: usize, b: u32) -> usize
     i
 }
 
-// The place of block b among those that a transaction took, or their count. No public entry.
+// The place of block b among those that a transaction took, or their count.
 pub fn place_of(s: Shape, disk: &[u8], e: Committed, b: u32) -> usize
     requires { ⌜ InRange s × (length (now disk) ≡ 32896) × Sized s e ⌝ }
     ensures { λ r. ⌜ (r ≡ placeOf b (blocksOf s (now (disk .entry)) e)) × (r ≤ e .count) ⌝ }
