@@ -3,6 +3,7 @@
 
 use crate::records::Records;
 use card_library::session::Done;
+use card_library::watcher::Implementation;
 use card_tests::command::{self, Command};
 use card_tests::few::Few;
 use card_tests::layout::{
@@ -63,36 +64,16 @@ pub struct Plain {
     tails: Tails,
     cores: [Core; CORES],
     holders: [Option<Name>; HOMES],
-    pub stores: u64,
+    stores: u64,
 }
 
 /// The stores made, or the number of the refusal.
 type Answer = Result<u8, u8>;
 
 impl Plain {
-    pub fn blank() -> Plain {
-        Plain::in_phase(Phase::Blank)
-    }
-
-    pub fn down() -> Plain {
-        Plain::in_phase(Phase::Down)
-    }
-
     fn in_phase(phase: Phase) -> Plain {
         let (shape, tails, cores) = (Shape::default(), Tails::default(), [Core::default(); CORES]);
         Plain { phase, shape, closes: 0, recovered: 0, tails, cores, holders: [None; HOMES], stores: 0 }
-    }
-
-    pub fn command(&mut self, tape: &[u8], at: usize, disk: &mut [u8], memory: &mut [u8]) -> Done {
-        let read = command::read(tape, at);
-        let answer = match read {
-            _ if disk.len() != DISK || memory.len() != MEMORY => Err(1),
-            Ok((command, _)) => self.perform(command, disk, memory),
-            Err(refusal) => Err(refusal),
-        };
-        self.stores += answer.unwrap_or(0) as u64;
-        let next = read.map_or(tape.len().max(at), |(_, next)| next);
-        Done { number: answer.err().unwrap_or(0), byte: tape.get(at).copied().unwrap_or(0), next }
     }
 
     fn perform(&mut self, command: Command, disk: &mut [u8], memory: &mut [u8]) -> Answer {
@@ -315,8 +296,34 @@ impl Plain {
         self.come_up(shape, emptied, disk);
         Ok(1)
     }
+}
 
-    pub fn read_number(&self, block: u16, disk: &[u8], memory: &[u8]) -> u8 {
+impl Implementation for Plain {
+    fn blank() -> Plain {
+        Plain::in_phase(Phase::Blank)
+    }
+
+    fn down() -> Plain {
+        Plain::in_phase(Phase::Down)
+    }
+
+    fn stores(&self) -> u64 {
+        self.stores
+    }
+
+    fn command(&mut self, tape: &[u8], at: usize, disk: &mut [u8], memory: &mut [u8]) -> Done {
+        let read = command::read(tape, at);
+        let answer = match read {
+            _ if disk.len() != DISK || memory.len() != MEMORY => Err(1),
+            Ok((command, _)) => self.perform(command, disk, memory),
+            Err(refusal) => Err(refusal),
+        };
+        self.stores += answer.unwrap_or(0) as u64;
+        let next = read.map_or(tape.len().max(at), |(_, next)| next);
+        Done { number: answer.err().unwrap_or(0), byte: tape.get(at).copied().unwrap_or(0), next }
+    }
+
+    fn read_number(&self, block: u16, disk: &[u8], memory: &[u8]) -> u8 {
         match self.phase {
             _ if disk.len() != DISK || memory.len() != MEMORY => 1,
             Phase::Blank => 20,
@@ -326,10 +333,13 @@ impl Plain {
         }
     }
 
-    pub fn read_block(&self, block: u16, disk: &[u8], memory: &[u8], out: &mut [u8]) -> u8 {
+    fn read_block(&self, block: u16, disk: &[u8], memory: &[u8], out: &mut [u8]) -> u8 {
+        if out.len() != BLOCK {
+            return 1;
+        }
         let number = self.read_number(block, disk, memory);
-        if out.len() != BLOCK || number != 0 {
-            return number.max(1);
+        if number != 0 {
+            return number;
         }
         let b = block as usize;
         let is_held = self.holders[b].is_some();

@@ -1,0 +1,8 @@
+// lib.rs: the card in plain Rust, the tapes on which it and the library are measured, and what measures them.
+
+pub mod callgrind;
+pub mod plain;
+pub mod subject;
+pub mod workload;
+
+mod records;
