@@ -2,6 +2,7 @@
 
 use crate::subject::Subject;
 use crate::workload::Workload;
+use std::io::Write;
 use std::path::PathBuf;
 use std::process::{Command, Stdio};
 
@@ -20,15 +21,18 @@ impl Count {
 /// Runs this program again under callgrind, with one workload and one subject.
 pub fn count(subject: Subject, workload: &Workload) -> Count {
     let out = std::env::temp_dir().join(format!("callgrind.{}.out", std::process::id()));
-    let status = Command::new("valgrind")
+    let mut child = Command::new("valgrind")
         .args(["--tool=callgrind", "--collect-atstart=no", "--toggle-collect=*workload*measured*"])
         .arg(format!("--callgrind-out-file={}", out.display()))
         .arg(std::env::current_exe().expect("this program"))
-        .args(["one", &format!("{subject:?}"), &workload.name])
+        .args(["one", &format!("{subject:?}")])
+        .stdin(Stdio::piped())
         .stdout(Stdio::null())
         .stderr(Stdio::null())
-        .status()
+        .spawn()
         .expect("valgrind is installed");
+    child.stdin.take().expect("its input").write_all(workload.to_text().as_bytes()).expect("it reads");
+    let status = child.wait().expect("it ends");
     assert!(status.success(), "callgrind ended with {status}");
     let functions = annotated(&out);
     std::fs::remove_file(&out).expect("it was written");

@@ -2,6 +2,8 @@
 
 pub mod callgrind;
 pub mod plain;
+pub mod plot;
+pub mod report;
 pub mod subject;
 pub mod workload;
 

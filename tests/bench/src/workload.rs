@@ -3,7 +3,7 @@
 use card_library::session::Session;
 use card_library::watcher::Implementation;
 use card_tests::card::{Card, Phase};
-use card_tests::command::Command;
+use card_tests::command::{from_hex, hex, Command};
 use card_tests::directed;
 use card_tests::layout::{Shape, DISK, MEMORY};
 use card_tests::shrink::tape_of;
@@ -33,6 +33,18 @@ pub struct Stage<I> {
 }
 
 impl Workload {
+    /// Three lines of hex, for another process.
+    pub fn to_text(&self) -> String {
+        let foreign = self.foreign.as_deref().unwrap_or_default();
+        [foreign, &self.prepare, &self.tape].map(|bytes| hex(bytes) + "\n").concat()
+    }
+
+    pub fn from_text(text: &str) -> Workload {
+        let [foreign, prepare, tape] = [0, 1, 2].map(|i| from_hex(text.lines().nth(i).unwrap_or_default()));
+        let foreign = (!foreign.is_empty()).then_some(foreign);
+        Workload { name: String::new(), foreign, prepare, tape, commands: 0 }
+    }
+
     /// A card as the measured tape finds it.
     pub fn stage<I: Implementation>(&self) -> Stage<I> {
         let card = if self.foreign.is_some() { I::down() } else { I::blank() };
@@ -139,7 +151,7 @@ impl Script {
     }
 
     /// A workload of all that was issued from a place on.
-    fn measured_from(self, start: usize, name: String) -> Workload {
+    fn split_off(self, start: usize, name: String) -> Workload {
         let (prepare, tape) = self.commands.split_at(start);
         Workload { name, foreign: None, prepare: tape_of(prepare), tape: tape_of(tape), commands: tape.len() }
     }
@@ -150,7 +162,7 @@ impl Script {
             round(&mut self);
         }
         let Shape { cores, blocks, journal } = self.shape;
-        self.measured_from(1, format!("{kind} {cores}x{blocks}x{journal}"))
+        self.split_off(1, format!("{kind} {cores}x{blocks}x{journal}"))
     }
 }
 
@@ -198,7 +210,7 @@ fn single(name: String, make_ready: impl FnOnce(&mut Script), command: Command) 
     make_ready(&mut script);
     let start = script.commands.len();
     script.issue(command);
-    script.measured_from(start, name)
+    script.split_off(start, name)
 }
 
 const WRITE: Command = Command::Write { core: 0, block: 0, offset: 0, data: [1, 2, 3, 4] };
@@ -234,14 +246,14 @@ fn cut(script: &mut Script, make_ready: impl FnOnce(&mut Script)) {
     script.issue(Command::Cut);
 }
 
-/// Every workload there is; the tables and the counts find theirs by name.
+/// Every workload there is.
 pub fn all() -> Vec<Workload> {
     let records = RECORDS.into_iter().flat_map(with_records);
     let blocks = BLOCKS.into_iter().flat_map(with_blocks);
     tapes().into_iter().chain(records).chain(blocks).chain(worst()).chain(LENGTHS.map(of_length)).collect()
 }
 
-pub const RECORDS: [usize; 5] = [1, 8, 16, 32, 64];
+pub const RECORDS: [usize; 5] = [1, 8, 16, 32, 56];
 pub const BLOCKS: [usize; 4] = [1, 2, 4, 8];
 pub const LENGTHS: [usize; 3] = [100, 1_000, 10_000];
 

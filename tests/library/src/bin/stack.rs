@@ -1,7 +1,7 @@
 // stack: how much stack the entries of the library use, over generated tapes and over the worst disks and tapes that are
-// known. Before each call the stack below is painted; afterwards the paint that is left is counted. `frames` gives the bound
-// that the code itself has.
+// known. `frames` gives the bound that the code itself has.
 
+use card_library::paint::{touched, Touched};
 use card_library::session::Session;
 use card_tests::checks::{Bench, Checks, Seen, Watcher};
 use card_tests::command::Command;
@@ -30,26 +30,6 @@ macro_rules! noting_jumps {
 
 noting_jumps!("rev_d_blank", "rev_d_down", "rev_d_command", "rev_d_tape", "rev_d_read_number", "rev_d_read_block");
 
-const PAINTED: usize = 128 * 1024;
-const PAINT: u8 = 0xC7;
-
-/// Paints the stack below the caller, and tells where the painted area begins.
-#[inline(never)]
-fn paint() -> usize {
-    let mut area = [0u8; PAINTED];
-    for byte in area.iter_mut() {
-        unsafe { std::ptr::write_volatile(byte, PAINT) };
-    }
-    area.as_ptr() as usize
-}
-
-/// The lowest address of the painted area that has not the paint any more.
-#[inline(never)]
-fn lowest(start: usize) -> usize {
-    let at = |place: usize| unsafe { std::ptr::read_volatile((start + place) as *const u8) };
-    start + (0..PAINTED).take_while(|place| at(*place) == PAINT).count()
-}
-
 /// Bytes below the call of an entry, its return address with them, and the same with the wrapper's copies of the session.
 #[derive(Clone, Copy, Default)]
 struct Used {
@@ -59,10 +39,8 @@ struct Used {
 
 impl Used {
     fn of(call: impl FnOnce()) -> Used {
-        let start = paint();
-        call();
-        let low = lowest(start);
-        Used { entry: ENTERED.load(Ordering::Relaxed) + 8 - low, with_wrapper: start + PAINTED - low }
+        let Touched { lowest, top } = touched(call);
+        Used { entry: ENTERED.load(Ordering::Relaxed) + 8 - lowest, with_wrapper: top - lowest }
     }
 
     fn most(&mut self, other: Used) {
