@@ -143,15 +143,21 @@ impl<'w> Bench<'w> {
         }
     }
 
-    pub fn without_foreign_disks(&mut self) {
-        self.foreign_share = 0;
+    /// How many of a thousand starts are over a foreign disk.
+    pub fn set_foreign_share(&mut self, share: usize) {
+        self.foreign_share = share;
     }
 
     /// Runs generated tapes until so many commands are done.
     pub fn soak(&mut self, commands: u64, seed: u64) -> Result<(), Failure> {
+        self.soak_until(seed, |tally| tally.commands >= commands)
+    }
+
+    /// Runs generated tapes until the tally is enough.
+    pub fn soak_until(&mut self, seed: u64, is_enough: impl Fn(&Tally) -> bool) -> Result<(), Failure> {
         let mut generator = Generator::new(seed);
         self.random = Random::new(seed ^ 0x5EED);
-        while self.tally.commands < commands {
+        while !is_enough(&self.tally) {
             if self.random.chance(self.foreign_share) {
                 self.start_foreign();
             } else {

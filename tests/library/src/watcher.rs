@@ -2,7 +2,8 @@
 // block readings.
 
 use crate::session::{Done, Session};
-use card_tests::checks::{Seen, Watcher};
+use card_tests::checks::{Failure, Seen, Watcher};
+use card_tests::command::hex;
 use card_tests::layout::{DISK, MEMORY};
 
 /// Blocks that are read in turn: all that a card can have, and some that it cannot.
@@ -53,6 +54,12 @@ pub struct Beside<I> {
 }
 
 pub type Library = Beside<Session>;
+
+/// Prints a difference that was found, and ends.
+pub fn give_up(failure: &Failure) -> ! {
+    println!("{}: {}\ntape {}", failure.check, failure.detail, hex(&failure.tape));
+    std::process::exit(1);
+}
 
 impl<I: Implementation> Default for Beside<I> {
     fn default() -> Self {
