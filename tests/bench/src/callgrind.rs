@@ -2,6 +2,7 @@
 
 use crate::subject::Subject;
 use crate::workload::Workload;
+use std::collections::BTreeMap;
 use std::io::Write;
 use std::path::PathBuf;
 use std::process::{Command, Stdio};
@@ -39,11 +40,17 @@ pub fn count(subject: Subject, workload: &Workload) -> Count {
     Count { instructions: functions.iter().map(|(_, own)| own).sum(), functions }
 }
 
-/// The functions as `callgrind_annotate` lists them, those with most first.
+/// The functions as `callgrind_annotate` lists them, those with most first. It lists one for each file with lines of it.
 fn annotated(out: &PathBuf) -> Vec<(String, u64)> {
     let listing = Command::new("callgrind_annotate").args(["--threshold=100", "--auto=no"]).arg(out).output();
     let listing = listing.expect("callgrind_annotate comes with valgrind").stdout;
-    String::from_utf8_lossy(&listing).lines().filter_map(function).collect()
+    let mut sums = BTreeMap::<String, u64>::new();
+    for (name, own) in String::from_utf8_lossy(&listing).lines().filter_map(function) {
+        *sums.entry(name).or_default() += own;
+    }
+    let mut functions: Vec<(String, u64)> = sums.into_iter().collect();
+    functions.sort_by_key(|(_, own)| std::cmp::Reverse(*own));
+    functions
 }
 
 /// A line such as `1,234 (12.3%)  file:function [object]`; the line of the totals is not one.
@@ -55,5 +62,12 @@ fn function(line: &str) -> Option<(String, u64)> {
     }
     let own = number.replace(',', "").parse().ok()?;
     let place = name.split(" [").next().unwrap_or(name);
-    Some((place.split_once(':').map_or(place, |(_, function)| function).to_string(), own))
+    Some((short(place.split_once(':').map_or(place, |(_, function)| function)), own))
+}
+
+/// A name without what says nothing here: the level of a recursion, crates of the tests, the kind of processor.
+fn short(name: &str) -> String {
+    let name = name.split('\'').next().unwrap_or(name);
+    let name = ["memcpy", "memset", "memmove"].into_iter().find(|part| name.contains(part)).unwrap_or(name);
+    name.replace("card_library::", "").replace("card_bench::", "").replace(" as watcher::Implementation", "")
 }

@@ -7,8 +7,8 @@ use card_library::watcher::Implementation;
 use card_tests::command::{self, Command};
 use card_tests::few::Few;
 use card_tests::layout::{
-    begins_with_mark, block_at, commit, descriptor, escaped, master, read_master, Block, Name, Shape, Tail, Tails, BLOCK,
-    CORES, DISK, HOMES, LAST_NUMBER, LAST_TAIL, MEMORY, NAMES, TAKEN,
+    begins_with_mark, block_at, commit, descriptor, escaped, master, read_master, Block, Name, Shape, Tail, Tails,
+    BLOCK, CORES, DISK, HOMES, LAST_NUMBER, LAST_TAIL, MEMORY, NAMES, TAKEN,
 };
 
 #[derive(Clone, Copy, PartialEq)]
@@ -125,15 +125,7 @@ impl Plain {
         self.cores[name.core as usize].running.as_ref().filter(|running| running.number == name.number)
     }
 
-    fn write(
-        &mut self,
-        core: u8,
-        block: u16,
-        offset: u8,
-        data: [u8; 4],
-        disk: &[u8],
-        memory: &mut [u8],
-    ) -> Answer {
+    fn write(&mut self, core: u8, block: u16, offset: u8, data: [u8; 4], disk: &[u8], memory: &mut [u8]) -> Answer {
         let (c, b) = (self.core(core)?, block as usize);
         if b >= self.shape.blocks as usize {
             return Err(6);

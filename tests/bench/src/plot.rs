@@ -57,17 +57,25 @@ fn bars(out: &mut String, tapes: &[(String, f64, f64)]) {
     }
 }
 
-/// A line for each command and card.
+/// A line for each command and card, with its name at its end; names keep their distance.
 fn lines(out: &mut String, sizes: &[usize], records: &[Vec<[f64; 2]>]) {
     let most = records.iter().flatten().flatten().copied().fold(1.0, f64::max);
-    let panel = Panel { left: 560.0, top: 50.0, width: 280.0, height: 300.0, most: (most / 10_000.0).ceil() * 10_000.0 };
+    let panel =
+        Panel { left: 560.0, top: 50.0, width: 280.0, height: 300.0, most: (most / 10_000.0).ceil() * 10_000.0 };
     text(out, 500.0, 24.0, "start", "Instructions of one command, by records in the journals");
     axes(out, &panel, sizes);
+    let mut ends = Vec::new();
     for (k, name) in ["WRITE", "CHECKPOINT", "RECOVER"].into_iter().enumerate() {
         for (subject, colour) in [LIBRARY, PLAIN].into_iter().enumerate() {
             let values: Vec<f64> = records.iter().map(|counts| counts[k][subject]).collect();
-            line(out, &panel, sizes, &values, colour, name);
+            ends.push((line(out, &panel, sizes, &values, colour), name));
         }
+    }
+    ends.sort_by(|(one, _), (other, _)| one.total_cmp(other));
+    let mut lowest = 0.0;
+    for (y, name) in ends {
+        lowest = f64::max(y, lowest + 14.0);
+        text(out, panel.left + panel.width + 6.0, lowest + 4.0, "start", name);
     }
 }
 
@@ -90,12 +98,11 @@ fn axes(out: &mut String, panel: &Panel, sizes: &[usize]) {
     }
 }
 
-fn line(out: &mut String, panel: &Panel, sizes: &[usize], values: &[f64], colour: &str, name: &str) {
-    let places: Vec<(f64, f64)> = sizes.iter().zip(values).map(|(size, value)| place(panel, sizes, *size, *value)).collect();
-    let points: Vec<String> = places.iter().map(|(x, y)| format!("{x:.1},{y:.1}")).collect();
+/// Draws a line, and tells how far down it ends.
+fn line(out: &mut String, panel: &Panel, sizes: &[usize], values: &[f64], colour: &str) -> f64 {
+    let places = sizes.iter().zip(values).map(|(size, value)| place(panel, sizes, *size, *value));
+    let points: Vec<String> = places.map(|(x, y)| format!("{x:.1},{y:.1}")).collect();
     let style = format!("fill=\"none\" stroke=\"{colour}\" stroke-width=\"2\"");
     writeln!(out, "<polyline points=\"{}\" {style}/>", points.join(" ")).expect("a string");
-    if let Some((x, y)) = places.last() {
-        text(out, x + 6.0, y + 4.0, "start", name);
-    }
+    place(panel, sizes, 0, values.last().copied().unwrap_or(0.0)).1
 }

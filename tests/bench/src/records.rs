@@ -2,7 +2,8 @@
 
 use card_tests::few::Few;
 use card_tests::layout::{
-    block_at, unescaped, word, Block, Name, Shape, Tail, Tails, COMMIT, CORES, DESCRIPTOR, LAST_NUMBER, MARK, NAMES, TAKEN,
+    block_at, unescaped, word, Block, Name, Shape, Tail, Tails, COMMIT, CORES, DESCRIPTOR, LAST_NUMBER, MARK, NAMES,
+    TAKEN,
 };
 
 /// The most records that journals hold: twelve of two blocks each for eight cores.

@@ -45,7 +45,8 @@ fn speed_row(workload: &Workload) -> Vec<String> {
 fn speeds() {
     let load = std::fs::read_to_string("/proc/loadavg").unwrap_or_default();
     let title = format!("Commands per second, medians of {ROUNDS} rounds; load {}", load.trim());
-    let heads = ["tape", "commands", "library", "library, whole tape", "plain", "plain / library", "plain / whole tape"];
+    let heads =
+        ["tape", "commands", "library", "library, whole tape", "plain", "plain / library", "plain / whole tape"];
     print_table(&title, &heads, &tapes().iter().map(speed_row).collect::<Vec<_>>());
     let stack = |workload: &Workload| {
         let bytes = SUBJECTS.map(|subject| grouped(subject.stack(workload) as f64));
@@ -94,7 +95,11 @@ fn lengths() {
         [vec![grouped(length as f64)], counts.to_vec()].concat()
     };
     let rows = LENGTHS.map(row);
-    print_table("Instructions a command by the length of the tape", &["commands", "library", "whole tape", "plain"], &rows);
+    print_table(
+        "Instructions a command by the length of the tape",
+        &["commands", "library", "whole tape", "plain"],
+        &rows,
+    );
 }
 
 /// A table with a row for each size: three commands, each by the library and by the plain card. Tells the counts.
@@ -103,7 +108,8 @@ fn grown(title: &str, unit: &str, sizes: &[usize], make: fn(usize) -> Vec<Worklo
         [Subject::Library, Subject::Plain].map(|subject| count(subject, workload).per_command(workload))
     };
     let counts: Vec<Vec<[f64; 2]>> = sizes.iter().map(|size| make(*size).iter().map(both).collect()).collect();
-    let names: Vec<String> = make(1).iter().map(|workload| workload.name.split(',').next().unwrap_or("").into()).collect();
+    let names: Vec<String> =
+        make(1).iter().map(|workload| workload.name.split(',').next().unwrap_or("").into()).collect();
     let heads: Vec<String> = names.iter().flat_map(|name| [name.clone(), format!("{name}, plain")]).collect();
     let heads: Vec<&str> = [unit].into_iter().chain(heads.iter().map(String::as_str)).collect();
     let row = |(size, counts): (&usize, &Vec<[f64; 2]>)| {

@@ -31,7 +31,9 @@ impl Sum {
 
     fn text(&self) -> String {
         let Sum { commands, disks, recoveries, refused } = self;
-        format!("{commands} commands ({refused} refused), {disks} foreign disks, {recoveries} recoveries: no difference")
+        format!(
+            "{commands} commands ({refused} refused), {disks} foreign disks, {recoveries} recoveries: no difference"
+        )
     }
 }
 
