@@ -8,24 +8,26 @@ pub const LARGEST: Shape = Shape { cores: 8, blocks: 64, journal: 24 };
 /// A name that no journal of these disks meets.
 const UNMET: Name = Name { core: 0, number: 1000 };
 
-/// A formatted disk, as FORMAT leaves it.
-pub fn empty_disk(shape: Shape) -> Vec<u8> {
-    let mut tails = Tails::default();
-    tails[..shape.cores as usize].fill(Tail { number: 1, position: 0 });
+/// A disk with a master of this shape, whose first cores have these tails.
+pub fn disk_with(shape: Shape, tails: &[Tail]) -> Vec<u8> {
+    let mut all = Tails::default();
+    all[..tails.len()].copy_from_slice(tails);
     let mut disk = vec![0; DISK];
-    disk[..BLOCK].copy_from_slice(&master(shape, &tails));
+    disk[..BLOCK].copy_from_slice(&master(shape, &all));
     disk
 }
 
-/// A whole record put down at a position; its data blocks begin with its number.
+/// A whole record put down at a position. Its images begin with the mark.
 pub fn put_record(disk: &mut [u8], shape: Shape, name: Name, at: usize, blocks: &[u8], names: &[Name]) {
     let mut put = |position: usize, block: &[u8]| {
         let start = shape.place(name.core, position) * BLOCK;
         disk[start..start + block.len()].copy_from_slice(block);
     };
-    put(at, &descriptor(name.number, blocks, &vec![false; blocks.len()]));
-    (0..blocks.len()).for_each(|i| put(at + 1 + i, &name.number.to_be_bytes()));
-    put(at + 1 + blocks.len(), &commit(name.number, 1 + name.number as u64, names));
+    put(at, &descriptor(name.number, blocks, &vec![true; blocks.len()]));
+    for i in 0..blocks.len() {
+        put(at + 1 + i, &[0, 0, 0, 0, 7, 8, 9, 10 + i as u8]);
+    }
+    put(at + 1 + blocks.len(), &commit(name.number, 3, names));
 }
 
 /// Puts so many records of so many blocks into each core's journal. Each record names the next one, in order of core and
@@ -45,7 +47,7 @@ pub fn put_chain(disk: &mut [u8], counts: [usize; CORES], blocks: usize, is_met:
 
 /// A disk of the largest shape whose journals are full of one chain.
 pub fn chain_disk(blocks: usize, is_met: bool) -> Vec<u8> {
-    let mut disk = empty_disk(LARGEST);
+    let mut disk = disk_with(LARGEST, &[Tail { number: 1, position: 0 }; CORES]);
     put_chain(&mut disk, [LARGEST.journal as usize / (blocks + 2); CORES], blocks, is_met);
     disk
 }
