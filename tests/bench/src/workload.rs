@@ -1,5 +1,6 @@
 // workload.rs: the tapes that both cards are measured on, made with the model so that each is known to run.
 
+use crate::plain::Plain;
 use card_library::session::Session;
 use card_library::watcher::Implementation;
 use card_tests::card::{Card, Phase};
@@ -275,4 +276,18 @@ pub fn of_length(length: usize) -> Workload {
         end = card_tests::command::read(&full.tape, end).map_or(full.tape.len(), |(_, next)| next);
     }
     Workload { name: format!("{length} commands"), tape: full.tape[..end].to_vec(), commands: length, ..full }
+}
+
+/// Both cards must do the same on a workload, command by command, or nothing is measured.
+pub fn require_same(workload: &Workload) {
+    let (mut library, mut plain) = (workload.stage::<Session>(), workload.stage::<Plain>());
+    let mut at = 0;
+    while at < workload.tape.len() {
+        let one = library.card.command(&workload.tape, at, &mut library.disk, &mut library.memory);
+        let other = plain.card.command(&workload.tape, at, &mut plain.disk, &mut plain.memory);
+        assert_eq!((one.number, one.next), (other.number, other.next), "{} at {at}", workload.name);
+        assert!(library.disk == plain.disk && library.memory == plain.memory, "{} at {at}", workload.name);
+        assert_eq!(library.card.stores(), plain.card.stores(), "{} at {at}", workload.name);
+        at = one.next;
+    }
 }

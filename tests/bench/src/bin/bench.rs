@@ -5,7 +5,9 @@ use card_bench::callgrind::{count, Count};
 use card_bench::plot;
 use card_bench::report::{grouped, print_table};
 use card_bench::subject::{Subject, SUBJECTS};
-use card_bench::workload::{of_length, tapes, with_blocks, with_records, worst, Workload, BLOCKS, LENGTHS, RECORDS};
+use card_bench::workload::{
+    all, of_length, require_same, tapes, with_blocks, with_records, worst, Workload, BLOCKS, LENGTHS, RECORDS,
+};
 
 const ROUNDS: usize = 15;
 const PLOT: &str = concat!(env!("CARGO_MANIFEST_DIR"), "/../../docs/benchmark.svg");
@@ -43,6 +45,7 @@ fn speed_row(workload: &Workload) -> Vec<String> {
 }
 
 fn speeds() {
+    all().iter().for_each(require_same);
     let load = std::fs::read_to_string("/proc/loadavg").unwrap_or_default();
     let title = format!("Commands per second, medians of {ROUNDS} rounds; load {}", load.trim());
     let heads =
@@ -57,11 +60,12 @@ fn speeds() {
 }
 
 fn instructions() {
+    all().iter().for_each(require_same);
     let counts = tapes_counted();
-    lengths();
+    by_subject("Instructions a command by the length of the tape", "tape", &LENGTHS.map(of_length));
     let records = grown("Instructions of a command by records in the journals", "records", &RECORDS, with_records);
     grown("Instructions of a command by blocks of a transaction", "blocks", &BLOCKS, with_blocks);
-    worst_cases();
+    by_subject("Instructions of the longest commands", "command", &worst());
     std::fs::write(PLOT, plot::svg(&counts, &RECORDS, &records)).expect("the plot is written");
 }
 
@@ -88,18 +92,13 @@ fn shares(count: &Count) -> String {
     most.collect::<Vec<_>>().join(", ")
 }
 
-fn lengths() {
-    let row = |length: usize| {
-        let workload = of_length(length);
-        let counts = SUBJECTS.map(|subject| grouped(count(subject, &workload).per_command(&workload)));
-        [vec![grouped(length as f64)], counts.to_vec()].concat()
+/// A table with a row for each workload.
+fn by_subject(title: &str, head: &str, workloads: &[Workload]) {
+    let row = |workload: &Workload| {
+        let counts = SUBJECTS.map(|subject| grouped(count(subject, workload).per_command(workload)));
+        [vec![workload.name.clone()], counts.to_vec()].concat()
     };
-    let rows = LENGTHS.map(row);
-    print_table(
-        "Instructions a command by the length of the tape",
-        &["commands", "library", "whole tape", "plain"],
-        &rows,
-    );
+    print_table(title, &[head, "library", "whole tape", "plain"], &workloads.iter().map(row).collect::<Vec<_>>());
 }
 
 /// A table with a row for each size: three commands, each by the library and by the plain card. Tells the counts.
@@ -118,13 +117,4 @@ fn grown(title: &str, unit: &str, sizes: &[usize], make: fn(usize) -> Vec<Worklo
     };
     print_table(title, &heads, &sizes.iter().zip(&counts).map(row).collect::<Vec<_>>());
     counts
-}
-
-fn worst_cases() {
-    let row = |workload: &Workload| {
-        let counts = SUBJECTS.map(|subject| grouped(count(subject, workload).per_command(workload)));
-        [vec![workload.name.clone()], counts.to_vec()].concat()
-    };
-    let rows: Vec<_> = worst().iter().map(row).collect();
-    print_table("Instructions of the longest commands", &["command", "library", "whole tape", "plain"], &rows);
 }
