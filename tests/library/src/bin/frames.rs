@@ -9,6 +9,8 @@ const LIBRARY: &str = concat!(env!("CARGO_MANIFEST_DIR"), "/../../target/staticl
 /// Calls of a function by itself: the valid set is struck at most 96 times, and once more without effect.
 const LEVELS: usize = 97;
 
+const PAGE: usize = 4096;
+
 #[derive(Default)]
 struct Function {
     /// Bytes of its frame, with the return address.
@@ -34,12 +36,16 @@ fn functions(listing: &str) -> Functions {
     all
 }
 
-/// What an instruction takes of the stack.
+/// What an instruction takes of the stack. A large frame is taken page by page in a loop, whose end %r11 has.
 fn reserved(line: &str) -> usize {
     let words: Vec<&str> = line.split_whitespace().collect();
     match words[..] {
         [_, "push", _] => 8,
-        [_, "sub", operands] => operands.strip_suffix(",%rsp").and_then(hex).unwrap_or(0),
+        [_, "sub", operands] => match operands.split_once(',') {
+            Some((bytes, "%rsp")) => hex(bytes).unwrap_or(0),
+            Some((bytes, "%r11")) => hex(bytes).filter(|bytes| bytes % PAGE == 0).map_or(0, |bytes| bytes - PAGE),
+            _ => 0,
+        },
         _ => 0,
     }
 }
