@@ -30,6 +30,9 @@ macro_rules! noting_jumps {
 
 noting_jumps!("rev_d_blank", "rev_d_down", "rev_d_command", "rev_d_tape", "rev_d_read_number", "rev_d_read_block");
 
+/// What a command may use; more ends with a status other than 0.
+const LIMIT: usize = 64 * 1024;
+
 /// Bytes below the call of an entry, its return address with them, and the same with the wrapper's copies of the session.
 #[derive(Clone, Copy, Default)]
 struct Used {
@@ -166,5 +169,6 @@ fn main() {
         most.most(*used);
         most
     });
-    println!("the most of all: {} bytes, {} with the wrapper", most.entry, most.with_wrapper);
+    println!("the most of all: {} bytes, {} with the wrapper; the limit is {LIMIT}", most.entry, most.with_wrapper);
+    std::process::exit((LIMIT < most.entry) as i32);
 }
