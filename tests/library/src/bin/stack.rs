@@ -12,7 +12,6 @@ use card_tests::wrong::Wrong;
 use std::sync::atomic::{AtomicUsize, Ordering};
 
 /// The stack pointer as the entry called last found it.
-#[no_mangle]
 static ENTERED: AtomicUsize = AtomicUsize::new(0);
 
 /// The linker sends each call of an entry to its jump here (`build.rs`).
