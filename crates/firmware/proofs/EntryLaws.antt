@@ -1,14 +1,16 @@
--- A session given to a foreign caller and taken back: the number of its phase gives the phase again.
+-- A session given to a foreign caller: the number of its phase, its state after commands.
 use Prim.Native.Nat.{ℕ}
-use mathlib.Core.Path.{_≡_, refl, ap, _∙_}
+use mathlib.Core.Path.{_≡_, ap, _∙_}
 use borrow.Author.Tests.{ne-eqb}
 use Rattle.model.specs.Bytes.{Bytes}
 use Rattle.model.specs.Command.{World}
-use Rattle.model.specs.declared.Phase.{Phase}
+use Rattle.model.specs.declared.Card.{Card}
 use Rattle.model.specs.declared.Phase.the-variants.{Blank, Up, Down}
-use Rattle.firmware.specs.Session.{worldOf, outcomeAt, counted}
-use Rattle.firmware.specs.Entry.{phaseOf, phaseNumber}
+use Rattle.state.specs.Answer.{world}
+use Rattle.firmware.specs.Session.{newSession, outcomeAt, counted}
+use Rattle.firmware.specs.Entry.{phaseOf, stateOf}
 use Rattle.firmware.specs.declared.session.Session.{Session}
+use Rattle.firmware.specs.declared.entry.SessionState.{SessionState}
 
 pub phase-blank : (n : ℕ) → n ≡ 0 → Blank ≡ phaseOf n
 unfolding phaseOf
@@ -22,30 +24,16 @@ pub phase-down : (n : ℕ) → (n ≡ 0 → ⊥) → (n ≡ 1 → ⊥) → Down 
 unfolding phaseOf
 phase-down n h k = simp (ne-eqb n 0 h, ne-eqb n 1 k)
 
-phase-same : (p : Phase) → phaseOf (phaseNumber p) ≡ p
-unfolding phaseOf phaseNumber
-phase-same Blank = refl
-phase-same Up = refl
-phase-same Down = refl
+-- the state of a session after commands, and the bytes of the slices
+module _ (x : Card) (d m : Bytes) (w : World) (e : world x d m ≡ w) where
+  pub state-after : (r : SessionState) (n k : ℕ) → r ≡ stateOf (newSession x n) → n ≡ k → r ≡ stateOf (newSession (w .card) k)
+  state-after r n k f g = f ∙ ap (λ (w : World). stateOf (newSession (w .card) n)) e ∙ ap (λ (n : ℕ). stateOf (newSession (w .card) n)) g
 
-pub state-back : (s : Session) (n : ℕ) → n ≡ phaseNumber (s .card .phase)
-    → record {
-      card = record { phase = phaseOf n; shape = s .card .shape; closes = s .card .closes; recovered = s .card .recovered; tails = s .card .tails; cores = s .card .cores; holders = s .card .holders };
-      stores = s .stores;
-    } ≡ s
-state-back s n e =
-    ap {B = Session} (λ (p : Phase).
-    record {
-      card = record { phase = p; shape = s .card .shape; closes = s .card .closes; recovered = s .card .recovered; tails = s .card .tails; cores = s .card .cores; holders = s .card .holders };
-      stores = s .stores;
-    })
-    (ap phaseOf e ∙ phase-same (s .card .phase))
+  pub disk-after : d ≡ w .disk
+  disk-after = ap (λ (w : World). w .disk) e
 
-pub back-world : (back after : Session) → back ≡ after → (d m : Bytes) (w : World) → worldOf after d m ≡ w → worldOf back d m ≡ w
-back-world back after f d m w h = ap (λ (s : Session). worldOf s d m) f ∙ h
-
-pub back-stores : (back after : Session) → back ≡ after → (n : ℕ) → after .stores ≡ n → back .stores ≡ n
-back-stores back after f n h = ap (λ (s : Session). s .stores) f ∙ h
+  pub memory-after : m ≡ w .memory
+  memory-after = ap (λ (w : World). w .memory) e
 
 -- what a command makes of a session is what it makes of one that is equal
 module _ (s s₀ : Session) (e : s ≡ s₀) (t : Bytes) (at : ℕ) (d m : Bytes) where

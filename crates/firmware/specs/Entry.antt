@@ -21,3 +21,17 @@ sessionOf x =
       card = record { phase = phaseOf (x .phase); shape = x .shape; closes = x .closes; recovered = x .recovered; tails = x .tails; cores = x .cores; holders = x .holders };
       stores = x .stores;
     }
+
+-- the state handed out for a session: each of its fields, so each of its bytes
+abbrev pub stateOf : Session → SessionState
+stateOf s =
+    record {
+      stores = s .stores;
+      closes = s .card .closes;
+      phase = phaseNumber (s .card .phase);
+      recovered = s .card .recovered;
+      shape = s .card .shape;
+      tails = s .card .tails;
+      cores = s .card .cores;
+      holders = s .card .holders;
+    }

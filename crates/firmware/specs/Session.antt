@@ -39,6 +39,10 @@ unfoldable pub storesAfter : ℕ → List Point → ℕ
 storesAfter n [] = n
 storesAfter n (p ∷ ps) = storesAfter (p .stores) ps
 
+-- the session after commands that left the world w and made k stores
+abbrev pub sessionAfter : Session → World → ℕ → Session
+sessionAfter s w k = newSession (w .card) (counted (s .stores) k)
+
 -- a buffer after reading block b with the number n: its bytes, or for a refusal as it was
 unfoldable pub readInto : ℕ → ℕ → World → Bytes → Bytes
 readInto n b w out = cond (eqb n 0) (readBlock b w) out

@@ -6,8 +6,8 @@ ghost use lib.ListN.{length};
 ghost use Rattle.model.specs.Card.{blankCard, downCard};
 ghost use Rattle.model.specs.Reading.{readNumber};
 ghost use Rattle.model.specs.Tape.{step, commandByte, nextOffset, run, worldAfter};
-ghost use Rattle.firmware.specs.Session.{newSession, worldOf, outcomeAt, counted, storesAfter, readInto, DemandsMet};
-ghost use Rattle.firmware.specs.Entry.{phaseOf, phaseNumber, sessionOf};
+ghost use Rattle.firmware.specs.Session.{newSession, worldOf, outcomeAt, storesAfter, sessionAfter, readInto, DemandsMet};
+ghost use Rattle.firmware.specs.Entry.{phaseOf, phaseNumber, sessionOf, stateOf};
 use crate::session::Session;
 use crate::session::blank;
 use crate::session::command;
@@ -93,7 +93,7 @@ fn session_of(x: SessionState) -> Session
 
 // A session as a foreign caller is to hold it.
 fn state_of(s: Session) -> SessionState
-    ensures { λ r. ⌜ sessionOf r ≡ s ⌝ }
+    ensures { λ r. ⌜ r ≡ stateOf s ⌝ }
 {
     let card = s.card;
     let p = card.phase;
@@ -117,7 +117,7 @@ fn state_of(s: Session) -> SessionState
 // A card before its FORMAT.
 #[no_mangle]
 pub extern "C" fn rev_d_blank() -> SessionState
-    ensures { λ r. ⌜ sessionOf r ≡ newSession blankCard 0 ⌝ }
+    ensures { λ r. ⌜ r ≡ stateOf (newSession blankCard 0) ⌝ }
 {
     let s = blank();
     state_of(s)
@@ -126,7 +126,7 @@ pub extern "C" fn rev_d_blank() -> SessionState
 // A card that is down, over a disk written elsewhere.
 #[no_mangle]
 pub extern "C" fn rev_d_down() -> SessionState
-    ensures { λ r. ⌜ sessionOf r ≡ newSession downCard 0 ⌝ }
+    ensures { λ r. ⌜ r ≡ stateOf (newSession downCard 0) ⌝ }
 {
     let s = down();
     state_of(s)
@@ -141,7 +141,7 @@ pub extern "C" fn rev_d_command(
     disk: &mut [u8],
     memory: &mut [u8],
 ) -> Reply
-    ensures { λ r. ⌜ (r .number ≡ (outcomeAt (sessionOf x) (now (tape .entry)) at (now (disk .entry)) (now (memory .entry))) .answer) × (worldOf (sessionOf (r .state)) (now (disk .exit)) (now (memory .exit)) ≡ (outcomeAt (sessionOf x) (now (tape .entry)) at (now (disk .entry)) (now (memory .entry))) .world) × ((sessionOf (r .state)) .stores ≡ counted (x .stores) ((outcomeAt (sessionOf x) (now (tape .entry)) at (now (disk .entry)) (now (memory .entry))) .stores)) × (r .byte ≡ commandByte (now (tape .entry)) at) × (r .next ≡ nextOffset (now (tape .entry)) at) ⌝ }
+    ensures { λ r. ⌜ (let o = outcomeAt (sessionOf x) (now (tape .entry)) at (now (disk .entry)) (now (memory .entry)) in (r .number ≡ o .answer) × (r .state ≡ stateOf (sessionAfter (sessionOf x) (o .world) (o .stores))) × (now (disk .exit) ≡ o .world .disk) × (now (memory .exit) ≡ o .world .memory) × (r .byte ≡ commandByte (now (tape .entry)) at) × (r .next ≡ nextOffset (now (tape .entry)) at)) ⌝ }
 {
     let s = session_of(x);
     let done = command(s, tape, at, disk, memory);
@@ -186,7 +186,7 @@ pub extern "C" fn rev_d_tape(
     disk: &mut [u8],
     memory: &mut [u8],
 ) -> SessionState
-    ensures { λ r. ⌜ (worldOf (sessionOf r) (now (disk .exit)) (now (memory .exit)) ≡ worldAfter (worldOf (sessionOf x) (now (disk .entry)) (now (memory .entry))) (run step (now (tape .entry)) (worldOf (sessionOf x) (now (disk .entry)) (now (memory .entry))))) × ((sessionOf r) .stores ≡ counted (x .stores) (storesAfter 0 (run step (now (tape .entry)) (worldOf (sessionOf x) (now (disk .entry)) (now (memory .entry)))))) × DemandsMet (now (tape .entry)) (worldOf (sessionOf x) (now (disk .entry)) (now (memory .entry))) ⌝ }
+    ensures { λ r. ⌜ (let w = worldOf (sessionOf x) (now (disk .entry)) (now (memory .entry)) in let ps = run step (now (tape .entry)) w in let v = worldAfter w ps in (r ≡ stateOf (sessionAfter (sessionOf x) v (storesAfter 0 ps))) × (now (disk .exit) ≡ v .disk) × (now (memory .exit) ≡ v .memory) × DemandsMet (now (tape .entry)) w) ⌝ }
 {
     let s = session_of(x);
     let after = run(s, tape, disk, memory);

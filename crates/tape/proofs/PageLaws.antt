@@ -9,16 +9,12 @@ use lib.Seq.{take-suc, take-all}
 use lib.Dec.{eqb}
 use borrow.Author.Tests.{eqb-true}
 use Rattle.model.specs.Lists.{all}
-use Rattle.model.specs.Bytes.{Bytes, be4, part, blockAt}
-use Rattle.model.specs.Shape.{checked}
+use Rattle.model.specs.Bytes.{Bytes, part, blockAt}
 use Rattle.model.specs.Layout.{isMaster}
 use Rattle.model.specs.Recovery.{shapeOn}
 use Rattle.model.specs.Tape.{isZero}
 use Rattle.model.specs.declared.Shape.{Shape}
-use Rattle.model.specs.declared.Checked.{Checked}
-use Rattle.model.specs.declared.Checked.the-variants.{Fits, OutOfRange}
 use Rattle.model.proofs.Lists.{cases, all-append, all-mem, getD-mem}
-use Rattle.recovery.proofs.RecoverLaws.{shape-made, shape-missed}
 
 -- ---- all zero
 module _ (b : Bytes) where
@@ -45,12 +41,11 @@ module _ (d : Bytes) (r : Bool) (e : r ≡ isMaster (take 128 d)) where
   unfolding blockAt part
   block-same = e
 
+  pub is-fit : r ≡ true → isMaster (blockAt d 0) ≡ true
+  is-fit h = sym block-same ∙ h
+
   pub count-unfit : r ≡ false → 0 ≡ cond (isMaster (blockAt d 0)) ((shapeOn d) .blocks) 0
   count-unfit h = rw (← block-same, h)
 
-  module _ (h : r ≡ true) (made : Checked) (f : made ≡ checked (be4 (take 128 d) 12) (be4 (take 128 d) 16) (be4 (take 128 d) 20)) where
-    pub count-made : (s : Shape) → made ≡ Fits s → s .blocks ≡ cond (isMaster (blockAt d 0)) ((shapeOn d) .blocks) 0
-    count-made s g = ap (λ (s : Shape). s .blocks) (shape-made d (sym block-same ∙ h) made f s g) ∙ rw (← block-same, h)
-
-    pub count-missed : made ≡ OutOfRange → 0 ≡ cond (isMaster (blockAt d 0)) ((shapeOn d) .blocks) 0
-    count-missed g = ap (λ (s : Shape). s .blocks) (shape-missed d (sym block-same ∙ h) made f g (record { cores = 0; blocks = 0; journal = 0 })) ∙ rw (← block-same, h)
+  pub count-fit : r ≡ true → (s : Shape) → s ≡ shapeOn d → s .blocks ≡ cond (isMaster (blockAt d 0)) ((shapeOn d) .blocks) 0
+  count-fit h s f = ap (λ (s : Shape). s .blocks) f ∙ rw (is-fit h)

@@ -11,7 +11,6 @@ ghost use Rattle.model.specs.Tape.{homeCount, isZero};
 ghost use Rattle.state.specs.Answer.{world};
 use firmware::session::Session;
 use model::Card;
-use model::Checked;
 use model::Phase;
 
 // Where the reading stands; `more` is false once the tape has ended.
@@ -109,10 +108,7 @@ fn master_count(disk: &[u8]) -> u8
     if !layout::is_master(&disk[0..128]) {
         return 0;
     }
-    let made = layout::read_shape(&disk[0..128]);
-    let Checked::Fits(s) = made else {
-        return 0;
-    };
+    let s = recovery::recover::disk_shape(disk);
     s.blocks
 }
 

@@ -1,6 +1,6 @@
--- `tape::master_count` meets its contract: a master's shape is within the limits.
+-- `tape::master_count` meets its contract: the shape is read where the first block is a master.
 use borrow.Author.Tests.{not-true, not-false}
-use Rattle.tape.proofs.PageLaws.{count-unfit, count-made, count-missed}
+use Rattle.tape.proofs.PageLaws.{is-fit, count-unfit, count-fit}
 use borrow.Author.Needs.{needs}
 use Rattle.tape.proofs.master_count.Statement.{statement}
 use Rattle.tape.proofs.master_count.Tie as tie
@@ -20,29 +20,11 @@ is-master-requires c κs = search needs
 returns : tie.Need-returns
 returns c = search (needs, not-true, count-unfit)
 
-sub-read-shape : tie.Need-sub-read-shape
-sub-read-shape c = search needs
-
-part-read-shape-start : tie.Need-part-read-shape-start
-part-read-shape-start c = search needs
-
-part-read-shape-end : tie.Need-part-read-shape-end
-part-read-shape-end c = search needs
-
-read-shape-requires : tie.Need-read-shape-requires
-read-shape-requires c κs = search needs
-
-enum-known-made : tie.Need-enum-known-made
-enum-known-made c = search needs
-
-enum-told : tie.Need-enum-told
-enum-told c = search needs
+disk-shape-requires : tie.Need-disk-shape-requires
+disk-shape-requires c κs = (search needs, search (needs, not-false, is-fit))
 
 returns-2 : tie.Need-returns-2
-returns-2 c = search (needs, not-false, count-missed)
-
-returns-3 : tie.Need-returns-3
-returns-3 c = search (needs, not-false, count-made)
+returns-2 c = search (needs, not-false, count-fit)
 
 pub master-count-spec : {M : Type 1} → statement M
 master-count-spec =
@@ -53,11 +35,5 @@ master-count-spec =
     part-is-master-end
     is-master-requires
     returns
-    sub-read-shape
-    part-read-shape-start
-    part-read-shape-end
-    read-shape-requires
-    enum-known-made
-    enum-told
-    returns-2
-    returns-3)
+    disk-shape-requires
+    returns-2)

@@ -1,5 +1,5 @@
 -- `firmware::entry::rev_d_command` meets its contract: the session's command.
-use Rattle.firmware.proofs.EntryLaws.{back-world, back-stores, same-answer, same-world, same-stores}
+use Rattle.firmware.proofs.EntryLaws.{state-after, disk-after, memory-after, same-answer, same-world, same-stores}
 use borrow.Author.Needs.{needs}
 use Rattle.firmware.proofs.entry.rev_d_command.Statement.{statement}
 use Rattle.firmware.proofs.entry.rev_d_command.Tie as tie
@@ -21,10 +21,13 @@ same-length-2 c = search needs
 
 returns : tie.Need-returns
 returns c =
-    let r = c .before .before .before .before .before .command .ensures in (
-      same-answer _ _ (c .before .before .before .before .before .before .before .before .session-of .ensures) (c .before .before .before .before .before .before .before .before .before .before .before .before .args .tape .now) (c .before .before .before .before .before .before .before .before .before .before .before .before .args .at) (c .before .before .before .before .before .before .before .before .before .before .before .before .args .disk .now) (c .before .before .before .before .before .before .before .before .before .before .before .before .args .memory .now) _ (r .0),
-      back-world _ _ (c .state-of .ensures) _ _ _ (same-world _ _ (c .before .before .before .before .before .before .before .before .session-of .ensures) (c .before .before .before .before .before .before .before .before .before .before .before .before .args .tape .now) (c .before .before .before .before .before .before .before .before .before .before .before .before .args .at) (c .before .before .before .before .before .before .before .before .before .before .before .before .args .disk .now) (c .before .before .before .before .before .before .before .before .before .before .before .before .args .memory .now) _ (r .1)),
-      back-stores _ _ (c .state-of .ensures) _ (same-stores _ _ (c .before .before .before .before .before .before .before .before .session-of .ensures) (c .before .before .before .before .before .before .before .before .before .before .before .before .args .tape .now) (c .before .before .before .before .before .before .before .before .before .before .before .before .args .at) (c .before .before .before .before .before .before .before .before .before .before .before .before .args .disk .now) (c .before .before .before .before .before .before .before .before .before .before .before .before .args .memory .now) _ (r .2)),
+    let r = c .before .before .before .before .before .command .ensures in
+    let e = c .before .before .before .before .before .before .before .before .session-of .ensures in
+    let w = same-world _ _ e (c .before .before .before .before .before .before .before .before .before .before .before .before .args .tape .now) (c .before .before .before .before .before .before .before .before .before .before .before .before .args .at) (c .before .before .before .before .before .before .before .before .before .before .before .before .args .disk .now) (c .before .before .before .before .before .before .before .before .before .before .before .before .args .memory .now) _ (r .1) in (
+      same-answer _ _ e (c .before .before .before .before .before .before .before .before .before .before .before .before .args .tape .now) (c .before .before .before .before .before .before .before .before .before .before .before .before .args .at) (c .before .before .before .before .before .before .before .before .before .before .before .before .args .disk .now) (c .before .before .before .before .before .before .before .before .before .before .before .before .args .memory .now) _ (r .0),
+      state-after _ _ _ _ w _ _ _ (c .state-of .ensures) (same-stores _ _ e (c .before .before .before .before .before .before .before .before .before .before .before .before .args .tape .now) (c .before .before .before .before .before .before .before .before .before .before .before .before .args .at) (c .before .before .before .before .before .before .before .before .before .before .before .before .args .disk .now) (c .before .before .before .before .before .before .before .before .before .before .before .before .args .memory .now) _ (r .2)),
+      disk-after _ _ _ _ w,
+      memory-after _ _ _ _ w,
       r .3,
       r .4,
     )

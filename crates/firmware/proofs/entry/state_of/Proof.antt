@@ -1,5 +1,4 @@
--- `firmware::entry::state_of` meets its contract: taken back it is the session.
-use Rattle.firmware.proofs.EntryLaws.{state-back}
+-- `firmware::entry::state_of` meets its contract: field by field.
 use borrow.Author.Needs.{needs}
 use Rattle.firmware.proofs.entry.state_of.Statement.{statement}
 use Rattle.firmware.proofs.entry.state_of.Tie as tie
@@ -8,7 +7,7 @@ phase-number-requires : tie.Need-phase-number-requires
 phase-number-requires c κs = search needs
 
 returns : tie.Need-returns
-returns c = state-back (c .before .before .before .before .before .before .args .s) _ (c .before .before .before .before .phase-number .ensures)
+returns c = rw (c .before .before .before .before .phase-number .ensures)
 
 pub state-of-spec : {M : Type 1} → statement M
 state-of-spec = tie.close (tie.spec phase-number-requires returns)
