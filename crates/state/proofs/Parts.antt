@@ -1,5 +1,5 @@
 -- Arrays of known length, read and set at any index, and the tests of a list's first elements.
-use Prim.Native.Nat.{ℕ, zero, suc, _+_, _≤_, _<_, min}
+use Prim.Native.Nat.{ℕ, zero, suc, _+_, _%_, _≤_, _<_, min}
 use native.Mathlib.Omega.{arith}
 use native.Mathlib.Numerals.{add-one}
 use mathlib.Core.Path.{_≡_, refl, sym, ap, _∙_}
@@ -36,6 +36,11 @@ module _ {A : Type 0} where
   getD-any [] i d e h = absurd (omega arith)
   getD-any (x ∷ l) zero d e h = refl
   getD-any (x ∷ l) (suc i) d e h = getD-any l i d e (omega arith)
+
+  pub pair-same : (a : A) (i : ℕ) (d : A) → i < 2 → getD (a ∷ a ∷ []) i d ≡ a
+  pair-same a zero d h = refl
+  pair-same a (suc zero) d h = refl
+  pair-same a (suc (suc i)) d h = absurd (omega arith)
 
   module _ (l : List A) (n : ℕ) (size : length l ≡ n) (i : ℕ) where
     pub element-in : (d e : A) → i < n → getD l i d ≡ getD l i e
@@ -112,15 +117,28 @@ module _ {A B : Type 0} (f : A → B) where
   unfolding filled
   filled-all i l ks e h = rw (take-all i l h, drop-of-length-le ks (let g : length ks ≤ i = omega arith in g), append-nil)
 
+-- a number that is none of the first eight
+past-one : (n c : ℕ) → n ≤ c → (c ≡ n → ⊥) → n + 1 ≤ c
+past-one n c h e = omega arith
+
+past-none : (c : ℕ) → 0 ≤ c
+past-none c = omega arith
+
+pub past-eight : (c : ℕ) → (c ≡ 0 → ⊥) → (c ≡ 1 → ⊥) → (c ≡ 2 → ⊥) → (c ≡ 3 → ⊥) → (c ≡ 4 → ⊥) → (c ≡ 5 → ⊥) → (c ≡ 6 → ⊥) → (c ≡ 7 → ⊥) → 8 ≤ c
+past-eight c h i j k l m n o = past-one 7 c (past-one 6 c (past-one 5 c (past-one 4 c (past-one 3 c (past-one 2 c (past-one 1 c (past-one 0 c (past-none c) h) i) j) k) l) m) n) o
+
 -- ---- the card's arrays, which have their lengths
 module _ (x : Card) (i : ℕ) where
   pub core-in : length (x .cores) ≡ 8 → (d : Core) → i < 8 → getD (x .cores) i d ≡ coreOf x i
   unfolding coreOf
   core-in n d h = element-in (x .cores) 8 n i d (freshCore 0) h
 
-  pub core-past : length (x .cores) ≡ 8 → (k : Core) → k ≡ freshCore 0 → 8 ≤ i → k ≡ coreOf x i
+  pub core-here : length (x .cores) ≡ 8 → (c : ℕ) (d : Core) → i < 8 → c ≡ i → getD (x .cores) i d ≡ coreOf x c
+  core-here n c d h e = core-in n d h ∙ ap (coreOf x) (sym e)
+
+  pub core-past : length (x .cores) ≡ 8 → (k : Core) → k ≡ freshCore 0 → (d : Core) → 8 ≤ i → getD (k ∷ k ∷ []) (i % 2) d ≡ coreOf x i
   unfolding coreOf
-  core-past n k e h = element-past (x .cores) 8 n i (freshCore 0) k e h
+  core-past n k e d h = pair-same k (i % 2) d (omega arith) ∙ element-past (x .cores) 8 n i (freshCore 0) k e h
 
   pub core-kept : length (x .cores) ≡ 8 → (k : Core) → 8 ≤ i → x ≡ withCore x i k
   core-kept n k h = rw (set-past (x .cores) 8 n i k h)

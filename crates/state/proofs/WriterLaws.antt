@@ -1,12 +1,14 @@
 -- WRITE: the writer, the rule that it meets, the refusals 24 to 27, and the card afterwards.
-use Prim.Native.Nat.{ℕ, _+_, _≤_, _<_, min}
+use Prim.Native.Nat.{ℕ, zero, suc, _+_, _≤_, _<_, min}
 use native.Mathlib.Omega.{arith}
-use mathlib.Core.Path.{_≡_, sym, ap, _∙_}
-use mathlib.Core.Bool.{Bool, true, false, cond, not}
+use mathlib.Core.Path.{_≡_, refl, sym, ap, _∙_}
+use mathlib.Core.Bool.{Bool, true, false, cond, not, _&&_, _||_}
+use mathlib.Core.List.{List, [], _∷_}
 use lib.Dec.{ltb, leb, eqb}
-use lib.ListN.{length, set, length-take, length-set}
+use lib.ListN.{length, set, getD, length-take, length-set}
 use borrow.Author.Tests.{leb-false, not-true, not-false}
-use Rattle.model.specs.Card.{newName, sameName, opened, taken, lists, withBlock, withName, withRunning, withCore, withHolder, recordSize, shapeOf, coreOf, holderOf}
+use Rattle.model.specs.Card.{newName, sameName, freshCore, opened, taken, lists, withBlock, withName, withRunning, withCore, withHolder, recordSize, shapeOf, coreOf, holderOf}
+use Rattle.model.specs.Command.{refusal}
 use Rattle.model.specs.Layout.{maxNumber}
 use Rattle.model.specs.Write.{writer, writerName, isRunning, ruleFor, takesBlock, namesHolder, isNamedBack, writerAfter, passesTwelve, listsFull, closedBlocks, journalFull, writtenCard}
 use Rattle.model.specs.declared.Shape.{Shape}
@@ -18,58 +20,52 @@ use Rattle.model.specs.declared.Card.{Card}
 use Rattle.model.specs.declared.Rule.{Rule}
 use Rattle.model.specs.declared.Rule.the-variants.{Free, Own, Running, Closed}
 use Rattle.model.proofs.Lists.{cases}
-use Rattle.state.specs.Writing.{writerListFull, holderListFull, ninthBlock, numbersEnd, Room, namedWriter, namedBack}
+use Rattle.state.specs.Writing.{writerListFull, holderListFull, ninthBlock, numbersEnd, roomConditions, Room, writerOf, runsAs, ruleOf, partConditions, namedBy, afterBy, backBy}
 
 -- ---- the writer
-module _ (x : Card) (c : ℕ) (k : Core) (e : k ≡ coreOf x c) where
-  pub writer-running : k .running .live ≡ true → k .running ≡ writer x c
-  unfolding writer
-  writer-running h = rw (← e, h)
+module _ (k : Core) where
+  pub writer-running : k .running .live ≡ true → k .running ≡ writerOf k
+  unfolding writerOf
+  writer-running h = rw h
 
-  pub writer-opened : (t : Transaction) → t ≡ opened → k .running .live ≡ false → t ≡ writer x c
-  unfolding writer
-  writer-opened t q h = q ∙ rw (← e, h)
-
-  pub writer-named : newName c (k .next) ≡ writerName x c
-  unfolding writerName
-  writer-named = rw e
+  pub writer-opened : (t : Transaction) → t ≡ opened → k .running .live ≡ false → t ≡ writerOf k
+  unfolding writerOf
+  writer-opened t q h = q ∙ rw h
 
   -- 27
-  pub number-kept : k .running .live ≡ true → false ≡ numbersEnd x c
-  unfolding numbersEnd
-  number-kept h = rw (← e, h)
+  pub number-kept : k .running .live ≡ true → false ≡ (not (k .running .live) && ltb maxNumber (k .next))
+  number-kept h = rw h
 
-  pub number-opens : k .running .live ≡ false → ltb maxNumber (k .next) ≡ numbersEnd x c
-  unfolding numbersEnd
-  number-opens h = rw (← e, h)
+  pub number-opens : k .running .live ≡ false → ltb maxNumber (k .next) ≡ (not (k .running .live) && ltb maxNumber (k .next))
+  number-opens h = rw h
 
-module _ (x : Card) (n : Name) (k : Core) (e : k ≡ coreOf x (n .core)) where
-  pub runs : k .running .live ≡ true → eqb (k .next) (n .number) ≡ isRunning x n
-  unfolding isRunning
-  runs h = rw (← e, h)
+  module _ (n : Name) where
+    pub runs : k .running .live ≡ true → eqb (k .next) (n .number) ≡ runsAs k n
+    unfolding runsAs
+    runs h = rw h
 
-  pub runs-not : k .running .live ≡ false → false ≡ isRunning x n
-  unfolding isRunning
-  runs-not h = rw (← e, h)
+    pub runs-not : k .running .live ≡ false → false ≡ runsAs k n
+    unfolding runsAs
+    runs-not h = rw h
 
 -- ---- the rule
-module _ (x : Card) (c b : ℕ) (h : Holder) (e : h ≡ holderOf x b) where
-  pub rule-free : not (h .held) ≡ true → Free ≡ ruleFor x c b
-  unfolding ruleFor
-  rule-free p = rw (← e, p)
+module _ (h : Holder) (w : Name) (u : Core) where
+  pub rule-free : not (h .held) ≡ true → Free ≡ ruleOf h w u
+  unfolding ruleOf
+  rule-free p = rw p
 
-  module _ (w : Name) (q : w ≡ writerName x c) (g : Bool) (s : g ≡ sameName (h .name) w) (p : not (h .held) ≡ false) where
-    pub rule-own : g ≡ true → Own ≡ ruleFor x c b
-    unfolding ruleFor
-    rule-own z = rw (← e, p, ← q, ← s, z)
+  module _ (g : Bool) (s : g ≡ sameName (h .name) w) (p : not (h .held) ≡ false) where
+    pub rule-own : g ≡ true → Own ≡ ruleOf h w u
+    unfolding ruleOf
+    rule-own z = rw (p, ← s, z)
 
-    pub rule-closed : (r : Bool) → r ≡ isRunning x (h .name) → g ≡ false → not r ≡ true → Closed ≡ ruleFor x c b
-    unfolding ruleFor
-    rule-closed r u z v = rw (← e, p, ← q, ← s, z, ← u, not-true r v)
+    pub rule-closed : (r : Bool) → r ≡ runsAs u (h .name) → g ≡ false → not r ≡ true → Closed ≡ ruleOf h w u
+    unfolding ruleOf
+    rule-closed r q z v = rw (p, ← s, z, ← q, not-true r v)
 
-    pub rule-running : (r : Bool) → r ≡ isRunning x (h .name) → g ≡ false → not r ≡ false → Running ≡ ruleFor x c b
-    unfolding ruleFor
-    rule-running r u z v = rw (← e, p, ← q, ← s, z, ← u, not-false r v)
+    pub rule-running : (r : Bool) → r ≡ runsAs u (h .name) → g ≡ false → not r ≡ false → Running ≡ ruleOf h w u
+    unfolding ruleOf
+    rule-running r q z v = rw (p, ← s, z, ← q, not-false r v)
 
 -- ---- names: 24
 module _ (t : Transaction) (n : Name) (g : Bool) (e : g ≡ lists t n) where
@@ -127,161 +123,96 @@ module _ (t v : Transaction) (b : ℕ) (l : length (t .blocks) ≡ 8) (p : v .co
   pub size-most : 10 ≤ recordSize t → recordSize t ≡ recordSize (withBlock v b)
   size-most h = omega (arith, size-of, size-with)
 
+-- ---- 24, either list
+module _ (g p : Bool) where
+  pub full-not : not g ≡ true → false ≡ (g && p)
+  full-not h = rw (not-true g h)
+
+  pub full-test : (f : Bool) → f ≡ p → not g ≡ false → f ≡ (g && p)
+  full-test f q h = q ∙ rw (not-false g h)
+
+module _ (a p q : Bool) (g : Bool) (e : g ≡ a) (f : Bool) (z : f ≡ (g && p)) where
+  pub full-own : (d : Bool) → f ≡ true → true ≡ (a && p || d && q)
+  full-own d h = rw (← e, ← z, h)
+
+  pub full-back : (d i j : Bool) → i ≡ d → j ≡ (i && q) → f ≡ false → j ≡ (a && p || d && q)
+  full-back d i j s v h = v ∙ rw (s, ← e, ← z, h)
+
 -- ---- what the rule makes of the writer
-module _ (x : Card) (c b : ℕ) where
-  after-count : (namedWriter x c b) .count ≡ (writer x c) .count
-  unfolding namedWriter
-  after-count = cases (namesHolder (ruleFor x c b)) (λ h. rw h (named-count (writer x c) _)) (λ h. rw h)
+module _ (r : Rule) (t : Transaction) (n : Name) where
+  after-count : (namedBy r t n) .count ≡ t .count
+  unfolding namedBy
+  after-count = cases (namesHolder r) (λ h. rw h (named-count t n)) (λ h. rw h)
 
-  after-blocks : (namedWriter x c b) .blocks ≡ (writer x c) .blocks
-  unfolding namedWriter
-  after-blocks = cases (namesHolder (ruleFor x c b)) (λ h. rw h (named-blocks (writer x c) _)) (λ h. rw h)
+  after-blocks : (namedBy r t n) .blocks ≡ t .blocks
+  unfolding namedBy
+  after-blocks = cases (namesHolder r) (λ h. rw h (named-blocks t n)) (λ h. rw h)
 
-  after-kept : takesBlock (ruleFor x c b) ≡ false → writerAfter x c b ≡ namedWriter x c b
-  unfolding writerAfter namedWriter
-  after-kept h = rw h
+  -- the writer's list
+  module _ (g : Bool) (q : g ≡ namesHolder r) where
+    pub same-writer : not g ≡ true → t ≡ namedBy r t n
+    unfolding namedBy
+    same-writer h = rw (← q, not-true g h)
 
-  after-taken : takesBlock (ruleFor x c b) ≡ true → writerAfter x c b ≡ withBlock (namedWriter x c b) b
-  unfolding writerAfter namedWriter
-  after-taken h = rw h
+    pub own-room : (namesHolder r && passesTwelve t n) ≡ false → not g ≡ false → passesTwelve t n ≡ false
+    own-room m h = rw (← q, not-false g h) at m
 
-  module _ (r : Rule) (e : r ≡ ruleFor x c b) (g : Bool) where
-    module _ (q : g ≡ takesBlock r) where
-      not-taken : not g ≡ true → takesBlock (ruleFor x c b) ≡ false
-      not-taken h = rw (← e, ← q) (not-true g h)
+    pub named-writer : (v : Transaction) → v ≡ withName t n → not g ≡ false → v ≡ namedBy r t n
+    unfolding namedBy
+    named-writer v z h = z ∙ rw (← q, not-false g h)
 
-      is-taken : not g ≡ false → takesBlock (ruleFor x c b) ≡ true
-      is-taken h = rw (← e, ← q) (not-false g h)
+module _ (r : Rule) (t : Transaction) (g : Bool) (q : g ≡ takesBlock r) where
+  -- 25
+  pub ninth-not : not g ≡ true → false ≡ (takesBlock r && leb 8 (t .count))
+  ninth-not h = rw (← q, not-true g h)
 
-      -- 25
-      pub ninth-not : not g ≡ true → false ≡ ninthBlock x c b
-      unfolding ninthBlock
-      ninth-not h = rw (not-taken h)
+  pub ninth-test : not g ≡ false → leb 8 (t .count) ≡ (takesBlock r && leb 8 (t .count))
+  ninth-test h = rw (← q, not-false g h)
 
-      pub ninth-test : (t : Transaction) → t ≡ writer x c → not g ≡ false → leb 8 (t .count) ≡ ninthBlock x c b
-      unfolding ninthBlock
-      ninth-test t p h = rw (is-taken h, p)
+  module _ (n : Name) (b : ℕ) where
+    after-kept : not g ≡ true → afterBy r t n b ≡ namedBy r t n
+    unfolding afterBy
+    after-kept h = rw (← q, not-true g h)
 
-      -- the size of the record
-      module _ (t : Transaction) (p : t ≡ writer x c) (n : ℕ) (s : n ≡ recordSize t) (l : length (t .blocks) ≡ 8) where
-        size-before : n ≡ recordSize (writer x c)
-        size-before = s ∙ ap recordSize p
+    after-taken : not g ≡ false → afterBy r t n b ≡ withBlock (namedBy r t n) b
+    unfolding afterBy
+    after-taken h = rw (← q, not-false g h)
 
-        length-before : length ((writer x c) .blocks) ≡ 8
-        length-before = ap (λ (v : Transaction). length (v .blocks)) (sym p) ∙ l
+    -- the writer as it is left
+    pub after-same : (v : Transaction) → v ≡ namedBy r t n → not g ≡ true → v ≡ afterBy r t n b
+    after-same v p h = p ∙ sym (after-kept h)
 
-        pub size-kept : not g ≡ true → n ≡ recordSize (writerAfter x c b)
-        size-kept h = size-before ∙ sym (ap recordSize (after-kept (not-taken h)) ∙ size-same (writer x c) (namedWriter x c b) b length-before after-count after-blocks)
+    pub after-more : (v a : Transaction) → v ≡ namedBy r t n → a ≡ withBlock v b → not g ≡ false → a ≡ afterBy r t n b
+    after-more v a p s h = s ∙ rw p (sym (after-taken h))
 
-        pub size-grown : not g ≡ false → n < 10 → n + 1 ≡ recordSize (writerAfter x c b)
-        size-grown h k =
-            rw (after-taken (is-taken h), size-before)
-            (size-more (writer x c) (namedWriter x c b) b length-before after-count after-blocks (omega (arith, size-before)))
+    pub block-room : (takesBlock r && leb 8 (t .count)) ≡ false → (v : Transaction) → v ≡ namedBy r t n → not g ≡ false → v .count < 8
+    block-room m v p h =
+        let z : leb 8 (t .count) ≡ false = rw (← q, not-false g h) at m in
+        omega (arith, leb-false 8 (t .count) z, ap (λ (a : Transaction). a .count) p, after-count r t n)
 
-        pub size-full : not g ≡ false → 10 ≤ n → n ≡ recordSize (writerAfter x c b)
-        size-full h k =
-            rw (after-taken (is-taken h), size-before)
-            (size-most (writer x c) (namedWriter x c b) b length-before after-count after-blocks (omega (arith, size-before)))
+  -- the size of the record
+  module _ (m : ℕ) (s : m ≡ recordSize t) (l : length (t .blocks) ≡ 8) where
+    pub size-kept : not g ≡ true → (n : Name) (b : ℕ) → m ≡ recordSize (afterBy r t n b)
+    size-kept h n b = s ∙ sym (ap recordSize (after-kept n b h) ∙ size-same t (namedBy r t n) b l (after-count r t n) (after-blocks r t n))
 
-      -- the writer as it is left
-      pub after-same : (t : Transaction) → t ≡ namedWriter x c b → not g ≡ true → t ≡ writerAfter x c b
-      after-same t p h = p ∙ sym (after-kept (not-taken h))
+    pub size-grown : not g ≡ false → m < 10 → (n : Name) (b : ℕ) → m + 1 ≡ recordSize (afterBy r t n b)
+    size-grown h k n b = rw (after-taken n b h, s) (size-more t (namedBy r t n) b l (after-count r t n) (after-blocks r t n) (omega (arith, s)))
 
-      pub after-more : (t v : Transaction) → t ≡ namedWriter x c b → v ≡ withBlock t b → not g ≡ false → v ≡ writerAfter x c b
-      after-more t v p s h = s ∙ rw p (sym (after-taken (is-taken h)))
+    pub size-full : not g ≡ false → 10 ≤ m → (n : Name) (b : ℕ) → m ≡ recordSize (afterBy r t n b)
+    size-full h k n b = rw (after-taken n b h, s) (size-most t (namedBy r t n) b l (after-count r t n) (after-blocks r t n) (omega (arith, s)))
 
-      pub block-room : Room x c b → (t : Transaction) → t ≡ namedWriter x c b → not g ≡ false → t .count < 8
-      unfolding ninthBlock
-      block-room m t p h =
-          let z : leb 8 ((writer x c) .count) ≡ false = rw (is-taken h) at (m .blocks) in
-          omega (arith, leb-false 8 ((writer x c) .count) z, ap (λ (v : Transaction). v .count) p, after-count)
+-- the holder's list
+module _ (r : Rule) (x : Card) (c : ℕ) (k : Core) (w : Name) (g : Bool) (q : g ≡ isNamedBack r) where
+  pub same-card : not g ≡ true → x ≡ backBy r x c k w
+  unfolding backBy
+  same-card h = rw (← q, not-true g h)
 
-      -- the card: writer and holder
-      module _ (y a : Card) (t : Transaction) (p : y ≡ namedBack x c b) (s : t ≡ writerAfter x c b) (d : a ≡ withCore y c (withRunning (coreOf y c) t)) where
-        pub written-kept : not g ≡ true → a ≡ writtenCard x c b
-        unfolding writtenCard namedBack
-        written-kept h = d ∙ rw (p, s, not-taken h)
+  pub back-room : (isNamedBack r && passesTwelve (k .running) w) ≡ false → not g ≡ false → passesTwelve (k .running) w ≡ false
+  back-room m h = rw (← q, not-false g h) at m
 
-        pub written-held : (w : Name) (z : Card) → w ≡ writerName x c → z ≡ withHolder a b w → not g ≡ false → z ≡ writtenCard x c b
-        unfolding writtenCard namedBack
-        written-held w z i j h = j ∙ rw (d, i, p, s, is-taken h)
-
-    -- the writer's list
-    module _ (q : g ≡ namesHolder r) where
-      not-names : not g ≡ true → namesHolder (ruleFor x c b) ≡ false
-      not-names h = rw (← e, ← q) (not-true g h)
-
-      names : not g ≡ false → namesHolder (ruleFor x c b) ≡ true
-      names h = rw (← e, ← q) (not-false g h)
-
-      pub own-not : not g ≡ true → false ≡ writerListFull x c b
-      unfolding writerListFull
-      own-not h = rw (not-names h)
-
-      pub same-writer : (t : Transaction) → t ≡ writer x c → not g ≡ true → t ≡ namedWriter x c b
-      unfolding namedWriter
-      same-writer t p h = p ∙ rw (not-names h)
-
-      module _ (t : Transaction) (p : t ≡ writer x c) (u : Holder) (s : u ≡ holderOf x b) where
-        pub own-test : (f : Bool) → f ≡ passesTwelve t (u .name) → not g ≡ false → f ≡ writerListFull x c b
-        unfolding writerListFull
-        own-test f z h = z ∙ rw (names h, p, s)
-
-        pub own-room : Room x c b → not g ≡ false → passesTwelve t (u .name) ≡ false
-        unfolding writerListFull
-        own-room m h = let z : passesTwelve (writer x c) ((holderOf x b) .name) ≡ false = rw (names h) at (m .own) in rw (p, s) z
-
-        pub named-writer : (v : Transaction) → v ≡ withName t (u .name) → not g ≡ false → v ≡ namedWriter x c b
-        unfolding namedWriter
-        named-writer v z h = z ∙ rw (names h, p, s)
-
-    -- the holder's list
-    module _ (q : g ≡ isNamedBack r) where
-      not-back : not g ≡ true → isNamedBack (ruleFor x c b) ≡ false
-      not-back h = rw (← e, ← q) (not-true g h)
-
-      is-back : not g ≡ false → isNamedBack (ruleFor x c b) ≡ true
-      is-back h = rw (← e, ← q) (not-false g h)
-
-      pub back-not : not g ≡ true → false ≡ holderListFull x c b
-      unfolding holderListFull
-      back-not h = rw (not-back h)
-
-      pub same-card : not g ≡ true → x ≡ namedBack x c b
-      unfolding namedBack
-      same-card h = rw (not-back h)
-
-      module _ (u : Holder) (s : u ≡ holderOf x b) (k : Core) (d : k ≡ coreOf x ((u .name) .core)) (w : Name) (p : w ≡ writerName x c) where
-        core-of-holder : k ≡ coreOf x (((holderOf x b) .name) .core)
-        core-of-holder = d ∙ ap (λ (v : Holder). coreOf x ((v .name) .core)) s
-
-        pub back-test : (f : Bool) → f ≡ passesTwelve (k .running) w → not g ≡ false → f ≡ holderListFull x c b
-        unfolding holderListFull
-        back-test f z h = z ∙ rw (is-back h, core-of-holder, p)
-
-        pub back-room : Room x c b → not g ≡ false → passesTwelve (k .running) w ≡ false
-        unfolding holderListFull
-        back-room m h =
-            let z : passesTwelve ((coreOf x (((holderOf x b) .name) .core)) .running) (writerName x c) ≡ false = rw (is-back h) at (m .back) in
-            rw (core-of-holder, p) z
-
-        pub named-back : (v : Transaction) (y : Card) → v ≡ withName (k .running) w → y ≡ withCore x ((u .name) .core) (withRunning (coreOf x ((u .name) .core)) v) → not g ≡ false → y ≡ namedBack x c b
-        unfolding namedBack
-        named-back v y i j h = j ∙ rw (is-back h, i, core-of-holder, p, s)
-
-  -- 24, either list
-  pub full-own : (f : Bool) → f ≡ writerListFull x c b → f ≡ true → true ≡ listsFull x c b
-  unfolding listsFull writerListFull
-  full-own f e h = rw (sym e ∙ h)
-
-  pub full-back : (f g : Bool) → f ≡ writerListFull x c b → g ≡ holderListFull x c b → f ≡ false → g ≡ listsFull x c b
-  unfolding listsFull writerListFull holderListFull
-  full-back f g e q h = q ∙ rw (sym e ∙ h)
-
-  -- 26
-  pub journal-test : (k : Core) (s : Shape) (m n : ℕ) → k ≡ coreOf x c → m ≡ closedBlocks k → n ≡ recordSize (writerAfter x c b) → s ≡ shapeOf x → ltb (s .journal) (m + n) ≡ journalFull x c b
-  unfolding journalFull
-  journal-test k s m n e p q r = rw (r, p, e, q)
+  pub named-back : (v : Transaction) (y : Card) → v ≡ withName (k .running) w → y ≡ withCore x c (withRunning k v) → not g ≡ false → y ≡ backBy r x c k w
+  unfolding backBy
+  named-back v y i j h = j ∙ rw (← q, not-false g h, i)
 
 cond-true : (t : Bool) (a b : ℕ) → t ≡ true → cond t a b ≡ a
 cond-true t a b h = rw h
@@ -294,3 +225,106 @@ module _ (k : Core) where
   pub closed-none : k .closed .live ≡ false → k .used ≡ closedBlocks k
   unfolding closedBlocks
   closed-none h = rw h (omega arith)
+
+-- ---- the card's parts
+-- an element changed where f does not see it
+module _ {A B : Type 0} (f : A → B) (g : A → A) (e : (a : A) → f (g a) ≡ f a) (d : A) where
+  set-unseen : (l : List A) (u c : ℕ) → f (getD (set l u (g (getD l u d))) c d) ≡ f (getD l c d)
+  set-unseen [] u c = refl
+  set-unseen (a ∷ l) zero zero = e a
+  set-unseen (a ∷ l) zero (suc c) = refl
+  set-unseen (a ∷ l) (suc u) zero = refl
+  set-unseen (a ∷ l) (suc u) (suc c) = set-unseen l u c
+
+-- what core u's running transaction became does not matter where core c's is replaced
+core-unseen : (x : Card) (u c : ℕ) (v t : Transaction) → withRunning (coreOf (withCore x u (withRunning (coreOf x u) v)) c) t ≡ withRunning (coreOf x c) t
+unfolding coreOf
+core-unseen x u c v t = set-unseen (λ (k : Core). withRunning k t) (λ (k : Core). withRunning k v) (λ (k : Core). refl) (freshCore 0) (x .cores) u c
+
+back-unseen : (r : Rule) (x : Card) (u c : ℕ) (w : Name) (t : Transaction) → withRunning (coreOf (backBy r x u (coreOf x u) w) c) t ≡ withRunning (coreOf x c) t
+unfolding backBy
+back-unseen r x u c w t = cases (isNamedBack r) (λ h. rw h (core-unseen x u c _ t)) (λ h. rw h)
+
+module _ (x : Card) (c b : ℕ) where
+  after-of : afterBy (ruleFor x c b) (writer x c) ((holderOf x b) .name) b ≡ writerAfter x c b
+  unfolding afterBy namedBy writerAfter
+  after-of = refl
+
+  abbrev backOf : Card
+  backOf = let u = ((holderOf x b) .name) .core in backBy (ruleFor x c b) x u (coreOf x u) (writerName x c)
+
+  abbrev afterOf : Card
+  afterOf = withCore backOf c (withRunning (coreOf x c) (writerAfter x c b))
+
+  same-after : withCore backOf c (withRunning (coreOf backOf c) (writerAfter x c b)) ≡ afterOf
+  same-after = ap (λ (k : Core). withCore backOf c k) (back-unseen (ruleFor x c b) x (((holderOf x b) .name) .core) c (writerName x c) (writerAfter x c b))
+
+  card-kept : takesBlock (ruleFor x c b) ≡ false → writtenCard x c b ≡ afterOf
+  unfolding writtenCard backBy
+  card-kept h = rw h same-after
+
+  card-held : takesBlock (ruleFor x c b) ≡ true → writtenCard x c b ≡ withHolder afterOf b (writerName x c)
+  unfolding writtenCard backBy
+  card-held h = rw h (ap (λ (y : Card). withHolder y b (writerName x c)) same-after)
+
+  module _ (k : Core) (e : k ≡ coreOf x c) (h : Holder) (p : h ≡ holderOf x b) (u : Core) (q : u ≡ coreOf x ((h .name) .core)) (w : Name) (i : w ≡ newName c (k .next)) where
+    writer-met : writerOf k ≡ writer x c
+    unfolding writerOf writer
+    writer-met = rw e
+
+    name-met : w ≡ writerName x c
+    unfolding writerName
+    name-met = i ∙ rw e
+
+    module _ (r : Rule) (j : r ≡ ruleOf h w u) where
+      pub rule-met : r ≡ ruleFor x c b
+      unfolding ruleFor ruleOf isRunning runsAs
+      rule-met = j ∙ rw (name-met, q, p)
+
+      pub room-met : (s : Shape) → s ≡ shapeOf x → (n : ℕ) → ((a : ℕ) → n ≡ refusal (partConditions (s .journal) k u r w (h .name) a)) → n ≡ refusal (roomConditions x c b)
+      unfolding listsFull ninthBlock journalFull numbersEnd
+      room-met s y n f = f b ∙ rw (rule-met, name-met, q, p, writer-met, after-of, e, y)
+
+      pub room-back : Room x c b → (isNamedBack r && passesTwelve (u .running) w) ≡ false
+      unfolding holderListFull
+      room-back m = rw (rule-met, name-met, q, p) (m .back)
+
+      module _ (t : Transaction) (s : t ≡ writerOf k) where
+        pub room-own : Room x c b → ((namesHolder r && passesTwelve t (h .name)) ≡ false) × ((takesBlock r && leb 8 (t .count)) ≡ false)
+        unfolding writerListFull ninthBlock
+        room-own m = (rw (rule-met, s, writer-met, p) (m .own), rw (rule-met, s, writer-met) (m .blocks))
+
+        module _ (a : Transaction) (f : a ≡ afterBy r t (h .name) b) (y z : Card) (d : y ≡ backBy r x ((h .name) .core) u w) (l : z ≡ withCore y c (withRunning k a)) (g : Bool) (o : g ≡ takesBlock r) where
+          after-met : z ≡ afterOf
+          after-met = l ∙ rw (d, f, rule-met, name-met, s, writer-met, q, p, after-of, e)
+
+          pub written-kept : not g ≡ true → z ≡ writtenCard x c b
+          written-kept v = after-met ∙ sym (card-kept (rw (← rule-met, ← o) (not-true g v)))
+
+          pub written-held : (n : Card) → n ≡ withHolder z b w → not g ≡ false → n ≡ writtenCard x c b
+          written-held n v m = v ∙ rw (after-met, name-met) (sym (card-held (rw (← rule-met, ← o) (not-false g m))))
+
+-- ---- the refusals by the parts, in turn
+module _ (j : ℕ) (k u : Core) (r : Rule) (w n : Name) (t : Transaction) (e : t ≡ writerOf k) (f : Bool) (p : f ≡ (namesHolder r && passesTwelve t n || isNamedBack r && passesTwelve (u .running) w)) where
+  pub refused-24 : f ≡ true → (b : ℕ) → 24 ≡ refusal (partConditions j k u r w n b)
+  unfolding refusal
+  refused-24 h b = rw (← e, ← p, h)
+
+  module _ (z : f ≡ false) (g : Bool) (q : g ≡ (takesBlock r && leb 8 (t .count))) where
+    pub refused-25 : g ≡ true → (b : ℕ) → 25 ≡ refusal (partConditions j k u r w n b)
+    unfolding refusal
+    refused-25 h b = rw (← e, ← p, z, ← q, h)
+
+    module _ (y : g ≡ false) (i : Bool) (s : (m : Name) (b : ℕ) → i ≡ ltb j (closedBlocks k + recordSize (afterBy r t m b))) where
+      pub refused-26 : i ≡ true → (b : ℕ) → 26 ≡ refusal (partConditions j k u r w n b)
+      unfolding refusal
+      refused-26 h b = rw (← e, ← p, z, ← q, y, ← s n b, h)
+
+      module _ (x : i ≡ false) (o : Bool) (l : o ≡ (not (k .running .live) && ltb maxNumber (k .next))) where
+        pub refused-27 : o ≡ true → (b : ℕ) → 27 ≡ refusal (partConditions j k u r w n b)
+        unfolding refusal
+        refused-27 h b = rw (← e, ← p, z, ← q, y, ← s n b, x, ← l, h)
+
+        pub refused-not : o ≡ false → (b : ℕ) → 0 ≡ refusal (partConditions j k u r w n b)
+        unfolding refusal
+        refused-not h b = rw (← e, ← p, z, ← q, y, ← s n b, x, ← l, h)

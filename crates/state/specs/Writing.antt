@@ -1,16 +1,21 @@
 -- WRITE in stages: conditions and parts of the model's definition under names of their own.
-use Prim.Native.Nat.{ℕ, _≤_, _<_}
+use Prim.Native.Nat.{ℕ, _+_, _≤_, _<_}
 use mathlib.Core.Path.{_≡_}
-use mathlib.Core.Bool.{Bool, false, cond, not, _&&_}
+use mathlib.Core.Bool.{Bool, false, cond, not, _&&_, _||_}
 use mathlib.Core.List.{List, [], _∷_}
-use lib.Dec.{ltb, leb}
+use lib.Dec.{ltb, leb, eqb}
 use lib.ListN.{length}
 use Rattle.model.specs.Bytes.{Bytes}
-use Rattle.model.specs.Card.{shapeOf, coreOf, holderOf, withName, withRunning, withCore}
+use Rattle.model.specs.Card.{sameName, opened, recordSize, shapeOf, coreOf, holderOf, withBlock, withName, withRunning, withCore}
 use Rattle.model.specs.Layout.{maxNumber}
-use Rattle.model.specs.Write.{writer, writerName, ruleFor, takesBlock, namesHolder, isNamedBack, passesTwelve, listsFull, journalFull}
+use Rattle.model.specs.Write.{writer, writerName, ruleFor, takesBlock, namesHolder, isNamedBack, passesTwelve, listsFull, closedBlocks, journalFull}
+use Rattle.model.specs.declared.Name.{Name}
 use Rattle.model.specs.declared.Transaction.{Transaction}
+use Rattle.model.specs.declared.Core.{Core}
+use Rattle.model.specs.declared.Holder.{Holder}
 use Rattle.model.specs.declared.Card.{Card}
+use Rattle.model.specs.declared.Rule.{Rule}
+use Rattle.model.specs.declared.Rule.the-variants.{Free, Own, Running, Closed}
 
 -- 24 for the writer's list, and for the list of the transaction that holds the block
 unfoldable pub writerListFull : Card → ℕ → ℕ → Bool
@@ -48,12 +53,39 @@ pub record Within (d m : Bytes) (b o : ℕ) : Type 0 where
   pub block : b < 64
   pub offset : o ≤ 124
 
--- the writer, its list naming the holder where the rule asks for it
-unfoldable pub namedWriter : Card → ℕ → ℕ → Transaction
-namedWriter x c b = cond (namesHolder (ruleFor x c b)) (withName (writer x c) ((holderOf x b) .name)) (writer x c)
+-- ---- over the parts that a WRITE reads: the writer's core, the block's holder, the holder's core
+-- the transaction that writes
+unfoldable pub writerOf : Core → Transaction
+writerOf k = cond (k .running .live) (k .running) opened
 
--- the card, the holder's list naming the writer where the rule asks for it
-unfoldable pub namedBack : Card → ℕ → ℕ → Card
-namedBack x c b =
-    let u = ((holderOf x b) .name) .core in
-    cond (isNamedBack (ruleFor x c b)) (withCore x u (withRunning (coreOf x u) (withName ((coreOf x u) .running) (writerName x c)))) x
+-- the core's running transaction has the name's number
+unfoldable pub runsAs : Core → Name → Bool
+runsAs k n = k .running .live && eqb (k .next) (n .number)
+
+-- the rule that the writer of name w meets
+unfoldable pub ruleOf : Holder → Name → Core → Rule
+ruleOf h w u =
+    cond (not (h .held)) Free
+    (cond (sameName (h .name) w) Own
+    (cond (runsAs u (h .name)) Running Closed))
+
+-- the writer, its list naming the holder where the rule asks for it
+unfoldable pub namedBy : Rule → Transaction → Name → Transaction
+namedBy r t n = cond (namesHolder r) (withName t n) t
+
+-- the writer as the WRITE leaves it
+unfoldable pub afterBy : Rule → Transaction → Name → ℕ → Transaction
+afterBy r t n b = cond (takesBlock r) (withBlock (namedBy r t n) b) (namedBy r t n)
+
+-- the card, the list of the holder, of core u, naming the writer where the rule asks for it
+unfoldable pub backBy : Rule → Card → ℕ → Core → Name → Card
+backBy r x u k w = cond (isNamedBack r) (withCore x u (withRunning k (withName (k .running) w))) x
+
+-- 24 to 27
+abbrev pub partConditions : ℕ → Core → Core → Rule → Name → Name → ℕ → List (Bool × ℕ)
+partConditions j k u r w n b =
+    (namesHolder r && passesTwelve (writerOf k) n || isNamedBack r && passesTwelve (u .running) w, 24)
+    ∷ (takesBlock r && leb 8 ((writerOf k) .count), 25)
+    ∷ (ltb j (closedBlocks k + recordSize (afterBy r (writerOf k) n b)), 26)
+    ∷ (not (k .running .live) && ltb maxNumber (k .next), 27)
+    ∷ []

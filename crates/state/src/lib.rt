@@ -45,7 +45,8 @@ pub fn tail_at(card: Card, c: u8) -> Tail
 {
     let i = c as usize;
     if i < 8 {
-        return card.tails[i];
+        let tails = card.tails;
+        return tails[i];
     }
     Tail {
         number: 0,
@@ -53,15 +54,39 @@ pub fn tail_at(card: Card, c: u8) -> Tail
     }
 }
 
-// Core c.
+// Core c. An index that is only known when the code runs would have the whole card copied for one core; and so that it is copied
+// in one piece, the core past the end is read from an array as well.
 pub fn core_at(card: Card, c: u8) -> Core
     ensures { λ r. ⌜ r ≡ coreOf card c ⌝ }
 {
-    let i = c as usize;
-    if i < 8 {
-        return card.cores[i];
+    if c == 0 {
+        return card.cores[0];
     }
-    model::fresh_core(0)
+    if c == 1 {
+        return card.cores[1];
+    }
+    if c == 2 {
+        return card.cores[2];
+    }
+    if c == 3 {
+        return card.cores[3];
+    }
+    if c == 4 {
+        return card.cores[4];
+    }
+    if c == 5 {
+        return card.cores[5];
+    }
+    if c == 6 {
+        return card.cores[6];
+    }
+    if c == 7 {
+        return card.cores[7];
+    }
+    let none = model::fresh_core(0);
+    let pair = [none; 2];
+    let i = c as usize % 2;
+    pair[i]
 }
 
 // The card with core c replaced.
@@ -82,7 +107,8 @@ pub fn holder_at(card: Card, b: u8) -> Holder
 {
     let i = b as usize;
     if i < 64 {
-        return card.holders[i];
+        let holders = card.holders;
+        return holders[i];
     }
     Holder {
         held: false,

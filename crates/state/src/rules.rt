@@ -1,12 +1,15 @@
 // What a WRITE makes of the card's state: the four rules by which a transaction takes a block or its list names the holder, and
-// whether there is room (refusals 24 to 27).
+// whether there is room (refusals 24 to 27). A card handed on is copied whole, so each entry reads the writer's core, the
+// block's holder and the holder's core once, and what follows takes those parts.
 ghost use mathlib.Core.Path.{_≡_};
-ghost use mathlib.Core.Bool.{false};
-ghost use Prim.Native.Nat.{_+_, _<_, _≤_};
-ghost use Rattle.model.specs.Card.{opened, recordSize, coreOf, withBlock, withName, withRunning, withCore};
+ghost use mathlib.Core.Bool.{false, not, _&&_, _||_};
+ghost use Prim.Native.Nat.{ℕ, _+_, _<_, _≤_};
+ghost use lib.Dec.{ltb, leb};
+ghost use Rattle.model.specs.Card.{newName, opened, recordSize, withBlock, withName, withRunning, withCore};
 ghost use Rattle.model.specs.Command.{refusal};
-ghost use Rattle.model.specs.Write.{writer, writerName, isRunning, ruleFor, takesBlock, namesHolder, isNamedBack, loadsImage, writerAfter, passesTwelve, listsFull, closedBlocks, journalFull, writtenCard};
-ghost use Rattle.state.specs.Writing.{writerListFull, holderListFull, ninthBlock, numbersEnd, roomConditions, Room, namedWriter, namedBack};
+ghost use Rattle.model.specs.Layout.{maxNumber};
+ghost use Rattle.model.specs.Write.{ruleFor, takesBlock, namesHolder, isNamedBack, loadsImage, passesTwelve, closedBlocks, writtenCard};
+ghost use Rattle.state.specs.Writing.{roomConditions, Room, writerOf, runsAs, ruleOf, partConditions, namedBy, afterBy, backBy};
 use crate::block_count;
 use crate::core_at;
 use crate::holder_at;
@@ -17,6 +20,7 @@ use crate::with_core;
 use crate::with_holder;
 use model::Card;
 use model::Core;
+use model::Holder;
 use model::Name;
 use model::Rule;
 use model::Transaction;
@@ -30,11 +34,10 @@ fn opened() -> Transaction
     t
 }
 
-// The transaction that writes: core c's running one, or one that opens.
-fn writer(card: Card, c: u8) -> Transaction
-    ensures { λ r. ⌜ r ≡ writer card c ⌝ }
+// The transaction that writes: the core's running one, or one that opens.
+fn writer(k: Core) -> Transaction
+    ensures { λ r. ⌜ r ≡ writerOf k ⌝ }
 {
-    let k = core_at(card, c);
     let t = k.running;
     if t.live {
         return t;
@@ -42,22 +45,20 @@ fn writer(card: Card, c: u8) -> Transaction
     opened()
 }
 
-// Its name.
-fn writer_name(card: Card, c: u8) -> Name
-    ensures { λ r. ⌜ r ≡ writerName card c ⌝ }
+// Its name, of core c.
+fn writer_name(k: Core, c: u8) -> Name
+    ensures { λ r. ⌜ r ≡ newName c (k .next) ⌝ }
 {
-    let k = core_at(card, c);
     Name {
         core: c,
         number: k.next,
     }
 }
 
-// Whether the transaction of this name is running.
-fn is_running(card: Card, n: Name) -> bool
-    ensures { λ r. ⌜ r ≡ isRunning card n ⌝ }
+// Whether the core's running transaction has the name's number.
+fn is_running(k: Core, n: Name) -> bool
+    ensures { λ r. ⌜ r ≡ runsAs k n ⌝ }
 {
-    let k = core_at(card, n.core);
     let t = k.running;
     if t.live {
         return k.next == n.number;
@@ -65,23 +66,33 @@ fn is_running(card: Card, n: Name) -> bool
     false
 }
 
-// Which rule core c's transaction meets at block b.
-pub fn rule_for(card: Card, c: u8, b: u8) -> Rule
-    ensures { λ r. ⌜ r ≡ ruleFor card c b ⌝ }
+// Which rule the writer of this name meets, by the block's holder and the holder's core.
+fn rule_at(h: Holder, own: Name, k: Core) -> Rule
+    ensures { λ r. ⌜ r ≡ ruleOf h own k ⌝ }
 {
-    let h = holder_at(card, b);
     if !h.held {
         return Rule::Free;
     }
     let n = h.name;
-    let own = writer_name(card, c);
     if same_name(n, own) {
         return Rule::Own;
     }
-    if !is_running(card, n) {
+    if !is_running(k, n) {
         return Rule::Closed;
     }
     Rule::Running
+}
+
+// Which rule core c's transaction meets at block b.
+pub fn rule_for(card: Card, c: u8, b: u8) -> Rule
+    ensures { λ r. ⌜ r ≡ ruleFor card c b ⌝ }
+{
+    let k = core_at(card, c);
+    let h = holder_at(card, b);
+    let n = h.name;
+    let u = core_at(card, n.core);
+    let own = writer_name(k, c);
+    rule_at(h, own, u)
 }
 
 // Whether the writer takes the block.
@@ -142,55 +153,35 @@ fn passes_twelve(t: Transaction, n: Name) -> bool
     12 <= t.named
 }
 
-// Refusal 24 for the writer's list.
-fn writer_list_full(card: Card, c: u8, b: u8) -> bool
-    ensures { λ r. ⌜ r ≡ writerListFull card c b ⌝ }
+// Whether a list that is to name this one would pass 12 names.
+fn list_full(asked: bool, t: Transaction, n: Name) -> bool
+    ensures { λ r. ⌜ r ≡ (asked && passesTwelve t n) ⌝ }
 {
-    let rule = rule_for(card, c, b);
-    if !names_holder(rule) {
+    if !asked {
         return false;
     }
-    let t = writer(card, c);
-    let h = holder_at(card, b);
-    let n = h.name;
     passes_twelve(t, n)
 }
 
-// Refusal 24 for the holder's list.
-fn holder_list_full(card: Card, c: u8, b: u8) -> bool
-    ensures { λ r. ⌜ r ≡ holderListFull card c b ⌝ }
+// Refusal 24: a list, the writer's (t) or the holder's (v), would pass 12 names.
+fn lists_full(rule: Rule, t: Transaction, n: Name, v: Transaction, own: Name) -> bool
+    ensures { λ r. ⌜ r ≡ (namesHolder rule && passesTwelve t n || isNamedBack rule && passesTwelve v own) ⌝ }
 {
-    let rule = rule_for(card, c, b);
-    if !is_named_back(rule) {
-        return false;
-    }
-    let h = holder_at(card, b);
-    let n = h.name;
-    let k = core_at(card, n.core);
-    let t = k.running;
-    let own = writer_name(card, c);
-    passes_twelve(t, own)
-}
-
-// Refusal 24: a list, the writer's or the holder's, would pass 12 names.
-fn lists_full(card: Card, c: u8, b: u8) -> bool
-    ensures { λ r. ⌜ r ≡ listsFull card c b ⌝ }
-{
-    if writer_list_full(card, c, b) {
+    let names = names_holder(rule);
+    if list_full(names, t, n) {
         return true;
     }
-    holder_list_full(card, c, b)
+    let back = is_named_back(rule);
+    list_full(back, v, own)
 }
 
 // Refusal 25.
-fn ninth_block(card: Card, c: u8, b: u8) -> bool
-    ensures { λ r. ⌜ r ≡ ninthBlock card c b ⌝ }
+fn ninth_block(rule: Rule, t: Transaction) -> bool
+    ensures { λ r. ⌜ r ≡ (takesBlock rule && leb 8 (t .count)) ⌝ }
 {
-    let rule = rule_for(card, c, b);
     if !takes_block(rule) {
         return false;
     }
-    let t = writer(card, c);
     8 <= t.count
 }
 
@@ -213,12 +204,10 @@ fn closed_blocks(k: Core) -> usize
 }
 
 // The blocks of the writer's record after this WRITE.
-fn size_after(card: Card, c: u8, b: u8) -> usize
-    ensures { λ r. ⌜ (r ≡ recordSize (writerAfter card c b)) × (r ≤ 10) ⌝ }
+fn size_after(rule: Rule, t: Transaction) -> usize
+    ensures { λ r. ⌜ ((n : Name) (b : ℕ) → r ≡ recordSize (afterBy rule t n b)) × (r ≤ 10) ⌝ }
 {
-    let t = writer(card, c);
     let n = record_size(t);
-    let rule = rule_for(card, c, b);
     if !takes_block(rule) {
         return n;
     }
@@ -229,22 +218,19 @@ fn size_after(card: Card, c: u8, b: u8) -> usize
 }
 
 // Refusal 26.
-fn journal_full(card: Card, c: u8, b: u8) -> bool
-    ensures { λ r. ⌜ r ≡ journalFull card c b ⌝ }
+fn journal_full(journal: u8, rule: Rule, k: Core, t: Transaction) -> bool
+    ensures { λ r. ⌜ ((n : Name) (b : ℕ) → r ≡ ltb journal (closedBlocks k + recordSize (afterBy rule t n b))) ⌝ }
 {
-    let k = core_at(card, c);
     let used = closed_blocks(k);
-    let size = size_after(card, c, b);
-    let s = shape_of(card);
-    let j = s.journal as usize;
+    let size = size_after(rule, t);
+    let j = journal as usize;
     j < used + size
 }
 
 // Refusal 27.
-fn numbers_end(card: Card, c: u8) -> bool
-    ensures { λ r. ⌜ r ≡ numbersEnd card c ⌝ }
+fn numbers_end(k: Core) -> bool
+    ensures { λ r. ⌜ r ≡ (not (k .running .live) && ltb maxNumber (k .next)) ⌝ }
 {
-    let k = core_at(card, c);
     let t = k.running;
     if t.live {
         return false;
@@ -252,23 +238,39 @@ fn numbers_end(card: Card, c: u8) -> bool
     4000000000 < k.next
 }
 
+// Refusals by the parts: the writer's core k, the holder's core u and name n.
+fn part_refusal(journal: u8, k: Core, u: Core, rule: Rule, own: Name, n: Name) -> u8
+    ensures { λ r. ⌜ ((b : ℕ) → r ≡ refusal (partConditions journal k u rule own n b)) ⌝ }
+{
+    let t = writer(k);
+    let v = u.running;
+    if lists_full(rule, t, n, v, own) {
+        return 24;
+    }
+    if ninth_block(rule, t) {
+        return 25;
+    }
+    if journal_full(journal, rule, k, t) {
+        return 26;
+    }
+    if numbers_end(k) {
+        return 27;
+    }
+    0
+}
+
 // Refusals from the state of transactions and journals.
 pub fn room_refusal(card: Card, c: u8, b: u8) -> u8
     ensures { λ r. ⌜ r ≡ refusal (roomConditions card c b) ⌝ }
 {
-    if lists_full(card, c, b) {
-        return 24;
-    }
-    if ninth_block(card, c, b) {
-        return 25;
-    }
-    if journal_full(card, c, b) {
-        return 26;
-    }
-    if numbers_end(card, c) {
-        return 27;
-    }
-    0
+    let k = core_at(card, c);
+    let h = holder_at(card, b);
+    let n = h.name;
+    let u = core_at(card, n.core);
+    let s = shape_of(card);
+    let own = writer_name(k, c);
+    let rule = rule_at(h, own, u);
+    part_refusal(s.journal, k, u, rule, own, n)
 }
 
 // The name added to the list, where it does not stand in it.
@@ -297,58 +299,47 @@ fn with_block(mut t: Transaction, b: u8) -> Transaction
 }
 
 // The writer, its list naming the holder where the rule asks for it.
-fn named_writer(card: Card, c: u8, b: u8) -> Transaction
-    requires { ⌜ Room card c b ⌝ }
-    ensures { λ r. ⌜ r ≡ namedWriter card c b ⌝ }
+fn named_writer(rule: Rule, t: Transaction, n: Name) -> Transaction
+    requires { ⌜ (namesHolder rule && passesTwelve t n) ≡ false ⌝ }
+    ensures { λ r. ⌜ r ≡ namedBy rule t n ⌝ }
 {
-    let rule = rule_for(card, c, b);
-    let t = writer(card, c);
     if !names_holder(rule) {
         return t;
     }
-    let h = holder_at(card, b);
-    let n = h.name;
     with_name(t, n)
 }
 
 // The writer as the WRITE leaves it.
-fn writer_after(card: Card, c: u8, b: u8) -> Transaction
-    requires { ⌜ Room card c b ⌝ }
-    ensures { λ r. ⌜ r ≡ writerAfter card c b ⌝ }
+fn writer_after(rule: Rule, t: Transaction, n: Name, b: u8) -> Transaction
+    requires { ⌜ ((namesHolder rule && passesTwelve t n) ≡ false) × ((takesBlock rule && leb 8 (t .count)) ≡ false) ⌝ }
+    ensures { λ r. ⌜ r ≡ afterBy rule t n b ⌝ }
 {
-    let rule = rule_for(card, c, b);
-    let t = named_writer(card, c, b);
+    let named = named_writer(rule, t, n);
     if !takes_block(rule) {
-        return t;
+        return named;
     }
-    with_block(t, b)
+    with_block(named, b)
 }
 
-// The card with core c's running transaction replaced.
-fn with_running(card: Card, c: u8, t: Transaction) -> Card
-    ensures { λ r. ⌜ r ≡ withCore card c (withRunning (coreOf card c) t) ⌝ }
+// The card with core c as k, its running transaction replaced.
+fn with_running(card: Card, c: u8, mut k: Core, t: Transaction) -> Card
+    ensures { λ r. ⌜ r ≡ withCore card c (withRunning k t) ⌝ }
 {
-    let mut k = core_at(card, c);
     k.running = t;
     with_core(card, c, k)
 }
 
-// The card, the holder's list naming the writer where the rule asks for it.
-fn named_back(card: Card, c: u8, b: u8) -> Card
-    requires { ⌜ Room card c b ⌝ }
-    ensures { λ r. ⌜ r ≡ namedBack card c b ⌝ }
+// The card, the list of the holder, of core c, naming the writer where the rule asks for it.
+fn named_back(card: Card, rule: Rule, c: u8, k: Core, own: Name) -> Card
+    requires { ⌜ (isNamedBack rule && passesTwelve (k .running) own) ≡ false ⌝ }
+    ensures { λ r. ⌜ r ≡ backBy rule card c k own ⌝ }
 {
-    let rule = rule_for(card, c, b);
     if !is_named_back(rule) {
         return card;
     }
-    let h = holder_at(card, b);
-    let n = h.name;
-    let k = core_at(card, n.core);
     let t = k.running;
-    let own = writer_name(card, c);
     let named = with_name(t, own);
-    with_running(card, n.core, named)
+    with_running(card, c, k, named)
 }
 
 // The card afterwards: the holder's list, the writer, the block's holder.
@@ -356,13 +347,18 @@ pub fn written_card(card: Card, c: u8, b: u8) -> Card
     requires { ⌜ Room card c b ⌝ }
     ensures { λ r. ⌜ r ≡ writtenCard card c b ⌝ }
 {
-    let named = named_back(card, c, b);
-    let t = writer_after(card, c, b);
-    let after = with_running(named, c, t);
-    let rule = rule_for(card, c, b);
+    let k = core_at(card, c);
+    let h = holder_at(card, b);
+    let n = h.name;
+    let u = core_at(card, n.core);
+    let own = writer_name(k, c);
+    let rule = rule_at(h, own, u);
+    let t = writer(k);
+    let after = writer_after(rule, t, n, b);
+    let named = named_back(card, rule, n.core, u, own);
+    let written = with_running(named, c, k, after);
     if !takes_block(rule) {
-        return after;
+        return written;
     }
-    let own = writer_name(card, c);
-    with_holder(after, b, own)
+    with_holder(written, b, own)
 }

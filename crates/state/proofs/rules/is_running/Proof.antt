@@ -11,4 +11,4 @@ returns-2 : tie.Need-returns-2
 returns-2 c = search (needs, runs-not)
 
 pub is-running-spec : {M : Type 1} → statement M
-is-running-spec = tie.close (tie.spec (λ c κs. search needs) returns returns-2)
+is-running-spec = tie.close (tie.spec returns returns-2)

@@ -11,4 +11,4 @@ returns-2 : tie.Need-returns-2
 returns-2 c = search (needs, full-back)
 
 pub lists-full-spec : {M : Type 1} → statement M
-lists-full-spec = tie.close (tie.spec (λ c κs. search needs) returns (λ c κs. search needs) returns-2)
+lists-full-spec = tie.close (tie.spec (λ c κs. search needs) (λ c κs. search needs) returns (λ c κs. search needs) (λ c κs. search needs) returns-2)

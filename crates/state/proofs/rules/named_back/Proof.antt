@@ -14,4 +14,4 @@ returns-2 : tie.Need-returns-2
 returns-2 c = search (needs, named-back)
 
 pub named-back-spec : {M : Type 1} → statement M
-named-back-spec = tie.close (tie.spec (λ c κs. search needs) (λ c κs. search needs) returns (λ c κs. search needs) (λ c κs. search needs) (λ c κs. search needs) with-name-requires (λ c κs. search needs) returns-2)
+named-back-spec = tie.close (tie.spec (λ c κs. search needs) returns with-name-requires (λ c κs. search needs) returns-2)

@@ -14,4 +14,4 @@ returns-2 : tie.Need-returns-2
 returns-2 c = search (needs, named-writer)
 
 pub named-writer-spec : {M : Type 1} → statement M
-named-writer-spec = tie.close (tie.spec (λ c κs. search needs) (λ c κs. search needs) (λ c κs. search needs) returns (λ c κs. search needs) with-name-requires returns-2)
+named-writer-spec = tie.close (tie.spec (λ c κs. search needs) returns with-name-requires returns-2)

@@ -11,4 +11,4 @@ returns-2 : tie.Need-returns-2
 returns-2 c = search (needs, ninth-test)
 
 pub ninth-block-spec : {M : Type 1} → statement M
-ninth-block-spec = tie.close (tie.spec (λ c κs. search needs) (λ c κs. search needs) returns (λ c κs. search needs) returns-2)
+ninth-block-spec = tie.close (tie.spec (λ c κs. search needs) returns returns-2)

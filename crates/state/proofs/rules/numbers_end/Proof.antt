@@ -1,14 +1,11 @@
 -- `state::rules::numbers_end` meets its contract.
-use Rattle.state.proofs.WriterLaws.{number-kept, number-opens}
+use Rattle.state.proofs.WriterLaws.{number-opens}
 use borrow.Author.Needs.{needs}
 use Rattle.state.proofs.rules.numbers_end.Statement.{statement}
 use Rattle.state.proofs.rules.numbers_end.Tie as tie
-
-returns : tie.Need-returns
-returns c = search (needs, number-kept)
 
 returns-2 : tie.Need-returns-2
 returns-2 c = search (needs, number-opens)
 
 pub numbers-end-spec : {M : Type 1} → statement M
-numbers-end-spec = tie.close (tie.spec (λ c κs. search needs) returns returns-2)
+numbers-end-spec = tie.close (tie.spec (λ c. search needs) returns-2)

@@ -11,4 +11,4 @@ returns-2 : tie.Need-returns-2
 returns-2 c = search (needs, writer-opened)
 
 pub writer-spec : {M : Type 1} → statement M
-writer-spec = tie.close (tie.spec (λ c κs. search needs) returns (λ c κs. search needs) returns-2)
+writer-spec = tie.close (tie.spec returns (λ c κs. search needs) returns-2)

@@ -14,4 +14,4 @@ returns-2 : tie.Need-returns-2
 returns-2 c = search (needs, after-more)
 
 pub writer-after-spec : {M : Type 1} → statement M
-writer-after-spec = tie.close (tie.spec (λ c κs. search needs) (λ c κs. search needs) (λ c κs. search needs) returns with-block-requires returns-2)
+writer-after-spec = tie.close (tie.spec (λ c κs. search needs) (λ c κs. search needs) returns with-block-requires returns-2)

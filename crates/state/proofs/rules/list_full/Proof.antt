@@ -1,0 +1,14 @@
+-- `state::rules::list_full` meets its contract.
+use Rattle.state.proofs.WriterLaws.{full-not, full-test}
+use borrow.Author.Needs.{needs}
+use Rattle.state.proofs.rules.list_full.Statement.{statement}
+use Rattle.state.proofs.rules.list_full.Tie as tie
+
+returns : tie.Need-returns
+returns c = search (needs, full-not)
+
+returns-2 : tie.Need-returns-2
+returns-2 c = search (needs, full-test)
+
+pub list-full-spec : {M : Type 1} → statement M
+list-full-spec = tie.close (tie.spec returns (λ c κs. search needs) returns-2)
