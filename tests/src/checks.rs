@@ -143,15 +143,21 @@ impl<'w> Bench<'w> {
         }
     }
 
-    pub fn without_foreign_disks(&mut self) {
-        self.foreign_share = 0;
+    /// How many of a thousand starts are over a foreign disk.
+    pub fn set_foreign_share(&mut self, share: usize) {
+        self.foreign_share = share;
     }
 
     /// Runs generated tapes until so many commands are done.
     pub fn soak(&mut self, commands: u64, seed: u64) -> Result<(), Failure> {
+        self.soak_until(seed, |tally| tally.commands >= commands)
+    }
+
+    /// Runs generated tapes until the tally is enough.
+    pub fn soak_until(&mut self, seed: u64, is_enough: impl Fn(&Tally) -> bool) -> Result<(), Failure> {
         let mut generator = Generator::new(seed);
         self.random = Random::new(seed ^ 0x5EED);
-        while self.tally.commands < commands {
+        while !is_enough(&self.tally) {
             if self.random.chance(self.foreign_share) {
                 self.start_foreign();
             } else {
@@ -270,9 +276,9 @@ impl<'w> Bench<'w> {
     fn step(&mut self, offset: usize) -> Result<Outcome, Failure> {
         let before = self.card;
         let outcome = self.card.command(&mut self.disk, &mut self.memory, &self.tape, offset);
-        self.tally.commands += 1;
-        self.tally.answers[(outcome.answer as usize).min(41)] += 1;
+        self.count(&before, offset, outcome);
         let checked = match command::read(&self.tape, offset) {
+            _ if self.checks == Checks::NONE => Ok(()),
             Ok((command, next)) => self.check_command(&before, command, next, outcome),
             Err(refusal) => self.check_refusal(&before, outcome, refusal, self.tape.len()),
         };
@@ -283,6 +289,15 @@ impl<'w> Bench<'w> {
             watched.map_err(|detail| self.failure(("differs", detail), offset))?;
         }
         Ok(outcome)
+    }
+
+    fn count(&mut self, before: &Card, offset: usize, outcome: Outcome) {
+        let was_down = before.phase == Phase::Down;
+        let is_cut = matches!(command::read(&self.tape, offset), Ok((Command::Cut, _)));
+        self.tally.commands += 1;
+        self.tally.answers[(outcome.answer as usize).min(41)] += 1;
+        self.tally.recoveries += (was_down && self.card.phase == Phase::Up) as u64;
+        self.tally.cuts_in_recovery += (was_down && is_cut && outcome.answer == 0) as u64;
     }
 
     fn check_command(&mut self, before: &Card, command: Command, next: usize, outcome: Outcome) -> Checked {
@@ -354,8 +369,6 @@ impl<'w> Bench<'w> {
     /// The checks of a command carried out.
     fn check_done(&mut self, before: &Card, command: Command, outcome: Outcome, changed: &[usize]) -> Checked {
         let came_up = before.phase == Phase::Down && self.card.phase == Phase::Up;
-        self.tally.recoveries += came_up as u64;
-        self.tally.cuts_in_recovery += (command == Command::Cut && before.phase == Phase::Down) as u64;
         if self.checks.has(Checks::AREA) && came_up && command == Command::Recover {
             self.check_area()?;
         }

@@ -73,24 +73,26 @@ fn crafted(random: &mut Random) -> Vec<u8> {
     disk
 }
 
-/// One field of the master just outside its range, or one that is not looked at.
+/// Places in a master and words to put there: just outside their range, or not looked at.
+pub const SPOILS: [(usize, u32); 14] = [
+    (0, 0),
+    (4, 1),
+    (8, 7),
+    (12, 0),
+    (12, 9),
+    (16, 0),
+    (16, 65),
+    (20, 3),
+    (20, 25),
+    (24, 0),
+    (24, LAST_TAIL + 1),
+    (28, 24),
+    (80, 0),
+    (124, 9),
+];
+
 fn spoil_master(random: &mut Random, disk: &mut [u8]) {
-    let (at, word) = random.pick(&[
-        (0, 0),
-        (4, 1),
-        (8, 7),
-        (12, 0),
-        (12, 9),
-        (16, 0),
-        (16, 65),
-        (20, 3),
-        (20, 25),
-        (24, 0),
-        (24, LAST_TAIL + 1),
-        (28, 24),
-        (80, 0),
-        (124, 9),
-    ]);
+    let (at, word) = random.pick(&SPOILS);
     put_word(disk, at, word);
 }
 

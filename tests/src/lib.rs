@@ -4,6 +4,7 @@ pub mod book;
 pub mod card;
 pub mod checks;
 pub mod command;
+pub mod directed;
 pub mod few;
 pub mod foreign;
 pub mod generator;

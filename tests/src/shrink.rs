@@ -23,7 +23,7 @@ impl Shrinker {
 
     fn found(&self, commands: u64, seed: u64) -> Option<Vec<u8>> {
         let mut bench = Bench::new(self.wrong, self.checks, None);
-        bench.without_foreign_disks();
+        bench.set_foreign_share(0);
         bench.soak(commands, seed).err().map(|failure| failure.tape)
     }
 

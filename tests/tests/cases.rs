@@ -8,6 +8,23 @@ use card_tests::program::print_tape;
 const FIRST: &str = "01 02 04 0C | 02 00 0003 00 41424344 | 02 01 0003 04 45464748 | 03 00 | 04 00 | 04 00 | 04 00 \
     | 05 00 | 03 01 | 04 01 | 04 01 | 06 | 07 | 07";
 
+/// What is printed up to the first store of core 1.
+const FIRST_LINES: [&str; 10] = [
+    "0 1 0 0",
+    "4 2 0 0",
+    "13 2 0 0",
+    "22 3 0 0",
+    "24 4 0 1",
+    "26 4 0 2",
+    "28 4 0 3",
+    "30 5 32 3",
+    "32 3 0 3",
+    "34 4 0 4",
+];
+
+/// What is printed until the first transaction, of one block, is committed.
+const ONE_COMMITTED: [&str; 6] = ["0 1 0 0", "4 2 0 0", "13 3 0 0", "15 4 0 1", "17 4 0 2", "19 4 0 3"];
+
 fn prints(tape: &str, lines: &[&str]) {
     let printed = print_tape(&from_hex(tape));
     assert_eq!(printed.lines().collect::<Vec<_>>(), lines, "tape {tape}");
@@ -15,45 +32,14 @@ fn prints(tape: &str, lines: &[&str]) {
 
 #[test]
 fn p1_both_commit_and_come_back() {
-    let lines = [
-        "0 1 0 0",
-        "4 2 0 0",
-        "13 2 0 0",
-        "22 3 0 0",
-        "24 4 0 1",
-        "26 4 0 2",
-        "28 4 0 3",
-        "30 5 32 3",
-        "32 3 0 3",
-        "34 4 0 4",
-        "36 4 0 5",
-        "38 6 0 5",
-        "39 7 0 6",
-        "40 7 0 7",
-        "block 3 4142434445464748",
-    ];
-    prints(FIRST, &lines);
+    let end = ["36 4 0 5", "38 6 0 5", "39 7 0 6", "40 7 0 7", "block 3 4142434445464748"];
+    prints(FIRST, &[&FIRST_LINES[..], &end].concat());
 }
 
 #[test]
 fn p2_a_commit_missing_brings_nothing_back() {
     let tape = FIRST.replacen("04 01 | 04 01", "04 01", 1);
-    let lines = [
-        "0 1 0 0",
-        "4 2 0 0",
-        "13 2 0 0",
-        "22 3 0 0",
-        "24 4 0 1",
-        "26 4 0 2",
-        "28 4 0 3",
-        "30 5 32 3",
-        "32 3 0 3",
-        "34 4 0 4",
-        "36 6 0 4",
-        "37 7 0 5",
-        "38 7 23 5",
-    ];
-    prints(&tape, &lines);
+    prints(&tape, &[&FIRST_LINES[..], &["36 6 0 4", "37 7 0 5", "38 7 23 5"]].concat());
 }
 
 #[test]
@@ -83,13 +69,7 @@ fn p5_a_ninth_block() {
 fn p6_the_number_after_a_cut() {
     let tape = "01 01 02 0C | 02 00 0000 00 11111111 | 03 00 | 04 00 | 04 00 | 04 00 | 02 00 0001 00 22222222 \
         | 06 | 07 | 07 | 02 00 0001 00 33333333 | 03 00 | 04 00";
-    let lines = [
-        "0 1 0 0",
-        "4 2 0 0",
-        "13 3 0 0",
-        "15 4 0 1",
-        "17 4 0 2",
-        "19 4 0 3",
+    let end = [
         "21 2 0 3",
         "30 6 0 3",
         "31 7 0 4",
@@ -99,7 +79,7 @@ fn p6_the_number_after_a_cut() {
         "44 4 0 6",
         "block 0 1111111100000000",
     ];
-    prints(tape, &lines);
+    prints(tape, &[&ONE_COMMITTED[..], &end].concat());
     let disk = disk_after(tape);
     assert_eq!(disk[24..32], [0, 0, 0, 3, 0, 0, 0, 0], "tail number and position in the master");
     assert_eq!(disk[3 * 128 + 8..3 * 128 + 12], [0, 0, 0, 3], "number of the descriptor at position 0");
@@ -155,18 +135,8 @@ fn a_tape_ends_after_2_or_3() {
 #[test]
 fn a_card_that_is_down_still_prints_its_blocks() {
     let tape = "01 01 01 04 | 02 00 0000 00 0A0B0C0D | 03 00 | 04 00 | 04 00 | 04 00 | 05 00 | 06";
-    let lines = [
-        "0 1 0 0",
-        "4 2 0 0",
-        "13 3 0 0",
-        "15 4 0 1",
-        "17 4 0 2",
-        "19 4 0 3",
-        "21 5 0 4",
-        "23 6 0 4",
-        "block 0 0a0b0c0d00000000",
-    ];
-    prints(tape, &lines);
+    let end = ["21 5 0 4", "23 6 0 4", "block 0 0a0b0c0d00000000"];
+    prints(tape, &[&ONE_COMMITTED[..], &end].concat());
 }
 
 fn disk_after(tape: &str) -> Vec<u8> {

@@ -21,7 +21,7 @@ use Rattle.model.proofs.Lists.{cases}
 use Rattle.model.proofs.Limits.{InRange, range-test, clamped-range, clamped-same}
 use Rattle.model.proofs.Command.{refusedWith, refusal-clear}
 use Rattle.model.proofs.OneStore.{right-lengths}
-use Rattle.layout.proofs.Pairs.{master-tails}
+use Rattle.model.proofs.Encoding.{master-same}
 use Rattle.state.specs.Answer.{world, firstOf}
 use Rattle.state.proofs.Parts.{zero-memory}
 use Rattle.state.proofs.Refusals.{first-hit, first-pass, refusal-joined, was-refused, was-done}
@@ -86,7 +86,7 @@ first-tail i h = getD-replicate 8 i (newTail 1 0) (newTail 0 0) h
 first-master : (s : Shape) → clamped s ≡ s → masterBlock (clamped s) (λ (c : ℕ). getD firstTails c (newTail 0 0)) ≡ masterBlock s (λ (c : ℕ). newTail 1 0)
 first-master s e =
     let r : InRange s = subst InRange e (clamped-range s) in
-    rw e (master-tails s _ (λ (c : ℕ). newTail 1 0) (λ i h. first-tail i (omega arith)))
+    rw e (master-same s _ (λ (c : ℕ). newTail 1 0) (λ i h. first-tail i (omega arith)))
 
 zero-disk : (d : Bytes) → length d ≡ 32896 → replicate (length d) 0 ≡ zeroDisk
 unfolding zeroDisk

@@ -37,11 +37,11 @@ use Rattle.crash.proofs.CardCut.{right-length}
 
 -- ---- conditions one by one
 -- the same conditions, each as far as none before it holds
-data Same : List (Bool × ℕ) → List (Bool × ℕ) → Type 0 where
+pub data Same : List (Bool × ℕ) → List (Bool × ℕ) → Type 0 where
   none-left : Same [] []
   then : {p q : Bool} {n : ℕ} {xs ys : List (Bool × ℕ)} → p ≡ q → (q ≡ false → Same xs ys) → Same ((p, n) ∷ xs) ((q, n) ∷ ys)
 
-same-refusal : {xs ys : List (Bool × ℕ)} → Same xs ys → refusal xs ≡ refusal ys
+pub same-refusal : {xs ys : List (Bool × ℕ)} → Same xs ys → refusal xs ≡ refusal ys
 unfolding refusal
 same-refusal none-left = refl
 same-refusal (then {q = q} e h) = rw e (cases q (λ t. rw t refl) (λ f. rw f (same-refusal (h f))))

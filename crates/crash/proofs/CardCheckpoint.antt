@@ -27,6 +27,7 @@ use Rattle.model.specs.declared.Core.{Core}
 use Rattle.model.specs.declared.Holder.{Holder}
 use Rattle.model.specs.declared.Card.{Card}
 use Rattle.model.specs.declared.Committed.{Committed}
+use Rattle.model.proofs.Encoding.{master-same}
 use Rattle.model.proofs.Lists.{cases, getD-mem, flatMap-below, flatMap-first}
 use Rattle.model.proofs.Journal.{journal-wrap}
 use Rattle.model.proofs.Valid.{sameName-refl}
@@ -37,7 +38,7 @@ use Rattle.crash.proofs.BookEntries.{same-or-not, sameName-false, other
 use Rattle.crash.proofs.BookSteps.{Restages, restaged, restages, restages-records, restages-holder, retired-none, retired-other, checkpoint-home, checkpoint-retires}
 use Rattle.crash.proofs.Relation.{IsBlock, Fine, contents, JournalStands, DiskStands, CoreUp, holderAs, Up}
 use Rattle.crash.proofs.LedgerStages.{closed-present}
-use Rattle.crash.proofs.ReadMaster.{shape-up, master-block, tail-read, master-same}
+use Rattle.crash.proofs.ReadMaster.{shape-up, master-block, tail-read}
 use Rattle.crash.proofs.ReadRecords.{readRecord, IsRead, length-record}
 use Rattle.crash.proofs.ReadCheckpoint.{oldest-of, oldest-is}
 use Rattle.crash.proofs.CardFrames.{core-set, core-other, record-same, contents-same, low-stored, low-other, low-journal, low-size, low-bytes, home-stands, core-up}

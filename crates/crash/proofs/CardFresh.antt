@@ -18,6 +18,7 @@ use Rattle.model.specs.declared.Phase.the-variants.{Up as PhaseUp}
 use Rattle.model.specs.declared.Shape.{Shape}
 use Rattle.model.specs.declared.Tail.{Tail}
 use Rattle.model.specs.declared.Card.{Card}
+use Rattle.model.proofs.Encoding.{master-same}
 use Rattle.model.proofs.Limits.{InRange}
 use Rattle.crash.specs.Book.{Write, emptyBook, holderIn}
 use Rattle.crash.specs.Ledger.{freshLedger, recordBlocks}
@@ -25,7 +26,6 @@ use Rattle.crash.specs.Claims.{IsBytes}
 use Rattle.crash.proofs.Tests.{impossible}
 use Rattle.crash.proofs.Relation.{WriteFits, contents, JournalStands, DiskStands, CoreUp, Up}
 use Rattle.crash.proofs.LedgerSteps.{fine-fresh}
-use Rattle.crash.proofs.ReadMaster.{master-same}
 
 -- the journals hold nothing
 module _ (s : Shape) (saved : List Write) (first : ℕ → ℕ) (c : ℕ) where

@@ -22,6 +22,7 @@ use Rattle.model.specs.Recovery.{tailOn, blocksLeft, recoveredTo, emptiedTail, 
 use Rattle.model.specs.declared.Phase.the-variants.{Up as PhaseUp, Down as PhaseDown}
 use Rattle.model.specs.declared.Shape.{Shape}
 use Rattle.model.specs.declared.Tail.{Tail}
+use Rattle.model.proofs.Encoding.{master-same}
 use Rattle.model.proofs.Lists.{cases, mem-below, length-below, getD-map-below}
 use Rattle.model.proofs.Select.{select-mem, select-same}
 use Rattle.crash.specs.Book.{keptWrites, blank}
@@ -29,7 +30,7 @@ use Rattle.crash.specs.Ledger.{Ledger, blocksIn, recoverLedger, recoverS
 use Rattle.crash.proofs.Tests.{impossible}
 use Rattle.crash.proofs.Relation.{IsBlock, Fine, Up, target, DownBy}
 use Rattle.crash.proofs.LedgerSteps.{image-block, blank-block, fine-home, phased, kept-fits}
-use Rattle.crash.proofs.ReadMaster.{shape-read, master-same, master-block}
+use Rattle.crash.proofs.ReadMaster.{shape-read, master-block}
 use Rattle.crash.proofs.ReadRecords.{length-readList, few-records, journal-read}
 use Rattle.crash.proofs.ReadValid.{own-tails, blocks-on}
 use Rattle.crash.proofs.ReadNewest.{newest-image}

@@ -28,11 +28,11 @@ use Rattle.model.proofs.Words.{each-block}
 use Rattle.model.proofs.Encoding.{length-descriptor, length-commit, length-escaped, descriptor-head, commit-head, head-other, no-commit, escaped-head}
 use Rattle.model.proofs.Journal.{journal-low, home-apart, cores-apart, journal-apart, length-recordBlocks, recordBlocks-each, recordBlocks as storedBlocks}
 use Rattle.crash.specs.Book.{closed, committed, isClosed, counted, Entry, Book, raise, staged, store}
-use Rattle.crash.specs.Ledger.{Ledger, withBook, recordBlocks, imageNow, heldOf, recordOf, recordStored}
+use Rattle.crash.specs.Ledger.{Ledger, withBook, recordBlocks, heldOf, recordOf, recordStored}
 use Rattle.crash.proofs.BookEntries.{other-number, other-core, change-at, raise-at, raise-other, records-snoc, nextName, uncommittedName}
 use Rattle.crash.proofs.BookSteps.{Restages, restaged, restages-records, storedStage, store-restages, store-more, store-last, store-holder}
 use Rattle.crash.proofs.BlockBytes.{bytes-store, each-isBytes, escaped-bytes}
-use Rattle.crash.proofs.Relation.{IsBlock, Fine, contents, JournalStands, DiskStands, CoreUp, Up, holderAs}
+use Rattle.crash.proofs.Relation.{IsBlock, Fine, contents, JournalStands, DiskStands, CoreUp, Up}
 use Rattle.crash.proofs.ReadMaster.{shape-up, tail-read}
 use Rattle.crash.proofs.ReadRecords.{record-sound, length-record, records-flat, length-records, stored-closed}
 use Rattle.crash.proofs.CardFrames.{SameClosed, core-set, core-other, record-same, none-stored, journal-stays, core-stays, core-up}

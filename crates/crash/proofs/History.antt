@@ -8,8 +8,8 @@ use mathlib.Core.Bool.{Bool, true, false, So, cond}
 use mathlib.Core.Logic.{_⊎_, inl, inr, ⊎-elim}
 use mathlib.Core.List.{List, [], _∷_}
 use mathlib.Core.Option.{Option, none, some}
-use Rattle.model.proofs.Lists.{cases}
-use Rattle.crash.proofs.Tests.{clash, false-of, same-test, Equality, impossible}
+use Rattle.model.proofs.Lists.{cases, both-ways}
+use Rattle.crash.proofs.Tests.{clash, false-of, Equality, impossible}
 
 -- ---- a history
 -- a write of the block: its transaction, the one that holds the block after it, and what it makes of the image
@@ -137,7 +137,7 @@ module _ {Txn : Type 0} (s : Status Txn) where
 
   -- ---- the kept writes are the oldest ones
   module _ (sound : Sound) (homed : Txn → Bool) where
-    kept-link : {t u : Txn} → Link homed t u → So (s .kept t) → So (s .kept u)
+    pub kept-link : {t u : Txn} → Link homed t u → So (s .kept t) → So (s .kept u)
     kept-link (inl p) h = rw p at h
     kept-link (inr (l, inl d)) h = sound .kept-names _ _ h d
     kept-link (inr (l, inr r)) h = sound .retired-kept _ r
@@ -146,7 +146,7 @@ module _ {Txn : Type 0} (s : Status Txn) where
     kept-writer : (e : Event Txn Image) → Own homed e → s .kept (e .writer) ≡ s .kept (e .holder)
     kept-writer e o =
         ⊎-elim (ap (s .kept))
-        (λ d. same-test (λ h. sound .kept-names _ _ h (d .0)) (λ h. sound .kept-names _ _ h (d .1)))
+        (λ d. both-ways (λ h. sound .kept-names _ _ h (d .0)) (λ h. sound .kept-names _ _ h (d .1)))
         (o .writer-holder)
 
     kept-next : (t : Txn) (es : List (Event Txn Image)) → Next homed t es → So (s .kept t) → upto (s .kept) es ≡ es

@@ -13,10 +13,10 @@ use borrow.Author.Tests.{eqb-true, ne-eqb, lt-ltb, le-ltb, ltb-true, ltb-false, 
 use Rattle.model.specs.Lists.{below}
 use Rattle.model.specs.Bytes.{Bytes, part, blockAt}
 use Rattle.model.specs.Shape.{between, inRange, homeBlock}
-use Rattle.model.specs.Card.{isBlank, isUp, isDown, shapeOf}
+use Rattle.model.specs.Card.{isBlank, isUp, isDown}
 use Rattle.model.specs.Command.{World, Outcome, refusal, wrongLength}
 use Rattle.model.specs.Reading.{readConditions, readNumber}
-use Rattle.model.specs.Tape.{step, operandLength, commandByte, operandsAt, isUnknown, endsEarly, commandAt, Point}
+use Rattle.model.specs.Tape.{Step, step, operandLength, commandByte, operandsAt, isUnknown, endsEarly, commandAt, Point}
 use Rattle.model.specs.declared.Phase.{Phase}
 use Rattle.model.specs.declared.Shape.{Shape}
 use Rattle.model.specs.declared.Phase.the-variants.{Blank, Up, Down}
@@ -66,20 +66,20 @@ pub record Relates (At : Ledger → World → Type 0) : Type 0 where
 
 module _ (At : Ledger → World → Type 0) (r : Relates At) where
   -- a point and the relation after it
-  record Goes (l : Ledger) (p : Point) : Type 0 where
+  pub record Goes (l : Ledger) (p : Point) : Type 0 where
     pub kept : PointKept l p
     pub next : At (entered (p .byte) (p .operands) (p .outcome .answer) l) (p .outcome .world)
     pub home : p .byte ≡ 7 → p .outcome .answer ≡ 0 → l .left ≡ [] → (b : ℕ) → b < l .shape .blocks
         → blockAt (p .outcome .world .disk) (homeBlock b) ≡ image blank (keptWrites (l .book) ++ l .saved) b
 
   module _ (t : Bytes) (bytes : IsBytes t) (at n : ℕ) (on-tape : at < length t) (l : Ledger) (w : World) (here : At l w) where
-    abbrev k : ℕ
+    abbrev pub k : ℕ
     k = commandByte t at
 
-    abbrev a : Bytes
+    abbrev pub a : Bytes
     a = operandsAt t at
 
-    abbrev p : Point
+    abbrev pub p : Point
     p = pointAt step t at n w
 
     -- a command refused with 2 or 3
@@ -127,7 +127,7 @@ module _ (At : Ledger → World → Type 0) (r : Relates At) where
           home = λ s z f b q. ap (λ (x : Outcome). blockAt (x .world .disk) (homeBlock b)) o ∙ g .home s (sym (ap (λ (x : Outcome). x .answer) o) ∙ z) f b q;
         }
 
-    goes : Goes l p
+    pub goes : Goes l p
     unfolding commandAt answerOf refusal
     goes =
         let z = r .sizes l w here in
@@ -139,12 +139,16 @@ module _ (At : Ledger → World → Type 0) (r : Relates At) where
         (λ y. refused 1 (unless-refused _ w (step k a w) 3 (rw (z, u, x, e, y)) (omega arith)) (rw (x, y)))
         (λ y. reaches (unless-done _ w (step k a w) (rw (z, u, x, e, y))) x y))
 
+  -- a card each of whose commands goes so
+  abbrev pub Going : Step → Type 0
+  Going f = (t : Bytes) → IsBytes t → (at n : ℕ) → at < length t → (l : Ledger) (w : World) → At l w → Goes l (pointAt f t at n w)
+
   -- Demands 1 and 2 and the course of recovery, at every point of a run.
-  ledger-kept : (t : Bytes) → IsBytes t → {at n : ℕ} {l : Ledger} {w : World} {ps : List Point} → At l w → Runs step t at n w ps → LedgerKept n l w ps
-  ledger-kept t b {l = l} {w = w} here (at-end h) = (r .phase l w here, r .journals l w here)
-  ledger-kept t b {at} {n} {l} {w} here (one-more h e rest) =
-      let g : Goes l _ = subst (Goes l) (sym e) (goes t b at n h l w here) in
-      (g .kept, ap (λ (p : Point). p .stores) e ∙ ap (λ (p : Point). n + p .outcome .stores) (sym e), ledger-kept t b (g .next) rest)
+  ledger-kept : (f : Step) → Going f → (t : Bytes) → IsBytes t → {at n : ℕ} {l : Ledger} {w : World} {ps : List Point} → At l w → Runs f t at n w ps → LedgerKept n l w ps
+  ledger-kept f go t b {l = l} {w = w} here (at-end h) = (r .phase l w here, r .journals l w here)
+  ledger-kept f go t b {at} {n} {l} {w} here (one-more h e rest) =
+      let g : Goes l _ = subst (Goes l) (sym e) (go t b at n h l w here) in
+      (g .kept, ap (λ (p : Point). p .stores) e ∙ ap (λ (p : Point). n + p .outcome .stores) (sym e), ledger-kept f go t b (g .next) rest)
 
 -- ---- the home area by its blocks
 area-blocks : (d : Bytes) (n : ℕ) → part 128 (128 * n) d ≡ flatMap (λ (b : ℕ). blockAt d (homeBlock b)) (below n)
@@ -256,14 +260,14 @@ module _ (At : Ledger → World → Type 0) (r : Relates At) where
         ∙ ap (λ (n : ℕ). flatMap (image blank ((fedPoint p v) .saved)) (below n)) (sym after)
 
   -- At every point of a run where the card comes up, the home area is the book's area.
-  area-kept : (t : Bytes) → IsBytes t → {at n : ℕ} {v : Service} {l : Ledger} {w : World} {ps : List Point} → At l w → Agrees v l → v .blocks ≡ l .shape .blocks
-      → Runs step t at n w ps → AreaKept v ps
+  area-kept : (f : Step) → Going At r f → (t : Bytes) → IsBytes t → {at n : ℕ} {v : Service} {l : Ledger} {w : World} {ps : List Point} → At l w → Agrees v l
+      → v .blocks ≡ l .shape .blocks → Runs f t at n w ps → AreaKept v ps
   unfolding fedPoint
-  area-kept t b here agrees same (at-end h) = tt
-  area-kept t b {at} {n} {v} {l} {w} here agrees same (one-more {p = p} h e rest) =
-      let g : Goes At r l p = subst (Goes At r l) (sym e) (goes At r t b at n h l w here) in (
+  area-kept f go t b here agrees same (at-end h) = tt
+  area-kept f go t b {at} {n} {v} {l} {w} here agrees same (one-more {p = p} h e rest) =
+      let g : Goes At r l p = subst (Goes At r l) (sym e) (go t b at n h l w here) in (
         λ c. area-at v l p g agrees c same,
-        area-kept t b (g .next) (fed-agrees (p .byte) (p .operands) (p .outcome .answer) v l (λ z. suits l p (g .kept .answer) z) agrees)
+        area-kept f go t b (g .next) (fed-agrees (p .byte) (p .operands) (p .outcome .answer) v l (λ z. suits l p (g .kept .answer) z) agrees)
             (fed-blocks (p .byte) (p .operands) (p .outcome .answer) v l same) rest,
       )
 
@@ -271,15 +275,15 @@ module _ (At : Ledger → World → Type 0) (r : Relates At) where
 module _ (At : Ledger → World → Type 0) (r : Relates At)
     (from-blank : (d m : Bytes) → IsBytes d → IsBytes m → length d ≡ 32896 → length m ≡ 16384 → At blankLedger (blankStart d m))
     (from-down : (s : Shape) (m : Bytes) → inRange (s .cores) (s .blocks) (s .journal) ≡ true → IsBytes m → length m ≡ 16384 → At (downLedger s) (downStart s m)) where
-  pub claimed : Claim step
+  pub claimed : (f : Step) → Going At r f → Claim f
   unfolding emptyService blankLedger downLedger cutLedger freshLedger
-  claimed = (
-    λ t d m bt bd bm ld lm. area-kept At r t bt (from-blank d m bd bm ld lm) (blank-agrees 0) refl (run-runs step t (blankStart d m)),
-    λ t m s h bt bm lm. area-kept At r t bt (from-down s m h bm lm) (down-agrees (s .blocks) s) refl (run-runs step t (downStart s m)),
+  claimed f go = (
+    λ t d m bt bd bm ld lm. area-kept At r f go t bt (from-blank d m bd bm ld lm) (blank-agrees 0) refl (run-runs f t (blankStart d m)),
+    λ t m s h bt bm lm. area-kept At r f go t bt (from-down s m h bm lm) (down-agrees (s .blocks) s) refl (run-runs f t (downStart s m)),
   )
 
-  pub demanded : Demands step
-  demanded = (
-    λ t d m bt bd bm ld lm. ledger-kept At r t bt (from-blank d m bd bm ld lm) (run-runs step t (blankStart d m)),
-    λ t m s h bt bm lm. ledger-kept At r t bt (from-down s m h bm lm) (run-runs step t (downStart s m)),
+  pub demanded : (f : Step) → Going At r f → Demands f
+  demanded f go = (
+    λ t d m bt bd bm ld lm. ledger-kept At r f go t bt (from-blank d m bd bm ld lm) (run-runs f t (blankStart d m)),
+    λ t m s h bt bm lm. ledger-kept At r f go t bt (from-down s m h bm lm) (run-runs f t (downStart s m)),
   )

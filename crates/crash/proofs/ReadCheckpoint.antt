@@ -20,10 +20,10 @@ use Rattle.model.specs.Checkpoint.{committedNow, validNow, committedOf, oldest,
 use Rattle.model.specs.declared.Shape.{Shape}
 use Rattle.model.specs.declared.Name.{Name}
 use Rattle.model.specs.declared.Committed.{Committed}
-use Rattle.model.proofs.Lists.{and-both, and-left, and-right, or-left, or-right, or-cases, any-mem, mem-any, mem-below, below-mem}
+use Rattle.model.proofs.Lists.{and-both, and-left, and-right, or-left, or-right, or-cases, any-mem, mem-any, mem-below, below-mem, both-ways}
 use Rattle.crash.specs.Book.{isClosed, isRetired}
 use Rattle.crash.specs.Ledger.{Ledger, validIn, sharesLowerIn}
-use Rattle.crash.proofs.Tests.{clash, same-test}
+use Rattle.crash.proofs.Tests.{clash}
 use Rattle.crash.proofs.BookEntries.{oldestName, uncommittedName}
 use Rattle.crash.proofs.Relation.{Fine, Up}
 use Rattle.crash.proofs.LedgerStages.{closed-present, unretired-rank, closing-stage}
@@ -70,11 +70,11 @@ module _ {l : Ledger} {w : World} (u : Up l w) where
       (rw (readList-first l c (tailOf (w .card) c) g) (List·Memᴰ·head refl)))
 
 -- ---- 33: a lower one that shares a block
-record Lower (l : Ledger) (t v : Name) : Type 0 where
-  is-closed : isClosed ((l .book .entry v) .stage) ≡ true
-  not-retired : isRetired ((l .book .entry v) .stage) ≡ false
-  lower : l .stamp v < l .stamp t
-  shares : share ((l .book .entry t) .blocks) ((l .book .entry v) .blocks) ≡ true
+pub record Lower (l : Ledger) (t v : Name) : Type 0 where
+  pub is-closed : isClosed ((l .book .entry v) .stage) ≡ true
+  pub not-retired : isRetired ((l .book .entry v) .stage) ≡ false
+  pub lower : l .stamp v < l .stamp t
+  pub shares : share ((l .book .entry t) .blocks) ((l .book .entry v) .blocks) ≡ true
 
 abbrev lowerTest : Ledger → Name → Name → Bool
 lowerTest l t v =
@@ -106,10 +106,10 @@ in-lower l t h =
     )
 
 module _ {l : Ledger} {w : World} (u : Up l w) (c : ℕ) (e : Committed) (x : IsRead l (w .disk) c e) where
-  abbrev lowerRead : Committed → Bool
+  abbrev pub lowerRead : Committed → Bool
   lowerRead g = ltb (g .stamp) (e .stamp) && share (blocksOf (shapeOf (w .card)) (w .disk) e) (blocksOf (shapeOf (w .card)) (w .disk) g)
 
-  abbrev lowerClosed : ℕ → Bool
+  abbrev pub lowerClosed : ℕ → Bool
   lowerClosed i =
       let t = (coreOf (w .card) i) .closed in
       t .live && ltb (t .stamp) (e .stamp) && share (blocksOf (shapeOf (w .card)) (w .disk) e) (taken t)
@@ -128,7 +128,7 @@ module _ {l : Ledger} {w : World} (u : Up l w) (c : ℕ) (e : Committed) (x : Is
         shares = sym (ap₂ share (blocks-up e c x) (blocks-up g (g .core) y)) ∙ and-right (ltb (g .stamp) (e .stamp)) _ h;
       }
 
-  closed-lower : (i : ℕ) → i < l .shape .cores → lowerClosed i ≡ true → Lower l (nameOf e) (uncommittedName i (l .book))
+  pub closed-lower : (i : ℕ) → i < l .shape .cores → lowerClosed i ≡ true → Lower l (nameOf e) (uncommittedName i (l .book))
   closed-lower i h g =
       let r = u .fine .ranks i h in
       let k = u .cores i h in
@@ -185,7 +185,7 @@ module _ {l : Ledger} {w : World} (u : Up l w) (c : ℕ) (e : Committed) (x : Is
 
   shares-same : sharesLower w e ≡ sharesLowerIn l (nameOf e)
   shares-same =
-      same-test
+      both-ways
       (λ h. let r = found-lower h in lower-in (u .fine) (nameOf e) (r .0) (r .1))
       (λ h. let r = in-lower l (nameOf e) h in lower-found (r .0) (r .1))
 
@@ -201,7 +201,7 @@ module _ {l : Ledger} {w : World} (u : Up l w) (c : ℕ) (in-range : c < l .shap
       ]
 
   module _ (some : l .book .oldest c < l .book .uncommitted c) where
-    oldest-name : nameOf (oldest (committedOf w c)) ≡ oldestName c (l .book)
+    pub oldest-name : nameOf (oldest (committedOf w c)) ≡ oldestName c (l .book)
     oldest-name = ap nameOf (oldest-of u c in-range some)
 
     -- '32'

@@ -5,18 +5,16 @@ use Prim.Native.Nat.{ℕ, suc, _<_}
 use native.Mathlib.Omega.{arith}
 use mathlib.Core.Path.{_≡_, ap, _∙_}
 use mathlib.Core.Bool.{true}
-use mathlib.Core.List.{List, _∷_}
 use borrow.Author.Tests.{le-leb, lt-ltb}
-use Rattle.model.specs.Bytes.{Bytes, blockAt, block}
+use Rattle.model.specs.Bytes.{Bytes, blockAt}
 use Rattle.model.specs.Shape.{between, clamped}
 use Rattle.model.specs.Card.{shapeOf}
-use Rattle.model.specs.Layout.{maxNumber, isTail, isMaster, shapeIn, tailIn, mark, pairWords, masterBlock}
+use Rattle.model.specs.Layout.{maxNumber, isTail, isMaster, shapeIn, tailIn, masterBlock}
 use Rattle.model.specs.Command.{World}
 use Rattle.model.specs.Recovery.{shapeOn, tailOn}
 use Rattle.model.specs.declared.Tail.{Tail}
 use Rattle.model.specs.declared.Shape.{Shape}
 use Rattle.model.proofs.Limits.{clamped-same, InRange}
-use Rattle.model.proofs.Lists.{map-below}
 use Rattle.model.proofs.Words.{each-block}
 use Rattle.model.proofs.Encoding.{master-shape, master-tail, master-read, length-master}
 use Rattle.crash.specs.Ledger.{Ledger}
@@ -51,13 +49,7 @@ pub shape-up : {l : Ledger} {w : World} → Up l w → shapeOf (w .card) ≡ l .
 unfolding shapeOf
 shape-up {l} u = ap clamped (u .shape) ∙ clamped-same (l .shape) (u .fine .range)
 
--- a master block has the tails of its cores alone, and is a block of bytes
-pub master-same : (s : Shape) (f g : ℕ → Tail) → ((c : ℕ) → c < s .cores → f c ≡ g c) → masterBlock s f ≡ masterBlock s g
-unfolding masterBlock
-master-same s f g h =
-    ap (λ (ts : List Tail). block (mark ∷ 4 ∷ 0 ∷ s .cores ∷ s .blocks ∷ s .journal ∷ pairWords (λ (t : Tail). t .number) (λ (t : Tail). t .position) ts))
-    (map-below f g (s .cores) h)
-
+-- a master block is a block of bytes
 pub master-block : {s : Shape} → InRange s → (tailAt : ℕ → Tail) → IsBlock (masterBlock s tailAt)
 unfolding masterBlock
 master-block r tailAt = record { size = length-master r tailAt; bytes = each-isBytes _ (each-block _) }

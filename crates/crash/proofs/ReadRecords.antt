@@ -32,7 +32,7 @@ use Rattle.crash.specs.Book.{isClosed, Book}
 use Rattle.crash.specs.Ledger.{Ledger, recordBlocks, storedOf, storedSince, heldOf, recordOf}
 use Rattle.crash.specs.Claims.{readAs, JournalsRead}
 use Rattle.crash.proofs.BookEntries.{oldestName}
-use Rattle.crash.proofs.Relation.{Limits, Fine, contents, DiskStands, sumNext}
+use Rattle.crash.proofs.Relation.{Limits, Fine, contents, DiskStands}
 use Rattle.crash.proofs.LedgerStages.{closed-present, Unretired, stored-unretired}
 use Rattle.crash.proofs.LedgerSteps.{sum-low}
 use Rattle.crash.proofs.ReadMaster.{shape-read, tail-read}

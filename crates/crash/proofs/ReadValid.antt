@@ -20,16 +20,17 @@ use Rattle.model.specs.Recovery.{shapeOn, tailOn, committedOn, validOn}
 use Rattle.model.specs.declared.Tail.{Tail}
 use Rattle.model.specs.declared.Name.{Name}
 use Rattle.model.specs.declared.Committed.{Committed}
-use Rattle.model.proofs.Lists.{and-both, and-left, and-right, or-left, or-right, or-cases, all-mem, mem-all, any-mem, mem-any, mem-flatMap, flatMap-mem, mem-below, below-mem}
+use Rattle.model.proofs.Encoding.{master-same}
+use Rattle.model.proofs.Lists.{and-both, and-left, and-right, or-left, or-right, or-cases, all-mem, mem-all, any-mem, mem-any, mem-flatMap, flatMap-mem, mem-below, below-mem, both-ways}
 use Rattle.model.proofs.Select.{mem-select, select-mem}
 use Rattle.model.proofs.Shrink.{Monotone, shrink-closed, shrink-within, shrink-largest, named-monotone}
 use Rattle.model.proofs.Valid.{sameName-true, sameName-refl, valid-within, valid-largest, valid-names}
 use Rattle.crash.specs.Book.{isCommitted, isRetired, Book}
 use Rattle.crash.specs.Ledger.{Ledger, unretired, metIn, validIn, blocksIn}
-use Rattle.crash.proofs.Tests.{clash, same-test, any-in, in-any, nameEquality}
+use Rattle.crash.proofs.Tests.{clash, any-in, in-any, nameEquality}
 use Rattle.crash.proofs.Relation.{Fine, JournalStands, DiskStands}
 use Rattle.crash.proofs.LedgerStages.{closed-present, committed-rank}
-use Rattle.crash.proofs.ReadMaster.{shape-read, tail-read, master-same}
+use Rattle.crash.proofs.ReadMaster.{shape-read, tail-read}
 use Rattle.crash.proofs.ReadRecords.{readList, IsRead, readList-has, readList-is, journal-read, few-records}
 
 -- ---- the ledger's valid set
@@ -159,7 +160,7 @@ module _ {l : Ledger} {d : Bytes} {tailAt : ℕ → Tail} (f : Fine l) (z : Disk
     unfolding isIn
     valid-same n =
         let vs = validSet (l .shape) d tailAt (journals (l .shape) d tailAt most) in
-        same-test
+        both-ways
         (λ h. let r = any-mem (λ (e : Committed). sameName n (nameOf e)) vs h in
         in-any nameEquality (Memᴰ·cast (sameName-true n (nameOf (r .0)) (r .2)) (valid-name (r .0) (r .1))))
         (λ h. let r = valid-read n (any-in nameEquality n (validIn (l .book)) h) in
@@ -174,7 +175,7 @@ module _ {l : Ledger} {d : Bytes} {tailAt : ℕ → Tail} (f : Fine l) (z : Disk
         let holds : ℕ → Name → Bool = λ b t. any (eqb b) ((k .entry t) .blocks) in
         ap (λ (p : ℕ → Bool). select p (below (l .shape .blocks)))
         (fun-ext (λ b.
-        same-test
+        both-ways
         (λ h.
         let x = any-mem (eqb b) (flatMap (blocksOf (l .shape) d) vs) h in
         let r = mem-flatMap (blocksOf (l .shape) d) vs (x .1) in

@@ -8,17 +8,17 @@ use mathlib.Core.Path.{_≡_, refl, sym, _∙_, ap}
 use mathlib.Core.List.{List, [], _∷_, _++_, map, map-map, map-append}
 use mathlib.Core.Option.{Option, none, some}
 use mathlib.Core.Bool.{Bool, true, false, cond}
-use lib.ListN.{length, getD, length-map}
+use lib.ListN.{length, getD}
 use lib.Dec.{eqb, leb, ltb}
 use borrow.Author.Tests.{eqb-true, eqb-false, eq-eqb, ne-eqb, lt-ltb, le-ltb, ltb-true, ltb-false}
-use Rattle.model.specs.Lists.{any, select, all}
+use Rattle.model.specs.Lists.{any, select}
 use Rattle.model.specs.Bytes.{Bytes, number, part}
 use Rattle.model.specs.Card.{newName, sameName}
 use Rattle.model.specs.declared.Name.{Name}
 use Rattle.model.proofs.Lists.{cases, all-map, any-map}
 use Rattle.model.proofs.Select.{select-map}
 use Rattle.model.proofs.Shrink.{shrink-map}
-use Rattle.crash.specs.Book.{running, closed, committed, retired, isRunning, isClosed, isCommitted, isRetired, counted, Entry, Write, Book, emptyBook, change, raise, staged, taking, naming, begin, holderIn, Meeting, no-holder, own, running-holder, closed-holder, meets, ruled, holderAfter, note, wrote, close, store, checkpoint, committedIn, namesIn, kept, keptWrites, image, hasRunning, hasClosed, hasCommitted}
+use Rattle.crash.specs.Book.{running, closed, committed, retired, isRunning, isClosed, isCommitted, isRetired, counted, Entry, Write, Book, emptyBook, change, raise, staged, taking, naming, begin, holderIn, Meeting, no-holder, own, running-holder, closed-holder, meets, ruled, holderAfter, note, wrote, close, store, checkpoint, committedIn, namesIn, kept, keptWrites, image, hasRunning}
 use Rattle.crash.specs.Service.{noted}
 use Rattle.crash.proofs.Tests.{cond-apply}
 use Rattle.crash.proofs.BookEntries.{nextName, oldestName, uncommittedName}

@@ -1,4 +1,4 @@
--- Tests: a test that holds and fails, two tests that hold together, and types whose equality is tested.
+-- Tests: a test that holds and fails, a function of either case, and types whose equality is tested.
 -- A set of transactions is given by a test throughout the proof, so that histories can be cut by it.
 -- The two equalities used are those of names and of block numbers.
 use Prim.Native.Nat.{ℕ}
@@ -10,7 +10,7 @@ use borrow.Author.Tests.{eqb-true, eq-eqb}
 use Rattle.model.specs.Lists.{any}
 use Rattle.model.specs.Card.{sameName}
 use Rattle.model.specs.declared.Name.{Name}
-use Rattle.model.proofs.Lists.{any-mem, mem-any, cases}
+use Rattle.model.proofs.Lists.{any-mem, mem-any}
 use Rattle.model.proofs.Valid.{sameName-true, sameName-refl}
 
 pub clash {ℓ} : {A : Type ℓ} {b : Bool} → b ≡ true → b ≡ false → A
@@ -22,9 +22,6 @@ impossible h = clash h refl
 pub false-of : (b : Bool) → (So b → ⊥) → b ≡ false
 false-of true f = absurd (f refl)
 false-of false f = refl
-
-pub same-test : {a b : Bool} → (So a → So b) → (So b → So a) → a ≡ b
-same-test {a} {b} f g = cases a (λ h. h ∙ sym (f h)) (λ h. h ∙ sym (false-of b (λ k. clash (g k) h)))
 
 pub cond-apply : {A B : Type 0} (f : A → B) (t : Bool) (x y : A) → cond t (f x) (f y) ≡ f (cond t x y)
 cond-apply f true x y = refl

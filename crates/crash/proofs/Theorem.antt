@@ -15,7 +15,7 @@ use borrow.Author.Tests.{ne-eqb, eqb-true, eqb-false, ltb-true, ltb-false, leb-f
 use Rattle.model.specs.Lists.{below, any}
 use Rattle.model.specs.Bytes.{Bytes, blockAt, zeroMemory, number, part}
 use Rattle.model.specs.Shape.{between, homeBlock, inRange}
-use Rattle.model.specs.Card.{sameName, blankCard, isBlank, isUp, isDown, shapeOf, downCard, emptyCard, freshCard}
+use Rattle.model.specs.Card.{sameName, blankCard, isBlank, isUp, isDown, downCard, emptyCard, freshCard}
 use Rattle.model.specs.Layout.{maxNumber}
 use Rattle.model.specs.Command.{World, Outcome, refusal, unstored, wrongLength}
 use Rattle.model.specs.Format.{formatted}
@@ -23,7 +23,7 @@ use Rattle.model.specs.Write.{written}
 use Rattle.model.specs.Commit.{closed, stored}
 use Rattle.model.specs.Checkpoint.{checkpointed}
 use Rattle.model.specs.Recovery.{recovered}
-use Rattle.model.specs.Tape.{step, operandLength, operandLengths}
+use Rattle.model.specs.Tape.{Step, step, operandLength, operandLengths}
 use Rattle.model.specs.declared.Name.{Name}
 use Rattle.model.specs.declared.Shape.{Shape}
 use Rattle.model.specs.declared.Card.{Card}
@@ -43,7 +43,7 @@ use Rattle.crash.proofs.CardWrite.{write-up}
 use Rattle.crash.proofs.LedgerWrite.{fine-wrote}
 use Rattle.crash.proofs.CardAnswers.{write-answers, close-answers, store-answers, checkpoint-answers}
 use Rattle.crash.proofs.ReadRecords.{journals-read}
-use Rattle.crash.proofs.Points.{Kept, Relates, claimed, demanded}
+use Rattle.crash.proofs.Points.{Kept, Relates, Going, goes, claimed, demanded}
 use Rattle.crash.proofs.Tests.{clash, any-in, in-any, nameEquality, blockEquality}
 use Rattle.crash.proofs.BookEntries.{nextName, oldestName}
 use Rattle.crash.proofs.BlockBytes.{bytes-take, bytes-drop}
@@ -59,11 +59,10 @@ use Rattle.crash.proofs.Given.{held-newest, home-target}
 use Rattle.crash.proofs.CardStore.{store-up, store-homes, stored-bytes}
 use Rattle.crash.proofs.CardClose.{close-up}
 use Rattle.crash.proofs.CardCheckpoint.{checkpoint-up, checkpointed-bytes, home-stored, home-others, homes-stay}
-use Rattle.crash.proofs.ReadMaster.{shape-up}
 use Rattle.crash.proofs.LedgerStages.{running-is, below-oldest}
 
 -- ---- a card that is up: the bytes and the histories of the blocks agree with the ledger
-record UpAt (l : Ledger) (w : World) : Type 0 where
+pub record UpAt (l : Ledger) (w : World) : Type 0 where
   pub up : Up l w
   pub home : ℕ → Bytes
   pub homes : (b : ℕ) → b < l .shape .blocks → blockAt (w .disk) (homeBlock b) ≡ home b
@@ -71,7 +70,7 @@ record UpAt (l : Ledger) (w : World) : Type 0 where
   pub imaged : Imaged l
 
 -- names below a core's oldest number are those of retired transactions
-numbered : (l : Ledger) → Fine l → RetiredBelow (l .book)
+pub numbered : (l : Ledger) → Fine l → RetiredBelow (l .book)
 numbered l f t u h n =
     let named = f .named t u (any-in nameEquality u _ n) in
     below-oldest (f .ranks (u .core) (f .limits u named .core)) (u .number) named
@@ -176,13 +175,13 @@ fresh-at s saved first w up homes =
     record { up = up; home = image blank saved; homes = homes; inv = inv-fresh s saved first; imaged = imaged-fresh s saved first }
 
 -- ---- blank, up or down
-record BlankAt (l : Ledger) (w : World) : Type 0 where
+pub record BlankAt (l : Ledger) (w : World) : Type 0 where
   pub card : w .card ≡ blankCard
   pub ledger : l ≡ blankLedger
   pub disk : length (w .disk) ≡ 32896
   pub memory : length (w .memory) ≡ 16384
 
-data At (l : Ledger) (w : World) : Type 0 where
+pub data At (l : Ledger) (w : World) : Type 0 where
   at-blank : BlankAt l w → At l w
   at-up : UpAt l w → At l w
   at-down : DownBy l w → At l w
@@ -438,11 +437,11 @@ module _ {l : Ledger} {w : World} (u : UpAt l w) (a : Bytes) where
       k known size)
 
 -- ---- every command keeps the relation, and the claims follow
-blank-phase : {l : Ledger} {w : World} → BlankAt l w → w .card .phase ≡ Blank
+pub blank-phase : {l : Ledger} {w : World} → BlankAt l w → w .card .phase ≡ Blank
 unfolding blankCard emptyCard freshCard
 blank-phase b = ap (λ (x : Card). x .phase) (b .card)
 
-relates : Relates At
+pub relates : Relates At
 relates =
     record {
       sizes = sizes;
@@ -471,13 +470,20 @@ relates =
     keeps l w (at-up u) k a known size bytes = up-keeps u a k known size bytes
     keeps l w (at-down d) k a known size bytes = down-keeps d a k known
 
+-- a card whose commands go as the model's meets the claims
+pub claim-of : (f : Step) → Going At relates f → Claim f
+claim-of = claimed At relates (λ d m bd bm ld lm. at-blank (record { card = refl; ledger = refl; disk = ld; memory = lm })) (λ s m h bm lm. at-down (down-start s m h bm lm))
+
+pub demands-of : (f : Step) → Going At relates f → Demands f
+demands-of = demanded At relates (λ d m bd bm ld lm. at-blank (record { card = refl; ledger = refl; disk = ld; memory = lm })) (λ s m h bm lm. at-down (down-start s m h bm lm))
+
 -- Demand 3: whenever recovery brings the card up, the home area is the blank one with the kept writes, in issue order.
 pub claim : Claim step
-claim = claimed At relates (λ d m bd bm ld lm. at-blank (record { card = refl; ledger = refl; disk = ld; memory = lm })) (λ s m h bm lm. at-down (down-start s m h bm lm))
+claim = claim-of step (goes At relates)
 
 -- Demands 1 and 2 of the ledger, and the course of recovery.
 pub demands : Demands step
-demands = demanded At relates (λ d m bd bm ld lm. at-blank (record { card = refl; ledger = refl; disk = ld; memory = lm })) (λ s m h bm lm. at-down (down-start s m h bm lm))
+demands = demands-of step (goes At relates)
 
 -- 'A transaction uncommitted at a cut never commits': a card that has come up reads no transaction in any journal, and
 -- by `demands` none ever but those opened since. A later bearer of its number is another one.

@@ -111,25 +111,9 @@ validIn k = shrink (metIn k) (unretired k)
 unfoldable pub blocksIn : ℕ → Book → List ℕ
 blocksIn n k = select (λ (b : ℕ). any (λ (t : Name). any (eqb b) ((k .entry t) .blocks)) (validIn k)) (below n)
 
--- CUT: 'a recovery under way starts over'
-unfoldable pub cutLedger : Ledger → Ledger
-cutLedger l =
-    record {
-      shape = l .shape;
-      saved = l .saved;
-      book = l .book;
-      closes = l .closes;
-      stamp = l .stamp;
-      images = l .images;
-      phase = Down;
-      left = blocksIn (l .shape .blocks) (l .book);
-    }
-
--- RECOVER: a home store of the lowest block left; then the master store, and numbers go on 'two above the last
--- committed one'
-unfoldable pub recoverLedger : List ℕ → Ledger → Ledger
-recoverLedger [] l = freshLedger (l .shape) (keptWrites (l .book) ++ l .saved) (λ (c : ℕ). min (l .book .uncommitted c + 1) (suc maxNumber))
-recoverLedger (b ∷ bs) l =
+-- down, with these home blocks left to store
+abbrev pub downWith : List ℕ → Ledger → Ledger
+downWith bs l =
     record {
       shape = l .shape;
       saved = l .saved;
@@ -140,6 +124,16 @@ recoverLedger (b ∷ bs) l =
       phase = Down;
       left = bs;
     }
+
+-- CUT: 'a recovery under way starts over'
+unfoldable pub cutLedger : Ledger → Ledger
+cutLedger l = downWith (blocksIn (l .shape .blocks) (l .book)) l
+
+-- RECOVER: a home store of the lowest block left; then the master store, and numbers go on 'two above the last
+-- committed one'
+unfoldable pub recoverLedger : List ℕ → Ledger → Ledger
+recoverLedger [] l = freshLedger (l .shape) (keptWrites (l .book) ++ l .saved) (λ (c : ℕ). min (l .book .uncommitted c + 1) (suc maxNumber))
+recoverLedger (b ∷ bs) l = downWith bs l
 
 -- command byte, operands and answer
 unfoldable pub entered : ℕ → Bytes → ℕ → Ledger → Ledger

@@ -1,5 +1,5 @@
 -- The functions over slots and over one transaction: what each answers at its returns.
-use Prim.Native.Nat.{ℕ, zero, suc, _+_, _*_, _-_, _/_, _%_, _≤_, _<_, min}
+use Prim.Native.Nat.{ℕ, zero, suc, _+_, _-_, _/_, _%_, _≤_, _<_, min}
 use native.Mathlib.Omega.{arith}
 use native.Mathlib.Nat.{add-zero}
 use native.Mathlib.Numerals.{add-one}
@@ -21,7 +21,8 @@ use Rattle.model.specs.declared.Found.{Found}
 use Rattle.model.specs.declared.Found.the-variants.{Whole, Miss}
 use Rattle.model.proofs.Lists.{cases, length-below, getD-map-below}
 use Rattle.model.proofs.Records.{length-blocksOf}
-use Rattle.journal.specs.Slots.{slotOf, isFilled, entry, foundAs, foundAt, Sized, filledFrom, blocksIn, oldestAt}
+use Rattle.layout.proofs.Loops.{Missed, missed-more, some-not}
+use Rattle.journal.specs.Slots.{slotOf, isFilled, entry, foundAs, foundAt, Sized, filledFrom, blocksIn}
 use Rattle.journal.proofs.Slots.{empty-slot, filled-slot}
 
 -- ---- a slot
@@ -103,25 +104,25 @@ found-sized s d ks set i r e q h =
 
 -- ---- the place of a block
 -- none of the first j is block b
-unfoldable pub Passed : ℕ → List ℕ → ℕ → Type 0
-Passed b xs j = (i : ℕ) → i < j → eqb b (getD xs i 0) ≡ false
+unfoldable Unlike : ℕ → List ℕ → ℕ → Type 0
+Unlike b xs j = (i : ℕ) → i < j → eqb b (getD xs i 0) ≡ false
 
-passed-rest : (b x : ℕ) (xs : List ℕ) (j : ℕ) → Passed b (x ∷ xs) (suc j) → Passed b xs j
-unfolding Passed
-passed-rest b x xs j p i h = p (suc i) (omega arith)
+unlike-rest : (b x : ℕ) (xs : List ℕ) (j : ℕ) → Unlike b (x ∷ xs) (suc j) → Unlike b xs j
+unfolding Unlike
+unlike-rest b x xs j p i h = p (suc i) (omega arith)
 
-place-at : (b : ℕ) (xs : List ℕ) (j : ℕ) → Passed b xs j → j < length xs → eqb b (getD xs j 0) ≡ true → placeOf b xs ≡ j
-unfolding placeOf Passed
+place-at : (b : ℕ) (xs : List ℕ) (j : ℕ) → Unlike b xs j → j < length xs → eqb b (getD xs j 0) ≡ true → placeOf b xs ≡ j
+unfolding placeOf Unlike
 place-at b [] j p l h = absurd (omega arith)
 place-at b (x ∷ xs) zero p l h = rw h
-place-at b (x ∷ xs) (suc j) p l h = rw (p 0 (omega arith)) (ap suc (place-at b xs j (passed-rest b x xs j p) (omega arith) h))
+place-at b (x ∷ xs) (suc j) p l h = rw (p 0 (omega arith)) (ap suc (place-at b xs j (unlike-rest b x xs j p) (omega arith) h))
 
-place-none : (b : ℕ) (xs : List ℕ) → Passed b xs (length xs) → placeOf b xs ≡ length xs
-unfolding placeOf Passed
+place-none : (b : ℕ) (xs : List ℕ) → Unlike b xs (length xs) → placeOf b xs ≡ length xs
+unfolding placeOf Unlike
 place-none b [] p = refl
-place-none b (x ∷ xs) p = rw (p 0 (omega arith)) (ap suc (place-none b xs (passed-rest b x xs (length xs) p)))
+place-none b (x ∷ xs) p = rw (p 0 (omega arith)) (ap suc (place-none b xs (unlike-rest b x xs (length xs) p)))
 
-pub length-blocksIn : (f : Bytes) (n : ℕ) → length (blocksIn f n) ≡ n
+length-blocksIn : (f : Bytes) (n : ℕ) → length (blocksIn f n) ≡ n
 unfolding blocksIn heldIn pairsIn
 length-blocksIn f n = simp (length-map, length-below)
 
@@ -129,27 +130,27 @@ pub block-at : (f : Bytes) (n i : ℕ) → i < n → getD (blocksIn f n) i 0 ≡
 unfolding blocksIn heldIn pairsIn
 block-at f n i h = List·getD-map (λ (x : Held). x .block) (map (pairAt newHeld f 16) (below n)) i (newHeld 0 0) ∙ rw (getD-map-below (pairAt newHeld f 16) n i (newHeld 0 0) h)
 
-pub passed-none : (b : ℕ) (xs : List ℕ) → Passed b xs 0
-unfolding Passed
-passed-none b xs i h = absurd (omega arith)
+-- the i-th block of descriptor f is block b
+unfoldable pub isBlock : Bytes → ℕ → ℕ → Bool
+isBlock f b i = eqb b ((pairAt newHeld f 16 i) .block)
 
-module _ (f : Bytes) (n b j : ℕ) (p : Passed b (blocksIn f n) j) where
-  pub place-end : j ≤ n → n ≤ j → j ≡ placeOf b (blocksIn f n)
-  place-end h q =
-      let e : j ≡ length (blocksIn f n) = omega (arith, length-blocksIn f n) in
-      e ∙ sym (place-none b (blocksIn f n) (rw e at p))
+module _ (f : Bytes) (n b j : ℕ) (w : Missed (isBlock f b) n j) where
+  unlike : Unlike b (blocksIn f n) j
+  unfolding Unlike isBlock
+  unlike i h = ap (eqb b) (block-at f n i (omega (arith, w .most))) ∙ some-not (isBlock f b) j (w .fails) i h
+
+  pub place-end : n ≤ j → j ≡ placeOf b (blocksIn f n)
+  place-end q =
+      let e : j ≡ length (blocksIn f n) = omega (arith, w .most, length-blocksIn f n) in
+      e ∙ sym (place-none b (blocksIn f n) (rw e at unlike))
 
   module _ (x : ℕ) (e : x ≡ (pairAt newHeld f 16 j) .block) (l : j < n) where
     pub place-hit : x ≡ b → j ≡ placeOf b (blocksIn f n)
-    place-hit h = sym (place-at b (blocksIn f n) j p (omega (arith, length-blocksIn f n)) (eq-eqb b (getD (blocksIn f n) j 0) (omega (arith, block-at f n j l))))
+    place-hit h = sym (place-at b (blocksIn f n) j unlike (omega (arith, length-blocksIn f n)) (eq-eqb b (getD (blocksIn f n) j 0) (omega (arith, block-at f n j l))))
 
-    pub passed-more : (x ≡ b → ⊥) → Passed b (blocksIn f n) (j + 1)
-    unfolding Passed
-    passed-more h i g =
-        elim (decLt i j) [
-          | yes lt ↦ p i lt
-          | no ge ↦ let z : i ≡ j = omega arith in rw z (ne-eqb b (getD (blocksIn f n) j 0) (λ y. h (e ∙ sym (block-at f n j l) ∙ sym y)))
-        ]
+    pub place-more : (x ≡ b → ⊥) → Missed (isBlock f b) n (j + 1)
+    unfolding isBlock
+    place-more h = missed-more (isBlock f b) n j false w (sym (ne-eqb b ((pairAt newHeld f 16 j) .block) (λ y. h (e ∙ sym y)))) refl l
 
 pub place-is : (s : Shape) (d : Bytes) (e : Committed) (b r : ℕ) (f : Bytes) → f ≡ journalAt s d (e .core) (e .position) → r ≡ placeOf b (blocksIn f (e .count)) → r ≡ placeOf b (blocksOf s d e)
 unfolding blocksIn blocksOf heldBy
@@ -173,17 +174,3 @@ place-any b (x ∷ xs) =
 pub took-is : (s : Shape) (d : Bytes) (e : Committed) (b p : ℕ) → p ≡ placeOf b (blocksOf s d e) → ltb p (e .count) ≡ took s d b e
 unfolding took
 took-is s d e b p h = ap (ltb p) (sym (length-blocksOf s d e)) ∙ rw h (place-any b (blocksOf s d e))
-
-pub block-is : (s : Shape) (d : Bytes) (e : Committed) (i x : ℕ) (f : Bytes) → f ≡ journalAt s d (e .core) (e .position) → x ≡ (pairAt newHeld f 16 i) .block → i < e .count → x ≡ getD (blocksOf s d e) i 0
-unfolding blocksIn blocksOf heldBy
-block-is s d e i x f q h l = h ∙ sym (block-at f (e .count) i l) ∙ rw q
-
--- ---- the oldest of a core
-module _ (s : Shape) (d : Bytes) (set : List ℕ) (c k v : ℕ) (e : v ≡ slotOf s set (12 * c)) where
-  pub oldest-none : v ≡ 0 → Miss ≡ oldestAt s d set c k
-  unfolding oldestAt
-  oldest-none h = rw (← e, eq-eqb v 0 h)
-
-  pub oldest-some : (x : Committed) → (v ≡ 0 → ⊥) → x ≡ entry s d c k v → Whole x ≡ oldestAt s d set c k
-  unfolding oldestAt
-  oldest-some x h q = rw (← e, ne-eqb v 0 h, q)

@@ -1,11 +1,10 @@
 -- Blocks: two transactions that share one, and the lowest that a set holds from a place on.
 use Prim.Native.Nat.{ℕ, zero, suc, _+_, _≤_, _<_}
 use native.Mathlib.Omega.{arith}
-use native.Mathlib.Numerals.{add-one}
 use native.Mathlib.Decide.{decLt}
 use mathlib.Core.Path.{_≡_, refl, sym, ap, _∙_}
 use mathlib.Core.Bool.{Bool, true, false, true≢false, _||_}
-use mathlib.Core.List.{List, [], _∷_, _++_, map, flatMap, map-append, append-assoc, List·Memᴰ, List·Memᴰ·head, List·Memᴰ·tail}
+use mathlib.Core.List.{List, [], _∷_, _++_, map, flatMap, append-assoc, List·Memᴰ, List·Memᴰ·head, List·Memᴰ·tail}
 use lib.Dec.{leb, eqb}
 use borrow.Author.Tests.{lt-ltb, le-ltb, le-leb, leb-true}
 use Rattle.model.specs.Lists.{below, any, select}
@@ -16,48 +15,30 @@ use Rattle.model.specs.Valid.{blocksHeld}
 use Rattle.model.specs.Checkpoint.{share}
 use Rattle.model.specs.declared.Shape.{Shape}
 use Rattle.model.specs.declared.Committed.{Committed}
-use Rattle.model.proofs.Lists.{cases, any-append, mem-any, getD-mem, mem-below}
+use Rattle.model.proofs.Lists.{cases, any-append, any-map, mem-below}
 use Rattle.model.proofs.Select.{select-mem}
+use Rattle.layout.specs.Loops.{some}
+use Rattle.layout.proofs.Loops.{some-map}
 use Rattle.journal.specs.Slots.{blocksIn}
 use Rattle.journal.specs.Newest.{firstOr, heldFrom, sharesBelow}
-use Rattle.journal.proofs.Entries.{length-blocksIn, block-at}
 use Rattle.journal.proofs.Sets.{select-append}
 
 -- ---- shared blocks
-blocks-more : (f : Bytes) (n : ℕ) → blocksIn f (suc n) ≡ blocksIn f n ++ ((pairAt newHeld f 16 n) .block ∷ [])
-unfolding blocksIn heldIn pairsIn below
-blocks-more f n =
-    ap (map (λ (h : Held). h .block)) (map-append (pairAt newHeld f 16) (below n) (n ∷ []))
-    ∙ map-append (λ (h : Held). h .block) (map (pairAt newHeld f 16) (below n)) (pairAt newHeld f 16 n ∷ [])
-
-or-last : (b : Bool) → (b || false) ≡ b
-or-last true = refl
-or-last false = refl
-
 module _ (s : Shape) (d : Bytes) (g : Committed) (f : Bytes) where
-  pub share-none : share (blocksIn f 0) (blocksOf s d g) ≡ false
-  unfolding share blocksIn heldIn pairsIn below any
-  share-none = refl
+  -- the i-th block of descriptor f is one that g took
+  unfoldable pub tookAt : ℕ → Bool
+  tookAt i = took s d ((pairAt newHeld f 16 i) .block) g
 
-  share-step : (n : ℕ) → share (blocksIn f (suc n)) (blocksOf s d g) ≡ (share (blocksIn f n) (blocksOf s d g) || took s d ((pairAt newHeld f 16 n) .block) g)
-  unfolding share any took
-  share-step n =
-      ap (any (λ (b : ℕ). any (eqb b) (blocksOf s d g))) (blocks-more f n)
-      ∙ any-append (λ (b : ℕ). any (eqb b) (blocksOf s d g)) (blocksIn f n) ((pairAt newHeld f 16 n) .block ∷ [])
-      ∙ ap (λ (b : Bool). share (blocksIn f n) (blocksOf s d g) || b) (or-last (took s d ((pairAt newHeld f 16 n) .block) g))
+  pub took-at : (i x : ℕ) (r : Bool) → x ≡ (pairAt newHeld f 16 i) .block → r ≡ took s d x g → r ≡ tookAt i
+  unfolding tookAt
+  took-at i x r e q = q ∙ rw e
 
-  module _ (i x : ℕ) (r : Bool) (e : x ≡ (pairAt newHeld f 16 i) .block) (q : r ≡ took s d x g) where
-    pub share-more : share (blocksIn f i) (blocksOf s d g) ≡ false → r ≡ false → share (blocksIn f (i + 1)) (blocksOf s d g) ≡ false
-    share-more h t = rw (add-one, share-step i, h, ← e, ← q, t)
-
-    pub share-hit : (n : ℕ) → r ≡ true → i < n → true ≡ share (blocksIn f n) (blocksOf s d g)
-    unfolding share took
-    share-hit n h l =
-        sym (mem-any (λ (b : ℕ). any (eqb b) (blocksOf s d g)) (getD-mem (blocksIn f n) i 0 (omega (arith, length-blocksIn f n)))
-        (rw (block-at f n i l, ← e, ← q) h))
-
-  pub share-end : (i n : ℕ) → share (blocksIn f i) (blocksOf s d g) ≡ false → i ≤ n → n ≤ i → false ≡ share (blocksIn f n) (blocksOf s d g)
-  share-end i n h l m = let z : i ≡ n = omega arith in sym h ∙ rw z
+  pub share-is : (n : ℕ) (r : Bool) → r ≡ some n tookAt → r ≡ share (blocksIn f n) (blocksOf s d g)
+  unfolding share blocksIn heldIn pairsIn took tookAt
+  share-is n r e =
+      let p : ℕ → Bool = λ b. any (eqb b) (blocksOf s d g) in
+      let q : Held → Bool = λ h. p (h .block) in
+      e ∙ some-map q (pairAt newHeld f 16) n ∙ sym (any-map (λ (h : Held). h .block) q p (λ h. refl) (map (pairAt newHeld f 16) (below n)))
 
 module _ (s : Shape) (d : Bytes) (e g : Committed) where
   pub stamp-not : e .stamp ≤ g .stamp → false ≡ sharesBelow s d e g

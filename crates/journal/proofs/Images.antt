@@ -1,9 +1,9 @@
 -- Images: where one stands, the newest of a block over the slots, and tests of all transactions in a set.
-use Prim.Native.Nat.{ℕ, suc, _+_, _≤_, _<_}
+use Prim.Native.Nat.{ℕ, zero, suc, _+_, _≤_, _<_}
 use native.Mathlib.Omega.{arith}
 use native.Mathlib.Numerals.{add-one}
 use mathlib.Core.Path.{_≡_, refl, sym, ap, _∙_}
-use mathlib.Core.Bool.{Bool, true, false, false≢true, cond, _||_}
+use mathlib.Core.Bool.{Bool, false, cond}
 use mathlib.Core.List.{List, [], _∷_, _++_, map}
 use lib.ListN.{getD}
 use lib.Dec.{leb}
@@ -19,13 +19,14 @@ use Rattle.model.specs.declared.Shape.{Shape}
 use Rattle.model.specs.declared.Committed.{Committed}
 use Rattle.model.specs.declared.Found.{Found}
 use Rattle.model.specs.declared.Found.the-variants.{Whole, Miss}
-use Rattle.model.proofs.Lists.{cases, any-append, mem-any, getD-map-below}
+use Rattle.model.proofs.Lists.{cases, any-append, getD-map-below}
 use Rattle.model.proofs.Limits.{InRange, clamped-same}
+use Rattle.layout.specs.Loops.{some}
+use Rattle.layout.proofs.Loops.{some-none, some-step}
 use Rattle.journal.specs.declared.newest.Image.{Image}
 use Rattle.journal.specs.Slots.{foundAt, listOf, entriesTo, entries, asks}
 use Rattle.journal.specs.Newest.{imageAt, foundImage, laterOf, laterFound}
 use Rattle.journal.proofs.Entries.{took-is}
-use Rattle.journal.proofs.Sets.{entries-mem}
 
 -- ---- one image
 pub image-is : (s : Shape) (d : Bytes) (e : Committed) (i x k : ℕ) (f : Bytes) → f ≡ journalAt s d (e .core) (e .position) → x ≡ (pairAt newHeld f 16 i) .flag
@@ -101,7 +102,7 @@ module _ (s : Shape) (d : Bytes) (b : ℕ) where
   unfolding entries
   newest-all set i x e h l = let z : i ≡ 96 = omega arith in e ∙ rw z
 
--- ---- a test of each transaction in a set
+-- ---- a test of the transaction in a slot
 module _ (s : Shape) (d : Bytes) (set : List ℕ) (p : Committed → Bool) where
   module _ (i : ℕ) (f : Found) (q : f ≡ foundAt s d [] set i) where
     pub asks-none : f ≡ Miss → false ≡ asks p (foundAt s d [] set i)
@@ -117,26 +118,14 @@ module _ (s : Shape) (d : Bytes) (set : List ℕ) (p : Committed → Bool) where
   asks-list Miss = refl
   asks-list (Whole e) = cases (p e) (λ t. rw t) (λ t. rw t)
 
-  any-to : (i : ℕ) → any p (entriesTo s d [] set (suc i)) ≡ (any p (entriesTo s d [] set i) || asks p (foundAt s d [] set i))
-  unfolding entriesTo
-  any-to i = any-append p (entriesTo s d [] set i) (listOf (foundAt s d [] set i)) ∙ rw (asks-list (foundAt s d [] set i))
-
-  pub any-none : any p (entriesTo s d [] set 0) ≡ false
+  -- over all slots it is a test of all transactions
+  some-to : (n : ℕ) → some n (λ (i : ℕ). asks p (foundAt s d [] set i)) ≡ any p (entriesTo s d [] set n)
   unfolding entriesTo any
-  any-none = refl
+  some-to zero = some-none _
+  some-to (suc n) =
+      some-step _ n
+      ∙ rw (some-to n, ← asks-list (foundAt s d [] set n)) (sym (any-append p (entriesTo s d [] set n) (listOf (foundAt s d [] set n))))
 
-  module _ (i : ℕ) (r : Bool) (e : r ≡ asks p (foundAt s d [] set i)) where
-    pub any-more : any p (entriesTo s d [] set i) ≡ false → r ≡ false → any p (entriesTo s d [] set (i + 1)) ≡ false
-    any-more h q = rw (add-one, any-to i, h, ← e, q)
-
-    pub any-hit : r ≡ true → i < 96 → true ≡ any p (entries s d [] set)
-    unfolding entries asks
-    any-hit h l = yes (foundAt s d [] set i) refl (sym e ∙ h)
-      where
-        yes : (f : Found) → foundAt s d [] set i ≡ f → asks p f ≡ true → true ≡ any p (entriesTo s d [] set 96)
-        yes Miss q t = absurd (false≢true t)
-        yes (Whole x) q t = sym (mem-any p (entries-mem s d [] set 96 i x l q) t)
-
-  pub any-end : (i : ℕ) → any p (entriesTo s d [] set i) ≡ false → i ≤ 96 → 96 ≤ i → false ≡ any p (entries s d [] set)
+  pub any-slots : (r : Bool) → r ≡ some 96 (λ (i : ℕ). asks p (foundAt s d [] set i)) → r ≡ any p (entries s d [] set)
   unfolding entries
-  any-end i h l m = let z : i ≡ 96 = omega arith in sym h ∙ rw z
+  any-slots r e = e ∙ some-to 96

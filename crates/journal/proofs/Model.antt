@@ -1,21 +1,17 @@
 -- What callers need: the functions over slots in terms of the model's lists, for RECOVER and for CHECKPOINT.
-use Prim.Native.Nat.{ℕ, zero, suc, _+_, _*_, _-_, _/_, _%_, _≤_, _<_, min}
-use native.Mathlib.Omega.{arith}
-use native.Mathlib.Nat.{add-zero}
-use native.Mathlib.Decide.{decLt}
+use Prim.Native.Nat.{ℕ, zero, suc, _+_, _*_, _<_}
 use mathlib.Core.Path.{_≡_, refl, sym, ap, _∙_, fun-ext}
-use mathlib.Core.Bool.{Bool, true, false, true≢false, cond, _&&_}
-use mathlib.Core.List.{List, [], _∷_, _++_, map, flatMap, List·Memᴰ, List·Memᴰ·head, List·Memᴰ·tail, Memᴰ·append-right, map-append, append-nil, append-assoc}
+use mathlib.Core.Bool.{Bool, true, false, cond, _&&_}
+use mathlib.Core.List.{List, [], _∷_, map, List·Memᴰ, List·Memᴰ·head, List·Memᴰ·tail, map-append}
 use lib.ListN.{length, getD}
 use lib.Dec.{ltb, leb, eqb}
-use borrow.Author.Tests.{lt-ltb, ltb-true, not-true, not-false}
+use borrow.Author.Tests.{ltb-true}
 use Rattle.model.specs.Lists.{below, all, any, select}
 use Rattle.model.specs.Bytes.{Bytes, blockAt}
-use Rattle.model.specs.Card.{newName}
 use Rattle.model.specs.Layout.{hasHead, stampIn, nameCount, namesIn, isListable, isCommit, unescaped}
 use Rattle.model.specs.Journal.{journalAt, journal, journals, namesOf, blocksOf, heldBy, took, imageOf}
 use Rattle.model.specs.Shrink.{strike, shrinkIn, shrink}
-use Rattle.model.specs.Valid.{isIn, isMet, namesMet, validSet, blocksHeld, later, newest}
+use Rattle.model.specs.Valid.{isMet, namesMet, validSet, blocksHeld, later, newest}
 use Rattle.model.specs.Recovery.{shapeOn, placeOf, imageFound}
 use Rattle.model.specs.declared.Shape.{Shape}
 use Rattle.model.specs.declared.Tail.{Tail}
@@ -23,19 +19,16 @@ use Rattle.model.specs.declared.Name.{Name}
 use Rattle.model.specs.declared.Committed.{Committed}
 use Rattle.model.specs.declared.Found.{Found}
 use Rattle.model.specs.declared.Found.the-variants.{Whole, Miss}
-use Rattle.model.proofs.Lists.{cases, and-left, and-right, all-mem, mem-below}
+use Rattle.model.proofs.Lists.{cases, and-left, and-right, all-mem, flatMap-below}
 use Rattle.model.proofs.Select.{select-mem}
+use Rattle.model.proofs.Shrink.{settled, goes-on}
 use Rattle.model.proofs.Limits.{InRange}
-use Rattle.model.proofs.Journal.{Known, records-known, records-all}
+use Rattle.model.proofs.Journal.{Known}
 use Rattle.model.proofs.Records.{journals-known}
-use Rattle.journal.specs.Slots.{tailIn, numbersOf, numberIn, slotOf, isFilled, entry, foundAs, foundAt, listOf, entriesTo, entries, entriesOf, Sized, filledFrom, oldestAt}
+use Rattle.journal.specs.Slots.{tailIn, numbersOf, slotOf, entry, foundAs, foundAt, listOf, entriesTo, entries, filledFrom}
 use Rattle.journal.specs.Walk.{Reads}
-use Rattle.journal.specs.Sets.{isHere}
 use Rattle.journal.specs.Newest.{imageAt, foundImage, firstOr, heldFrom, sharesBelow}
-use Rattle.journal.proofs.Slots.{number-at, entries-split}
-use Rattle.journal.proofs.Entries.{whole-known}
-use Rattle.journal.proofs.Sets.{mem-entries, holds-found, core-length, in-slot}
-use Rattle.journal.proofs.Shrinking.{settled, goes-on}
+use Rattle.journal.proofs.Sets.{core-length}
 use Rattle.journal.proofs.Held.{any-took}
 
 -- ---- the bytes of an image
@@ -135,11 +128,6 @@ module _ (s : Shape) (d : Bytes) (set ks ms : List ℕ) where
       ap (λ (p : ℕ → Bool). firstOr (s .blocks) (select (leb a) (select p (below (s .blocks)))))
       (fun-ext (λ b. any-took s d (entries s d ks set) b ∙ took-numbers b ∙ sym (any-took s d (entries s d ms set) b)))
 
-flatMap-cong : {A B : Type 0} (f g : A → List B) (xs : List A) → ((x : A) → List·Memᴰ x xs → f x ≡ g x) → flatMap f xs ≡ flatMap g xs
-unfolding flatMap
-flatMap-cong f g [] h = refl
-flatMap-cong f g (x ∷ xs) h = rw (h x (List·Memᴰ·head refl), flatMap-cong f g xs (λ y m. h y (List·Memᴰ·tail m)))
-
 -- ---- tails that agree on the cores of the disk give the same
 module _ {A : Type 0} where
   select-cong : (p q : A → Bool) (xs : List A) → ((x : A) → List·Memᴰ x xs → p x ≡ q x) → select p xs ≡ select q xs
@@ -201,105 +189,10 @@ module _ (s : Shape) (d : Bytes) (t₁ t₂ : ℕ → Tail) (same : (c : ℕ) �
 pub journals-tails : (s : Shape) (d : Bytes) (t₁ t₂ : ℕ → Tail) (m₁ m₂ : ℕ → ℕ)
     → ((c : ℕ) → c < s .cores → journal s d c (t₁ c) (m₁ c) ≡ journal s d c (t₂ c) (m₂ c)) → journals s d t₁ m₁ ≡ journals s d t₂ m₂
 unfolding journals
-journals-tails s d t₁ t₂ m₁ m₂ h = flatMap-cong _ _ (below (s .cores)) (λ c m. h c (mem-below (s .cores) m))
+journals-tails s d t₁ t₂ m₁ m₂ h = flatMap-below _ _ (s .cores) h
 
--- ---- a bound on the records of a journal
-pub journal-enough : {s : Shape} → InRange s → (d : Bytes) (c : ℕ) (t : Tail) (m n : ℕ) → 12 ≤ m → m ≤ n → journal s d c t m ≡ journal s d c t n
-unfolding journal
-journal-enough {s} l d c t m n h g = records-all s d c m n (t .number) (t .position) (s .journal) (omega (arith, l .short)) g
-
--- a count that passes a byte may be cut to one
-pub journal-capped : {s : Shape} → InRange s → (d : Bytes) (c : ℕ) (t : Tail) (n : ℕ) → journal s d c t (min n 255) ≡ journal s d c t n
-journal-capped {s} l d c t n =
-    elim (decLt n 255) [
-      | yes h ↦ let z : min n 255 ≡ n = omega arith in rw z
-      | no h ↦ let z : min n 255 ≡ 255 = omega arith in rw z (journal-enough l d c t 255 n (omega arith) (omega arith))
-    ]
-
--- ---- a core's oldest transaction
-unfoldable pub firstFound : List Committed → Found
-firstFound [] = Miss
-firstFound (e ∷ es) = Whole e
-
-pub oldest-sized : (s : Shape) (d : Bytes) (set : List ℕ) (c k : ℕ) (r : Found) (e : Committed) → r ≡ oldestAt s d set c k → r ≡ Whole e → c < s .cores → Sized s e
-unfolding oldestAt entry
-oldest-sized s d set c k r e q h l =
-    let v = slotOf s set (12 * c) in
-    let w = whole-known (eqb v 0) (entry s d c k v) e (sym q ∙ h) in
-    rw (← (w .1)) (record { core = l; few = omega arith; short = omega arith })
-
-module _ (s : Shape) (d : Bytes) (ks set : List ℕ) (c : ℕ) where
-  front : (n : ℕ) → (rest : List Committed) × (entriesOf s d ks set c (suc n) ≡ listOf (foundAt s d ks set (12 * c)) ++ rest)
-  unfolding entriesOf
-  front zero = ([], rw (add-zero) (sym (append-nil (listOf (foundAt s d ks set (12 * c))))))
-  front (suc n) =
-      let r = front n in (
-        r .0 ++ listOf (foundAt s d ks set (12 * c + suc n)),
-        ap (λ (l : List Committed). l ++ listOf (foundAt s d ks set (12 * c + suc n))) (r .1)
-            ∙ append-assoc (listOf (foundAt s d ks set (12 * c))) (r .0) (listOf (foundAt s d ks set (12 * c + suc n))),
-      )
-
-  -- where its first slot is filled, that is its oldest
-  first-filled : isFilled s set (12 * c) ≡ true → firstFound (entriesOf s d ks set c 12) ≡ Whole (entry s d c (getD ks c 0) (slotOf s set (12 * c)))
-  unfolding firstFound listOf
-  first-filled h =
-      let r = front 11 in
-      let q : 12 * c / 12 ≡ c = omega arith in
-      let z : getD ks c 0 + 12 * c % 12 ≡ getD ks c 0 = omega arith in
-      rw (r .1, holds-found s d ks set (12 * c) h, q, z)
-
-  oldest-filled : (k : ℕ) → isFilled s set (12 * c) ≡ true → oldestAt s d set c k ≡ Whole (entry s d c k (slotOf s set (12 * c)))
-  unfolding oldestAt isFilled
-  oldest-filled k h = rw (not-true (eqb (slotOf s set (12 * c)) 0) h)
-
-  oldest-empty : (k : ℕ) → isFilled s set (12 * c) ≡ false → oldestAt s d set c k ≡ Miss
-  unfolding oldestAt isFilled
-  oldest-empty k h = rw (not-false (eqb (slotOf s set (12 * c)) 0) h)
-
-  -- one in a core's slots stands in the slot of its number
-  number-slot : c < s .cores → (e : Committed) → List·Memᴰ e (entriesOf s d ks set c 12) → e .core ≡ c → e .number ≡ getD ks c 0 → isFilled s set (12 * c) ≡ true
-  unfolding entry
-  number-slot l e m p q =
-      let r = mem-entries s d ks set (12 * c + 12) e (rw (entries-split s d ks set c 12) (Memᴰ·append-right (entriesTo s d ks set (12 * c)) m)) in
-      let a : c ≡ r .0 / 12 = sym p ∙ ap (λ (x : Committed). x .core) (r .2 .same) in
-      let g : getD ks (r .0 / 12) 0 ≡ getD ks c 0 = ap (λ (x : ℕ). getD ks x 0) (sym a) in
-      let b : e .number ≡ getD ks (r .0 / 12) 0 + r .0 % 12 = ap (λ (x : Committed). x .number) (r .2 .same) in
-      let z : r .0 ≡ 12 * c = omega arith in
-      rw z at (r .2 .filled)
-
-module _ {s : Shape} (l : InRange s) (d : Bytes) (ts : List Tail) (most set : List ℕ) (r : Reads s d ts most set) (c : ℕ) (h : c < s .cores) where
-  core-read : entriesOf s d (numbersOf ts) set c 12 ≡ journal s d c (tailIn ts c) (getD most c 0)
-  unfolding Reads
-  core-read = r c h
-
-  tail-number : getD (numbersOf ts) c 0 ≡ (tailIn ts c) .number
-  tail-number = number-at ts c (omega (arith, l .few-cores))
-
-  -- its slots that are filled are as many as its records
-  pub read-count : filledFrom s set (12 * c) 12 ≡ length (journal s d c (tailIn ts c) (getD most c 0))
-  read-count = sym (core-length s d (numbersOf ts) set c 12) ∙ ap length core-read
-
-  no-first : (es : List Committed) → journal s d c (tailIn ts c) (getD most c 0) ≡ es → isFilled s set (12 * c) ≡ false → firstFound es ≡ Miss
-  unfolding firstFound journal
-  no-first [] q t = refl
-  no-first (e ∷ es) q t =
-      let n : 0 < length (journal s d c (tailIn ts c) (getD most c 0)) = omega (arith, ap length q) in
-      let k = records-known s d c (getD most c 0) ((tailIn ts c) .number) ((tailIn ts c) .position) (s .journal) 0 e n .0 in
-      let z : Known s d c ((tailIn ts c) .number + 0) e = rw q at k in
-      let m : List·Memᴰ e (entriesOf s d (numbersOf ts) set c 12) = rw (core-read, q) (List·Memᴰ·head refl) in
-      let f = number-slot s d (numbersOf ts) set c h e m (z .core) (z .number ∙ add-zero ((tailIn ts c) .number) ∙ sym tail-number) in
-      absurd (true≢false (sym f ∙ t))
-
-  pub oldest-read : oldestAt s d set c ((tailIn ts c) .number) ≡ firstFound (journal s d c (tailIn ts c) (getD most c 0))
-  oldest-read =
-      cases (isFilled s set (12 * c))
-      (λ t. oldest-filled s d (numbersOf ts) set c ((tailIn ts c) .number) t ∙ rw (← core-read, first-filled s d (numbersOf ts) set c t, tail-number))
-      (λ t. oldest-empty s d (numbersOf ts) set c ((tailIn ts c) .number) t ∙ sym (no-first (journal s d c (tailIn ts c) (getD most c 0)) refl t))
-
--- the transaction with its core's tail number is in a set where the core's first slot is filled
-pub oldest-in : {s : Shape} → InRange s → (d : Bytes) (ks set : List ℕ) (c : ℕ) → c < s .cores → isFilled s set (12 * c) ≡ isIn (entries s d ks set) (newName c (getD ks c 0))
-unfolding isHere
-oldest-in {s} l d ks set c h =
-    let t : numberIn ks c ≡ getD ks c 0 = unfold numberIn in rw (lt-ltb c 8 (omega (arith, l .few-cores))) in
-    let z : getD ks c 0 - numberIn ks c ≡ 0 = omega arith in
-    sym (in-slot s d ks set l (newName c (getD ks c 0)) (omega arith) ∙ rw (z, lt-ltb c (s .cores) h, add-zero))
+-- ---- a core's slots that are filled are as many as its records
+pub read-count : {s : Shape} → InRange s → (d : Bytes) (ts : List Tail) (most set : List ℕ) → Reads s d ts most set → (c : ℕ) → c < s .cores
+    → filledFrom s set (12 * c) 12 ≡ length (journal s d c (tailIn ts c) (getD most c 0))
+unfolding Reads
+read-count {s} l d ts most set r c h = sym (core-length s d (numbersOf ts) set c 12) ∙ ap length (r c h)

@@ -2,19 +2,17 @@
 use Prim.Native.Nat.{ℕ, _+_, _*_, _-_, _≤_, _<_}
 use native.Mathlib.Omega.{arith}
 use mathlib.Core.Path.{_≡_, refl, sym, ap, _∙_}
-use mathlib.Core.Bool.{Bool, true, false, cond, _&&_}
+use mathlib.Core.Bool.{Bool, true, false, cond}
 use lib.ListN.{length, take, drop}
-use lib.Dec.{leb}
-use borrow.Author.Tests.{le-leb, lt-leb, leb-true}
+use borrow.Author.Tests.{le-leb, lt-leb}
 use Rattle.model.specs.Bytes.{Bytes, blockAt, part}
 use Rattle.model.specs.Shape.{clamped, journalBlock}
-use Rattle.model.specs.Layout.{hasHead, maxNumber, isDescriptor, blockCount, isCommit, stampIn, nameCount}
+use Rattle.model.specs.Layout.{isDescriptor, blockCount, isCommit, stampIn, nameCount}
 use Rattle.model.specs.Journal.{journalAt, recordAt}
 use Rattle.model.specs.declared.Shape.{Shape}
 use Rattle.model.specs.declared.Found.the-variants.{Whole, Miss}
-use Rattle.model.proofs.Lists.{and-left, and-right}
 use Rattle.model.proofs.Limits.{InRange, clamped-same}
-use Rattle.model.proofs.Journal.{journal-low, miss-descriptor}
+use Rattle.model.proofs.Journal.{journal-low, miss-descriptor, descriptor-few, commit-short}
 use Rattle.model.proofs.Records.{length-journalAt}
 use Rattle.journal.specs.declared.record.DescriptorRead.{DescriptorRead}
 use Rattle.journal.specs.declared.record.DescriptorRead.the-variants.{Blocks, NoDescriptor}
@@ -38,19 +36,10 @@ module _ (s : Shape) (c p r : ℕ) (e : r ≡ journalBlock (clamped s) c p) (l :
   part-size d n = ap length (part-is d) ∙ length-journalAt l d n c p h
 
 -- ---- a block read
--- the counts of a descriptor and of a commit fit a byte
-pub few-blocks : (s : Shape) (k : ℕ) (b : Bytes) → isDescriptor s k b ≡ true → blockCount b ≤ 8
-unfolding isDescriptor
-few-blocks s k b h = leb-true (blockCount b) 8 (and-right (hasHead 1 k b && leb k maxNumber) _ (and-left _ _ (and-left _ _ h)))
-
-pub few-names : (s : Shape) (k : ℕ) (b : Bytes) → isCommit s k b ≡ true → nameCount b ≤ 12
-unfolding isCommit
-few-names s k b h = leb-true (nameCount b) 12 (and-right (hasHead 2 k b && leb 1 (stampIn b)) _ (and-left _ _ h))
-
--- with what the test answered: r
+-- with what the test answered: r; the counts fit a byte
 module _ (s : Shape) (k : ℕ) (b : Bytes) (r : Bool) (e : r ≡ isDescriptor s k b) where
   pub descriptor-fits : (n : ℕ) → r ≡ true → n ≡ blockCount b → n < 256
-  descriptor-fits n h q = omega (arith, few-blocks s k b (sym e ∙ h))
+  descriptor-fits n h q = omega (arith, descriptor-few s k b (sym e ∙ h))
 
   pub descriptor-is : (n : ℕ) → r ≡ true → n ≡ blockCount b → Blocks n ≡ descriptorOf s k b
   unfolding descriptorOf
@@ -62,7 +51,7 @@ module _ (s : Shape) (k : ℕ) (b : Bytes) (r : Bool) (e : r ≡ isDescriptor s 
 
 module _ (s : Shape) (k : ℕ) (b : Bytes) (r : Bool) (e : r ≡ isCommit s k b) where
   pub commit-fits : (n : ℕ) → r ≡ true → n ≡ nameCount b → n < 256
-  commit-fits n h q = omega (arith, few-names s k b (sym e ∙ h))
+  commit-fits n h q = omega (arith, commit-short s k b (sym e ∙ h))
 
   pub commit-is : (x n : ℕ) → r ≡ true → x ≡ stampIn b → n ≡ nameCount b → Stamped x n ≡ commitOf s k b
   unfolding commitOf

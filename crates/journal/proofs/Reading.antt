@@ -19,7 +19,7 @@ use Rattle.model.specs.declared.Committed.{Committed}
 use Rattle.model.specs.declared.Found.{Found}
 use Rattle.model.specs.declared.Found.the-variants.{Whole, Miss}
 use Rattle.model.proofs.Lists.{cases, and-left, and-right}
-use Rattle.model.proofs.Journal.{record-known, records-hit, records-miss, records-length}
+use Rattle.model.proofs.Journal.{found-cases, record-known, records-hit, records-miss, records-length}
 use Rattle.model.proofs.Limits.{InRange}
 use Rattle.journal.specs.declared.walk.Walk.{Walk}
 use Rattle.journal.specs.declared.walk.Step.{Step}
@@ -171,10 +171,6 @@ module _ (s : Shape) (d : Bytes) (ts : List Tail) (most : List ℕ) where
   reading-all l out w i v h c g = v .done c (omega (arith, l .few-cores)) g
 
 -- ---- one step of the code
-found-cases : {A : Type 0} (r : Found) → (r ≡ Miss → A) → ((e : Committed) → r ≡ Whole e → A) → A
-found-cases (Whole e) f g = g e refl
-found-cases Miss f g = f refl
-
 no-room : (s : Shape) (d : Bytes) (c k p left : ℕ) → left < 2 → recordAt s d c k p left ≡ Miss
 no-room s d c k p left h =
     found-cases (recordAt s d c k p left) (λ m. m) (λ e w. absurd (omega (arith, record-known s d c k p left e w .2)))

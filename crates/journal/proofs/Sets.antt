@@ -23,7 +23,7 @@ use Rattle.model.specs.declared.Name.{Name}
 use Rattle.model.specs.declared.Committed.{Committed}
 use Rattle.model.specs.declared.Found.{Found}
 use Rattle.model.specs.declared.Found.the-variants.{Whole, Miss}
-use Rattle.model.proofs.Lists.{cases, and-left, and-right, any-mem, mem-any, getD-map-below}
+use Rattle.model.proofs.Lists.{cases, both-ways, and-left, and-right, any-mem, mem-any, getD-map-below}
 use Rattle.model.proofs.Limits.{InRange}
 use Rattle.model.proofs.Valid.{sameName-true, sameName-refl}
 use Rattle.layout.specs.Loops.{every}
@@ -32,10 +32,6 @@ use Rattle.journal.specs.Slots.{tailIn, numbersOf, numberIn, numbered, s
 use Rattle.journal.specs.Sets.{isHere, slotMet, nameMet, keeps, kept, struck}
 use Rattle.journal.proofs.Slots.{empty-slot, filled-slot}
 use Rattle.journal.proofs.Entries.{slot-core}
-
-both-ways : (a b : Bool) → (a ≡ true → b ≡ true) → (b ≡ true → a ≡ true) → a ≡ b
-both-ways true b f g = sym (f refl)
-both-ways false b f g = cases b (λ h. g h ∙ sym h) (λ h. sym h)
 
 -- ---- which transactions a set has
 module _ (s : Shape) (d : Bytes) (ks set : List ℕ) where
@@ -155,7 +151,7 @@ module _ (s : Shape) (d : Bytes) (ks set : List ℕ) where
 
     -- a name at or above its core's tail number is that of a transaction in the set exactly where its slot is filled
     pub in-slot : (n : Name) → numberIn ks (n .core) ≤ n .number → isIn (entries s d ks set) n ≡ isHere s set (numberIn ks (n .core)) (n .core) (n .number)
-    in-slot n g = both-ways (isIn (entries s d ks set) n) (isHere s set (numberIn ks (n .core)) (n .core) (n .number)) (here-yes n) (here-in n g)
+    in-slot n g = both-ways (here-yes n) (here-in n g)
 
     pub met-slot : (n : Name) → isMet (numbered ks) (entries s d ks set) n ≡ slotMet s ks set (n .core) (n .number)
     unfolding isMet slotMet numbered

@@ -2,7 +2,7 @@
 use Prim.Native.Nat.{ℕ, zero, suc, _≤_, _<_}
 use native.Mathlib.Omega.{arith}
 use mathlib.Core.Path.{_≡_, refl, sym, ap, _∙_}
-use mathlib.Core.Bool.{Bool, true, false}
+use mathlib.Core.Bool.{Bool}
 use mathlib.Core.List.{List, [], _∷_}
 use lib.ListN.{length}
 use lib.Dec.{eqb}
@@ -14,20 +14,13 @@ use Rattle.model.specs.Valid.{namesMet, validSet}
 use Rattle.model.specs.declared.Shape.{Shape}
 use Rattle.model.specs.declared.Tail.{Tail}
 use Rattle.model.proofs.Lists.{cases}
+use Rattle.model.proofs.Shrink.{settled, goes-on}
 use Rattle.model.proofs.Select.{select-length, select-all, select-same}
 use Rattle.journal.specs.Slots.{numbersOf, numbered, entries, filledFrom}
 use Rattle.journal.specs.Sets.{struck}
 use Rattle.journal.proofs.Sets.{entries-length, struck-entries}
 
 module _ {A : Type 0} (stays : List A → A → Bool) where
-  pub settled : (n : ℕ) (es : List A) → eqb (length (strike stays es)) (length es) ≡ true → shrinkIn (suc n) stays es ≡ es
-  unfolding shrinkIn
-  settled n es h = rw (h, shrinkIn)
-
-  pub goes-on : (n : ℕ) (es : List A) → eqb (length (strike stays es)) (length es) ≡ false → shrinkIn (suc n) stays es ≡ shrinkIn n stays (strike stays es)
-  unfolding shrinkIn
-  goes-on n es h = rw (h, shrinkIn)
-
   strike-length : (es : List A) → length (strike stays es) ≤ length es
   unfolding strike
   strike-length es = select-length (stays es) es
@@ -35,16 +28,16 @@ module _ {A : Type 0} (stays : List A → A → Bool) where
   enough : (n m : ℕ) (es : List A) → length es ≤ n → length es ≤ m → shrinkIn n stays es ≡ shrinkIn m stays es
   unfolding shrinkIn strike select
   enough zero zero es p q = refl
-  enough zero (suc m) [] p q = sym (settled m [] (eq-eqb 0 0 refl))
+  enough zero (suc m) [] p q = sym (settled stays m [] (eq-eqb 0 0 refl))
   enough zero (suc m) (x ∷ es) p q = absurd (omega arith)
-  enough (suc n) zero [] p q = settled n [] (eq-eqb 0 0 refl)
+  enough (suc n) zero [] p q = settled stays n [] (eq-eqb 0 0 refl)
   enough (suc n) zero (x ∷ es) p q = absurd (omega arith)
   enough (suc n) (suc m) es p q =
       cases (eqb (length (strike stays es)) (length es))
-      (λ t. settled n es t ∙ sym (settled m es t))
+      (λ t. settled stays n es t ∙ sym (settled stays m es t))
       (λ t.
       let l : length (strike stays es) < length es = omega (arith, strike-length es, eqb-false (length (strike stays es)) (length es) t) in
-      goes-on n es t ∙ enough n m (strike stays es) (omega arith) (omega arith) ∙ sym (goes-on m es t))
+      goes-on stays n es t ∙ enough n m (strike stays es) (omega arith) (omega arith) ∙ sym (goes-on stays m es t))
 
   -- where none goes, the set is the one that shrinking leaves
   pub shrink-stop : (es : List A) → length (strike stays es) ≡ length es → strike stays es ≡ shrink stays es
@@ -52,7 +45,7 @@ module _ {A : Type 0} (stays : List A → A → Bool) where
   shrink-stop [] h = refl
   shrink-stop (x ∷ es) h =
       select-same (stays (x ∷ es)) (x ∷ es) (select-all (stays (x ∷ es)) (x ∷ es) h)
-      ∙ sym (settled (length es) (x ∷ es) (eq-eqb _ _ h))
+      ∙ sym (settled stays (length es) (x ∷ es) (eq-eqb _ _ h))
 
   -- one round first changes nothing
   pub shrink-again : (es : List A) → shrink stays (strike stays es) ≡ shrink stays es
@@ -63,7 +56,7 @@ module _ {A : Type 0} (stays : List A → A → Bool) where
       (λ t. ap (shrink stays) (select-same (stays (x ∷ es)) (x ∷ es) (select-all (stays (x ∷ es)) (x ∷ es) (eqb-true (length (strike stays (x ∷ es))) (length (x ∷ es)) t))))
       (λ t.
       let l : length (strike stays (x ∷ es)) < length (x ∷ es) = omega (arith, strike-length (x ∷ es), eqb-false (length (strike stays (x ∷ es))) (length (x ∷ es)) t) in
-      enough (length (strike stays (x ∷ es))) (length es) (strike stays (x ∷ es)) (omega arith) (omega arith) ∙ sym (goes-on (length es) (x ∷ es) t))
+      enough (length (strike stays (x ∷ es))) (length es) (strike stays (x ∷ es)) (omega arith) (omega arith) ∙ sym (goes-on stays (length es) (x ∷ es) t))
 
 -- ---- the recursion over slots: ys is what a round leaves of xs
 module _ (s : Shape) (d : Bytes) (ks xs ys : List ℕ) (m n : ℕ) (e : ys ≡ struck s d ks xs) (p : m ≡ filledFrom s ys 0 96) (q : n ≡ filledFrom s xs 0 96) where
@@ -85,7 +78,9 @@ module _ (s : Shape) (d : Bytes) (ks xs ys : List ℕ) (m n : ℕ) (e : ys ≡ s
   pub shrink-falls : (m ≡ n → ⊥) → filledFrom s ys 0 96 < filledFrom s xs 0 96
   shrink-falls h = omega (arith, h, size ys, size xs, ap length round, strike-length (namesMet s d (numbered ks)) (entries s d ks xs))
 
-pub valid-is : (s : Shape) (d : Bytes) (ts : List Tail) (ks xs ys : List ℕ) → ks ≡ numbersOf ts → entries s d ks ys ≡ shrink (namesMet s d (numbered ks)) (entries s d ks xs)
-    → entries s d (numbersOf ts) ys ≡ validSet s d (numbered (numbersOf ts)) (entries s d (numbersOf ts) xs)
+-- the first round, then the recursion
+pub valid-is : (s : Shape) (d : Bytes) (ts : List Tail) (ks xs ys zs : List ℕ) → ks ≡ numbersOf ts → ys ≡ struck s d ks xs
+    → entries s d ks zs ≡ shrink (namesMet s d (numbered ks)) (entries s d ks ys)
+    → entries s d (numbersOf ts) zs ≡ validSet s d (numbered (numbersOf ts)) (entries s d (numbersOf ts) xs)
 unfolding validSet
-valid-is s d ts ks xs ys e h = rw e at h
+valid-is s d ts ks xs ys zs e r h = let g = shrink-less s d ks xs ys _ _ r refl refl zs h in rw e at g

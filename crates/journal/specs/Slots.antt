@@ -88,10 +88,6 @@ filledFrom s set a (suc n) = filledFrom s set a n + cond (isFilled s set (a + n)
 unfoldable pub blocksIn : Bytes → ℕ → List ℕ
 blocksIn b n = map (λ (h : Held). h .block) (heldIn b n)
 
--- core c's oldest transaction, whose number is k
-unfoldable pub oldestAt : Shape → Bytes → List ℕ → ℕ → ℕ → Found
-oldestAt s d set c k = let v = slotOf s set (12 * c) in cond (eqb v 0) Miss (Whole (entry s d c k v))
-
 -- a test of the transaction in a slot; none where it is empty
 unfoldable pub asks : (Committed → Bool) → Found → Bool
 asks p Miss = false

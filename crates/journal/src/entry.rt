@@ -2,11 +2,11 @@
 ghost use mathlib.Core.Path.{_≡_};
 ghost use mathlib.Core.List.{[]};
 ghost use Prim.Native.Nat.{_+_, _≤_, _<_, min};
-ghost use lib.ListN.{length, getD};
+ghost use lib.ListN.{length};
 ghost use Rattle.model.proofs.Limits.{InRange};
 ghost use Rattle.model.specs.Journal.{blocksOf, took};
 ghost use Rattle.model.specs.Recovery.{placeOf};
-ghost use Rattle.journal.specs.Slots.{slotOf, isFilled, entry, foundAt, Sized, filledFrom, blocksIn, oldestAt};
+ghost use Rattle.journal.specs.Slots.{slotOf, isFilled, entry, foundAt, Sized, filledFrom, blocksIn};
 use crate::record::journal_part;
 use model::Committed;
 use model::Found;
@@ -32,7 +32,7 @@ fn slot_value(x: u16) -> usize
 }
 
 // Slot i of a set, empty for a core that the disk has not.
-pub fn slot_of(s: Shape, set: &[u16; 96], i: usize) -> usize
+fn slot_of(s: Shape, set: &[u16; 96], i: usize) -> usize
     requires { ⌜ i < 96 ⌝ }
     ensures { λ r. ⌜ (r ≡ slotOf s (now (set .entry)) i) × (r ≤ 256) ⌝ }
 {
@@ -123,7 +123,7 @@ fn place_in(block: &[u8], n: usize, b: u32) -> usize
     i
 }
 
-// The place of block b among those that a transaction took, or their count. No public entry.
+// The place of block b among those that a transaction took, or their count.
 pub fn place_of(s: Shape, disk: &[u8], e: Committed, b: u32) -> usize
     requires { ⌜ InRange s × (length (now disk) ≡ 32896) × Sized s e ⌝ }
     ensures { λ r. ⌜ (r ≡ placeOf b (blocksOf s (now (disk .entry)) e)) × (r ≤ e .count) ⌝ }
@@ -138,24 +138,4 @@ pub fn took_block(s: Shape, disk: &[u8], e: Committed, b: u32) -> bool
     ensures { λ r. ⌜ r ≡ took s (now (disk .entry)) b e ⌝ }
 {
     place_of(s, disk, e, b) < e.count as usize
-}
-
-// The i-th block that a transaction took. No public entry.
-pub fn block_at(s: Shape, disk: &[u8], e: Committed, i: usize) -> u32
-    requires { ⌜ InRange s × (length (now disk) ≡ 32896) × Sized s e × (i < e .count) ⌝ }
-    ensures { λ r. ⌜ r ≡ getD (blocksOf s (now (disk .entry)) e) i 0 ⌝ }
-{
-    layout::held_block(journal_part(s, disk, e.core, e.position as usize), i)
-}
-
-// Core c's oldest transaction in a set, where its number is the core's tail number. No public entry.
-pub fn oldest_in(s: Shape, disk: &[u8], set: &[u16; 96], c: u8, number: u32) -> Found
-    requires { ⌜ InRange s × (length (now disk) ≡ 32896) × (c < s .cores) ⌝ }
-    ensures { λ r. ⌜ r ≡ oldestAt s (now (disk .entry)) (now (set .entry)) c number ⌝ }
-{
-    let v = slot_of(s, set, 12 * c as usize);
-    if v == 0 {
-        return Found::Miss;
-    }
-    Found::Whole(read_entry(s, disk, c, number, v))
 }

@@ -6,15 +6,10 @@ mod record;
 mod valid;
 mod walk;
 
-pub use entry::block_at;
 pub use entry::count_slots;
 pub use entry::entry_at;
-pub use entry::is_filled;
-pub use entry::oldest_in;
-pub use entry::place_of;
 pub use entry::took_block;
 pub use newest::Image;
-pub use newest::image_at;
 pub use newest::newest_image;
 pub use newest::next_held;
 pub use newest::shares_lower;

@@ -26,8 +26,8 @@ pub struct Image {
     pub flag: u32,
 }
 
-// The image of the i-th block of a transaction. No public entry.
-pub fn image_at(s: Shape, disk: &[u8], e: Committed, i: usize) -> Image
+// The image of the i-th block of a transaction.
+fn image_at(s: Shape, disk: &[u8], e: Committed, i: usize) -> Image
     requires { ⌜ InRange s × (length (now disk) ≡ 32896) × Sized s e × (i < e .count) ⌝ }
     ensures { λ r. ⌜ (r ≡ imageAt s (now (disk .entry)) e i) × (r .block < 257) ⌝ }
 {

@@ -110,7 +110,8 @@ fn strike_unmet(s: Shape, disk: &[u8], numbers: &[u32; 8], set: &[u16; 96]) -> [
     next
 }
 
-// One round in place: its copy of the set is gone before the next one begins, so that the recursion stays small.
+// One round in place: its copy of the set is gone before the next one begins. It is called from two places, so the compiler
+// keeps it out of the recursion, whose frames stay small.
 fn strike_round(s: Shape, disk: &[u8], numbers: &[u32; 8], set: &mut [u16; 96])
     requires { ⌜ InRange s × (length (now disk) ≡ 32896) ⌝ }
     ensures { λ _. ⌜ now (set .exit) ≡ struck s (now (disk .entry)) (now (numbers .entry)) (now (set .entry)) ⌝ }
@@ -153,13 +154,14 @@ fn numbers_of(tails: [Tail; 8]) -> [u32; 8]
     numbers
 }
 
-// The valid set of the transactions read. No public entry.
+// The valid set of the transactions read; the first round is done here. No public entry.
 pub fn valid_slots(s: Shape, disk: &[u8], tails: [Tail; 8], committed: [u16; 96]) -> [u16; 96]
     requires { ⌜ InRange s × (length (now disk) ≡ 32896) ⌝ }
     ensures { λ r. ⌜ entries s (now (disk .entry)) (numbersOf tails) r ≡ validSet s (now (disk .entry)) (numbered (numbersOf tails)) (entries s (now (disk .entry)) (numbersOf tails) committed) ⌝ }
 {
     let numbers = numbers_of(tails);
     let mut set = committed;
+    strike_round(s, disk, &numbers, &mut set);
     let count = count_slots(s, &set, 0, 96);
     shrink_set(s, disk, &numbers, &mut set, count);
     set

@@ -6,6 +6,7 @@ use mathlib.Core.Path.{_≡_, refl, ap, _∙_, sym}
 use mathlib.Core.List.{List, [], _∷_, _++_, append-assoc, flatMap}
 use lib.ListN.{length, take, drop, set, getD, replicate, length-set, length-append, length-take, replicate-append-replicate}
 use lib.Seq.{take-suc-set, take-suc, take-all, take-at, drop-drop, sets, sets-eq}
+use borrow.Author.Needs.{needs}
 use borrow.Author.Tests.{eq-eqb, ne-eqb}
 use Rattle.model.specs.Layout.{mark, escaped}
 use Rattle.model.specs.Bytes.{Bytes, bytes, be4, part, replaced, words, padded, block, blockAt, store}
@@ -87,6 +88,8 @@ written-more ws b c i x w e q h = record { few = w .few; begun = begun-word ws b
 
 pub written-all : (ws : List ℕ) (b : Bytes) (i : ℕ) → Written ws b i → 32 ≤ i → b ≡ block ws
 written-all ws b i w h = begun-all (block ws) b (4 * i) (w .begun) (omega arith)
+
+pub ruleset written = (needs, written-none, written-more, written-all)
 
 -- ---- a block of a slice, lent
 pub lent-size : (k : ℕ) → 128 * k + 128 - 128 * k ≡ 128

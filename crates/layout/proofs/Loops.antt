@@ -1,32 +1,24 @@
 -- Loops over an index: a test at each index below a count, at some, and an array filled one after another.
 -- Each law has the form in which a loop needs it: none, one more, all.
-use Prim.Native.Nat.{ℕ, zero, suc, _+_, _≤_, _<_}
+use Prim.Native.Nat.{ℕ, suc, _+_, _≤_, _<_}
 use native.Mathlib.Omega.{arith}
 use native.Mathlib.Numerals.{add-one}
-use mathlib.Core.Path.{_≡_, refl, ap, _∙_, sym, ap₂}
+use mathlib.Core.Path.{_≡_, refl, ap, _∙_, sym}
 use mathlib.Core.Bool.{Bool, true, false, false≢true, not, _&&_, _||_, and-true, or-false}
-use mathlib.Core.List.{List, [], _∷_, _++_, map, map-append}
+use mathlib.Core.List.{List, [], _∷_, map, map-append}
 use lib.ListN.{length, take, set, length-set}
 use lib.Seq.{take-suc-set, take-all}
 use borrow.Author.Tests.{not-true, not-false}
+use borrow.Author.Needs.{needs}
 use Rattle.model.specs.Lists.{below, all, any}
-use Rattle.model.proofs.Lists.{cases, all-mem, all-append, any-append, mem-any, below-mem}
+use Rattle.model.proofs.Lists.{cases, all-mem, all-append, any-append, all-map, any-map, mem-any, below-mem, map-below}
 use Rattle.layout.specs.Loops.{every, some}
 
 -- ---- a test at each index
-pub every-all : (p : ℕ → Bool) (n : ℕ) → every n p ≡ all p (below n)
-unfolding every
-every-all p n = refl
-
-all-map : {A : Type 0} (p : A → Bool) (f : ℕ → A) (xs : List ℕ) → all (λ (i : ℕ). p (f i)) xs ≡ all p (map f xs)
-unfolding all
-all-map p f [] = refl
-all-map p f (x ∷ xs) = ap (λ (b : Bool). p (f x) && b) (all-map p f xs)
-
 -- a test of each element of a list that is given by its index
 pub every-map : {A : Type 0} (p : A → Bool) (f : ℕ → A) (n : ℕ) → every n (λ (i : ℕ). p (f i)) ≡ all p (map f (below n))
 unfolding every
-every-map p f n = all-map p f (below n)
+every-map p f n = sym (all-map f (λ (i : ℕ). p (f i)) p (λ i. refl) (below n))
 
 pub every-none : (p : ℕ → Bool) → every 0 p ≡ true
 unfolding every below all
@@ -46,18 +38,31 @@ every-no p i n h q = cases (every n p) (λ t. absurd (false≢true (sym q ∙ al
 pub every-yes : (p : ℕ → Bool) (i n : ℕ) → every i p ≡ true → i ≤ n → n ≤ i → true ≡ every n p
 every-yes p i n h q r = let e : i ≡ n = omega arith in sym h ∙ ap (λ (k : ℕ). every k p) e
 
--- with what a call answered: r
-module _ (p : ℕ → Bool) (i : ℕ) (r : Bool) (e : r ≡ p i) where
-  pub every-out : (n : ℕ) → not r ≡ true → i < n → false ≡ every n p
-  every-out n h q = every-no p i n q (sym e ∙ not-true r h)
+-- a loop that leaves at the first index where the test fails; r is what a call answered there
+pub record Passed (p : ℕ → Bool) (n i : ℕ) : Type 0 where
+  pub most : i ≤ n
+  pub holds : every i p ≡ true
 
-  pub every-in : every i p ≡ true → not r ≡ false → every (i + 1) p ≡ true
-  every-in h q = every-more p i h (sym e ∙ not-false r q)
+module _ (p : ℕ → Bool) (n : ℕ) where
+  pub passed-start : Passed p n 0
+  passed-start = record { most = omega arith; holds = every-none p }
+
+  module _ (i : ℕ) where
+    pub passed-out : (r : Bool) → r ≡ p i → not r ≡ true → i < n → false ≡ every n p
+    passed-out r e h q = every-no p i n q (sym e ∙ not-true r h)
+
+    pub passed-more : (r : Bool) → Passed p n i → r ≡ p i → not r ≡ false → i < n → Passed p n (i + 1)
+    passed-more r w e h q = record { most = omega arith; holds = every-more p i (w .holds) (sym e ∙ not-false r h) }
+
+    pub passed-end : Passed p n i → n ≤ i → true ≡ every n p
+    passed-end w h = every-yes p i n (w .holds) (w .most) h
+
+pub ruleset passed = (needs, passed-start, passed-out, passed-more, passed-end)
 
 -- ---- a test at some index
-pub some-any : (p : ℕ → Bool) (n : ℕ) → some n p ≡ any p (below n)
+pub some-map : {A : Type 0} (p : A → Bool) (f : ℕ → A) (n : ℕ) → some n (λ (i : ℕ). p (f i)) ≡ any p (map f (below n))
 unfolding some
-some-any p n = refl
+some-map p f n = sym (any-map f (λ (i : ℕ). p (f i)) p (λ i. refl) (below n))
 
 pub some-none : (p : ℕ → Bool) → some 0 p ≡ false
 unfolding some below any
@@ -74,6 +79,9 @@ pub some-yes : (p : ℕ → Bool) (i n : ℕ) → i < n → p i ≡ true → tru
 unfolding some
 some-yes p i n h q = sym (mem-any p (below-mem n i h) q)
 
+pub some-not : (p : ℕ → Bool) (n : ℕ) → some n p ≡ false → (i : ℕ) → i < n → p i ≡ false
+some-not p n h i l = cases (p i) (λ t. absurd (false≢true (sym h ∙ sym (some-yes p i n l t)))) (λ t. t)
+
 pub some-no : (p : ℕ → Bool) (i n : ℕ) → some i p ≡ false → i ≤ n → n ≤ i → false ≡ some n p
 some-no p i n h q r = let e : i ≡ n = omega arith in sym h ∙ ap (λ (k : ℕ). some k p) e
 
@@ -84,15 +92,27 @@ module _ (p : ℕ → Bool) (i : ℕ) (r : Bool) (e : r ≡ p i) where
   pub some-out : some i p ≡ false → r ≡ false → some (i + 1) p ≡ false
   some-out h q = some-more p i h (sym e ∙ q)
 
+-- a loop that leaves at the first index where the test holds
+pub record Missed (p : ℕ → Bool) (n i : ℕ) : Type 0 where
+  pub most : i ≤ n
+  pub fails : some i p ≡ false
+
+module _ (p : ℕ → Bool) (n : ℕ) where
+  pub missed-start : Missed p n 0
+  missed-start = record { most = omega arith; fails = some-none p }
+
+  module _ (i : ℕ) where
+    pub missed-more : (r : Bool) → Missed p n i → r ≡ p i → r ≡ false → i < n → Missed p n (i + 1)
+    missed-more r w e h q = record { most = omega arith; fails = some-out p i r e (w .fails) h }
+
+    pub missed-end : Missed p n i → n ≤ i → false ≡ some n p
+    missed-end w h = some-no p i n (w .fails) (w .most) h
+
+pub ruleset missed = (needs, missed-start, some-in, missed-more, missed-end)
+
 -- ---- lists given by an index
-module _ {A : Type 0} (f g : ℕ → A) where
-  pub same-below : (n : ℕ) → ((i : ℕ) → i < n → f i ≡ g i) → map f (below n) ≡ map g (below n)
-  unfolding below
-  same-below zero h = refl
-  same-below (suc n) h =
-      map-append f (below n) (n ∷ [])
-      ∙ ap₂ (λ (l : List A) (x : A). l ++ (x ∷ [])) (same-below n (λ i k. h i (omega arith))) (h n (omega arith))
-      ∙ sym (map-append g (below n) (n ∷ []))
+pub same-below : {A : Type 0} (f g : ℕ → A) (n : ℕ) → ((i : ℕ) → i < n → f i ≡ g i) → map f (below n) ≡ map g (below n)
+same-below = map-below
 
 -- ---- an array filled
 module _ {A : Type 0} (f : ℕ → A) where
@@ -119,3 +139,5 @@ module _ {A : Type 0} (f : ℕ → A) where
   filled-all n out i w h =
       let e : i ≡ n = omega (arith, w .most) in
       sym (take-all i out (omega (arith, w .size))) ∙ w .same ∙ ap (λ (k : ℕ). map f (below k)) e
+
+pub ruleset filled = (needs, filled-none, filled-more, filled-all)

@@ -1,5 +1,5 @@
 -- Word i of a record block: one of its head, one of a pair, or none. The writers compute it word by word.
-use Prim.Native.Nat.{ℕ, zero, suc, _+_, _*_, _-_, _/_, _%_, _^_, _≤_, _<_, min}
+use Prim.Native.Nat.{ℕ, zero, suc, _+_, _-_, _/_, _%_, _^_, _≤_, _<_, min}
 use native.Mathlib.Omega.{arith}
 use mathlib.Core.Path.{_≡_, refl, ap, _∙_, sym}
 use mathlib.Core.List.{List, [], _∷_, _++_, map, flatMap}
@@ -9,13 +9,13 @@ use borrow.Author.Tests.{eq-eqb, ne-eqb}
 use Rattle.model.specs.Lists.{below}
 use Rattle.model.specs.Shape.{clamped}
 use Rattle.model.specs.Card.{newTail, newName}
-use Rattle.model.specs.Layout.{mark, pairWords, masterBlock, Held, newHeld}
+use Rattle.model.specs.Layout.{mark, pairWords, Held, newHeld}
 use Rattle.model.specs.declared.Shape.{Shape}
 use Rattle.model.specs.declared.Tail.{Tail}
 use Rattle.model.specs.declared.Name.{Name}
 use Rattle.model.proofs.Lists.{length-below, getD-map-below}
 use Rattle.model.proofs.Limits.{clamped-range}
-use Rattle.layout.proofs.Loops.{same-below}
+use Rattle.model.proofs.Encoding.{length-pairs}
 use Rattle.layout.specs.Words.{pairWord, masterWords, heldOf, descriptorWords, commitWords}
 
 -- the length of an array of structs, as its type gives it
@@ -34,11 +34,6 @@ module _ (first second k : ℕ) where
 
 -- ---- pairs after a head
 module _ {A : Type 0} (f g : A → ℕ) where
-  length-pairs : (xs : List A) → length (pairWords f g xs) ≡ 2 * length xs
-  unfolding pairWords flatMap
-  length-pairs [] = refl
-  length-pairs (x ∷ xs) = omega (arith, length-pairs xs)
-
   getD-pair : (xs : List A) (k : ℕ) (d : A) → k / 2 < length xs → getD (pairWords f g xs) k 0 ≡ pairWord (f (getD xs (k / 2) d)) (g (getD xs (k / 2) d)) k
   unfolding pairWords flatMap pairWord
   getD-pair [] k d h = absurd (omega arith)
@@ -60,7 +55,7 @@ module _ {A : Type 0} (f g : A → ℕ) where
     word-pair d h q = sym (after h ∙ getD-pair xs (i - n) d q)
 
     pub word-rest : n ≤ i → length xs ≤ (i - n) / 2 → 0 ≡ getD (hs ++ pairWords f g xs) i 0
-    word-rest h q = sym (after h ∙ List·getD-eq-default (pairWords f g xs) 0 (omega (arith, length-pairs xs)))
+    word-rest h q = sym (after h ∙ List·getD-eq-default (pairWords f g xs) 0 (omega (arith, length-pairs f g xs)))
 
 -- ---- master
 tails : Shape → List Tail → List Tail
@@ -75,11 +70,6 @@ unfolding masterWords tails
 length-master s ts =
     let n = clamped s in
     omega (arith, length-pairs (λ (t : Tail). t .number) (λ (t : Tail). t .position) (tails n ts), length-tails n ts, (clamped-range s) .few-cores)
-
--- a master is known by the tails of its cores
-pub master-tails : (s : Shape) (f g : ℕ → Tail) → ((c : ℕ) → c < s .cores → f c ≡ g c) → masterBlock s f ≡ masterBlock s g
-unfolding masterBlock
-master-tails s f g h = rw (same-below f g (s .cores) h)
 
 pub few-cores : (s near : Shape) (c : ℕ) → near ≡ clamped s → c < near .cores → c < 8
 few-cores s near c e h = omega (arith, (clamped-range s) .few-cores, ap (λ (z : Shape). z .cores) e)

@@ -14,15 +14,15 @@ use Rattle.model.specs.Layout.{mark, shapeIn, tailIn, isTail, isMaster, Held, n
 use Rattle.model.specs.declared.Shape.{Shape}
 use Rattle.model.specs.declared.Checked.{Checked}
 use Rattle.model.specs.declared.Checked.the-variants.{Fits, OutOfRange}
-use Rattle.model.proofs.Lists.{and-right, all-mem, all-append, below-mem}
+use Rattle.model.proofs.Lists.{and-both, and-right, all-mem, all-append, below-mem}
 use Rattle.model.proofs.Limits.{InRange, range-test}
 use Rattle.model.proofs.Encoding.{tail-limits}
 use Rattle.model.proofs.OneStore.{master-limits}
 use Rattle.layout.specs.Loops.{every}
 use Rattle.layout.specs.Tails.{tailOrNone}
 use Rattle.layout.specs.Distinct.{heldAt, isOther, isNew}
-use Rattle.layout.proofs.Loops.{every-none, every-map, every-step, every-no, every-more, every-yes}
-use Rattle.layout.proofs.Tests.{fails, and-last, and-holds, and-here, and-before}
+use Rattle.layout.proofs.Loops.{every-none, every-map, every-step, every-no, Passed, passed-more, passed-end}
+use Rattle.layout.proofs.Tests.{fails, and-last, and-here, and-before}
 
 -- ---- descriptor
 -- the blocks are distinct where each is none of those before it
@@ -83,13 +83,13 @@ module _ (b : Bytes) (i j x y : ℕ) (e : x ≡ (pairAt newHeld b 16 i) .block) 
   unfolding isNew isOther
   new-no h l = every-no (isOther b i) j i l (ap not (eq-eqb _ _ (sym q ∙ h ∙ e)))
 
-  pub new-more : (y ≡ x → ⊥) → every j (isOther b i) ≡ true → every (j + 1) (isOther b i) ≡ true
+  pub new-more : (y ≡ x → ⊥) → Passed (isOther b i) i j → j < i → Passed (isOther b i) i (j + 1)
   unfolding isOther
-  new-more h t = every-more (isOther b i) j t (ap not (ne-eqb _ _ (λ z. h (q ∙ z ∙ sym e))))
+  new-more h w l = passed-more (isOther b i) i j true w (sym (ap not (ne-eqb _ _ (λ z. h (q ∙ z ∙ sym e))))) refl l
 
-pub new-yes : (b : Bytes) (i j : ℕ) → every j (isOther b i) ≡ true → j ≤ i → i ≤ j → true ≡ isNew b i
+pub new-yes : (b : Bytes) (i j : ℕ) → Passed (isOther b i) i j → i ≤ j → true ≡ isNew b i
 unfolding isNew
-new-yes b i j h l m = every-yes (isOther b i) j i h l m
+new-yes b i j w h = passed-end (isOther b i) i j w h
 
 -- ---- commit
 pub listable-same : (s : Shape) (b : Bytes) (n : ℕ) (r : Bool) → r ≡ every n (λ (i : ℕ). isListable s (pairAt newName b 24 i)) → n ≡ nameCount b
@@ -141,7 +141,7 @@ module _ (m : Bytes) (f : Checked) (e : f ≡ checked (be4 m 12) (be4 m 16) (be4
     master-yes x y r p a q b t =
         t
         ∙ rw (← (in-range .1))
-        (and-last _ _ _ (and-holds _ _ (and-holds _ _ (eq-eqb (be4 m 0) mark (sym p ∙ a)) (eq-eqb (be4 m 4) 4 (sym q ∙ b))) (in-range .0)) refl)
+        (and-last _ _ _ (and-both (and-both (eq-eqb (be4 m 0) mark (sym p ∙ a)) (eq-eqb (be4 m 4) 4 (sym q ∙ b))) (in-range .0)) refl)
 
 -- ---- tails
 module _ (m : Bytes) (c x : ℕ) (e : x ≡ be4 m 12) where

@@ -5,15 +5,13 @@ use native.Mathlib.Omega.{arith}
 use mathlib.Core.Path.{_≡_, refl, _∙_, sym}
 use mathlib.Core.Bool.{Bool, true, false, not, cond, _&&_}
 use lib.Dec.{eqb, ltb, leb}
-use borrow.Author.Tests.{not-true, not-false, le-leb, lt-leb, lt-ltb, le-ltb, eq-eqb, ne-eqb}
+use borrow.Author.Tests.{not-true, not-false, le-leb, lt-leb, le-ltb, eq-eqb, ne-eqb}
+use Rattle.model.proofs.Lists.{and-both}
 
 -- ---- and
 -- the last condition decides where those before it hold
 pub and-last : (a b r : Bool) → a ≡ true → r ≡ b → r ≡ (a && b)
 and-last a b r h q = q ∙ rw h
-
-pub and-holds : (a b : Bool) → a ≡ true → b ≡ true → (a && b) ≡ true
-and-holds a b h q = rw (h, q)
 
 -- the last of them fails, or one before it
 pub fails : (a : Bool) → a ≡ false → false ≡ a
@@ -48,9 +46,6 @@ module _ (g a k : ℕ) (e : g ≡ a) where
   pub le-no : k < g → leb a k ≡ false
   le-no h = lt-leb a k (omega arith)
 
-  pub lt-yes : g < k → ltb a k ≡ true
-  lt-yes h = lt-ltb a k (omega arith)
-
   pub lt-no : k ≤ g → ltb a k ≡ false
   lt-no h = le-ltb a k (omega arith)
 
@@ -66,9 +61,6 @@ module _ (g a k : ℕ) (e : g ≡ a) where
   pub le-same : leb g k ≡ leb a k
   le-same = rw e
 
-  pub lt-same : ltb g k ≡ ltb a k
-  lt-same = rw e
-
   pub ge-same : leb k g ≡ leb k a
   ge-same = rw e
 
@@ -81,7 +73,7 @@ call-yes r x e h = sym e ∙ not-false r h
 pub ruleset tests = (
   fails,
   and-last,
-  and-holds,
+  and-both,
   and-here,
   and-before,
   cond-yes,
@@ -90,20 +82,13 @@ pub ruleset tests = (
   eq-no,
   le-yes,
   le-no,
-  lt-yes,
   lt-no,
   ge-yes,
   ge-no,
   eq-same,
   le-same,
-  lt-same,
   ge-same,
   call-no,
   call-yes,
-  le-leb,
-  lt-leb,
-  lt-ltb,
-  le-ltb,
-  eq-eqb,
   ne-eqb,
 )

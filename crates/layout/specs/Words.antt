@@ -1,6 +1,6 @@
 -- The words of the record blocks: `masterBlock`, `descriptorBlock` and `commitBlock` of model are `block` of these.
 use Prim.Native.Nat.{ℕ, _/_, _%_, _^_}
-use mathlib.Core.List.{List, [], _∷_, map}
+use mathlib.Core.List.{List, _∷_, map}
 use mathlib.Core.Bool.{cond}
 use lib.ListN.{length, getD}
 use lib.Dec.{eqb}

@@ -61,7 +61,7 @@ pub fn flag_of(image: [u8; 128]) -> u8
 }
 
 // The image as the journal holds it: never beginning with the mark, so that no data is taken for a record.
-pub fn escape(image: [u8; 128]) -> [u8; 128]
+fn escape(image: [u8; 128]) -> [u8; 128]
     ensures { λ r. ⌜ r ≡ escaped image ⌝ }
 {
     if get_word(&image, 0) == MARK {

@@ -19,7 +19,7 @@ pub fn wide(x: u8) -> u32
     x as u32
 }
 
-// The number at a place. No public entry of the library: callers give a place within the block.
+// The number at a place within the block.
 pub fn get_word(b: &[u8], at: usize) -> u32
     requires { ⌜ at + 4 ≤ length (now b) ⌝ }
     ensures { λ r. ⌜ r ≡ be4 (now (b .entry)) at ⌝ }
@@ -31,7 +31,7 @@ pub fn get_word(b: &[u8], at: usize) -> u32
     ((a0 * 256 + a1) * 256 + a2) * 256 + a3
 }
 
-// The number put at a place. No public entry of the library: callers give a place within the block.
+// The number put at a place within the block.
 pub fn put_word(b: &mut [u8], at: usize, w: u32)
     requires { ⌜ at + 4 ≤ length (now b) ⌝ }
     ensures { λ _. ⌜ now (b .exit) ≡ replaced at 4 (now (b .entry)) (bytes 4 w) ⌝ }

@@ -18,13 +18,13 @@ use Rattle.model.specs.Layout.{mark, maxNumber, hasHead, pairWords, pair
 use Rattle.model.specs.declared.Shape.{Shape}
 use Rattle.model.specs.declared.Tail.{Tail}
 use Rattle.model.specs.declared.Name.{Name}
-use Rattle.model.proofs.Lists.{cases, and-left, and-right, all-mem, mem-all, length-below, getD-map-below, mem-below, Each, each-getD, getD-each, mem-each, each-take, getD-mem}
+use Rattle.model.proofs.Lists.{cases, and-left, and-right, all-mem, mem-all, length-below, map-below, getD-map-below, mem-below, Each, each-getD, getD-each, mem-each, each-take, getD-mem}
 use Rattle.model.proofs.Limits.{InRange, between-known, test-range}
 use Rattle.model.proofs.Words.{IsByte, IsWord, word-of, length-block, bytes-number}
 
 -- ---- pairs
 module _ {A : Type 0} (f g : A → ℕ) where
-  length-pairs : (xs : List A) → length (pairWords f g xs) ≡ 2 * length xs
+  pub length-pairs : (xs : List A) → length (pairWords f g xs) ≡ 2 * length xs
   unfolding pairWords flatMap
   length-pairs [] = refl
   length-pairs (x ∷ xs) = omega (arith, length-pairs xs)
@@ -64,6 +64,11 @@ module _ {A : Type 0} (f g : A → ℕ) where
         (λ i h. getD-map-below (pairAt make (block ws) (4 * j)) (length xs) i d (omega arith) ∙ pair-of i d (omega arith))
 
 -- ---- master
+-- it has the tails of its cores alone
+pub master-same : (s : Shape) (f g : ℕ → Tail) → ((c : ℕ) → c < s .cores → f c ≡ g c) → masterBlock s f ≡ masterBlock s g
+unfolding masterBlock
+master-same s f g h = rw (map-below f g (s .cores) h)
+
 pub tail-limits : (s : Shape) (t : Tail) → isTail s t ≡ true → (1 ≤ t .number) × (t .number ≤ suc maxNumber) × (t .position < s .journal)
 unfolding isTail
 tail-limits s t h =

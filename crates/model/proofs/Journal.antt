@@ -18,7 +18,6 @@ use Rattle.model.specs.Shape.{journalBlock}
 use Rattle.model.specs.Layout.{Held, newHeld, hasHead, descriptorBlock, blockCount, isDescriptor, commitBlock, stampIn, nameCount, isCommit, flagOf, escaped, maxNumber}
 use Rattle.model.specs.Journal.{journalAt, recordAt, recordsFrom, journal, heldBy, namesOf, imageOf}
 use Rattle.model.specs.declared.Shape.{Shape}
-use Rattle.model.specs.declared.Tail.{Tail}
 use Rattle.model.specs.declared.Name.{Name}
 use Rattle.model.specs.declared.Committed.{Committed}
 use Rattle.model.specs.declared.Found.{Found}
@@ -84,12 +83,6 @@ next p i = omega arith
 module _ {s : Shape} (l : InRange s) (c : ℕ) (in-range : c < s .cores) where
   fits : (p : ℕ) (d : Bytes) → length d ≡ 32896 → 128 * journalBlock s c p + 128 ≤ length d
   fits p d n = omega (arith, journal-low l c p in-range)
-
-  pub length-stores : (bs : List Bytes) (p : ℕ) (d : Bytes) → Each IsBlock bs → length d ≡ 32896 → length (storesAt s c p bs d) ≡ 32896
-  unfolding storesAt
-  length-stores [] p d z n = n
-  length-stores (b ∷ bs) p d z n =
-      length-stores bs (p + 1) (store d (journalBlock s c p) b) (z .1) (length-store d (journalBlock s c p) b (fits p d n) (z .0) ∙ n)
 
   -- what is elsewhere stays
   pub stores-other : (bs : List Bytes) (p : ℕ) (d : Bytes) → Each IsBlock bs → length d ≡ 32896 → (k : ℕ)
@@ -259,15 +252,15 @@ pub record Known (s : Shape) (d : Bytes) (c k : ℕ) (e : Committed) : Type 0 wh
   pub stamp : stampIn (journalAt s d c (e .position + (e .count + 1))) ≡ e .stamp
   pub named : nameCount (journalAt s d c (e .position + (e .count + 1))) ≡ e .named
 
-descriptor-few : (s : Shape) (k : ℕ) (b : Bytes) → isDescriptor s k b ≡ true → blockCount b ≤ 8
+pub descriptor-few : (s : Shape) (k : ℕ) (b : Bytes) → isDescriptor s k b ≡ true → blockCount b ≤ 8
 unfolding isDescriptor
 descriptor-few s k b h = leb-true (blockCount b) 8 (and-right (hasHead 1 k b && leb k maxNumber) _ (and-left _ _ (and-left _ _ h)))
 
-commit-short : (s : Shape) (k : ℕ) (b : Bytes) → isCommit s k b ≡ true → nameCount b ≤ 12
+pub commit-short : (s : Shape) (k : ℕ) (b : Bytes) → isCommit s k b ≡ true → nameCount b ≤ 12
 unfolding isCommit
 commit-short s k b h = leb-true (nameCount b) 12 (and-right (hasHead 2 k b && leb 1 (stampIn b)) _ (and-left _ _ h))
 
-found-cases : {A : Type 0} (r : Found) → (r ≡ Miss → A) → ((e : Committed) → r ≡ Whole e → A) → A
+pub found-cases : {A : Type 0} (r : Found) → (r ≡ Miss → A) → ((e : Committed) → r ≡ Whole e → A) → A
 found-cases (Whole e) f g = g e refl
 found-cases Miss f g = f refl
 
@@ -376,20 +369,3 @@ module _ (s : Shape) (d d₂ : Bytes) (c : ℕ) (same : (p : ℕ) → journalAt 
       records-hit s d c k p left most e hit
       ∙ ap (λ (r : List Committed). e ∷ r) (records-frame most (k + 1) ((p + (e .count + 2)) % s .journal) (left - (e .count + 2)))
       ∙ sym (records-hit s d₂ c k p left most e (sym (record-frame k p left) ∙ hit)))
-
-  pub journal-frame : (t : Tail) (most : ℕ) → journal s d c t most ≡ journal s d₂ c t most
-  unfolding journal
-  journal-frame t most = records-frame most (t .number) (t .position) (s .journal)
-
-  module _ (e : Committed) (own : e .core ≡ c) where
-    pub held-frame : heldBy s d e ≡ heldBy s d₂ e
-    unfolding heldBy
-    held-frame = rw (own, same (e .position))
-
-    pub names-frame : namesOf s d e ≡ namesOf s d₂ e
-    unfolding namesOf
-    names-frame = rw (own, same (e .position + (e .count + 1)))
-
-    pub image-frame : (i : ℕ) → imageOf s d e i ≡ imageOf s d₂ e i
-    unfolding imageOf
-    image-frame i = rw (held-frame, own, same (e .position + (i + 1)))

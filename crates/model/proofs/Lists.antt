@@ -11,10 +11,13 @@ use lib.ListN.{length, take, getD, replicate, length-append, length-map, List·g
 use lib.Seq.{getD-at}
 use Rattle.model.specs.Lists.{below, all, any}
 
--- ---- Bool: both cases with what is known in each, and, or
+-- ---- Bool: both cases with what is known in each, two tests that go together, and, or
 pub cases : {A : Type 0} (t : Bool) → (t ≡ true → A) → (t ≡ false → A) → A
 cases true f g = f refl
 cases false f g = g refl
+
+pub both-ways : {a b : Bool} → (a ≡ true → b ≡ true) → (b ≡ true → a ≡ true) → a ≡ b
+both-ways {a} {b} f g = cases a (λ h. h ∙ sym (f h)) (λ h. cases b (λ k. g k ∙ sym k) (λ k. h ∙ sym k))
 
 pub and-both : {a b : Bool} → a ≡ true → b ≡ true → (a && b) ≡ true
 and-both p q = rw (p, q)
@@ -135,15 +138,6 @@ pub length-below : (n : ℕ) → length (below n) ≡ n
 unfolding below
 length-below zero = refl
 length-below (suc n) = length-append (below n) (n ∷ []) ∙ omega (arith, length-below n)
-
-pub getD-below : (n i d : ℕ) → i < n → getD (below n) i d ≡ i
-unfolding below
-getD-below zero i d h = absurd (omega arith)
-getD-below (suc n) i d h =
-    elim (decLt i n) [
-      | yes lt ↦ List·getD-append (below n) (n ∷ []) d i (omega (arith, length-below n)) ∙ getD-below n i d lt
-      | no ge ↦ let e : n ≡ i = omega arith in getD-at (below n) n [] d i (length-below n ∙ e) ∙ e
-    ]
 
 pub mem-below : (n : ℕ) {i : ℕ} → List·Memᴰ i (below n) → i < n
 unfolding below

@@ -1,5 +1,5 @@
--- The set that shrinking leaves is the largest one in which each meets the test; where the test is of names, it is the
--- largest in which each has all that it depends on, transitively. Of the test only that it is monotone is needed.
+-- The set that shrinking leaves is the largest one in which each meets the test, if the test is monotone; where the test
+-- is of names, each of the set has all that it depends on, transitively.
 use Prim.Native.Nat.{ℕ, zero, suc, _≤_}
 use native.Mathlib.Omega.{arith}
 use mathlib.Core.Path.{_≡_, refl, sym, ap, _∙_}
@@ -8,22 +8,22 @@ use mathlib.Core.Bool.{Bool, true, false, true≢false, _||_}
 use mathlib.Core.List.{List, [], _∷_, map, List·Memᴰ, Memᴰ·cast}
 use lib.ListN.{length, length-map}
 use lib.Dec.{eqb}
-use borrow.Author.Tests.{eqb-true, eqb-false, eq-eqb}
+use borrow.Author.Tests.{eqb-true, eqb-false}
 use Rattle.model.specs.Lists.{all, any}
 use Rattle.model.specs.Shrink.{Closed, Within, strike, shrinkIn, shrink, DependsOn, lists-it, through}
 use Rattle.model.proofs.Lists.{cases, all-mem, mem-all, any-mem, mem-any, or-cases, or-left, or-right}
-use Rattle.model.proofs.Select.{select-length, mem-select, select-mem, select-all, select-same, select-map}
+use Rattle.model.proofs.Select.{select-length, mem-select, select-mem, select-all, select-map}
 
 -- who meets the test in a set meets it in a larger one
 abbrev pub Monotone : {A : Type 0} → (List A → A → Bool) → Type 0
 Monotone {A} stays = (ss es : List A) → Within ss es → (e : A) → stays ss e ≡ true → stays es e ≡ true
 
 module _ {A : Type 0} (stays : List A → A → Bool) where
-  settled : (n : ℕ) (es : List A) → eqb (length (strike stays es)) (length es) ≡ true → shrinkIn (suc n) stays es ≡ es
+  pub settled : (n : ℕ) (es : List A) → eqb (length (strike stays es)) (length es) ≡ true → shrinkIn (suc n) stays es ≡ es
   unfolding shrinkIn
   settled n es h = rw (h, shrinkIn)
 
-  goes-on : (n : ℕ) (es : List A) → eqb (length (strike stays es)) (length es) ≡ false → shrinkIn (suc n) stays es ≡ shrinkIn n stays (strike stays es)
+  pub goes-on : (n : ℕ) (es : List A) → eqb (length (strike stays es)) (length es) ≡ false → shrinkIn (suc n) stays es ≡ shrinkIn n stays (strike stays es)
   unfolding shrinkIn
   goes-on n es h = rw (h, shrinkIn)
 
@@ -71,12 +71,6 @@ module _ {A : Type 0} (stays : List A → A → Bool) where
 
   pub shrink-largest : Monotone stays → (es ss : List A) → Within ss es → Closed stays ss → Within ss (shrink stays es)
   shrink-largest mono es ss s c = shrink-has (λ e. List·Memᴰ e ss) (λ es′ s′ e m. mono ss es′ s′ e (c e m)) es s
-
-  -- a set in which each meets the test stays whole
-  pub shrink-itself : (es : List A) → Closed stays es → shrink stays es ≡ es
-  unfolding shrink shrinkIn strike
-  shrink-itself [] c = refl
-  shrink-itself (x ∷ es) c = settled (length es) (x ∷ es) (eq-eqb _ _ (ap length (select-same (stays (x ∷ es)) (x ∷ es) c)))
 
 -- ---- shrinking commutes with a function under which the test stays
 module _ {A B : Type 0} (f : A → B) (stays : List A → A → Bool) (stays₂ : List B → B → Bool) (h : (es : List A) (e : A) → stays₂ (map f es) (f e) ≡ stays es e) where
@@ -162,16 +156,3 @@ module _ {A N : Type 0} (names : A → List N) (nameOf : A → N) where
               | inl g ↦ absurd (true≢false (sym g ∙ here u (l .0)))
               | inr k ↦ Memᴰ·cast (one u (k .0) (l .0) (shrink-within (allNamed same gone) es (k .0) (k .1)) (k .2)) (k .1)
             ]
-
-    -- every set of the given ones that has all that each of it depends on, where no name is missing, lies in it
-    pub depends-largest : (P : A → Type 0) (es : List A) → ((t : A) → P t → List·Memᴰ t es)
-        → ((t u : A) → P t → DependsOn (ListsIn es) t u → P u)
-        → ((t : A) → P t → (n : N) → List·Memᴰ n (names t) → (gone n ≡ true) ⊎ Named nameOf es n)
-        → (t : A) → P t → List·Memᴰ t (shrink (allNamed same gone) es)
-    depends-largest P es s d c =
-        shrink-has (allNamed same gone) P
-        (λ es′ s′ t p. each-named es′ t (λ n m. elim (c t p n m) [
-          | inl h ↦ inl h
-          | inr k ↦ inr (k .0, s′ (k .0) (lists-closed P d t (k .0) p (k .1, Memᴰ·cast (sym (k .2)) m)), k .2)
-        ]))
-        es s

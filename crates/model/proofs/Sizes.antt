@@ -8,11 +8,11 @@ use mathlib.Core.Bool.{Bool, true, false, cond}
 use mathlib.Core.List.{List, [], _∷_}
 use lib.ListN.{length, getD, replicate, length-take, length-drop, length-replicate}
 use lib.Dec.{ltb, eqb}
-use borrow.Author.Tests.{ltb-false, leb-false, eqb-true, eq-eqb}
+use borrow.Author.Tests.{ltb-false, leb-false, eqb-true}
 use Rattle.model.specs.Bytes.{Bytes, number, part, blockAt, store, zeroDisk, zeroMemory}
 use Rattle.model.specs.Shape.{homeBlock}
 use Rattle.model.specs.Card.{taken, shapeOf, coreOf, blankCard}
-use Rattle.model.specs.Command.{World, Outcome, wrongLength, noCore, noBlock}
+use Rattle.model.specs.Command.{World, Outcome, noCore, noBlock}
 use Rattle.model.specs.Format.{formatConditions, formatted}
 use Rattle.model.specs.Write.{writeConditions, loadsImage, ruleFor, writtenMemory, written}
 use Rattle.model.specs.Commit.{copyBlock, copied, closeConditions, closed, stored}
@@ -25,7 +25,7 @@ use Rattle.model.proofs.Limits.{InRange}
 use Rattle.model.proofs.Lists.{cases, Each}
 use Rattle.model.proofs.Store.{length-replaced, length-store, length-blockAt}
 use Rattle.model.proofs.Encoding.{length-master}
-use Rattle.model.proofs.Command.{Clear, Decided, refused, carried-out, of-cond, of-command, Row, row, rowOf, step-decided, command-decided}
+use Rattle.model.proofs.Command.{Clear, Decided, refused, carried-out, of-cond, of-command, Row, row, rowOf, command-decided}
 use Rattle.model.proofs.Tape.{Runs, at-end, one-more}
 use Rattle.model.proofs.Arrays.{Arrays, core-fits, empty-arrays, row-arrays}
 use Rattle.model.proofs.OneStore.{shape-limits, right-lengths, few-taken, OneStore, none-stored, one-stored, stored-low, row-store, row-limits, format-limits}
@@ -127,9 +127,6 @@ decided-sized : {ts : List (Bool × ℕ)} {w : World} {done o : Outcome} → Dec
 decided-sized {w = w} (refused n p f e) z h = subst (λ (o : Outcome). Sized (o .world)) (sym e) z
 decided-sized (carried-out c e) z h = subst (λ (o : Outcome). Sized (o .world)) (sym e) (h c)
 
-pub step-sized : (k : ℕ) (a : Bytes) (w : World) → operandLength k ≤ length a → Sized w → Sized ((step k a w) .world)
-step-sized k a w l z = decided-sized (step-decided k a w) z (row-sized k a w l z)
-
 -- operands that do not end early are all there
 operands-whole : (t : Bytes) (at : ℕ) → endsEarly t at ≡ false → operandLength (commandByte t at) ≤ length (operandsAt t at)
 unfolding endsEarly operandsAt part
@@ -152,8 +149,3 @@ run-sized t (one-more {at} {w = w} {p = p} h e r) z =
 pub blank-sized : (d m : Bytes) → length d ≡ 32896 → length m ≡ 16384 → Sized (record { card = blankCard; disk = d; memory = m })
 unfolding blankCard
 blank-sized d m h g = record { disk = h; memory = g; arrays = empty-arrays Blank }
-
--- refusal 1 is not met
-pub sized-right : (w : World) → Sized w → wrongLength w ≡ false
-unfolding wrongLength
-sized-right w z = rw (eq-eqb (length (w .disk)) 32896 (z .disk), eq-eqb (length (w .memory)) 16384 (z .memory)) refl

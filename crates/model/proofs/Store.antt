@@ -1,5 +1,5 @@
 -- What a store changes, and what it leaves: the block stored is read back, every other block stays, and a disk is
--- known by its blocks. So the order of stores matters only at one and the same block.
+-- known by its blocks. Of two stores to one block the last counts.
 use Prim.Native.Nat.{ℕ, zero, suc, _+_, _*_, _-_, _≤_, _<_}
 use native.Mathlib.Omega.{arith}
 use mathlib.Core.Path.{_≡_, refl, ap, _∙_, sym, subst, ap₂}
@@ -112,25 +112,4 @@ module _ (n : ℕ) (d : Bytes) (len : length d ≡ 128 * n) (k : ℕ) (a : Bytes
         | yes e ↦ subst (λ (i : ℕ). blockAt (store (store d k a) k b) i ≡ blockAt (store d k b) i) (sym e)
             (block-stored (store d k a) k b g sb ∙ sym (block-stored d k b fits sb))
         | no ne ↦ block-other (store d k a) k b g sb j ne ∙ block-other d k a fits sa j ne ∙ sym (block-other d k b fits sb j ne)
-      ])
-
-  pub store-comm : (j : ℕ) (b : Bytes) → j < n → length b ≡ 128 → j ≢ k → store (store d k a) j b ≡ store (store d j b) k a
-  store-comm j b jb sb ne =
-      let fj : 128 * j + 128 ≤ length d = omega arith in
-      let l₁ : length (store d k a) ≡ length d = length-store d k a fits sa in
-      let l₂ : length (store d j b) ≡ length d = length-store d j b fj sb in
-      let g₁ : 128 * j + 128 ≤ length (store d k a) = omega arith in
-      let g₂ : 128 * k + 128 ≤ length (store d j b) = omega (arith, fits) in
-      ext-blocks n (store (store d k a) j b) (store (store d j b) k a)
-      (length-store (store d k a) j b g₁ sb ∙ l₁ ∙ len) (length-store (store d j b) k a g₂ sa ∙ l₂ ∙ len)
-      (λ i h.
-      elim (ℕ-discrete i j) [
-        | yes e ↦ subst (λ (m : ℕ). blockAt (store (store d k a) j b) m ≡ blockAt (store (store d j b) k a) m) (sym e)
-            (block-stored (store d k a) j b g₁ sb ∙ sym (block-other (store d j b) k a g₂ sa j ne ∙ block-stored d j b fj sb))
-        | no nj ↦ block-other (store d k a) j b g₁ sb i nj
-            ∙ elim (ℕ-discrete i k) [
-              | yes e ↦ subst (λ (m : ℕ). blockAt (store d k a) m ≡ blockAt (store (store d j b) k a) m) (sym e)
-                  (block-stored d k a fits sa ∙ sym (block-stored (store d j b) k a g₂ sa))
-              | no nk ↦ block-other d k a fits sa i nk ∙ sym (block-other (store d j b) k a g₂ sa i nk ∙ block-other d j b fj sb i nj)
-            ]
       ])

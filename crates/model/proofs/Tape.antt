@@ -3,7 +3,7 @@
 use Prim.Native.Nat.{ℕ, zero, suc, _+_, _≤_, _<_}
 use native.Mathlib.Omega.{arith}
 use native.Mathlib.Nat.{le-max-right, max-le}
-use mathlib.Core.Path.{_≡_, refl, sym, ap, _∙_, subst}
+use mathlib.Core.Path.{_≡_, refl, sym, ap}
 use mathlib.Core.Logic.{_⊎_, inl, inr}
 use mathlib.Core.Bool.{Bool, true, not, _&&_, _||_}
 use mathlib.Core.List.{List, [], _∷_, _++_, map, List·Memᴰ}
@@ -76,19 +76,6 @@ module _ (f : Step) (t : Bytes) where
   pub run-runs : (w : World) → Runs f t 0 0 w (run f t w)
   unfolding run
   run-runs w = runs-from (length t) 0 0 w (omega arith)
-
-  -- there is no other list of points, so any bound from the tape's length on gives the run
-  pub runs-same : {at n : ℕ} {w : World} {ps qs : List Point} → Runs f t at n w ps → Runs f t at n w qs → ps ≡ qs
-  runs-same (at-end h) (at-end k) = refl
-  runs-same (at-end h) (one-more l e r) = absurd (omega arith)
-  runs-same (one-more l e r) (at-end k) = absurd (omega arith)
-  runs-same (one-more {at} {p = p} {ps = ps} l e r) (one-more {p = q} {ps = qs} l′ e′ r′) =
-      let g : q ≡ p = e′ ∙ sym e in
-      let i : ps ≡ qs = runs-same r (subst (λ (p : Point). Runs f t (nextOffset t at) (p .stores) (p .outcome .world) qs) g r′) in
-      cc
-
-  pub run-bound : (most : ℕ) (w : World) → length t ≤ most → runFrom most f t 0 0 w ≡ run f t w
-  run-bound most w h = runs-same (runs-from most 0 0 w (omega arith)) (run-runs w)
 
   -- past the end no point follows
   runs-ended : {at n : ℕ} {w : World} {ps : List Point} → Runs f t at n w ps → length t ≤ at → ps ≡ []

@@ -1,5 +1,5 @@
 -- The valid set is the largest set of the transactions read in which each name listed is in the set or below its core's
--- tail number, and so the largest in which each has all that it depends on. Both are the laws of shrinking.
+-- tail number, and each of it has all that it depends on among those read. Both are the laws of shrinking.
 use mathlib.Core.Path.{_≡_, refl}
 use mathlib.Core.Logic.{_⊎_}
 use mathlib.Core.Bool.{Bool, true, false}

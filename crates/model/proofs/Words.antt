@@ -2,13 +2,12 @@
 -- Every record block is such a block, so `word-of` carries all laws on reading what was stored.
 use Prim.Native.Nat.{ℕ, zero, suc, _+_, _*_, _-_, _/_, _%_, _^_, _≤_, _<_}
 use native.Mathlib.Omega.{arith}
-use native.Mathlib.Nat.{div-add-mod', div-lt-iff-lt-mul, zero-lt-suc, suc-add, add-assoc, suc-sub-suc, sub-zero, zero-sub, mul-le-mul-right, mul-assoc, pow-succ', zero-add, add-zero}
-use mathlib.Core.Path.{_≡_, refl, ap, _∙_, sym, ap₂}
+use native.Mathlib.Nat.{div-add-mod', div-lt-iff-lt-mul, zero-lt-suc, suc-add, mul-le-mul-right, mul-assoc, pow-succ', zero-add, add-zero}
+use mathlib.Core.Path.{_≡_, refl, ap, _∙_, sym}
 use mathlib.Core.List.{List, [], _∷_, _++_, append-assoc, append-nil, flatMap}
-use lib.ListN.{length, take, drop, getD, replicate, length-append, length-take, length-replicate}
-use lib.Seq.{take-at, drop-at, drop-drop}
-use Rattle.model.specs.Bytes.{Bytes, bytes, number, part, replaced, be4, words, padded, block}
-use Rattle.model.proofs.Lists.{Each, each-append, each-replicate, flatMap-append}
+use lib.ListN.{length, getD, replicate, length-append, length-replicate}
+use Rattle.model.specs.Bytes.{Bytes, bytes, number, part, be4, words, padded, block}
+use Rattle.model.proofs.Lists.{Each, each-append, each-replicate}
 
 -- ---- numbers
 abbrev pub IsByte : ℕ → Type 0
@@ -118,38 +117,3 @@ be4-getD (a ∷ b ∷ []) zero h = absurd (omega arith)
 be4-getD (a ∷ b ∷ c ∷ []) zero h = absurd (omega arith)
 be4-getD (a ∷ b ∷ c ∷ d ∷ s) zero h = omega arith
 be4-getD (a ∷ s) (suc at) h = rw (suc-add at 1, suc-add at 2, suc-add at 3) (be4-getD s at (omega arith))
-
--- ---- words put into a block one after another
-pub words-append : (xs ys : List ℕ) → words (xs ++ ys) ≡ words xs ++ words ys
-unfolding words
-words-append = flatMap-append (bytes 4)
-
--- two runs, one after the other, are one
-pub replaced-append : (at n m : ℕ) (d a b : Bytes) → length a ≡ n → at + n ≤ length d → replaced (at + n) m (replaced at n d a) b ≡ replaced at (n + m) d (a ++ b)
-unfolding replaced
-replaced-append at n m d a b e h =
-    let r = drop n (drop at d) in
-    let p = take at d ++ a in
-    let len : length p ≡ at + n = simp (length-append, length-take) (omega arith) in
-    ap (λ (l : Bytes). take (at + n) l ++ (b ++ drop m (drop (at + n) l))) (sym (append-assoc (take at d) a r))
-    ∙ ap₂ (λ (x y : Bytes). x ++ (b ++ drop m y)) (take-at p r (at + n) len) (drop-at p r (at + n) len)
-    ∙ simp (append-assoc, drop-drop, add-assoc)
-
-drop-zeros : (i m : ℕ) → drop i (zeros m) ≡ zeros (m - i)
-unfolding zeros
-drop-zeros zero m = rw sub-zero
-drop-zeros (suc i) zero = rw zero-sub
-drop-zeros (suc i) (suc m) = drop-zeros i m ∙ ap (λ (k : ℕ). replicate {A = ℕ} k 0) (sym (suc-sub-suc m i))
-
--- words put after those that a block has
-pub put-words : (ws xs : List ℕ) → length ws + length xs ≤ 32 → replaced (4 * length ws) (4 * length xs) (block ws) (words xs) ≡ block (ws ++ xs)
-unfolding replaced block padded zeros
-put-words ws xs h =
-    let z = zeros (128 - length (words ws)) in
-    let l = length-words ws in
-    let n : length (words (ws ++ xs)) ≡ 4 * length ws + 4 * length xs = ap length (words-append ws xs) ∙ simp (length-append, length-words) in
-    let e : 128 - length (words ws) - 4 * length xs ≡ 128 - length (words (ws ++ xs)) = omega arith in
-    ap₂ (λ (x y : Bytes). x ++ (words xs ++ drop (4 * length xs) y)) (take-at (words ws) z (4 * length ws) l) (drop-at (words ws) z (4 * length ws) l)
-    ∙ ap (λ (y : Bytes). words ws ++ (words xs ++ y)) (drop-zeros (4 * length xs) (128 - length (words ws)) ∙ ap zeros e)
-    ∙ sym (append-assoc (words ws) (words xs) (zeros (128 - length (words (ws ++ xs)))))
-    ∙ ap (λ (x : Bytes). x ++ zeros (128 - length (words (ws ++ xs)))) (sym (words-append ws xs))

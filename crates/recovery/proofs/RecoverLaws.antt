@@ -27,7 +27,7 @@ use Rattle.model.proofs.Lists.{cases, and-left, and-right, map-below, getD-map-
 use Rattle.model.proofs.Limits.{InRange, clamped-same}
 use Rattle.model.proofs.OneStore.{right-lengths, master-limits, left-below}
 use Rattle.layout.specs.Tails.{tailOrNone}
-use Rattle.layout.proofs.Pairs.{master-tails}
+use Rattle.model.proofs.Encoding.{master-same}
 use Rattle.journal.specs.declared.newest.Image.{Image}
 use Rattle.journal.specs.Slots.{numbersOf, numbered, entries, filledFrom}
 use Rattle.journal.specs.Walk.{Reads}
@@ -163,7 +163,7 @@ module _ (d : Bytes) (s : Shape) (z : s ≡ shapeOn d) (l : InRange s) (ts : Lis
   emptied-master : masterBlock (clamped s) (λ (c : ℕ). getD ts c (newTail 0 0)) ≡ masterBlock s (emptiedTail d)
   emptied-master =
       rw (clamped-same s l)
-      (master-tails s _ (emptiedTail d) (λ c h. rw e (getD-map-below (emptiedTail d) 8 c (newTail 0 0) (omega (arith, l .few-cores)))))
+      (master-same s _ (emptiedTail d) (λ c h. rw e (getD-map-below (emptiedTail d) 8 c (newTail 0 0) (omega (arith, l .few-cores)))))
 
   brought-up : (d′ : Bytes) → d′ ≡ store d 0 (masterBlock (clamped s) (λ (c : ℕ). getD ts c (newTail 0 0)))
       → (y : Card) → y ≡ freshCard Up s ts

@@ -1,4 +1,5 @@
-// lib.rs: the proved library behind a safe wrapper, and a watcher that compares it with the independent model.
+// lib.rs: the proved library behind a safe wrapper, a watcher that compares it with the independent model, and a gauge of stack.
 
+pub mod paint;
 pub mod session;
 pub mod watcher;

@@ -2,13 +2,12 @@
 
 use card_tests::card::{Card, Phase, Transaction};
 use card_tests::command::{from_hex, hex, Command};
+use card_tests::directed::{disk_with, put_record};
 use card_tests::foreign;
 use card_tests::generator::Generator;
-use card_tests::layout::{
-    block_at, commit, descriptor, master, put_word, read_master, Name, Shape, Tail, Tails, BLOCK, DISK, LAST_TAIL,
-    MEMORY,
-};
+use card_tests::layout::{block_at, put_word, read_master, Name, Shape, Tail, BLOCK, DISK, LAST_TAIL, MEMORY};
 use card_tests::random::Random;
+use card_tests::shrink::tape_of;
 use std::fs;
 use std::path::PathBuf;
 
@@ -215,8 +214,8 @@ fn directed(facts: &mut Facts) {
     for tape in written.into_iter().chain([crowded_list(), nine_blocks(), passed_on()]) {
         facts.tape(&Start::blank(), &tape, &mut random);
     }
-    for (at, word) in MASTERS {
-        let start = spoiled(*at, *word);
+    for (at, word) in MASTERS.into_iter().chain(foreign::SPOILS) {
+        let start = spoiled(at, word);
         facts.tape(&start, &from_hex("07060707070500020000000041424344"), &mut random);
     }
     facts.tape(&last_numbers(), &from_hex(OPENS_LAST), &mut random);
@@ -244,32 +243,15 @@ const LIMITS: &str = "01000104 01090104 01010004 01014104 01010103 01010119 0108
     020800000001020304 02FF00000001020304 020700400001020304 0207FFFF0001020304 0207003F7D01020304 \
     0207003F7C01020304 0308 0408 0508 0307 0407 0407 0407 0507 0507 0507 07 06 01084018 0200";
 
-/// Fields of the master at and beside their limits, and one that is not looked at.
-const MASTERS: &[(usize, u32)] = &[
-    (0, 0xC03B3999),
-    (4, 1),
-    (8, 7),
-    (12, 0),
-    (12, 9),
-    (16, 0),
-    (16, 65),
-    (16, 64),
-    (20, 3),
-    (20, 25),
-    (24, 0),
-    (24, LAST_TAIL),
-    (24, LAST_TAIL + 1),
-    (36, 5),
-    (36, 6),
-    (40, 0),
-    (124, 9),
-];
+/// Fields of the master at their limits, and beside those of the shape that `spoiled` has.
+const MASTERS: [(usize, u32); 6] = [(0, 0xC03B3999), (16, 64), (24, LAST_TAIL), (36, 5), (36, 6), (40, 0)];
 
 /// A small disk with one committed record, and one word of its master replaced.
 fn spoiled(at: usize, word: u32) -> Start {
     let shape = Shape { cores: 2, blocks: 3, journal: 6 };
     let mut disk = disk_with(shape, &[Tail { number: 4, position: 5 }, Tail { number: 1, position: 0 }]);
-    put_record(&mut disk, shape, 5, 4, &[2], &[Name { core: 1, number: 0xFFFF }, Name { core: 0, number: 4 }]);
+    let own = Name { core: 0, number: 4 };
+    put_record(&mut disk, shape, own, 5, &[2], &[Name { core: 1, number: 0xFFFF }, own]);
     put_word(&mut disk, at, word);
     Start::down(disk, 0, 0)
 }
@@ -279,39 +261,13 @@ fn last_numbers() -> Start {
     let shape = Shape { cores: 2, blocks: 3, journal: 6 };
     let last = Tail { number: LAST_TAIL - 1, position: 2 };
     let mut disk = disk_with(shape, &[last, Tail { number: LAST_TAIL - 3, position: 0 }]);
-    put_record(&mut disk, shape, 2, last.number, &[1, 0], &[]);
+    put_record(&mut disk, shape, Name { core: 0, number: last.number }, 2, &[1, 0], &[]);
     Start::down(disk, 0, 77)
 }
 
 /// Recovery, 27 on core 0, then the last two numbers on core 1 and 27 there too.
 const OPENS_LAST: &str = "070707 020000000001020304 020100010005060708 0301 0401 0401 0401 0501 0501 \
     020100020009090909 0301 020100020001010101 0401 0401 0401 06 07 07 07 020100000001020304";
-
-fn disk_with(shape: Shape, tails: &[Tail]) -> Vec<u8> {
-    let mut all = Tails::default();
-    all[..tails.len()].copy_from_slice(tails);
-    let mut disk = vec![0; DISK];
-    disk[..BLOCK].copy_from_slice(&master(shape, &all));
-    disk
-}
-
-fn put_record(disk: &mut [u8], shape: Shape, at: usize, number: u32, blocks: &[u8], names: &[Name]) {
-    let mut put = |position: usize, block: &[u8]| {
-        let start = shape.place(0, position) * BLOCK;
-        disk[start..start + block.len()].copy_from_slice(block);
-    };
-    put(at, &descriptor(number, blocks, &vec![true; blocks.len()]));
-    for i in 0..blocks.len() {
-        put(at + 1 + i, &[0, 0, 0, 0, 7, 8, 9, 10 + i as u8]);
-    }
-    put(at + 1 + blocks.len(), &commit(number, 3, names));
-}
-
-fn tape_of(commands: &[Command]) -> Vec<u8> {
-    let mut tape = Vec::new();
-    commands.iter().for_each(|command| command.write_to(&mut tape));
-    tape
-}
 
 fn write(core: u8, block: u16) -> Command {
     Command::Write { core, block, offset: core, data: [65 + core, block as u8, 0xC0, 0x3B] }

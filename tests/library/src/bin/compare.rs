@@ -1,6 +1,6 @@
 // compare: so many commands of generated tapes and foreign disks by library and model.
 
-use card_library::watcher::Library;
+use card_library::watcher::{give_up, Library};
 use card_tests::checks::{Bench, Checks};
 use card_tests::wrong::Wrong;
 
@@ -12,9 +12,6 @@ fn main() {
     let start = std::time::Instant::now();
     match bench.soak(commands, seed) {
         Ok(()) => println!("{:?}\nno difference, {:?}", bench.tally, start.elapsed()),
-        Err(failure) => {
-            println!("{}: {}\ntape {}", failure.check, failure.detail, card_tests::command::hex(&failure.tape));
-            std::process::exit(1);
-        }
+        Err(failure) => give_up(&failure),
     }
 }

@@ -1,28 +1,54 @@
-// stack: how much stack one command of the library uses. Before each command the stack below is painted; afterwards the paint
-// that is left is counted. The wrapper's own frame is in the figure.
+// stack: how much stack the entries of the library use, over generated tapes and over the worst disks and tapes that are
+// known. `frames` gives the bound that the code itself has.
 
+use card_library::paint::{touched, Touched};
 use card_library::session::Session;
 use card_tests::checks::{Bench, Checks, Seen, Watcher};
+use card_tests::command::Command;
+use card_tests::directed;
+use card_tests::layout::{DISK, MEMORY};
+use card_tests::shrink::tape_of;
 use card_tests::wrong::Wrong;
+use std::sync::atomic::{AtomicUsize, Ordering};
 
-const PAINTED: usize = 128 * 1024;
-const PAINT: u8 = 0xC7;
+/// The stack pointer as the entry called last found it.
+static ENTERED: AtomicUsize = AtomicUsize::new(0);
 
-/// Paints the stack below the caller, and tells where the painted area begins.
-#[inline(never)]
-fn paint() -> usize {
-    let mut area = [0u8; PAINTED];
-    for byte in area.iter_mut() {
-        unsafe { std::ptr::write_volatile(byte, PAINT) };
-    }
-    area.as_ptr() as usize
+/// The linker sends each call of an entry to its jump here (`build.rs`).
+macro_rules! noting_jumps {
+    ($($entry:literal),*) => {
+        $(std::arch::global_asm!(
+            concat!(".globl __wrap_", $entry),
+            concat!("__wrap_", $entry, ":"),
+            "mov [rip + {entered}], rsp",
+            concat!("jmp __real_", $entry),
+            entered = sym ENTERED,
+        );)*
+    };
 }
 
-/// The bytes from the area's low end that still have the paint: what lies above them was used.
-#[inline(never)]
-fn left(start: usize) -> usize {
-    let at = |place: usize| unsafe { std::ptr::read_volatile((start + place) as *const u8) };
-    (0..PAINTED).take_while(|place| at(*place) == PAINT).count()
+noting_jumps!("rev_d_blank", "rev_d_down", "rev_d_command", "rev_d_tape", "rev_d_read_number", "rev_d_read_block");
+
+/// What a command may use; more ends with a status other than 0.
+const LIMIT: usize = 64 * 1024;
+
+/// Bytes below the call of an entry, its return address with them, and the same with the wrapper's copies of the session.
+#[derive(Clone, Copy, Default)]
+struct Used {
+    entry: usize,
+    with_wrapper: usize,
+}
+
+impl Used {
+    fn of(call: impl FnOnce()) -> Used {
+        let Touched { lowest, top } = touched(call);
+        Used { entry: ENTERED.load(Ordering::Relaxed) + 8 - lowest, with_wrapper: top - lowest }
+    }
+
+    fn most(&mut self, other: Used) {
+        self.entry = self.entry.max(other.entry);
+        self.with_wrapper = self.with_wrapper.max(other.with_wrapper);
+    }
 }
 
 struct Gauge {
@@ -30,7 +56,50 @@ struct Gauge {
     disk: Vec<u8>,
     memory: Vec<u8>,
     /// The most that each command used, by its byte.
-    most: [usize; 8],
+    most: [Used; 8],
+    /// The same of reading a block, and of running one command as a tape.
+    reading: Used,
+    tape: Used,
+}
+
+impl Gauge {
+    fn new() -> Gauge {
+        let (disk, memory, none) = (vec![0; DISK], vec![0; MEMORY], Used::default());
+        Gauge { session: Session::blank(), disk, memory, most: [none; 8], reading: none, tape: none }
+    }
+
+    /// The command by itself; the same as a tape, over copies; then a reading.
+    fn run(&mut self, tape: &[u8], offset: usize) -> usize {
+        self.run_as_tape(&tape[offset..]);
+        let Gauge { session, disk, memory, most, reading, .. } = self;
+        let mut next = offset;
+        let used = Used::of(|| next = session.command(tape, offset, disk, memory).next);
+        most[(tape[offset] as usize).min(7)].most(used);
+        let mut block = [0; 128];
+        reading.most(Used::of(|| _ = session.read_number(0, disk, memory)));
+        reading.most(Used::of(|| _ = session.read_block(0, disk, memory, &mut block)));
+        next
+    }
+
+    fn run_as_tape(&mut self, rest: &[u8]) {
+        let length = card_tests::command::read(rest, 0).map_or(rest.len(), |(_, next)| next);
+        let (mut session, mut disk, mut memory) = (self.session, self.disk.clone(), self.memory.clone());
+        self.tape.most(Used::of(|| session.run(&rest[..length], &mut disk, &mut memory)));
+    }
+
+    fn run_all(&mut self, commands: &[Command]) {
+        let tape = tape_of(commands);
+        let mut offset = 0;
+        while offset < tape.len() {
+            offset = self.run(&tape, offset);
+        }
+    }
+
+    fn print(&self, name: &str) {
+        let entries = self.most[1..].iter().chain([&self.tape, &self.reading]);
+        let figures: Vec<String> = entries.map(|used| format!("{:>6}/{:>6}", used.entry, used.with_wrapper)).collect();
+        println!("{name:<34} {}", figures.join(" "));
+    }
 }
 
 impl Watcher for Gauge {
@@ -41,20 +110,64 @@ impl Watcher for Gauge {
     }
 
     fn command(&mut self, tape: &[u8], offset: usize, _: Seen) -> Result<(), String> {
-        let start = paint();
-        self.session.command(tape, offset, &mut self.disk, &mut self.memory);
-        let used = PAINTED - left(start);
-        let most = &mut self.most[(tape[offset] as usize).min(7)];
-        *most = used.max(*most);
+        self.run(tape, offset);
         Ok(())
     }
 }
 
-fn main() {
-    let commands = std::env::args().nth(1).map_or(200_000, |arg| arg.parse().expect("a number"));
-    let (disk, memory) = (vec![0; card_tests::layout::DISK], vec![0; card_tests::layout::MEMORY]);
-    let mut gauge = Gauge { session: Session::blank(), disk, memory, most: [0; 8] };
+/// Recovery of a disk, every step of it and one command more.
+fn recovered(name: &str, disk: &[u8]) -> Gauge {
+    let mut gauge = Gauge::new();
+    gauge.start(true, disk, &[0; MEMORY]);
+    for _ in 0..70 {
+        gauge.run_all(&[Command::Recover]);
+    }
+    gauge.print(name);
+    gauge
+}
+
+/// A tape, then a CHECKPOINT of each core, then a cut and recovery.
+fn checkpointed(name: &str, commands: &[Command], change: impl FnOnce(&mut [u8])) -> Gauge {
+    let mut gauge = Gauge::new();
+    gauge.run_all(commands);
+    change(&mut gauge.disk);
+    (0..8).for_each(|core| gauge.run_all(&[Command::Checkpoint { core }]));
+    gauge.run_all(&[Command::Cut, Command::Recover]);
+    gauge.print(name);
+    gauge
+}
+
+fn generated(commands: u64) -> Gauge {
+    let mut gauge = Gauge::new();
     let mut bench = Bench::new(Wrong::No, Checks::NONE, Some(&mut gauge));
     bench.soak(commands, 9).unwrap_or_else(|failure| panic!("{}", failure.detail));
-    println!("the most stack in bytes, by command 1 to 7: {:?}", &gauge.most[1..]);
+    gauge.print(&format!("{commands} generated commands"));
+    gauge
+}
+
+fn main() {
+    let commands = std::env::args().nth(1).map_or(50_000, |arg| arg.parse().expect("a number"));
+    println!("bytes of stack below the call of an entry / with the wrapper's copies of the session");
+    let names = ["FORMAT", "WRITE", "CLOSE", "STORE", "CHECKPOINT", "CUT", "RECOVER", "tape", "reading"];
+    println!("{:<34} {}", "", names.map(|name| format!("{name:>13}")).join(" "));
+    let (chain, links) = directed::chain_tape();
+    let full = directed::full_tape();
+    let all = [
+        recovered("disk: 96 struck one by one", &directed::chain_disk(0, false)),
+        recovered("disk: 96 valid", &directed::chain_disk(0, true)),
+        recovered("disk: 64 with a block, struck", &directed::chain_disk(1, false)),
+        recovered("disk: 64 with a block, valid", &directed::chain_disk(1, true)),
+        recovered("disk: 16 with eight blocks, valid", &directed::chain_disk(8, true)),
+        checkpointed(&format!("tape: {links} struck one by one"), &chain, |_| ()),
+        checkpointed("tape: 94 without blocks", &full, |_| ()),
+        checkpointed("the same over a chain of 94", &full, |disk| directed::put_chain(disk, directed::FULL, 0, false)),
+        generated(commands),
+    ];
+    let of_all = all.iter().flat_map(|gauge| gauge.most.iter().chain([&gauge.tape, &gauge.reading]));
+    let most = of_all.fold(Used::default(), |mut most, used| {
+        most.most(*used);
+        most
+    });
+    println!("the most of all: {} bytes, {} with the wrapper; the limit is {LIMIT}", most.entry, most.with_wrapper);
+    std::process::exit((LIMIT < most.entry) as i32);
 }

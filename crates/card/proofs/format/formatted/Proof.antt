@@ -5,24 +5,6 @@ use Rattle.state.proofs.Parts.{facts}
 use Rattle.card.proofs.format.formatted.Statement.{statement}
 use Rattle.card.proofs.format.formatted.Tie as tie
 
-zero-all-requires : tie.Need-zero-all-requires
-zero-all-requires c κs = search needs
-
-zero-all-requires-2 : tie.Need-zero-all-requires-2
-zero-all-requires-2 c κs = search needs
-
-store-master-requires : tie.Need-store-master-requires
-store-master-requires c κs = search needs
-
-up-card-requires : tie.Need-up-card-requires
-up-card-requires c κs = search needs
-
-same-length : tie.Need-same-length
-same-length c = search needs
-
-same-length-2 : tie.Need-same-length-2
-same-length-2 c = search needs
-
 returns : tie.Need-returns
 returns c = search (facts, format-left)
 
@@ -30,10 +12,10 @@ pub formatted-spec : {M : Type 1} → statement M
 formatted-spec =
     tie.close
     (tie.spec
-    zero-all-requires
-    zero-all-requires-2
-    store-master-requires
-    up-card-requires
-    same-length
-    same-length-2
+    (λ c κs. search needs)
+    (λ c κs. search needs)
+    (λ c κs. search needs)
+    (λ c κs. search needs)
+    (λ c. search needs)
+    (λ c. search needs)
     returns)

@@ -21,14 +21,5 @@ returns-3 c = search (needs, asks-some, stamp-shares)
 pub slot-shares-spec : {M : Type 1} → statement M
 slot-shares-spec =
     tie.close
-    (tie.spec
-    (λ c κs. search needs)
-    (λ c. search needs)
-    (λ c. search needs)
-    returns
-    returns-2
-    (λ c. search needs)
-    (λ c κs. search needs)
-    (λ c. search needs)
-    share-in-requires
-    returns-3)
+    (tie.spec (λ c κs. search needs) (λ c. search needs) (λ c. search needs) returns returns-2 (λ c. search needs)
+    (λ c κs. search needs) (λ c. search needs) share-in-requires returns-3)

@@ -24,11 +24,4 @@ returns c = (search (needs, part-is), search (needs, part-size))
 pub journal-part-spec : {M : Type 1} → statement M
 journal-part-spec =
     tie.close
-    (tie.spec
-    (λ c κs. search needs)
-    mul-start
-    add-end
-    (λ c. search needs)
-    (λ c. search needs)
-    part-result-end
-    returns)
+    (tie.spec (λ c κs. search needs) mul-start add-end (λ c. search needs) (λ c. search needs) part-result-end returns)

@@ -25,56 +25,6 @@ abbrev shrink-set-below : ℕ → In 3 shrink-set-kinds.ps
 shrink-set-below t =
     and 3 shrink-set-kinds.ps (falls 3 shrink-set-kinds.ps _<_ μ-shrink-set t) shrink-set.Pre
 
-shrink-set-strike-round-requires : (t : ℕ) → shrink-set-lts.Need-strike-round-requires (
-  strike-round-reads.Asked,
-  strike-round-reads.Learnt,
-  count-slots-reads.Asked,
-  count-slots-reads.Learnt,
-  shrink-set-below t,
-  shrink-set.Post,
-) (shrink-set-at t) shrink-set.Post
-shrink-set-strike-round-requires t c κs = search needs
-
-shrink-set-count-slots-requires : (t : ℕ) → shrink-set-lts.Need-count-slots-requires (
-  strike-round-reads.Asked,
-  strike-round-reads.Learnt,
-  count-slots-reads.Asked,
-  count-slots-reads.Learnt,
-  shrink-set-below t,
-  shrink-set.Post,
-) (shrink-set-at t) shrink-set.Post
-shrink-set-count-slots-requires t c κs = search needs
-
-shrink-set-returns : (t : ℕ) → shrink-set-lts.Need-returns (
-  strike-round-reads.Asked,
-  strike-round-reads.Learnt,
-  count-slots-reads.Asked,
-  count-slots-reads.Learnt,
-  shrink-set-below t,
-  shrink-set.Post,
-) (shrink-set-at t) shrink-set.Post
-shrink-set-returns t c = search (needs, shrink-same)
-
-shrink-set-shrink-set-requires : (t : ℕ) → shrink-set-lts.Need-shrink-set-requires (
-  strike-round-reads.Asked,
-  strike-round-reads.Learnt,
-  count-slots-reads.Asked,
-  count-slots-reads.Learnt,
-  shrink-set-below t,
-  shrink-set.Post,
-) (shrink-set-at t) shrink-set.Post
-shrink-set-shrink-set-requires t c κs = let n : _ = c .before .before in let w : _ = n .before .before in let z : _ = w .before .before .before in (rw (← (z .pre .0)) (shrink-falls _ _ _ _ _ _ _ (w .strike-round .ensures) (n .count-slots .ensures .0) (z .pre .1 .2) (c .before .if1 .left)), (z .pre .1 .0, z .pre .1 .1, n .count-slots .ensures .0))
-
-shrink-set-returns-2 : (t : ℕ) → shrink-set-lts.Need-returns-2 (
-  strike-round-reads.Asked,
-  strike-round-reads.Learnt,
-  count-slots-reads.Asked,
-  count-slots-reads.Learnt,
-  shrink-set-below t,
-  shrink-set.Post,
-) (shrink-set-at t) shrink-set.Post
-shrink-set-returns-2 t c = search (needs, shrink-less)
-
 pub +shrink-set-spec : {M : Type 1} → statement M
 +shrink-set-spec = close μ-shrink-set λ t. shrink-set-lts.spec (
   strike-round-reads.Asked,
@@ -86,8 +36,12 @@ pub +shrink-set-spec : {M : Type 1} → statement M
 )
     (shrink-set-at t)
     shrink-set.Post
-    (shrink-set-strike-round-requires t)
-    (shrink-set-count-slots-requires t)
-    (shrink-set-returns t)
-    (shrink-set-shrink-set-requires t)
-    (shrink-set-returns-2 t)
+    (λ c κs. search needs)
+    (λ c κs. search needs)
+    (λ c. search (needs, shrink-same))
+    (λ c κs.
+    let n : _ = c .before .before in
+    let w : _ = n .before .before in
+    let z : _ = w .before .before .before in
+    (rw (← (z .pre .0)) (shrink-falls _ _ _ _ _ _ _ (w .strike-round .ensures) (n .count-slots .ensures .0) (z .pre .1 .2) (c .before .if1 .left)), (z .pre .1 .0, z .pre .1 .1, n .count-slots .ensures .0)))
+    (λ c. search (needs, shrink-less))

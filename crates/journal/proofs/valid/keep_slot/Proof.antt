@@ -20,13 +20,5 @@ returns-3 c = search (needs, kept-out)
 pub keep-slot-spec : {M : Type 1} → statement M
 keep-slot-spec =
     tie.close
-    (tie.spec
-    (λ c κs. search needs)
-    (λ c. search needs)
-    (λ c. search needs)
-    returns
-    names-met-requires
-    (λ c. search needs)
-    (λ c. search needs)
-    returns-2
-    returns-3)
+    (tie.spec (λ c κs. search needs) (λ c. search needs) (λ c. search needs) returns names-met-requires
+    (λ c. search needs) (λ c. search needs) returns-2 returns-3)

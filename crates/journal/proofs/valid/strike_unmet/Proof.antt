@@ -1,7 +1,7 @@
 -- `journal::strike_unmet` meets its contract: the slots passed are those of `struck`.
 use Prim.Native.Nat.{_-_}
 use borrow.Author.Needs.{needs}
-use Rattle.layout.proofs.Loops.{Filled, filled-none, filled-more}
+use Rattle.layout.proofs.Loops.{Filled, filled}
 use Rattle.journal.specs.Sets.{kept}
 use Rattle.journal.proofs.Sets.{all-struck}
 use Rattle.journal.proofs.valid.strike_unmet.Statement.{statement}
@@ -13,26 +13,8 @@ Inv-loop s disk numbers set next₀ i₀ next i = Filled (kept s disk numbers se
 abbrev μ-loop : tie.MeasureT-loop
 μ-loop s disk numbers set next₀ i₀ next i = 96 - i
 
-loop-holds : tie.Need-loop-holds Inv-loop μ-loop
-loop-holds c = filled-none _ _ _ (search needs)
-
-loop-again : tie.Need-loop-again Inv-loop μ-loop
-loop-again c = search (needs, filled-more)
-
-returns : tie.Need-returns Inv-loop μ-loop
-returns c = search (needs, all-struck)
-
 pub strike-unmet-spec : {M : Type 1} → statement M
 strike-unmet-spec =
     tie.close
-    (tie.spec
-    Inv-loop
-    μ-loop
-    loop-holds
-    (λ c κs. search needs)
-    (λ c. search needs)
-    (λ c. search needs)
-    (λ c. search needs)
-    (λ c. search needs)
-    loop-again
-    returns)
+    (tie.spec Inv-loop μ-loop (λ c. search filled) (λ c κs. search needs) (λ c. search needs) (λ c. search needs)
+    (λ c. search needs) (λ c. search needs) (λ c. search filled) (λ c. search (needs, all-struck)))

@@ -9,4 +9,4 @@ returns c = search (needs, valid-is)
 
 pub valid-slots-spec : {M : Type 1} → statement M
 valid-slots-spec =
-    tie.close (tie.spec (λ c κs. search needs) (λ c κs. search needs) (λ c κs. search needs) returns)
+    tie.close (tie.spec (λ c κs. search needs) (λ c κs. search needs) (λ c κs. search needs) (λ c κs. search needs) returns)

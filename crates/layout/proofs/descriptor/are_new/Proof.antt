@@ -1,34 +1,19 @@
 -- `layout::are_new` meets its contract: each block passed is none of those before it.
-use Prim.Native.Nat.{_≤_, _-_}
-use mathlib.Core.Bool.{true}
-use mathlib.Core.Path.{_≡_}
+use Prim.Native.Nat.{_-_}
 use borrow.Author.Needs.{needs}
 use Rattle.layout.specs.Distinct.{isNew}
-use Rattle.layout.specs.Loops.{every}
-use Rattle.layout.proofs.Loops.{every-none, every-in, every-out, every-yes}
+use Rattle.layout.proofs.Loops.{Passed, passed}
 use Rattle.layout.proofs.descriptor.are_new.Statement.{statement}
 use Rattle.layout.proofs.descriptor.are_new.Tie as tie
 
 abbrev Inv-loop : tie.InvT-loop
-Inv-loop block n i₀ i = (i ≤ n) × (every i (isNew block) ≡ true)
+Inv-loop block n i₀ i = Passed (isNew block) n i
 
 abbrev μ-loop : tie.MeasureT-loop
 μ-loop block n i₀ i = n - i
 
-loop-holds : tie.Need-loop-holds Inv-loop μ-loop
-loop-holds c = (search needs, every-none _)
-
-returns : tie.Need-returns Inv-loop μ-loop
-returns c = search (needs, every-out)
-
-loop-again : tie.Need-loop-again Inv-loop μ-loop
-loop-again c = (search needs, search (needs, every-in))
-
-returns-2 : tie.Need-returns-2 Inv-loop μ-loop
-returns-2 c = search (needs, every-yes)
-
 pub are-new-spec : {M : Type 1} → statement M
 are-new-spec =
     tie.close
-    (tie.spec Inv-loop μ-loop loop-holds (λ c κs. search needs) returns (λ c. search needs) (λ c. search needs)
-    loop-again returns-2)
+    (tie.spec Inv-loop μ-loop (λ c. search passed) (λ c κs. search needs) (λ c. search passed) (λ c. search needs)
+    (λ c. search needs) (λ c. search passed) (λ c. search passed))

@@ -26,5 +26,5 @@ returns-4 c = search (needs, master-yes)
 pub is-master-spec : {M : Type 1} → statement M
 is-master-spec =
     tie.close
-    (tie.spec (λ c κs. search needs) returns (λ c κs. search needs) returns-2 (λ c κs. search needs)
-    (λ c. search needs) (λ c. search needs) returns-3 (λ c. search needs) are-tails-requires returns-4)
+    (tie.spec (λ c κs. search needs) returns (λ c κs. search needs) returns-2 (λ c κs. search needs) (λ c. search needs)
+    (λ c. search needs) returns-3 (λ c. search needs) are-tails-requires returns-4)

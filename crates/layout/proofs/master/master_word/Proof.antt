@@ -19,6 +19,6 @@ returns-3 c = search (needs, master-pair)
 pub master-word-spec : {M : Type 1} → statement M
 master-word-spec =
     tie.close
-    (tie.spec (λ c κs. search needs) (λ c. search needs) (λ c. search needs) (λ c. search needs)
-    (λ c. search needs) (λ c. search needs) returns (λ c. search needs) returns-2 (λ c. search needs)
-    array-copy-out-t (λ c κs. search needs) returns-3)
+    (tie.spec (λ c κs. search needs) (λ c. search needs) (λ c. search needs) (λ c. search needs) (λ c. search needs)
+    (λ c. search needs) returns (λ c. search needs) returns-2 (λ c. search needs) array-copy-out-t
+    (λ c κs. search needs) returns-3)

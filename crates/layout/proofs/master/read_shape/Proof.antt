@@ -10,5 +10,4 @@ returns c = search (needs, shape-read)
 pub read-shape-spec : {M : Type 1} → statement M
 read-shape-spec =
     tie.close
-    (tie.spec (λ c κs. search needs) (λ c κs. search needs) (λ c κs. search needs) (λ c κs. search needs)
-    returns)
+    (tie.spec (λ c κs. search needs) (λ c κs. search needs) (λ c κs. search needs) (λ c κs. search needs) returns)

@@ -4,7 +4,7 @@ use borrow.Author.Needs.{needs}
 use Rattle.model.specs.Layout.{masterBlock}
 use Rattle.model.specs.Shape.{clamped}
 use Rattle.layout.specs.Words.{masterWords}
-use Rattle.layout.proofs.Blocks.{Written, written-none, written-more, written-all}
+use Rattle.layout.proofs.Blocks.{Written, written}
 use Rattle.layout.proofs.Pairs.{length-master}
 use Rattle.layout.proofs.master.write_master.Statement.{statement}
 use Rattle.layout.proofs.master.write_master.Tie as tie
@@ -15,18 +15,10 @@ Inv-loop block₀ s tails i₀ block i = Written (masterWords (clamped s) tails)
 abbrev μ-loop : tie.MeasureT-loop
 μ-loop block₀ s tails i₀ block i = 32 - i
 
-loop-holds : tie.Need-loop-holds Inv-loop μ-loop
-loop-holds c = search (needs, written-none, length-master)
-
-loop-again : tie.Need-loop-again Inv-loop μ-loop
-loop-again c = search (needs, written-more)
-
-returns : tie.Need-returns Inv-loop μ-loop
-unfolding masterBlock masterWords
-returns c = search (needs, written-all)
-
 pub write-master-spec : {M : Type 1} → statement M
+unfolding masterBlock masterWords
 write-master-spec =
     tie.close
-    (tie.spec Inv-loop μ-loop loop-holds (λ c κs. search needs) (λ c. search needs) (λ c κs. search needs)
-    (λ c. search needs) (λ c. search needs) loop-again (λ c. search needs) returns)
+    (tie.spec Inv-loop μ-loop (λ c. search (written, length-master)) (λ c κs. search needs) (λ c. search needs)
+    (λ c κs. search needs) (λ c. search needs) (λ c. search needs) (λ c. search written) (λ c. search needs)
+    (λ c. search written))

@@ -26,5 +26,5 @@ pub put-word-spec : {M : Type 1} → statement M
 put-word-spec =
     tie.close
     (tie.spec (λ c. search needs) (λ c. search needs) (λ c. search needs) (λ c. search needs) slice-write-b-2
-    (λ c. search needs) (λ c. search needs) slice-write-b-3 (λ c. search needs) (λ c. search needs)
-    slice-write-b-4 (λ c. search needs) returns)
+    (λ c. search needs) (λ c. search needs) slice-write-b-3 (λ c. search needs) (λ c. search needs) slice-write-b-4
+    (λ c. search needs) returns)

@@ -4,18 +4,6 @@ use Rattle.recovery.proofs.RecoverLaws.{is-master, no-master}
 use Rattle.recovery.proofs.recover.master_refusal.Statement.{statement}
 use Rattle.recovery.proofs.recover.master_refusal.Tie as tie
 
-sub-is-master : tie.Need-sub-is-master
-sub-is-master c = search needs
-
-part-is-master-start : tie.Need-part-is-master-start
-part-is-master-start c = search needs
-
-part-is-master-end : tie.Need-part-is-master-end
-part-is-master-end c = search needs
-
-is-master-requires : tie.Need-is-master-requires
-is-master-requires c κs = search needs
-
 returns : tie.Need-returns
 returns c = search (needs, is-master)
 
@@ -26,9 +14,9 @@ pub master-refusal-spec : {M : Type 1} → statement M
 master-refusal-spec =
     tie.close
     (tie.spec
-    sub-is-master
-    part-is-master-start
-    part-is-master-end
-    is-master-requires
+    (λ c. search needs)
+    (λ c. search needs)
+    (λ c. search needs)
+    (λ c κs. search needs)
     returns
     returns-2)

@@ -1,0 +1,65 @@
+-- Demand 1, number by number: 'Each is answered under its condition and under no other'.
+-- A card that does not test a condition, and one that answers a number always, are refuted by tables that are computed.
+use Prim.Native.Nat.{ℕ}
+use mathlib.Core.Path.{_≡_, refl}
+use mathlib.Core.Bool.{Bool, true, not, _&&_}
+use mathlib.Core.List.{List, [], _∷_, _++_, flatMap, List·Memᴰ}
+use Rattle.model.specs.Lists.{below, all}
+use Rattle.model.specs.Bytes.{Bytes}
+use Rattle.model.specs.Tape.{Step, run, blankWorld}
+use Rattle.model.proofs.Lists.{all-mem}
+use Rattle.crash.specs.Ledger.{blankLedger}
+use Rattle.crash.specs.Claims.{Demands}
+use Rattle.refuted.specs.Parts.{ignoring, refusing}
+use Rattle.refuted.proofs.Checks.{answerTest, answers, holds, areBytes, refutes-demands}
+use Rattle.refuted.proofs.Tapes.{tests, format, write, close, stores, checkpoints, cut, recovers, thirteenth}
+
+unfoldable failsAnswers : Step → Bytes → Bool
+failsAnswers f t = areBytes t && not (holds answerTest blankLedger (run f t blankWorld))
+
+-- ---- under its condition: of each number a tape whose last command meets it. 1 and 8 need other slices than the demands
+-- start from, 2 and 3 are the tape's, and 27 needs numbers as `CapMissing` does.
+abbrev pub conditionTapes : List (ℕ × Bytes)
+conditionTapes =
+    (4, format 9 1 4)
+    ∷ (5, format 1 1 4 ++ write 1 0 0 1)
+    ∷ (6, format 1 1 4 ++ write 0 1 0 1)
+    ∷ (7, format 1 1 4 ++ write 0 0 125 1)
+    ∷ (20, write 0 0 0 1)
+    ∷ (21, format 1 1 4 ++ format 1 1 4)
+    ∷ (22, format 1 1 4 ++ cut ++ write 0 0 0 1)
+    ∷ (23, format 1 1 4 ++ recovers 1)
+    ∷ (24, thirteenth)
+    ∷ (25, format 1 9 11 ++ flatMap (λ (b : ℕ). write 0 b 0 1) (below 9))
+    ∷ (26, format 1 3 4 ++ flatMap (λ (b : ℕ). write 0 b 0 1) (below 3))
+    ∷ (28, format 1 1 4 ++ close 0)
+    ∷ (29, format 1 1 6 ++ write 0 0 0 1 ++ close 0 ++ write 0 0 0 2 ++ close 0)
+    ∷ (30, format 1 1 4 ++ stores 0 1)
+    ∷ (31, format 1 1 4 ++ checkpoints 0 1)
+    ∷ (32, format 2 1 4 ++ write 0 0 0 1 ++ write 1 0 4 2 ++ close 0 ++ stores 0 3 ++ checkpoints 0 1)
+    ∷ (33, format 2 1 4 ++ write 1 0 0 1 ++ close 1 ++ stores 1 3 ++ write 0 0 4 2 ++ close 0 ++ stores 0 3 ++ checkpoints 0 1)
+    ∷ []
+
+conditions-fail : all (λ (e : ℕ × Bytes). failsAnswers (ignoring (e .0)) (e .1)) conditionTapes ≡ true
+unfolding tests failsAnswers
+conditions-fail = refl
+
+pub each-condition : (e : ℕ × Bytes) → List·Memᴰ e conditionTapes → Demands (ignoring (e .0)) → ⊥
+unfolding failsAnswers
+each-condition e m = refutes-demands (ignoring (e .0)) answers (e .1) (all-mem _ conditionTapes conditions-fail m)
+
+-- ---- under no other: 'that shuts out a card that refuses every WRITE'. Each command with a number that it may answer.
+abbrev pub alwaysRefused : List (ℕ × ℕ)
+alwaysRefused = (1, 4) ∷ (2, 26) ∷ (3, 28) ∷ (4, 30) ∷ (5, 32) ∷ (6, 20) ∷ (7, 8) ∷ []
+
+-- all seven commands are done
+abbrev pub allDone : Bytes
+allDone = format 1 1 4 ++ write 0 0 0 1 ++ close 0 ++ stores 0 3 ++ checkpoints 0 1 ++ cut ++ recovers 1
+
+always-fail : all (λ (e : ℕ × ℕ). failsAnswers (refusing (e .0) (e .1)) allDone) alwaysRefused ≡ true
+unfolding tests failsAnswers
+always-fail = refl
+
+pub each-command : (e : ℕ × ℕ) → List·Memᴰ e alwaysRefused → Demands (refusing (e .0) (e .1)) → ⊥
+unfolding failsAnswers
+each-command e m = refutes-demands (refusing (e .0) (e .1)) answers allDone (all-mem _ alwaysRefused always-fail m)

@@ -1,0 +1,62 @@
+-- Tapes by their commands, and every definition that a test of a run computes with, on one `unfolding` line.
+use Prim.Native.Nat.{ℕ, _+_}
+use mathlib.Core.List.{[], _∷_, _++_, flatMap}
+use lib.ListN.{replicate}
+use Rattle.model.specs.Lists.{below}
+use Rattle.model.specs.Bytes.{Bytes, bytes}
+use Rattle.crash.specs.Claims.{homeArea, fedPoint, answerOf}
+use Rattle.crash.specs.Service.{bookArea}
+use Rattle.crash.specs.Ledger.{blankLedger, freshLedger, imageNow, closeLedger, unretired, metIn, validIn, blocksIn, cutLedger, recoverLedger, entered, storedOf, storedSince, heldOf, recordOf, recordBlocks, recordStored, tailsPast, checkpointStored, recoverStored, diskAfter, storeCount, namesCount, holderNames, formatRefusals, writeRefusals, closeRefusals, storeRefusals, sharesLowerIn, checkpointRefusals, refusalsOf}
+use Rattle.crash.proofs.BookExamples.{books}
+use Rattle.model.proofs.Command.{rowOf}
+use Rattle.refuted.proofs.Checks.{sameBytes, comesUp, areaHolds, answerTest, countTest, usedBytes, bytesTest, upTest, holds}
+
+unfoldable pub tests : Unit {0}
+unfolding books rowOf homeArea fedPoint answerOf bookArea blankLedger freshLedger imageNow closeLedger unretired metIn validIn blocksIn cutLedger recoverLedger entered storedOf storedSince heldOf recordOf recordBlocks recordStored tailsPast checkpointStored recoverStored diskAfter storeCount namesCount holderNames formatRefusals writeRefusals closeRefusals storeRefusals sharesLowerIn checkpointRefusals refusalsOf sameBytes comesUp areaHolds answerTest countTest usedBytes bytesTest upTest holds
+tests = tt
+
+-- ---- commands of a tape
+abbrev pub format : ℕ → ℕ → ℕ → Bytes
+format c b j = 1 ∷ c ∷ b ∷ j ∷ []
+
+-- four bytes x
+abbrev pub write : ℕ → ℕ → ℕ → ℕ → Bytes
+write c b o x = 2 ∷ c ∷ 0 ∷ b ∷ o ∷ x ∷ x ∷ x ∷ x ∷ []
+
+-- the four bytes of n
+abbrev pub writeWord : ℕ → ℕ → ℕ → ℕ → Bytes
+writeWord c b o n = 2 ∷ c ∷ 0 ∷ b ∷ o ∷ bytes 4 n
+
+abbrev pub close : ℕ → Bytes
+close c = 3 ∷ c ∷ []
+
+abbrev pub stores : ℕ → ℕ → Bytes
+stores c n = flatMap (λ (i : ℕ). 4 ∷ c ∷ []) (below n)
+
+abbrev pub checkpoints : ℕ → ℕ → Bytes
+checkpoints c n = flatMap (λ (i : ℕ). 5 ∷ c ∷ []) (below n)
+
+abbrev pub cut : Bytes
+cut = 6 ∷ []
+
+abbrev pub recovers : ℕ → Bytes
+recovers n = replicate n 7
+
+-- Core 1 writes into core 0's block, core 0 commits, core 2 takes the block and commits: core 1's bytes are lost.
+abbrev pub lostWriter : Bytes
+lostWriter = format 3 1 4 ++ write 0 0 0 1 ++ write 1 0 4 2 ++ close 0 ++ stores 0 3 ++ write 2 0 8 3 ++ close 2 ++ stores 2 3 ++ cut ++ recovers 2
+
+-- one transaction is committed and kept
+abbrev pub oneKept : Bytes
+oneKept = format 1 1 4 ++ write 0 0 0 1 ++ close 0 ++ stores 0 3 ++ cut ++ recovers 2
+
+-- Core 0's list has 12 names: seven cores write into its block, five of them close and write into it again.
+abbrev pub writers : ℕ → Bytes
+writers n = flatMap (λ (c : ℕ). write (1 + c) 0 4 2) (below n)
+
+abbrev pub twelveNames : Bytes
+twelveNames = format 8 1 4 ++ write 0 0 0 1 ++ writers 7 ++ flatMap (λ (c : ℕ). close (1 + c)) (below 5) ++ writers 5
+
+-- a sixth one closes and would be the thirteenth
+abbrev pub thirteenth : Bytes
+thirteenth = twelveNames ++ close 6 ++ write 6 0 4 2

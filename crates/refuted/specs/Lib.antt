@@ -1,0 +1,3 @@
+-- Cards that are the model's save in one rule.
+pub mod Parts
+pub mod Wrong

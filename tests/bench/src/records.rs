@@ -1,0 +1,172 @@
+// records.rs: what the plain card reads from the journals: records, the valid set, the newest image of a block.
+
+use card_tests::few::Few;
+use card_tests::layout::{
+    block_at, unescaped, word, Block, Name, Shape, Tail, Tails, COMMIT, CORES, DESCRIPTOR, LAST_NUMBER, MARK, NAMES,
+    TAKEN,
+};
+
+/// The most records that journals hold: twelve of two blocks each for eight cores.
+pub const MOST: usize = 96;
+
+/// A committed transaction: where its record stands, and what tells its extent.
+#[derive(Clone, Copy, Default)]
+pub struct Record {
+    pub name: Name,
+    pub stamp: u64,
+    position: u8,
+    count: u8,
+    named: u8,
+}
+
+impl Record {
+    fn descriptor<'a>(&self, disk: &'a [u8], shape: Shape) -> &'a [u8] {
+        block_at(disk, shape.place(self.name.core, self.position as usize))
+    }
+
+    fn commit<'a>(&self, disk: &'a [u8], shape: Shape) -> &'a [u8] {
+        block_at(disk, shape.place(self.name.core, (self.position + self.count + 1) as usize))
+    }
+
+    pub fn blocks(&self, disk: &[u8], shape: Shape) -> Few<u8, TAKEN> {
+        let descriptor = self.descriptor(disk, shape);
+        let mut blocks = Few::new();
+        (0..self.count as usize).for_each(|i| blocks.push(word(descriptor, 16 + 8 * i) as u8));
+        blocks
+    }
+
+    fn place_of(&self, disk: &[u8], shape: Shape, block: u8) -> Option<usize> {
+        let descriptor = self.descriptor(disk, shape);
+        (0..self.count as usize).find(|i| word(descriptor, 16 + 8 * i) == block as u32)
+    }
+
+    pub fn image(&self, disk: &[u8], shape: Shape, i: usize) -> Block {
+        let flag = word(self.descriptor(disk, shape), 20 + 8 * i);
+        let place = shape.place(self.name.core, self.position as usize + 1 + i);
+        unescaped(block_at(disk, place), flag == 1)
+    }
+}
+
+/// The records of all journals, in order of core and number.
+pub struct Records {
+    shape: Shape,
+    tails: Tails,
+    starts: [usize; CORES + 1],
+    items: [Record; MOST],
+}
+
+impl Records {
+    /// At most so many of each core, from its tail on.
+    pub fn read(disk: &[u8], shape: Shape, tails: &Tails, most: &[usize; CORES]) -> Records {
+        let mut records = Records { shape, tails: *tails, starts: [0; CORES + 1], items: [Record::default(); MOST] };
+        for c in 0..CORES {
+            let count = if c < shape.cores as usize { records.read_core(disk, c, most[c]) } else { 0 };
+            records.starts[c + 1] = records.starts[c] + count;
+        }
+        records
+    }
+
+    fn read_core(&mut self, disk: &[u8], c: usize, most: usize) -> usize {
+        let Tail { mut number, position } = self.tails[c];
+        let (mut used, mut count) = (0, 0);
+        while count < most {
+            let name = Name { core: c as u8, number };
+            let Some(record) = read_record(disk, self.shape, name, position as usize, used) else { break };
+            self.items[self.starts[c] + count] = record;
+            used += record.count as usize + 2;
+            number += 1;
+            count += 1;
+        }
+        count
+    }
+
+    pub fn all(&self) -> &[Record] {
+        &self.items[..self.starts[CORES]]
+    }
+
+    pub fn first_of(&self, c: usize) -> usize {
+        self.starts[c]
+    }
+
+    pub fn count_of(&self, c: usize) -> usize {
+        self.starts[c + 1] - self.starts[c]
+    }
+
+    /// Strikes records with an unmet name until none goes.
+    pub fn valid(&self, disk: &[u8]) -> [bool; MOST] {
+        let mut valid = [true; MOST];
+        let mut is_done = false;
+        while !is_done {
+            is_done = true;
+            for (i, record) in self.all().iter().enumerate() {
+                if valid[i] && !self.names_met(disk, record, &valid) {
+                    valid[i] = false;
+                    is_done = false;
+                }
+            }
+        }
+        valid
+    }
+
+    fn names_met(&self, disk: &[u8], record: &Record, valid: &[bool; MOST]) -> bool {
+        let commit = record.commit(disk, self.shape);
+        (0..record.named as usize).all(|i| {
+            let (c, number) = (word(commit, 24 + 8 * i) as usize, word(commit, 28 + 8 * i));
+            let Some(above) = number.checked_sub(self.tails[c].number) else { return true };
+            (above as usize) < self.count_of(c) && valid[self.starts[c] + above as usize]
+        })
+    }
+
+    /// Whether one of lower stamp took one of these blocks.
+    pub fn shares_lower(&self, disk: &[u8], oldest: &Record, blocks: &[u8]) -> bool {
+        let mut lower = self.all().iter().filter(|record| record.stamp < oldest.stamp);
+        lower.any(|record| blocks.iter().any(|block| record.place_of(disk, self.shape, *block).is_some()))
+    }
+
+    /// The image of highest stamp in the valid set; of equal stamps the last.
+    pub fn newest(&self, disk: &[u8], valid: &[bool; MOST], block: u8) -> Option<Block> {
+        let members = self.all().iter().zip(valid).filter(|(_, is_valid)| **is_valid);
+        let images = members.filter_map(|(record, _)| Some((record, record.place_of(disk, self.shape, block)?)));
+        let (record, i) = images.max_by_key(|(record, _)| record.stamp)?;
+        Some(record.image(disk, self.shape, i))
+    }
+}
+
+/// The record that begins so many blocks past a tail's position, or a miss.
+fn read_record(disk: &[u8], shape: Shape, name: Name, tail: usize, used: usize) -> Option<Record> {
+    let start = (tail + used) % shape.journal as usize;
+    if name.number > LAST_NUMBER || used + 2 > shape.journal as usize {
+        return None;
+    }
+    let count = read_descriptor(block_at(disk, shape.place(name.core, start)), shape, name.number)?;
+    if used + count + 2 > shape.journal as usize {
+        return None;
+    }
+    let (stamp, named) = read_commit(block_at(disk, shape.place(name.core, start + count + 1)), shape, name.number)?;
+    Some(Record { name, stamp, position: start as u8, count: count as u8, named: named as u8 })
+}
+
+fn has_head(block: &[u8], kind: u32, number: u32) -> bool {
+    word(block, 0) == MARK && word(block, 4) == kind && word(block, 8) == number
+}
+
+fn read_descriptor(block: &[u8], shape: Shape, number: u32) -> Option<usize> {
+    let count = word(block, 12) as usize;
+    if !has_head(block, DESCRIPTOR, number) || count > TAKEN {
+        return None;
+    }
+    let home = |i: usize| word(block, 16 + 8 * i);
+    let fits = |i: usize| home(i) < shape.blocks as u32 && word(block, 20 + 8 * i) <= 1;
+    let is_new = |i: usize| (0..i).all(|j| home(j) != home(i));
+    (0..count).all(|i| fits(i) && is_new(i)).then_some(count)
+}
+
+fn read_commit(block: &[u8], shape: Shape, number: u32) -> Option<(u64, usize)> {
+    let stamp = (word(block, 12) as u64) << 32 | word(block, 16) as u64;
+    let named = word(block, 20) as usize;
+    if !has_head(block, COMMIT, number) || stamp == 0 || named > NAMES {
+        return None;
+    }
+    let fits = |i: usize| word(block, 24 + 8 * i) < shape.cores as u32 && word(block, 28 + 8 * i) >= 1;
+    (0..named).all(fits).then_some((stamp, named))
+}

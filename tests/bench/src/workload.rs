@@ -1,0 +1,293 @@
+// workload.rs: the tapes that both cards are measured on, made with the model so that each is known to run.
+
+use crate::plain::Plain;
+use card_library::session::Session;
+use card_library::watcher::Implementation;
+use card_tests::card::{Card, Phase};
+use card_tests::command::{from_hex, hex, Command};
+use card_tests::directed;
+use card_tests::layout::{Shape, DISK, MEMORY};
+use card_tests::shrink::tape_of;
+
+pub const LARGE: Shape = directed::LARGEST;
+pub const SMALL: Shape = Shape { cores: 2, blocks: 4, journal: 12 };
+
+/// About so many commands has a tape whose speed is measured.
+const LENGTH: usize = 10_000;
+
+/// A tape that is measured, and what comes before it.
+pub struct Workload {
+    pub name: String,
+    /// A disk written elsewhere, over which the card begins down; without one it begins blank.
+    foreign: Option<Vec<u8>>,
+    prepare: Vec<u8>,
+    pub tape: Vec<u8>,
+    pub commands: usize,
+}
+
+/// A card with its slices.
+#[derive(Clone)]
+pub struct Stage<I> {
+    pub card: I,
+    pub disk: Vec<u8>,
+    pub memory: Vec<u8>,
+}
+
+impl Workload {
+    /// Three lines of hex, for another process.
+    pub fn to_text(&self) -> String {
+        let foreign = self.foreign.as_deref().unwrap_or_default();
+        [foreign, &self.prepare, &self.tape].map(|bytes| hex(bytes) + "\n").concat()
+    }
+
+    pub fn from_text(text: &str) -> Workload {
+        let [foreign, prepare, tape] = [0, 1, 2].map(|i| from_hex(text.lines().nth(i).unwrap_or_default()));
+        let foreign = (!foreign.is_empty()).then_some(foreign);
+        Workload { name: String::new(), foreign, prepare, tape, commands: 0 }
+    }
+
+    /// A card as the measured tape finds it.
+    pub fn stage<I: Implementation>(&self) -> Stage<I> {
+        let card = if self.foreign.is_some() { I::down() } else { I::blank() };
+        let disk = self.foreign.clone().unwrap_or(vec![0; DISK]);
+        let mut stage = Stage { card, disk, memory: vec![0; MEMORY] };
+        stage.run(&self.prepare);
+        stage
+    }
+}
+
+impl<I: Implementation> Stage<I> {
+    fn run(&mut self, tape: &[u8]) {
+        let mut at = 0;
+        while at < tape.len() {
+            at = self.card.command(tape, at, &mut self.disk, &mut self.memory).next;
+        }
+    }
+}
+
+/// Every command of a tape, one call each. Callgrind counts what happens below this function and the next one.
+#[inline(never)]
+pub fn measured<I: Implementation>(stage: &mut Stage<I>, tape: &[u8]) {
+    stage.run(tape);
+}
+
+/// The whole tape in one call of the library.
+#[inline(never)]
+pub fn measured_tape(stage: &mut Stage<Session>, tape: &[u8]) {
+    stage.card.run(tape, &mut stage.disk, &mut stage.memory);
+}
+
+/// Commands as they are issued, with the model's card beside them.
+struct Script {
+    shape: Shape,
+    commands: Vec<Command>,
+    card: Card,
+    disk: Vec<u8>,
+    memory: Vec<u8>,
+}
+
+impl Script {
+    fn new(shape: Shape) -> Script {
+        let (disk, memory) = (vec![0; DISK], vec![0; MEMORY]);
+        let mut script = Script { shape, commands: Vec::new(), card: Card::blank(), disk, memory };
+        script.issue(Command::Format { cores: shape.cores, blocks: shape.blocks, journal: shape.journal });
+        script
+    }
+
+    fn issue(&mut self, command: Command) {
+        self.card.command(&mut self.disk, &mut self.memory, &tape_of(&[command]), 0);
+        self.commands.push(command);
+    }
+
+    fn write(&mut self, core: u8, block: usize) {
+        let count = self.commands.len();
+        let data = (count as u32).to_be_bytes();
+        self.issue(Command::Write { core, block: block as u16, offset: 4 * (count % 32) as u8, data });
+    }
+
+    fn commit(&mut self, core: u8) {
+        self.issue(Command::Close { core });
+        while self.card.cores[core as usize].closed.is_some() {
+            self.issue(Command::Store { core });
+        }
+    }
+
+    /// A committed transaction with so many blocks, from one on.
+    fn transaction(&mut self, core: u8, block: usize, count: usize) {
+        (0..count).for_each(|i| self.write(core, (block + i) % self.shape.blocks as usize));
+        self.commit(core);
+    }
+
+    /// Every core in turn tries a checkpoint, until nothing is left.
+    fn drain(&mut self) {
+        while self.card.cores.iter().any(|core| core.committed > 0) {
+            (0..self.shape.cores).for_each(|core| self.issue(Command::Checkpoint { core }));
+        }
+    }
+
+    /// So many transactions of one block, the cores in turn; each takes the block of the one before it with the same number,
+    /// if `is_shared`.
+    fn fill(&mut self, count: usize, is_shared: bool) {
+        let cores = self.shape.cores as usize;
+        for i in 0..count {
+            let block = if is_shared { i / cores } else { i };
+            self.transaction((i % cores) as u8, block % self.shape.blocks as usize, 1);
+        }
+    }
+
+    /// As many of one block as the journals hold.
+    fn fill_up(&mut self, is_shared: bool) {
+        self.fill(self.shape.cores as usize * (self.shape.journal as usize / 3), is_shared);
+    }
+
+    /// Recovery up to its last home store.
+    fn recover_home(&mut self) {
+        let mut before = (self.card, self.disk.clone());
+        while self.card.phase == Phase::Down {
+            before = (self.card, self.disk.clone());
+            self.issue(Command::Recover);
+        }
+        self.commands.pop();
+        (self.card, self.disk) = before;
+    }
+
+    /// A workload of all that was issued from a place on.
+    fn split_off(self, start: usize, name: String) -> Workload {
+        let (prepare, tape) = self.commands.split_at(start);
+        Workload { name, foreign: None, prepare: tape_of(prepare), tape: tape_of(tape), commands: tape.len() }
+    }
+
+    /// The rounds until the tape is long enough; the format comes before it.
+    fn rounds(mut self, kind: &str, mut round: impl FnMut(&mut Script)) -> Workload {
+        while self.commands.len() < LENGTH {
+            round(&mut self);
+        }
+        let Shape { cores, blocks, journal } = self.shape;
+        self.split_off(1, format!("{kind} {cores}x{blocks}x{journal}"))
+    }
+}
+
+/// Each core in turn writes 32 times into its own blocks, at most four; the transaction is committed and checkpointed.
+fn write_heavy(shape: Shape) -> Workload {
+    let own = (shape.blocks / shape.cores).min(4) as usize;
+    Script::new(shape).rounds("write", |script| {
+        for core in 0..shape.cores {
+            (0..32).for_each(|i| script.write(core, core as usize * own + i % own));
+            script.commit(core);
+            (0..own + 1).for_each(|_| script.issue(Command::Checkpoint { core }));
+        }
+    })
+}
+
+/// Full journals of transactions that share blocks; then every core in turn tries a checkpoint until all are empty.
+fn checkpoint_heavy(shape: Shape) -> Workload {
+    Script::new(shape).rounds("checkpoint", |script| {
+        script.fill_up(true);
+        script.drain();
+    })
+}
+
+/// Full journals, a cut, and recovery, which is cut nine times before its last store.
+fn recovery_heavy(shape: Shape) -> Workload {
+    Script::new(shape).rounds("recovery", |script| {
+        script.fill_up(false);
+        for _ in 0..9 {
+            script.issue(Command::Cut);
+            script.recover_home();
+        }
+        script.issue(Command::Recover);
+    })
+}
+
+/// The six tapes whose speed is compared.
+pub fn tapes() -> Vec<Workload> {
+    let both = |make: fn(Shape) -> Workload| [make(LARGE), make(SMALL)];
+    [both(write_heavy), both(checkpoint_heavy), both(recovery_heavy)].into_iter().flatten().collect()
+}
+
+/// One command on a card of the largest shape that was made ready for it.
+fn single(name: String, make_ready: impl FnOnce(&mut Script), command: Command) -> Workload {
+    let mut script = Script::new(LARGE);
+    make_ready(&mut script);
+    let start = script.commands.len();
+    script.issue(command);
+    script.split_off(start, name)
+}
+
+const WRITE: Command = Command::Write { core: 0, block: 0, offset: 0, data: [1, 2, 3, 4] };
+
+/// WRITE, CHECKPOINT and RECOVER with so many records of one block in the journals.
+pub fn with_records(count: usize) -> Vec<Workload> {
+    let filled = |script: &mut Script| script.fill(count, false);
+    let name = |command: &str| format!("{command}, {count} records");
+    vec![
+        single(name("WRITE"), filled, WRITE),
+        single(name("CHECKPOINT"), filled, Command::Checkpoint { core: 0 }),
+        single(name("RECOVER"), |script| cut(script, filled), Command::Recover),
+    ]
+}
+
+/// CHECKPOINT and RECOVER with one record for each core, of so many blocks; STORE of the descriptor of one.
+pub fn with_blocks(count: usize) -> Vec<Workload> {
+    let filled = |script: &mut Script| (0..8).for_each(|core| script.transaction(core, 8 * core as usize, count));
+    let closed = |script: &mut Script| {
+        (0..count).for_each(|block| script.write(0, block));
+        script.issue(Command::Close { core: 0 });
+    };
+    let name = |command: &str| format!("{command}, {count} blocks");
+    vec![
+        single(name("STORE"), closed, Command::Store { core: 0 }),
+        single(name("CHECKPOINT"), filled, Command::Checkpoint { core: 0 }),
+        single(name("RECOVER"), |script| cut(script, filled), Command::Recover),
+    ]
+}
+
+fn cut(script: &mut Script, make_ready: impl FnOnce(&mut Script)) {
+    make_ready(script);
+    script.issue(Command::Cut);
+}
+
+/// Every workload there is.
+pub fn all() -> Vec<Workload> {
+    let records = RECORDS.into_iter().flat_map(with_records);
+    let blocks = BLOCKS.into_iter().flat_map(with_blocks);
+    tapes().into_iter().chain(records).chain(blocks).chain(worst()).chain(LENGTHS.map(of_length)).collect()
+}
+
+pub const RECORDS: [usize; 5] = [1, 8, 16, 32, 56];
+pub const BLOCKS: [usize; 4] = [1, 2, 4, 8];
+pub const LENGTHS: [usize; 3] = [100, 1_000, 10_000];
+
+/// RECOVER of a disk with 96 records without blocks: none is struck, or one a round.
+pub fn worst() -> Vec<Workload> {
+    let over = |name: &str, is_met: bool| {
+        let foreign = Some(directed::chain_disk(0, is_met));
+        let tape = tape_of(&[Command::Recover]);
+        Workload { name: name.to_string(), foreign, prepare: Vec::new(), tape, commands: 1 }
+    };
+    vec![over("RECOVER, 96 valid", true), over("RECOVER, 96 struck one by one", false)]
+}
+
+/// The first so many commands of the write-heavy tape.
+pub fn of_length(length: usize) -> Workload {
+    let full = write_heavy(LARGE);
+    let mut end = 0;
+    for _ in 0..length {
+        end = card_tests::command::read(&full.tape, end).map_or(full.tape.len(), |(_, next)| next);
+    }
+    Workload { name: format!("{length} commands"), tape: full.tape[..end].to_vec(), commands: length, ..full }
+}
+
+/// Both cards must do the same on a workload, command by command, or nothing is measured.
+pub fn require_same(workload: &Workload) {
+    let (mut library, mut plain) = (workload.stage::<Session>(), workload.stage::<Plain>());
+    let mut at = 0;
+    while at < workload.tape.len() {
+        let one = library.card.command(&workload.tape, at, &mut library.disk, &mut library.memory);
+        let other = plain.card.command(&workload.tape, at, &mut plain.disk, &mut plain.memory);
+        assert_eq!((one.number, one.next), (other.number, other.next), "{} at {at}", workload.name);
+        assert!(library.disk == plain.disk && library.memory == plain.memory, "{} at {at}", workload.name);
+        assert_eq!(library.card.stores(), plain.card.stores(), "{} at {at}", workload.name);
+        at = one.next;
+    }
+}
