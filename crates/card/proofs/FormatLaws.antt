@@ -33,7 +33,7 @@ notBlank w = (wrongLength w, 1) ∷ (not (isBlank (w .card .phase)), 21) ∷ []
 
 -- the shape that the constructor made, and its number
 made-known : (c b j : ℕ) → refusal ((not (inRange c b j), 4) ∷ []) ≡ checkedAnswer (checked c b j)
-unfolding refusal checked checkedAnswer
+unfolding refusal checked
 made-known c b j = cases (inRange c b j) (λ h. rw h) (λ h. rw h)
 
 format-stages : (c b j : ℕ) (w : World) → firstOf (refusal (notBlank w)) (checkedAnswer (checked c b j)) ≡ refusal (formatConditions c b j w)
@@ -47,7 +47,7 @@ module _ (c b j : ℕ) (x : Card) (d m : Bytes) (n : ℕ) (e : n ≡ refusal (no
   not-blank h = was-refused (formatConditions c b j (world x d m)) _ _ n (first-hit n _ _ e h ∙ format-stages c b j (world x d m)) h
 
   pub out-of-range : n ≡ 0 → (made : Checked) → made ≡ checked c b j → made ≡ OutOfRange → refusedWith 4 (world x d m) ≡ format c b j (world x d m)
-  unfolding format checkedAnswer
+  unfolding format
   out-of-range h made q o =
       was-refused (formatConditions c b j (world x d m)) _ _ 4 (first-pass n 4 _ _ e h (rw (← q, o)) ∙ format-stages c b j (world x d m)) (omega arith)
 
@@ -104,7 +104,7 @@ format-left s e d m dl ml d′ m′ b p q r x y = rw (r, p, q, y, zero-disk d dl
 -- carried out
 pub format-done : (c b j : ℕ) (x : Card) (d m : Bytes) (n : ℕ) → n ≡ refusal (notBlank (world x d m)) → n ≡ 0
     → (made : Checked) → made ≡ checked c b j → (s : Shape) → made ≡ Fits s → (o : Outcome) → o ≡ formatted s → o ≡ format c b j (world x d m)
-unfolding format checkedAnswer
+unfolding format
 format-done c b j x d m n e h made q s f o r =
     was-done (formatConditions c b j (world x d m)) _ _ 0 (first-pass n 0 _ _ e h (rw (← q, f)) ∙ format-stages c b j (world x d m)) refl o
     (r ∙ ap formatted (fits-range c b j s (sym f ∙ q) .1))

@@ -46,6 +46,11 @@ empty-kept : (n : ℕ → ℕ) → keptWrites (emptyBook n) ≡ []
 unfolding keptWrites select emptyBook
 empty-kept n = refl
 
+-- 'A second cut before the card is up thus adds nothing': the first left an empty book, and RECOVER does nothing in it
+pub cut-twice : (v : Service) → cutService (cutService v) ≡ cutService v
+unfolding cutService
+cut-twice v = rw (empty-kept (λ (c : ℕ). 1))
+
 pub down-agrees : (n : ℕ) (s : Shape) → Agrees (emptyService n) (downLedger s)
 unfolding emptyService downLedger cutLedger freshLedger
 down-agrees n s = down refl refl (rw (empty-kept (λ (c : ℕ). 1)) refl)

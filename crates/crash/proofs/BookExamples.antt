@@ -56,6 +56,11 @@ pub both-kept : keptBy (write 0 0 1 ∷ write 1 4 2 ∷ commits 0 ++ of-core 3 1
 unfolding books
 both-kept = refl
 
+-- Core 0's first transaction depends on one that is lost, its second on none: the later one is kept without the earlier.
+pub later-kept-alone : keptBy (write 0 0 1 ∷ write 1 4 2 ∷ commits 0 ++ record { byte = 2; operands = 0 ∷ 0 ∷ 1 ∷ 0 ∷ 3 ∷ 3 ∷ 3 ∷ 3 ∷ [] } ∷ commits 0 ++ alone 6 ∷ []) ≡ newName 0 2 ∷ []
+unfolding books
+later-kept-alone = refl
+
 -- After the one home store of two checkpoints core 0's transaction is not retired yet, and the next writer names it.
 pub home-store-retires-none : ((served (emptyService 1) (write 0 0 1 ∷ commits 0 ++ of-core 5 0 ∷ write 1 4 2 ∷ [])) .book .entry (newName 1 1)) .names ≡ newName 0 1 ∷ []
 unfolding books

@@ -49,6 +49,15 @@ pub comes-up-without : blockThree (before ++ (6 ∷ 7 ∷ [])) ≡ (0 ∷ 0 ∷ 
 unfolding computes homeArea
 comes-up-without = refl
 
+-- 'No order is implied between transactions of one core': as before, then core 0's second transaction writes block 2 and
+-- commits; block 2 comes back, and block 3 with the first one's write does not
+pub later-comes-back :
+    map (λ (p : Point). part 256 4 (homeArea 4 (p .outcome .world)) ++ part 384 4 (homeArea 4 (p .outcome .world)))
+    (select comesUp (run step (before ++ (2 ∷ 0 ∷ 0 ∷ 2 ∷ 0 ∷ 9 ∷ 9 ∷ 9 ∷ 9 ∷ 3 ∷ 0 ∷ 4 ∷ 0 ∷ 4 ∷ 0 ∷ 4 ∷ 0 ∷ 6 ∷ 7 ∷ 7 ∷ [])) blankWorld))
+    ≡ (9 ∷ 9 ∷ 9 ∷ 9 ∷ 0 ∷ 0 ∷ 0 ∷ 0 ∷ []) ∷ []
+unfolding computes homeArea
+later-comes-back = refl
+
 abbrev fedAll : Service → List Point → Service
 fedAll v [] = v
 fedAll v (p ∷ ps) = fedAll (fedPoint p v) ps

@@ -42,4 +42,6 @@ pub mod Agreement
 pub mod Given
 pub mod Points
 pub mod Theorem
+-- Of single sentences: names, and computed runs.
+pub mod NamesOnce
 pub mod Examples

@@ -4,15 +4,16 @@ use mathlib.Core.List.{List, [], _∷_}
 use mathlib.Core.Bool.{Bool, not}
 use lib.ListN.{replicate}
 use Rattle.model.specs.Bytes.{store, zeroDisk, zeroMemory}
-use Rattle.model.specs.Shape.{inRange}
+use Rattle.model.specs.Shape.{inRange, checkedAnswer}
 use Rattle.model.specs.Card.{isBlank, newTail, freshCard}
 use Rattle.model.specs.Layout.{masterBlock}
 use Rattle.model.specs.Command.{World, Outcome, unless, wrongLength}
 use Rattle.model.specs.declared.Phase.the-variants.{Up}
 use Rattle.model.specs.declared.Shape.{Shape}
+use Rattle.model.specs.declared.Checked.the-variants.{OutOfRange}
 
 unfoldable pub formatConditions : ℕ → ℕ → ℕ → World → List (Bool × ℕ)
-formatConditions c b j w = (wrongLength w, 1) ∷ (not (isBlank (w .card .phase)), 21) ∷ (not (inRange c b j), 4) ∷ []
+formatConditions c b j w = (wrongLength w, 1) ∷ (not (isBlank (w .card .phase)), 21) ∷ (not (inRange c b j), checkedAnswer OutOfRange) ∷ []
 
 -- FORMAT counts no store, and zeroes memory too
 unfoldable pub formatted : Shape → Outcome

@@ -18,7 +18,7 @@ unfoldable pub checked : ℕ → ℕ → ℕ → Checked
 checked c b j = cond (inRange c b j) (Fits (record { cores = c; blocks = b; journal = j })) OutOfRange
 
 -- its refusal: '4 C, B or J out of range'; 0 for none
-unfoldable pub checkedAnswer : Checked → ℕ
+abbrev pub checkedAnswer : Checked → ℕ
 checkedAnswer (Fits s) = 0
 checkedAnswer OutOfRange = 4
 
