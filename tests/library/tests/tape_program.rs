@@ -9,7 +9,8 @@ const ROOT: &str = concat!(env!("CARGO_MANIFEST_DIR"), "/../..");
 
 fn printed(tape: &[u8]) -> String {
     let program = format!("{ROOT}/target/bin/tape");
-    let mut child = Command::new(program).stdin(Stdio::piped()).stdout(Stdio::piped()).spawn().expect("the program is built");
+    let mut child =
+        Command::new(program).stdin(Stdio::piped()).stdout(Stdio::piped()).spawn().expect("the program is built");
     child.stdin.take().expect("standard input").write_all(tape).expect("the tape is read");
     let out = child.wait_with_output().expect("it ends");
     assert!(out.status.success());
