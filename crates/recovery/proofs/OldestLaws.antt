@@ -25,7 +25,7 @@ use Rattle.model.specs.declared.Card.{Card}
 use Rattle.model.specs.declared.Committed.{Committed}
 use Rattle.model.specs.declared.Found.{Found}
 use Rattle.model.specs.declared.Found.the-variants.{Whole, Miss}
-use Rattle.model.proofs.Lists.{cases, and-left, and-right, any-append, flatMap-append, getD-map-below}
+use Rattle.model.proofs.Lists.{cases, and-left, and-right, any-append, flatMap-append}
 use Rattle.model.proofs.Limits.{InRange}
 use Rattle.model.proofs.Command.{Clear, refusedWith, refusal-clear, unless-done, unless-refused}
 use Rattle.model.proofs.OneStore.{shape-limits, right-lengths}
@@ -40,6 +40,7 @@ use Rattle.journal.proofs.Sets.{in-slot}
 use Rattle.state.specs.Answer.{world, outcomeOf, firstOf}
 use Rattle.state.specs.declared.Answer.{Answer}
 use Rattle.recovery.specs.Oldest.{countAt, counts, oldestAt, IsRead, lowerFound, lowerSlot, lowerClosed, closedLower, TellsValid, oldestConditions, nextStore, oldestOutcome}
+use Rattle.recovery.proofs.CheckpointLaws.{count-in}
 use Rattle.state.proofs.Refusals.{first-hit, first-pass, refusal-joined, refusal-next, was-refused, was-done}
 
 -- ---- the oldest transaction
@@ -111,6 +112,9 @@ module _ (x : Card) (d : Bytes) (c : ℕ) where
       rw (z, recordsFrom))
       (λ t. records-miss (shapeOf x) d c ((tailOf x c) .number) ((tailOf x c) .position) ((shapeOf x) .journal) (committedCount x c) (rw t at h))
 
+pub oldest-whole : (x : Card) (d : Bytes) (c : ℕ) (f : Found) → f ≡ oldestAt x d c → (e : Committed) → f ≡ Whole e → oldestAt x d c ≡ Whole e
+oldest-whole x d c f q e z = sym q ∙ z
+
 -- ---- the slots are the card's committed transactions
 flatMap-same : {A : Type 0} (f g : ℕ → List A) (n : ℕ) → ((i : ℕ) → i < n → f i ≡ g i) → flatMap f (below n) ≡ flatMap g (below n)
 unfolding below flatMap
@@ -127,13 +131,9 @@ journal-capped s d c t n l =
       | no h ↦ (let z : min n 12 ≡ n = omega arith in rw z)
     ]
 
-count-in : (x : Card) (c : ℕ) → c < 8 → getD (counts x) c 0 ≡ min (committedCount x c) 12
-unfolding counts countAt
-count-in x c h = getD-map-below (countAt x) 8 c 0 h
-
 module _ (x : Card) (d m : Bytes) (slots : List ℕ) (r : Reads (shapeOf x) d (x .tails) (counts x) slots) where
   pub slots-committed : entries (shapeOf x) d (numbersOf (x .tails)) slots ≡ committedNow (world x d m)
-  unfolding committedNow journals tailOf
+  unfolding committedNow journals tailOf countAt
   slots-committed =
       let l = shape-limits x in
       reads-journals (shapeOf x) d (x .tails) (counts x) slots r l
@@ -205,8 +205,8 @@ module _ (s : Shape) (d : Bytes) (e : Committed) (ks set : List ℕ) where
   lower-all = lower-entries 96
 
 pub lower-parts : (x : Card) (d m : Bytes) (e : Committed) (slots : List ℕ) → Reads (shapeOf x) d (x .tails) (counts x) slots
-    → sharesLower (world x d m) e ≡ (some 96 (lowerSlot (shapeOf x) d e slots) || some ((shapeOf x) .cores) (closedLower x (shapeOf x) d e))
-unfolding sharesLower some closedLower lowerClosed
+    → sharesLower (world x d m) e ≡ (some 96 (lowerSlot (shapeOf x) d e slots) || some ((shapeOf x) .cores) (closedLower (x .cores) (shapeOf x) d e))
+unfolding sharesLower some closedLower lowerClosed coreOf
 lower-parts x d m e slots r =
     ap
     (λ (es : List Committed). any (isLower (shapeOf x) d e [] []) es || any (λ (c : ℕ). lowerClosed (shapeOf x) d e ((coreOf x c) .closed)) (below ((shapeOf x) .cores)))
@@ -231,7 +231,7 @@ module _ (x : Card) (d : Bytes) (slots : List ℕ) (r : Reads (shapeOf x) d (x .
     pub lower-slots : g ≡ true → (m : Bytes) → true ≡ sharesLower (world x d m) e
     lower-slots t m = rw (lower-parts x d m e slots r, ← by-slots, t)
 
-    pub lower-closes : g ≡ false → (k : Bool) → k ≡ some (s .cores) (closedLower x s d e) → (m : Bytes) → k ≡ sharesLower (world x d m) e
+    pub lower-closes : g ≡ false → (k : Bool) → k ≡ some (s .cores) (closedLower (x .cores) s d e) → (m : Bytes) → k ≡ sharesLower (world x d m) e
     lower-closes t k w m = (rw p at w) ∙ rw (lower-parts x d m e slots r, ← by-slots, t)
 
 module _ (x : Card) (c : ℕ) (e : Committed) (d : Bytes) (h : oldestAt x d c ≡ Whole e) (b : Bool) (q : TellsValid x d c b) where
@@ -253,9 +253,6 @@ module _ (x : Card) (c : ℕ) (e : Committed) (d : Bytes) (h : oldestAt x d c �
     unshared-lower t m = rw (← told m, not-false b z, ← y m, t)
 
 -- ---- the checkpoint of the oldest
-pub core-low : (x : Card) (c : ℕ) → c < (shapeOf x) .cores → c < 8
-core-low x c h = omega (arith, shape-limits x .few-cores)
-
 module _ (x : Card) (c : ℕ) (e : Committed) (d : Bytes) (k : ℕ) (y : (m : Bytes) → k ≡ refusal (oldestConditions e (world x d m))) where
   pub oldest-refused : (k ≡ 0 → ⊥) → (m : Bytes) → refusedWith k (world x d m) ≡ oldestOutcome c e (world x d m)
   unfolding oldestOutcome
@@ -312,19 +309,16 @@ module _ (x : Card) (c : ℕ) (d m : Bytes) (n : ℕ) (e : n ≡ refusal (notUp 
           (first-pass n 31 _ _ e h (first-hit 31 (cond (eqb (length (committedOf (world x d m) c)) 0) 31 0) _ k (omega arith)) ∙ sym (stages c (world x d m))) (omega arith)
 
       module _ (t : Committed) (z : f ≡ Whole t) where
-        pub oldest-whole : oldestAt x d c ≡ Whole t
-        oldest-whole = sym q ∙ z
-
         last-stages : refusal (checkpointConditions c (world x d m)) ≡ refusal (oldestConditions t (world x d m))
         last-stages =
-            let u : _≡_ {A = ℕ} 0 (cond (eqb (length (committedOf (world x d m) c)) 0) 31 0) = rw (is-committed x d c t oldest-whole m) in
+            let u : _≡_ {A = ℕ} 0 (cond (eqb (length (committedOf (world x d m) c)) 0) 31 0) = rw (is-committed x d c t (oldest-whole x d c f q t z) m) in
             let a : refusal (oldestConditions t (world x d m)) ≡ refusal (oldestConditions (oldest (committedOf (world x d m) c)) (world x d m)) =
-            rw (is-oldest x d c t oldest-whole m) in
+            rw (is-oldest x d c t (oldest-whole x d c f q t z) m) in
             stages c (world x d m) ∙ sym (first-pass n _ _ _ e h (first-pass 0 _ (cond (eqb (length (committedOf (world x d m) c)) 0) 31 0) _ u refl a))
 
         store-same : nextStore c t (world x d m) ≡ checkpointed c (world x d m)
         unfolding checkpointed nextStore
-        store-same = sym (ap (λ (y : Committed). nextStore c y (world x d m)) (is-oldest x d c t oldest-whole m))
+        store-same = sym (ap (λ (y : Committed). nextStore c y (world x d m)) (is-oldest x d c t (oldest-whole x d c f q t z) m))
 
         pub oldest-settled : (r : Answer) (d₂ : Bytes) → ((m : Bytes) → outcomeOf r d₂ m ≡ oldestOutcome c t (world x d m)) → outcomeOf r d₂ m ≡ checkpoint c (world x d m)
         unfolding checkpoint oldestOutcome

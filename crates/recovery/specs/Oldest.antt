@@ -3,10 +3,11 @@ use Prim.Native.Nat.{ℕ, _+_, _-_, _%_, _<_, min}
 use mathlib.Core.Path.{_≡_}
 use mathlib.Core.List.{List, [], _∷_, map}
 use mathlib.Core.Bool.{Bool, false, cond, not, _&&_}
+use lib.ListN.{getD}
 use lib.Dec.{ltb, eqb}
 use Rattle.model.specs.Lists.{below}
 use Rattle.model.specs.Bytes.{Bytes}
-use Rattle.model.specs.Card.{newTail, sameName, noHolder, taken, shapeOf, tailOf, coreOf, committedCount}
+use Rattle.model.specs.Card.{newTail, sameName, noHolder, taken, freshCore, shapeOf, tailOf, coreOf, committedCount}
 use Rattle.model.specs.Journal.{recordAt, nameOf, blocksOf}
 use Rattle.model.specs.Valid.{isIn}
 use Rattle.model.specs.Checkpoint.{share, validNow, sharesLower, storedHome, storedMaster}
@@ -73,9 +74,9 @@ lowerClosed s d e t = t .live && ltb (t .stamp) (e .stamp) && share (blocksOf s 
 unfoldable pub lowerSlot : Shape → Bytes → Committed → List ℕ → ℕ → Bool
 lowerSlot s d e set i = lowerFound s d e (foundAt s d [] set i)
 
--- core i's closed transaction is one
-unfoldable pub closedLower : Card → Shape → Bytes → Committed → ℕ → Bool
-closedLower x s d e i = lowerClosed s d e ((coreOf x i) .closed)
+-- the closed transaction of core i is one
+unfoldable pub closedLower : List Core → Shape → Bytes → Committed → ℕ → Bool
+closedLower ks s d e i = lowerClosed s d e ((getD ks i (freshCore 0)) .closed)
 
 -- the code's answer: core c's oldest transaction, if there is one, is in the valid set
 unfoldable pub TellsValid : Card → Bytes → ℕ → Bool → Type 0
