@@ -4,7 +4,7 @@ use native.Mathlib.Omega.{arith}
 use native.Mathlib.Decide.{decLt}
 use mathlib.Core.Path.{_≡_, refl, sym, ap, _∙_, subst}
 use mathlib.Core.Bool.{Bool, true, false, cond, not}
-use mathlib.Core.List.{List, [], _++_, map}
+use mathlib.Core.List.{List, _++_, map}
 use lib.ListN.{length, getD, set, take, drop, length-take, List·getD-map}
 use lib.Dec.{eqb}
 use lib.Seq.{take-all}
@@ -14,7 +14,7 @@ use Rattle.model.specs.Bytes.{Bytes, blockAt, store}
 use Rattle.model.specs.Shape.{clamped, homeBlock, journalBlock}
 use Rattle.model.specs.Card.{newTail, newName, sameName, noHolder, taken, freshCore, shapeOf, tailOf, coreOf, committedCount, withCore}
 use Rattle.model.specs.Layout.{masterBlock, Held, newHeld, pairAt, pairsIn, heldIn, unescaped}
-use Rattle.model.specs.Journal.{journalAt, recordAt, heldBy, blocksOf, took, imageOf}
+use Rattle.model.specs.Journal.{journalAt, recordAt, heldBy, blocksOf, imageOf}
 use Rattle.model.specs.Checkpoint.{share, released, retiredCard, storedHome, storedMaster}
 use Rattle.model.specs.declared.Shape.{Shape}
 use Rattle.model.specs.declared.Tail.{Tail}
@@ -25,7 +25,7 @@ use Rattle.model.specs.declared.Holder.{Holder}
 use Rattle.model.specs.declared.Card.{Card}
 use Rattle.model.specs.declared.Committed.{Committed}
 use Rattle.model.specs.declared.Found.{Found}
-use Rattle.model.specs.declared.Found.the-variants.{Whole, Miss}
+use Rattle.model.specs.declared.Found.the-variants.{Miss}
 use Rattle.model.proofs.Lists.{cases, any-mem, mem-any, getD-mem, mem-getD, mem-below, below-mem, getD-map-below}
 use Rattle.model.proofs.OneStore.{shape-limits}
 use Rattle.model.proofs.Limits.{InRange, clamped-same}
@@ -34,11 +34,11 @@ use Rattle.model.proofs.Records.{length-blocksOf, known-below}
 use Rattle.layout.specs.Loops.{some}
 use Rattle.layout.proofs.Blocks.{block-lent}
 use Rattle.layout.proofs.Loops.{Filled, filled-more, filled-all, some-none, some-no, some-in, some-out}
-use Rattle.journal.specs.Slots.{foundAt}
+use Rattle.journal.specs.Slots.{Sized}
 use Rattle.journal.specs.Walk.{Reads}
 use Rattle.state.specs.Answer.{world, outcomeOf}
 use Rattle.state.specs.declared.Answer.{Answer}
-use Rattle.recovery.specs.Oldest.{freed, movedTail, retiredCore, homedCore, countAt, counts, oldestAt, IsRead, lowerFound, lowerSlot, lowerClosed, closedLower, nextStore}
+use Rattle.recovery.specs.Oldest.{freed, movedTail, retiredCore, homedCore, countAt, counts, oldestAt, IsRead, lowerClosed, closedLower, nextStore}
 use Rattle.state.proofs.Parts.{element-in, tail-in, any-hit, any-more, any-all}
 
 -- the shape as it is read is within its limits
@@ -205,16 +205,6 @@ module _ (s : Shape) (d : Bytes) (e : Committed) (cs : List ℕ) where
     pub more-unshared : some i (sharesAt (blocksOf s d e) cs) ≡ false → r ≡ false → some (i + 1) (sharesAt (blocksOf s d e) cs) ≡ false
     more-unshared h n = some-out (sharesAt (blocksOf s d e) cs) i r answered h n
 
--- with another committed one
-module _ (s : Shape) (d : Bytes) (e f : Committed) (i b : ℕ) (p : b ≡ getD (blocksOf s d e) i 0) (r : Bool) (q : r ≡ took s d b f) where
-  pub one-took : r ≡ true → i < e .count → true ≡ share (blocksOf s d e) (blocksOf s d f)
-  unfolding took
-  one-took h l = one-shared s d e (blocksOf s d f) i b p r q h l
-
-  pub more-untook : some i (sharesAt (blocksOf s d e) (blocksOf s d f)) ≡ false → r ≡ false → some (i + 1) (sharesAt (blocksOf s d e) (blocksOf s d f)) ≡ false
-  unfolding took
-  more-untook h n = more-unshared s d e (blocksOf s d f) i b p r q h n
-
 -- block b among those that a transaction took: the first ones of its array, as many as they are
 first-taken : (n : ℕ) (l : List ℕ) (count : ℕ) → count ≡ length (take n l) → take count l ≡ take n l
 first-taken n l count e =
@@ -244,20 +234,6 @@ module _ (t : Transaction) (b : ℕ) where
     not-taken q l = sym (any-all (eqb b) (taken t) i (rw (first-taken (t .count) (t .blocks) count e) at q) (omega arith))
 
 -- ---- those of lower stamp
-module _ (s : Shape) (d : Bytes) (e : Committed) (slots : List ℕ) (i : ℕ) (f : Found) (q : f ≡ foundAt s d [] slots i) where
-  pub empty-lower : f ≡ Miss → false ≡ lowerSlot s d e slots i
-  unfolding lowerSlot lowerFound
-  empty-lower h = rw (← q, h)
-
-  module _ (y : Committed) (h : f ≡ Whole y) where
-    pub later-slot : e .stamp ≤ y .stamp → false ≡ lowerSlot s d e slots i
-    unfolding lowerSlot lowerFound
-    later-slot l = rw (← q, h, le-ltb (y .stamp) (e .stamp) l)
-
-    pub earlier-slot : y .stamp < e .stamp → (r : Bool) → r ≡ share (blocksOf s d e) (blocksOf s d y) → r ≡ lowerSlot s d e slots i
-    unfolding lowerSlot lowerFound
-    earlier-slot l r z = z ∙ rw (← q, h, lt-ltb (y .stamp) (e .stamp) l)
-
 module _ (s : Shape) (d : Bytes) (e : Committed) (t : Transaction) where
   pub closed-none : not (t .live) ≡ true → false ≡ lowerClosed s d e t
   unfolding lowerClosed
@@ -317,6 +293,9 @@ home-put s d e i b p image q r h = h ∙ rw (p, q)
 module _ (x : Card) (s : Shape) (q : s ≡ shapeOf x) where
   pub read-shape : (d : Bytes) (e : Committed) → IsRead (shapeOf x) d e → IsRead s d e
   read-shape d e r = subst (λ (s : Shape). IsRead s d e) (sym q) r
+
+  pub read-sized : (d : Bytes) (e : Committed) → IsRead (shapeOf x) d e → Sized s e
+  read-sized d e r = let z = read-shape d e r in record { core = z .core; few = z .known .few; short = z .known .short }
 
 module _ (x : Card) (c : ℕ) (k : Core) (p : k ≡ coreOf x c) (e : Committed) where
   home-next : k .homed < e .count → (coreOf x c) .homed < e .count

@@ -2,7 +2,7 @@
 use Prim.Native.Nat.{ℕ, _+_, _-_, _%_, _<_, min}
 use mathlib.Core.Path.{_≡_}
 use mathlib.Core.List.{List, [], _∷_, map}
-use mathlib.Core.Bool.{Bool, false, cond, not, _&&_}
+use mathlib.Core.Bool.{Bool, cond, not, _&&_}
 use lib.ListN.{getD}
 use lib.Dec.{ltb, eqb}
 use Rattle.model.specs.Lists.{below}
@@ -23,7 +23,6 @@ use Rattle.model.specs.declared.Committed.{Committed}
 use Rattle.model.specs.declared.Found.{Found}
 use Rattle.model.specs.declared.Found.the-variants.{Whole, Miss}
 use Rattle.model.proofs.Journal.{Known}
-use Rattle.journal.specs.Slots.{foundAt}
 use Rattle.state.specs.Answer.{world}
 
 -- ---- retired
@@ -62,17 +61,9 @@ pub record IsRead (s : Shape) (d : Bytes) (e : Committed) : Type 0 where
   pub core : e .core < s .cores
   pub known : Known s d (e .core) (e .number) e
 
--- ---- those of lower stamp that share a block with e
-unfoldable pub lowerFound : Shape → Bytes → Committed → Found → Bool
-lowerFound s d e Miss = false
-lowerFound s d e (Whole f) = ltb (f .stamp) (e .stamp) && share (blocksOf s d e) (blocksOf s d f)
-
+-- ---- those closed, of lower stamp, that share a block with e
 unfoldable pub lowerClosed : Shape → Bytes → Committed → Transaction → Bool
 lowerClosed s d e t = t .live && ltb (t .stamp) (e .stamp) && share (blocksOf s d e) (taken t)
-
--- the transaction in slot i is one
-unfoldable pub lowerSlot : Shape → Bytes → Committed → List ℕ → ℕ → Bool
-lowerSlot s d e set i = lowerFound s d e (foundAt s d [] set i)
 
 -- the closed transaction of core i is one
 unfoldable pub closedLower : List Core → Shape → Bytes → Committed → ℕ → Bool

@@ -15,10 +15,9 @@ ghost use Rattle.model.specs.Command.{refusal};
 ghost use Rattle.model.specs.declared.Found.the-variants.{Whole};
 ghost use Rattle.model.proofs.Limits.{InRange};
 ghost use Rattle.layout.specs.Loops.{some};
-ghost use Rattle.journal.specs.Slots.{Sized};
 ghost use Rattle.journal.specs.Walk.{Reads};
 ghost use Rattle.state.specs.Answer.{world, outcomeOf};
-ghost use Rattle.recovery.specs.Oldest.{freed, movedTail, retiredCore, homedCore, counts, oldestAt, IsRead, lowerSlot, lowerClosed, closedLower, TellsValid, oldestConditions, nextStore, oldestOutcome};
+ghost use Rattle.recovery.specs.Oldest.{freed, movedTail, retiredCore, homedCore, counts, oldestAt, IsRead, lowerClosed, closedLower, TellsValid, oldestConditions, nextStore, oldestOutcome};
 use crate::home::store_home;
 use model::Card;
 use model::Committed;
@@ -215,52 +214,6 @@ fn block_at(s: Shape, disk: &[u8], e: Committed, i: usize) -> u8
     layout::held_block(block, i) as u8
 }
 
-// Whether a transaction took a block that another committed one took.
-fn shares_committed(s: Shape, disk: &[u8], e: Committed, f: Committed) -> bool
-    requires { ⌜ InRange s × (length (now disk) ≡ 32896) × IsRead s (now disk) e × Sized s f ⌝ }
-    ensures { λ r. ⌜ r ≡ share (blocksOf s (now (disk .entry)) e) (blocksOf s (now (disk .entry)) f) ⌝ }
-{
-    let n = e.count as usize;
-    let mut i: usize = 0;
-    while i < n {
-        let b = block_at(s, disk, e, i);
-        if journal::took_block(s, disk, f, b as u32) {
-            return true;
-        }
-        i += 1;
-    }
-    false
-}
-
-// Whether the transaction in slot i has a lower stamp and shares a block.
-fn lower_slot(s: Shape, disk: &[u8], slots: &[u16; 96], e: Committed, i: usize) -> bool
-    requires { ⌜ InRange s × (length (now disk) ≡ 32896) × IsRead s (now disk) e × (i < 96) ⌝ }
-    ensures { λ r. ⌜ r ≡ lowerSlot s (now (disk .entry)) e (now (slots .entry)) i ⌝ }
-{
-    let Found::Whole(f) = journal::entry_at(s, disk, slots, i) else {
-        return false;
-    };
-    if e.stamp <= f.stamp {
-        return false;
-    }
-    shares_committed(s, disk, e, f)
-}
-
-// Whether any committed one does.
-fn lower_committed(s: Shape, disk: &[u8], slots: &[u16; 96], e: Committed) -> bool
-    requires { ⌜ InRange s × (length (now disk) ≡ 32896) × IsRead s (now disk) e ⌝ }
-    ensures { λ r. ⌜ r ≡ some 96 (lowerSlot s (now (disk .entry)) e (now (slots .entry))) ⌝ }
-{
-    let mut i: usize = 0;
-    while i < 96 {
-        if lower_slot(s, disk, slots, e, i) {
-            return true;
-        }
-        i += 1;
-    }
-    false
-}
-
 // Whether a transaction took block b.
 fn takes_block(t: Transaction, b: u8) -> bool
     ensures { λ r. ⌜ r ≡ any (eqb b) (taken t) ⌝ }
@@ -413,7 +366,7 @@ fn shares_lower(card: Card, e: Committed, disk: &[u8], slots: [u16; 96]) -> bool
     ensures { λ r. ⌜ ((m : Bytes) → r ≡ sharesLower (world card (now (disk .entry)) m) e) ⌝ }
 {
     let s = shape_of(card);
-    if lower_committed(s, disk, &slots, e) {
+    if journal::shares_lower(s, disk, &slots, e) {
         return true;
     }
     any_closed(card, s, disk, e)
