@@ -7,14 +7,14 @@ use mathlib.Core.Bool.{Bool, true, false, cond, not}
 use mathlib.Core.List.{List, _++_, map}
 use lib.ListN.{length, getD, set, take, drop, length-take, List·getD-map}
 use lib.Dec.{eqb}
-use lib.Seq.{take-all}
+use lib.Seq.{take-all, getD-take}
 use borrow.Author.Tests.{not-true, not-false, lt-ltb, le-ltb, eq-eqb, ne-eqb}
 use Rattle.model.specs.Lists.{below, any}
 use Rattle.model.specs.Bytes.{Bytes, blockAt, store}
 use Rattle.model.specs.Shape.{clamped, homeBlock, journalBlock}
 use Rattle.model.specs.Card.{newTail, newName, sameName, noHolder, taken, freshCore, shapeOf, tailOf, coreOf, committedCount, withCore}
 use Rattle.model.specs.Layout.{masterBlock, Held, newHeld, pairAt, pairsIn, heldIn, unescaped}
-use Rattle.model.specs.Journal.{journalAt, recordAt, heldBy, blocksOf, imageOf}
+use Rattle.model.specs.Journal.{journal, journalAt, recordAt, heldBy, blocksOf, imageOf}
 use Rattle.model.specs.Checkpoint.{share, released, retiredCard, storedHome, storedMaster}
 use Rattle.model.specs.declared.Shape.{Shape}
 use Rattle.model.specs.declared.Tail.{Tail}
@@ -33,12 +33,12 @@ use Rattle.model.proofs.Journal.{journal-low}
 use Rattle.model.proofs.Records.{length-blocksOf, known-below}
 use Rattle.layout.specs.Loops.{some}
 use Rattle.layout.proofs.Blocks.{block-lent}
-use Rattle.layout.proofs.Loops.{Filled, filled-more, filled-all, some-none, some-no, some-in, some-out}
-use Rattle.journal.specs.Slots.{Sized}
+use Rattle.layout.proofs.Loops.{Filled, filled-more, some-none, some-no, some-in, some-out}
+use Rattle.journal.specs.Slots.{tailIn, Sized}
 use Rattle.journal.specs.Walk.{Reads}
 use Rattle.state.specs.Answer.{world, outcomeOf}
 use Rattle.state.specs.declared.Answer.{Answer}
-use Rattle.recovery.specs.Oldest.{freed, movedTail, retiredCore, homedCore, countAt, counts, oldestAt, IsRead, lowerClosed, closedLower, nextStore}
+use Rattle.recovery.specs.Oldest.{freed, movedTail, retiredCore, homedCore, countAt, counts, Counts, oldestAt, IsRead, lowerClosed, closedLower, nextStore}
 use Rattle.state.proofs.Parts.{element-in, tail-in, any-hit, any-more, any-all}
 
 -- the shape as it is read is within its limits
@@ -112,30 +112,38 @@ countIn ks ts i =
 
 pub count-made : (ks : List Core) (ts : List Tail) (i : ℕ) (k : Core) (t : Tail) (out : List ℕ) (r : ℕ) → Filled (countIn ks ts) 8 out i
     → r ≡ min ((getD ks i k) .next - (getD ts i t) .number - cond ((getD ks i k) .closed .live) 1 0) 12
-    → length ks ≡ 8 → length ts ≡ 8 → i < 8 → Filled (countIn ks ts) 8 (set out i r) (i + 1)
+    → length ks ≡ 8 → length ts ≡ 8 → (n : ℕ) → i < n → n ≤ 8 → Filled (countIn ks ts) 8 (set out i r) (i + 1)
 unfolding countIn
-count-made ks ts i k t out r w e m n h =
-    filled-more (countIn ks ts) 8 out i r w (e ∙ rw (element-in ks 8 m i k (freshCore 0) h, element-in ts 8 n i t (newTail 0 0) h)) h
+count-made ks ts i k t out r w e m o n l z =
+    let h : i < 8 = omega arith in
+    filled-more (countIn ks ts) 8 out i r w (e ∙ rw (element-in ks 8 m i k (freshCore 0) h, element-in ts 8 o i t (newTail 0 0) h)) h
 
-pub all-counts : (x : Card) (out : List ℕ) (i : ℕ) → Filled (countIn (x .cores) (x .tails)) 8 out i → 8 ≤ i → out ≡ counts x
-unfolding counts countIn countAt committedCount coreOf tailOf
-all-counts x out i w h = filled-all (countIn (x .cores) (x .tails)) 8 out i w h
+pub all-counts : (x : Card) (s : Shape) → s ≡ shapeOf x → (n : ℕ) → n ≡ s .cores → (out : List ℕ) (i : ℕ) → Filled (countIn (x .cores) (x .tails)) 8 out i → n ≤ i → Counts x out
+unfolding Counts countIn countAt committedCount coreOf tailOf
+all-counts x s p n q out i w h c l =
+    let g : c < s .cores = rw (← p) at l in
+    let k : c < i = omega arith in
+    sym (getD-take i out c 0 k) ∙ ap (λ (xs : List ℕ). getD xs c 0) (w .same) ∙ getD-map-below (countIn (x .cores) (x .tails)) i c 0 k
 
 pub count-in : (x : Card) (c : ℕ) → c < 8 → getD (counts x) c 0 ≡ countAt x c
 unfolding counts
 count-in x c h = getD-map-below (countAt x) 8 c 0 h
 
 -- ---- read
-pub reads-card : (x : Card) (d : Bytes) (s : Shape) (most slots : List ℕ) → s ≡ shapeOf x → most ≡ counts x → Reads s d (x .tails) most slots
+pub reads-card : (x : Card) (d : Bytes) (s : Shape) (most slots : List ℕ) → s ≡ shapeOf x → Counts x most → Reads s d (x .tails) most slots
     → Reads (shapeOf x) d (x .tails) (counts x) slots
-reads-card x d s most slots p q r = rw (← p, ← q) r
+unfolding Reads Counts
+reads-card x d s most slots p q r c h =
+    let e : getD most c 0 ≡ getD (counts x) c 0 = q c h ∙ sym (count-in x c (core-low x c h)) in
+    (rw p at r) c h ∙ ap (λ (n : ℕ). journal (shapeOf x) d c (tailIn (x .tails) c) n) e
 
 pub core-below : (x : Card) (s : Shape) (c : ℕ) → s ≡ shapeOf x → c < (shapeOf x) .cores → c < s .cores
 core-below x s c e h = rw e h
 
-module _ (x : Card) (d : Bytes) (c : ℕ) (most : List ℕ) (e : most ≡ counts x) (h : c < (shapeOf x) .cores) where
+module _ (x : Card) (d : Bytes) (c : ℕ) (most : List ℕ) (e : Counts x most) (h : c < (shapeOf x) .cores) where
   count-at : countAt x c ≡ getD most c 0
-  count-at = sym (rw e (count-in x c (core-low x c h)))
+  unfolding Counts
+  count-at = sym (e c h)
 
   pub none-counted : getD most c 0 ≡ 0 → Miss ≡ oldestAt x d c
   unfolding oldestAt
@@ -302,10 +310,10 @@ module _ (x : Card) (c : ℕ) (k : Core) (p : k ≡ coreOf x c) (e : Committed) 
   home-next h = rw p at h
 
   pub home-stored : (s : Shape) → s ≡ shapeOf x → (d d₂ : Bytes) → d₂ ≡ store d (homeBlock (getD (blocksOf s d e) (k .homed) 0)) (imageOf s d e (k .homed))
-      → (next : Core) → next ≡ homedCore k → (y : Card) → y ≡ withCore x c next
-      → (m : Bytes) → record { answer = 0; world = world y d₂ m; stores = 1 } ≡ storedHome c e (world x d m)
+      → (next : Core) → next ≡ homedCore k
+      → (m : Bytes) → record { answer = 0; world = world (withCore x c next) d₂ m; stores = 1 } ≡ storedHome c e (world x d m)
   unfolding storedHome homedCore
-  home-stored s q d d₂ r next z y u m = rw (r, u, z, p, q)
+  home-stored s q d d₂ r next z m = rw (r, z, p, q)
 
   module _ (d d₂ : Bytes) (r : Answer) where
     pub next-home : k .homed < e .count → ((m : Bytes) → outcomeOf r d₂ m ≡ storedHome c e (world x d m)) → (m : Bytes) → outcomeOf r d₂ m ≡ nextStore c e (world x d m)

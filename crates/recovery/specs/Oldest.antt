@@ -51,6 +51,10 @@ countAt x c = min (committedCount x c) 12
 unfoldable pub counts : Card → List ℕ
 counts x = map (countAt x) (below 8)
 
+-- an array of the counts; those of cores that the disk has not do not matter
+unfoldable pub Counts : Card → List ℕ → Type 0
+Counts x most = (c : ℕ) → c < (shapeOf x) .cores → getD most c 0 ≡ countAt x c
+
 -- core c's oldest transaction, if the card counts one
 unfoldable pub oldestAt : Card → Bytes → ℕ → Found
 oldestAt x d c =

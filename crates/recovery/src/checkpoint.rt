@@ -17,7 +17,7 @@ ghost use Rattle.model.proofs.Limits.{InRange};
 ghost use Rattle.layout.specs.Loops.{some};
 ghost use Rattle.journal.specs.Walk.{Reads};
 ghost use Rattle.state.specs.Answer.{world, outcomeOf};
-ghost use Rattle.recovery.specs.Oldest.{freed, movedTail, retiredCore, homedCore, counts, oldestAt, IsRead, lowerClosed, closedLower, TellsValid, oldestConditions, nextStore, oldestOutcome};
+ghost use Rattle.recovery.specs.Oldest.{freed, movedTail, retiredCore, homedCore, counts, Counts, oldestAt, IsRead, lowerClosed, closedLower, TellsValid, oldestConditions, nextStore, oldestOutcome};
 use crate::home::store_home;
 use model::Card;
 use model::Committed;
@@ -34,7 +34,6 @@ use state::entry_refusal;
 use state::same_name;
 use state::shape_of;
 use state::store_master;
-use state::with_core;
 
 // A block's holder after the transaction of this name is retired.
 fn freed(h: Holder, n: Name) -> Holder
@@ -163,15 +162,17 @@ fn counted(k: Core, t: Tail) -> u8
     at_most_12(n)
 }
 
-// The counts of all cores.
+// The counts of the cores that the disk has. Up to eight, the compiler would unroll the loop and take the card apart.
 fn counts(card: Card) -> [u8; 8]
-    ensures { λ r. ⌜ r ≡ counts card ⌝ }
+    ensures { λ r. ⌜ Counts card r ⌝ }
 {
+    let s = shape_of(card);
+    let n = s.cores as usize;
     let cores = card.cores;
     let tails = card.tails;
     let mut most = [0u8; 8];
     let mut i: usize = 0;
-    while i < 8 {
+    while i < n {
         let k = cores[i];
         let t = tails[i];
         most[i] = counted(k, t);
@@ -182,7 +183,7 @@ fn counts(card: Card) -> [u8; 8]
 
 // All committed transactions, as slots.
 fn committed_slots(card: Card, most: [u8; 8], disk: &[u8]) -> [u16; 96]
-    requires { ⌜ (length (now disk) ≡ 32896) × (most ≡ counts card) ⌝ }
+    requires { ⌜ (length (now disk) ≡ 32896) × Counts card most ⌝ }
     ensures { λ r. ⌜ Reads (shapeOf card) (now (disk .entry)) (card .tails) (counts card) r ⌝ }
 {
     let s = shape_of(card);
@@ -192,7 +193,7 @@ fn committed_slots(card: Card, most: [u8; 8], disk: &[u8]) -> [u16; 96]
 
 // Core c's oldest committed transaction.
 fn oldest_of(card: Card, c: u8, most: [u8; 8], disk: &[u8]) -> Found
-    requires { ⌜ (length (now disk) ≡ 32896) × (c < (shapeOf card) .cores) × (most ≡ counts card) ⌝ }
+    requires { ⌜ (length (now disk) ≡ 32896) × (c < (shapeOf card) .cores) × Counts card most ⌝ }
     ensures { λ r. ⌜ r ≡ oldestAt card (now (disk .entry)) c ⌝ }
 {
     let i = c as usize;
@@ -314,13 +315,15 @@ fn homed_core(k: Core, e: Committed) -> Core
 
 // A home store: the image of the next block of the transaction.
 fn stored_home(card: Card, c: u8, k: Core, e: Committed, disk: &mut [u8]) -> Answer
-    requires { ⌜ (length (now disk) ≡ 32896) × IsRead (shapeOf card) (now disk) e × (k ≡ coreOf card c) × (k .homed < e .count) ⌝ }
+    requires { ⌜ (length (now disk) ≡ 32896) × IsRead (shapeOf card) (now disk) e × (c < 8) × (k ≡ coreOf card c) × (k .homed < e .count) ⌝ }
     ensures { λ r. ⌜ ((m : Bytes) → outcomeOf r (now (disk .exit)) m ≡ storedHome c e (world card (now (disk .entry)) m)) ⌝ }
 {
     let s = shape_of(card);
     put_home(s, e, k.homed as usize, disk);
     let next = homed_core(k, e);
-    let after = with_core(card, c, next);
+    let i = c as usize;
+    let mut after = card;
+    after.cores[i] = next;
     Answer {
         number: 0,
         stores: 1,
@@ -374,7 +377,7 @@ fn shares_lower(card: Card, e: Committed, disk: &[u8], slots: [u16; 96]) -> bool
 
 // 32, the oldest is not in the valid set; 33, one of lower stamp shares a block.
 fn oldest_refusal(card: Card, c: u8, most: [u8; 8], e: Committed, disk: &[u8]) -> u8
-    requires { ⌜ (length (now disk) ≡ 32896) × (c < (shapeOf card) .cores) × (most ≡ counts card) × (oldestAt card (now disk) c ≡ Whole e) ⌝ }
+    requires { ⌜ (length (now disk) ≡ 32896) × (c < (shapeOf card) .cores) × Counts card most × (oldestAt card (now disk) c ≡ Whole e) ⌝ }
     ensures { λ r. ⌜ ((m : Bytes) → r ≡ refusal (oldestConditions e (world card (now (disk .entry)) m))) ⌝ }
 {
     let slots = committed_slots(card, most, disk);
@@ -389,7 +392,7 @@ fn oldest_refusal(card: Card, c: u8, most: [u8; 8], e: Committed, disk: &[u8]) -
 
 // The checkpoint of core c's oldest transaction: refused, or its next store.
 fn checkpoint_oldest(card: Card, c: u8, most: [u8; 8], e: Committed, disk: &mut [u8]) -> Answer
-    requires { ⌜ (length (now disk) ≡ 32896) × (c < (shapeOf card) .cores) × (most ≡ counts card) × (oldestAt card (now disk) c ≡ Whole e) ⌝ }
+    requires { ⌜ (length (now disk) ≡ 32896) × (c < (shapeOf card) .cores) × Counts card most × (oldestAt card (now disk) c ≡ Whole e) ⌝ }
     ensures { λ r. ⌜ ((m : Bytes) → outcomeOf r (now (disk .exit)) m ≡ oldestOutcome c e (world card (now (disk .entry)) m)) ⌝ }
 {
     let n = oldest_refusal(card, c, most, e, disk);

@@ -1,22 +1,28 @@
 -- `recovery::checkpoint::counts` meets its contract. Invariant: the first i counts are made.
 use borrow.Author.Needs.{needs}
-use Prim.Native.Nat.{_-_}
+use Prim.Native.Nat.{_-_, _≤_}
 use mathlib.Core.Path.{_≡_}
 use lib.ListN.{length}
 use Rattle.layout.proofs.Loops.{Filled, filled-none}
 use Rattle.state.proofs.Parts.{facts}
-use Rattle.recovery.proofs.CheckpointLaws.{countIn, count-made, all-counts}
+use Rattle.recovery.proofs.CheckpointLaws.{shape-range, countIn, count-made, all-counts, eight-cores}
 use Rattle.recovery.proofs.checkpoint.counts.Statement.{statement}
 use Rattle.recovery.proofs.checkpoint.counts.Tie as tie
 
 abbrev Inv-loop : tie.InvT-loop
-Inv-loop cores tails most₀ i₀ most i = (length cores ≡ 8) × (length tails ≡ 8) × Filled (countIn cores tails) 8 most i
+Inv-loop n cores tails most₀ i₀ most i = (n ≤ 8) × (length cores ≡ 8) × (length tails ≡ 8) × Filled (countIn cores tails) 8 most i
 
 abbrev μ-loop : tie.MeasureT-loop
-μ-loop cores tails most₀ i₀ most i = 8 - i
+μ-loop n cores tails most₀ i₀ most i = n - i
+
+shape-of-requires : tie.Need-shape-of-requires Inv-loop μ-loop
+shape-of-requires c κs = search needs
+
+cast-n : tie.Need-cast-n Inv-loop μ-loop
+cast-n c = search needs
 
 loop-holds : tie.Need-loop-holds Inv-loop μ-loop
-loop-holds c = (search facts, search facts, filled-none _ _ _ (search needs))
+loop-holds c = (search (needs, eight-cores, shape-range), search facts, search facts, filled-none _ _ _ (search needs))
 
 mul-k : tie.Need-mul-k Inv-loop μ-loop
 mul-k c = search needs
@@ -43,7 +49,7 @@ loop-less : tie.Need-loop-less Inv-loop μ-loop
 loop-less c = search needs
 
 loop-again : tie.Need-loop-again Inv-loop μ-loop
-loop-again c = (search facts, search facts, search (facts, count-made))
+loop-again c = (search needs, search facts, search facts, search (facts, count-made))
 
 returns : tie.Need-returns Inv-loop μ-loop
 returns c = search (facts, all-counts)
@@ -54,6 +60,8 @@ counts-spec =
     (tie.spec
     Inv-loop
     μ-loop
+    shape-of-requires
+    cast-n
     loop-holds
     mul-k
     array-copy-out-k

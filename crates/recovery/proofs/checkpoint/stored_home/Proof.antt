@@ -17,8 +17,11 @@ put-home-requires c κs = search (needs, shape-range, read-shape)
 homed-core-requires : tie.Need-homed-core-requires
 homed-core-requires c κs = search (needs)
 
-with-core-requires : tie.Need-with-core-requires
-with-core-requires c κs = search needs
+mul-next : tie.Need-mul-next
+mul-next c = search needs
+
+element-set-from-next : tie.Need-element-set-from-next
+element-set-from-next c = search needs
 
 same-length : tie.Need-same-length
 same-length c = search needs
@@ -34,6 +37,7 @@ stored-home-spec =
     cast-put-home
     put-home-requires
     homed-core-requires
-    with-core-requires
+    mul-next
+    element-set-from-next
     same-length
     returns)
