@@ -1,18 +1,20 @@
 -- CHECKPOINT: a transaction retired, the journals read, and what refuses it.
 use Prim.Native.Nat.{ℕ, _+_, _*_, _-_, _%_, _≤_, _<_, min}
 use native.Mathlib.Omega.{arith}
+use native.Mathlib.Decide.{decLt}
 use mathlib.Core.Path.{_≡_, refl, sym, ap, _∙_, subst}
 use mathlib.Core.Bool.{Bool, true, false, cond, not}
-use mathlib.Core.List.{List, [], _++_, map}
+use mathlib.Core.List.{List, _++_, map}
 use lib.ListN.{length, getD, set, take, drop, length-take, List·getD-map}
 use lib.Dec.{eqb}
+use lib.Seq.{take-all, getD-take}
 use borrow.Author.Tests.{not-true, not-false, lt-ltb, le-ltb, eq-eqb, ne-eqb}
 use Rattle.model.specs.Lists.{below, any}
 use Rattle.model.specs.Bytes.{Bytes, blockAt, store}
 use Rattle.model.specs.Shape.{clamped, homeBlock, journalBlock}
-use Rattle.model.specs.Card.{newTail, newName, sameName, noHolder, taken, shapeOf, tailOf, coreOf, committedCount, withCore}
+use Rattle.model.specs.Card.{newTail, newName, sameName, noHolder, taken, freshCore, shapeOf, tailOf, coreOf, committedCount, withCore}
 use Rattle.model.specs.Layout.{masterBlock, Held, newHeld, pairAt, pairsIn, heldIn, unescaped}
-use Rattle.model.specs.Journal.{journalAt, recordAt, heldBy, blocksOf, took, imageOf}
+use Rattle.model.specs.Journal.{journal, journalAt, recordAt, heldBy, blocksOf, imageOf}
 use Rattle.model.specs.Checkpoint.{share, released, retiredCard, storedHome, storedMaster}
 use Rattle.model.specs.declared.Shape.{Shape}
 use Rattle.model.specs.declared.Tail.{Tail}
@@ -23,7 +25,7 @@ use Rattle.model.specs.declared.Holder.{Holder}
 use Rattle.model.specs.declared.Card.{Card}
 use Rattle.model.specs.declared.Committed.{Committed}
 use Rattle.model.specs.declared.Found.{Found}
-use Rattle.model.specs.declared.Found.the-variants.{Whole, Miss}
+use Rattle.model.specs.declared.Found.the-variants.{Miss}
 use Rattle.model.proofs.Lists.{cases, any-mem, mem-any, getD-mem, mem-getD, mem-below, below-mem, getD-map-below}
 use Rattle.model.proofs.OneStore.{shape-limits}
 use Rattle.model.proofs.Limits.{InRange, clamped-same}
@@ -31,17 +33,20 @@ use Rattle.model.proofs.Journal.{journal-low}
 use Rattle.model.proofs.Records.{length-blocksOf, known-below}
 use Rattle.layout.specs.Loops.{some}
 use Rattle.layout.proofs.Blocks.{block-lent}
-use Rattle.layout.proofs.Loops.{Filled, filled-all, some-none, some-no, some-in, some-out}
-use Rattle.journal.specs.Slots.{foundAt}
+use Rattle.layout.proofs.Loops.{Filled, filled-more, some-none, some-no, some-in, some-out}
+use Rattle.journal.specs.Slots.{tailIn, Sized}
 use Rattle.journal.specs.Walk.{Reads}
 use Rattle.state.specs.Answer.{world, outcomeOf}
 use Rattle.state.specs.declared.Answer.{Answer}
-use Rattle.recovery.specs.Oldest.{freed, movedTail, retiredCore, homedCore, countAt, counts, oldestAt, IsRead, lowerFound, lowerSlot, lowerClosed, closedLower, nextStore}
-use Rattle.state.proofs.Parts.{any-none, any-hit, any-more, any-all}
+use Rattle.recovery.specs.Oldest.{freed, movedTail, retiredCore, homedCore, countAt, counts, Counts, oldestAt, IsRead, lowerClosed, closedLower, nextStore}
+use Rattle.state.proofs.Parts.{element-in, tail-in, any-hit, any-more, any-all}
 
 -- the shape as it is read is within its limits
 pub shape-range : (x : Card) (s : Shape) → s ≡ shapeOf x → InRange s
 shape-range x s e = subst InRange (sym e) (shape-limits x)
+
+pub core-low : (x : Card) (c : ℕ) → c < (shapeOf x) .cores → c < 8
+core-low x c h = omega (arith, shape-limits x .few-cores)
 
 -- ---- retired
 module _ (h : Holder) (n : Name) where
@@ -99,32 +104,55 @@ module _ (k : Core) (t : Tail) (r : ℕ) where
   pub count-open : r ≡ min (k .next - t .number) 12 → k .closed .live ≡ false → r ≡ min (k .next - t .number - cond (k .closed .live) 1 0) 12
   count-open e h = let z : _≡_ {A = ℕ} (cond (k .closed .live) 1 0) 0 = rw h in omega arith
 
-pub count-is : (x : Card) (c : ℕ) (k : Core) → k ≡ coreOf x c → (t : Tail) → t ≡ tailOf x c → (r : ℕ)
-    → r ≡ min (k .next - t .number - cond (k .closed .live) 1 0) 12 → r ≡ countAt x c
-unfolding countAt committedCount
-count-is x c k p t q r e = e ∙ rw (p, q)
+-- core i's count out of the arrays
+unfoldable pub countIn : List Core → List Tail → ℕ → ℕ
+countIn ks ts i =
+    let k = getD ks i (freshCore 0) in
+    min (k .next - (getD ts i (newTail 0 0)) .number - cond (k .closed .live) 1 0) 12
 
-pub all-counts : (x : Card) (out : List ℕ) (i : ℕ) → Filled (countAt x) 8 out i → 8 ≤ i → out ≡ counts x
+pub count-made : (ks : List Core) (ts : List Tail) (i : ℕ) (k : Core) (t : Tail) (out : List ℕ) (r : ℕ) → Filled (countIn ks ts) 8 out i
+    → r ≡ min ((getD ks i k) .next - (getD ts i t) .number - cond ((getD ks i k) .closed .live) 1 0) 12
+    → length ks ≡ 8 → length ts ≡ 8 → (n : ℕ) → i < n → n ≤ 8 → Filled (countIn ks ts) 8 (set out i r) (i + 1)
+unfolding countIn
+count-made ks ts i k t out r w e m o n l z =
+    let h : i < 8 = omega arith in
+    filled-more (countIn ks ts) 8 out i r w (e ∙ rw (element-in ks 8 m i k (freshCore 0) h, element-in ts 8 o i t (newTail 0 0) h)) h
+
+pub all-counts : (x : Card) (s : Shape) → s ≡ shapeOf x → (n : ℕ) → n ≡ s .cores → (out : List ℕ) (i : ℕ) → Filled (countIn (x .cores) (x .tails)) 8 out i → n ≤ i → Counts x out
+unfolding Counts countIn countAt committedCount coreOf tailOf
+all-counts x s p n q out i w h c l =
+    let g : c < s .cores = rw (← p) at l in
+    let k : c < i = omega arith in
+    sym (getD-take i out c 0 k) ∙ ap (λ (xs : List ℕ). getD xs c 0) (w .same) ∙ getD-map-below (countIn (x .cores) (x .tails)) i c 0 k
+
+pub count-in : (x : Card) (c : ℕ) → c < 8 → getD (counts x) c 0 ≡ countAt x c
 unfolding counts
-all-counts x out i w h = filled-all (countAt x) 8 out i w h
+count-in x c h = getD-map-below (countAt x) 8 c 0 h
 
 -- ---- read
-pub reads-card : (x : Card) (d : Bytes) (s : Shape) (most slots : List ℕ) → s ≡ shapeOf x → most ≡ counts x → Reads s d (x .tails) most slots
+pub reads-card : (x : Card) (d : Bytes) (s : Shape) (most slots : List ℕ) → s ≡ shapeOf x → Counts x most → Reads s d (x .tails) most slots
     → Reads (shapeOf x) d (x .tails) (counts x) slots
-reads-card x d s most slots p q r = rw (← p, ← q) r
+unfolding Reads Counts
+reads-card x d s most slots p q r c h =
+    let e : getD most c 0 ≡ getD (counts x) c 0 = q c h ∙ sym (count-in x c (core-low x c h)) in
+    (rw p at r) c h ∙ ap (λ (n : ℕ). journal (shapeOf x) d c (tailIn (x .tails) c) n) e
 
 pub core-below : (x : Card) (s : Shape) (c : ℕ) → s ≡ shapeOf x → c < (shapeOf x) .cores → c < s .cores
 core-below x s c e h = rw e h
 
-module _ (x : Card) (d : Bytes) (c r : ℕ) (e : r ≡ countAt x c) where
-  pub none-counted : r ≡ 0 → Miss ≡ oldestAt x d c
-  unfolding oldestAt
-  none-counted h = rw (← e, h)
+module _ (x : Card) (d : Bytes) (c : ℕ) (most : List ℕ) (e : Counts x most) (h : c < (shapeOf x) .cores) where
+  count-at : countAt x c ≡ getD most c 0
+  unfolding Counts
+  count-at = sym (e c h)
 
-  pub oldest-read : (r ≡ 0 → ⊥) → (s : Shape) → s ≡ shapeOf x → (t : Tail) → t ≡ tailOf x c → (f : Found) → f ≡ recordAt s d c (t .number) (t .position) (s .journal)
-      → f ≡ oldestAt x d c
+  pub none-counted : getD most c 0 ≡ 0 → Miss ≡ oldestAt x d c
   unfolding oldestAt
-  oldest-read h s p t q f z = z ∙ rw (← e, ne-eqb r 0 h, ← p, ← q)
+  none-counted n = rw (count-at, n)
+
+  pub oldest-read : (getD most c 0 ≡ 0 → ⊥) → (s : Shape) → s ≡ shapeOf x → (t : Tail) (f : Found)
+      → f ≡ recordAt s d c ((getD (x .tails) c t) .number) ((getD (x .tails) c t) .position) (s .journal) → length (x .tails) ≡ 8 → f ≡ oldestAt x d c
+  unfolding oldestAt
+  oldest-read n s p t f z size = z ∙ rw (p, tail-in x c size t (core-low x c h), count-at, ne-eqb (getD most c 0) 0 n)
 
 block-at : (f : Bytes) (n i : ℕ) → i < n → getD (map (λ (h : Held). h .block) (heldIn f n)) i 0 ≡ (pairAt newHeld f 16 i) .block
 unfolding heldIn pairsIn
@@ -185,52 +213,35 @@ module _ (s : Shape) (d : Bytes) (e : Committed) (cs : List ℕ) where
     pub more-unshared : some i (sharesAt (blocksOf s d e) cs) ≡ false → r ≡ false → some (i + 1) (sharesAt (blocksOf s d e) cs) ≡ false
     more-unshared h n = some-out (sharesAt (blocksOf s d e) cs) i r answered h n
 
--- with another committed one
-module _ (s : Shape) (d : Bytes) (e f : Committed) (i b : ℕ) (p : b ≡ getD (blocksOf s d e) i 0) (r : Bool) (q : r ≡ took s d b f) where
-  pub one-took : r ≡ true → i < e .count → true ≡ share (blocksOf s d e) (blocksOf s d f)
-  unfolding took
-  one-took h l = one-shared s d e (blocksOf s d f) i b p r q h l
+-- block b among those that a transaction took: the first ones of its array, as many as they are
+first-taken : (n : ℕ) (l : List ℕ) (count : ℕ) → count ≡ length (take n l) → take count l ≡ take n l
+first-taken n l count e =
+    let m : count ≡ min n (length l) = e ∙ length-take n l in
+    elim (decLt n (length l)) [
+      | yes h ↦ (let z : count ≡ n = omega arith in rw z)
+      | no h ↦ take-all count l (omega arith) ∙ sym (take-all n l (omega arith))
+    ]
 
-  pub more-untook : some i (sharesAt (blocksOf s d e) (blocksOf s d f)) ≡ false → r ≡ false → some (i + 1) (sharesAt (blocksOf s d e) (blocksOf s d f)) ≡ false
-  unfolding took
-  more-untook h n = more-unshared s d e (blocksOf s d f) i b p r q h n
+pub block-missed : (l : List ℕ) (b count i : ℕ) → any (eqb b) (take i (take count l)) ≡ false → length l ≡ 8 → count ≤ 8 → i < count → (getD l i 0 ≡ b → ⊥)
+    → any (eqb b) (take (i + 1) (take count l)) ≡ false
+block-missed l b count i q n m h z =
+    any-more (eqb b) l count i (let g : i < min count (length l) = omega arith in rw (length-take count l) g) 0 q (ne-eqb b (getD l i 0) (λ y. z (sym y)))
 
--- block b among those that a transaction took
 module _ (t : Transaction) (b : ℕ) where
-  pub few-taken : length (t .blocks) ≡ 8 → length (taken t) ≤ 8
+  pub few-taken : (count : ℕ) → length (t .blocks) ≡ 8 → count ≡ length (taken t) → count ≤ 8
   unfolding taken
-  few-taken n = simp length-take (omega arith)
+  few-taken count n e = let m = length-take (t .count) (t .blocks) in omega arith
 
-  pub none-taken : any (eqb b) (take 0 (taken t)) ≡ false
-  none-taken = any-none (eqb b) (taken t)
-
-  module _ (i count : ℕ) (e : count ≡ length (taken t)) (h : i < count) where
-    pub block-hit : getD (t .blocks) i 0 ≡ b → true ≡ any (eqb b) (taken t)
+  module _ (i count : ℕ) (e : count ≡ length (taken t)) where
+    pub block-hit : i < count → getD (t .blocks) i 0 ≡ b → true ≡ any (eqb b) (taken t)
     unfolding taken
-    block-hit q = sym (any-hit (eqb b) (t .blocks) (t .count) i (omega arith) 0 (eq-eqb b (getD (t .blocks) i 0) (sym q)))
+    block-hit h q = sym (any-hit (eqb b) (t .blocks) (t .count) i (omega arith) 0 (eq-eqb b (getD (t .blocks) i 0) (sym q)))
 
-    pub block-missed : any (eqb b) (take i (taken t)) ≡ false → (getD (t .blocks) i 0 ≡ b → ⊥) → any (eqb b) (take (i + 1) (taken t)) ≡ false
+    pub not-taken : any (eqb b) (take i (take count (t .blocks))) ≡ false → count ≤ i → false ≡ any (eqb b) (taken t)
     unfolding taken
-    block-missed q n = any-more (eqb b) (t .blocks) (t .count) i (omega arith) 0 q (ne-eqb b (getD (t .blocks) i 0) (λ z. n (sym z)))
-
-  pub not-taken : (i count : ℕ) → count ≡ length (taken t) → any (eqb b) (take i (taken t)) ≡ false → count ≤ i → false ≡ any (eqb b) (taken t)
-  not-taken i count e q h = sym (any-all (eqb b) (taken t) i q (omega arith))
+    not-taken q l = sym (any-all (eqb b) (taken t) i (rw (first-taken (t .count) (t .blocks) count e) at q) (omega arith))
 
 -- ---- those of lower stamp
-module _ (s : Shape) (d : Bytes) (e : Committed) (slots : List ℕ) (i : ℕ) (f : Found) (q : f ≡ foundAt s d [] slots i) where
-  pub empty-lower : f ≡ Miss → false ≡ lowerSlot s d e slots i
-  unfolding lowerSlot lowerFound
-  empty-lower h = rw (← q, h)
-
-  module _ (y : Committed) (h : f ≡ Whole y) where
-    pub later-slot : e .stamp ≤ y .stamp → false ≡ lowerSlot s d e slots i
-    unfolding lowerSlot lowerFound
-    later-slot l = rw (← q, h, le-ltb (y .stamp) (e .stamp) l)
-
-    pub earlier-slot : y .stamp < e .stamp → (r : Bool) → r ≡ share (blocksOf s d e) (blocksOf s d y) → r ≡ lowerSlot s d e slots i
-    unfolding lowerSlot lowerFound
-    earlier-slot l r z = z ∙ rw (← q, h, lt-ltb (y .stamp) (e .stamp) l)
-
 module _ (s : Shape) (d : Bytes) (e : Committed) (t : Transaction) where
   pub closed-none : not (t .live) ≡ true → false ≡ lowerClosed s d e t
   unfolding lowerClosed
@@ -245,19 +256,19 @@ module _ (s : Shape) (d : Bytes) (e : Committed) (t : Transaction) where
     unfolding lowerClosed
     closed-earlier l r z = z ∙ rw (not-false (t .live) h, lt-ltb (t .stamp) (e .stamp) l)
 
-pub closed-is : (x : Card) (i : ℕ) (k : Core) → k ≡ coreOf x i → k .closed ≡ (coreOf x i) .closed
-closed-is x i k e = rw e
+pub eight-cores : (s : Shape) (n : ℕ) → InRange s → n ≡ s .cores → n ≤ 8
+eight-cores s n l e = omega (arith, l .few-cores)
 
-pub is-lower : (x : Card) (s : Shape) (d : Bytes) (e : Committed) (i : ℕ) (t : Transaction) → t ≡ (coreOf x i) .closed → (r : Bool) → r ≡ lowerClosed s d e t → r ≡ closedLower x s d e i
-unfolding closedLower
-is-lower x s d e i t p r q = q ∙ rw p
+module _ (ks : List Core) (s : Shape) (d : Bytes) (e : Committed) (i : ℕ) (k : Core) (r : Bool) (q : r ≡ lowerClosed s d e ((getD ks i k) .closed)) (m : length ks ≡ 8) where
+  is-lower : i < 8 → r ≡ closedLower ks s d e i
+  unfolding closedLower
+  is-lower h = q ∙ rw (element-in ks 8 m i k (freshCore 0) h)
 
-module _ (x : Card) (s : Shape) (d : Bytes) (e : Committed) (i : ℕ) (t : Transaction) (p : t ≡ (coreOf x i) .closed) (r : Bool) (q : r ≡ lowerClosed s d e t) where
-  pub closed-hit : (n : ℕ) → r ≡ true → i < n → true ≡ some n (closedLower x s d e)
-  closed-hit n h l = some-in (closedLower x s d e) i r (is-lower x s d e i t p r q) n h l
+  pub closed-hit : (n : ℕ) → r ≡ true → i < n → n ≤ 8 → true ≡ some n (closedLower ks s d e)
+  closed-hit n h l z = some-in (closedLower ks s d e) i r (is-lower (omega arith)) n h l
 
-  pub closed-missed : some i (closedLower x s d e) ≡ false → r ≡ false → some (i + 1) (closedLower x s d e) ≡ false
-  closed-missed h n = some-out (closedLower x s d e) i r (is-lower x s d e i t p r q) h n
+  pub closed-missed : (n : ℕ) → some i (closedLower ks s d e) ≡ false → r ≡ false → i < n → n ≤ 8 → some (i + 1) (closedLower ks s d e) ≡ false
+  closed-missed n h q l z = some-out (closedLower ks s d e) i r (is-lower (omega arith)) h q
 
 -- ---- an image out of the journal
 module _ (s : Shape) (d : Bytes) (e : Committed) (r : IsRead s d e) (l : InRange s) (p k : ℕ) (z : k ≡ journalBlock (clamped s) (e .core) p) where
@@ -291,18 +302,18 @@ module _ (x : Card) (s : Shape) (q : s ≡ shapeOf x) where
   pub read-shape : (d : Bytes) (e : Committed) → IsRead (shapeOf x) d e → IsRead s d e
   read-shape d e r = subst (λ (s : Shape). IsRead s d e) (sym q) r
 
-module _ (x : Card) (c : ℕ) (k : Core) (p : k ≡ coreOf x c) (e : Committed) where
-  pub home-left : (coreOf x c) .homed < e .count → k .homed < e .count
-  home-left h = rw p h
+  pub read-sized : (d : Bytes) (e : Committed) → IsRead (shapeOf x) d e → Sized s e
+  read-sized d e r = let z = read-shape d e r in record { core = z .core; few = z .known .few; short = z .known .short }
 
-  pub home-next : k .homed < e .count → (coreOf x c) .homed < e .count
+module _ (x : Card) (c : ℕ) (k : Core) (p : k ≡ coreOf x c) (e : Committed) where
+  home-next : k .homed < e .count → (coreOf x c) .homed < e .count
   home-next h = rw p at h
 
   pub home-stored : (s : Shape) → s ≡ shapeOf x → (d d₂ : Bytes) → d₂ ≡ store d (homeBlock (getD (blocksOf s d e) (k .homed) 0)) (imageOf s d e (k .homed))
-      → (next : Core) → next ≡ homedCore k → (y : Card) → y ≡ withCore x c next
-      → (m : Bytes) → record { answer = 0; world = world y d₂ m; stores = 1 } ≡ storedHome c e (world x d m)
+      → (next : Core) → next ≡ homedCore k
+      → (m : Bytes) → record { answer = 0; world = world (withCore x c next) d₂ m; stores = 1 } ≡ storedHome c e (world x d m)
   unfolding storedHome homedCore
-  home-stored s q d d₂ r next z y u m = rw (r, u, z, p, q)
+  home-stored s q d d₂ r next z m = rw (r, z, p, q)
 
   module _ (d d₂ : Bytes) (r : Answer) where
     pub next-home : k .homed < e .count → ((m : Bytes) → outcomeOf r d₂ m ≡ storedHome c e (world x d m)) → (m : Bytes) → outcomeOf r d₂ m ≡ nextStore c e (world x d m)

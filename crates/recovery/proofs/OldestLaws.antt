@@ -3,43 +3,44 @@ use Prim.Native.Nat.{ℕ, zero, suc, _+_, _*_, _-_, _%_, _≤_, _<_, min}
 use native.Mathlib.Omega.{arith}
 use native.Mathlib.Nat.{add-zero}
 use native.Mathlib.Decide.{decLt}
-use mathlib.Core.Path.{_≡_, refl, sym, ap, _∙_, subst, fun-ext}
-use mathlib.Core.Bool.{Bool, true, false, cond, not, _&&_, _||_, or-false}
-use mathlib.Core.List.{List, [], _∷_, flatMap}
-use lib.ListN.{length, getD, List·getD-eq-default}
-use lib.Dec.{ltb, eqb}
-use borrow.Author.Tests.{not-true, not-false, lt-ltb, le-ltb, ne-eqb, eqb-true, eqb-false, leb-true, leb-false}
-use Rattle.model.specs.Lists.{below, any, all}
+use mathlib.Core.Path.{_≡_, refl, sym, ap, _∙_, subst}
+use mathlib.Core.Bool.{Bool, true, false, cond, not, _||_}
+use mathlib.Core.List.{List, [], _∷_}
+use lib.ListN.{length, getD}
+use lib.Dec.{eqb}
+use borrow.Author.Tests.{not-true, not-false, lt-ltb, ne-eqb, eqb-true, eqb-false, leb-true, leb-false}
+use Rattle.model.specs.Lists.{below, any}
 use Rattle.model.specs.Bytes.{Bytes}
-use Rattle.model.specs.Card.{newTail, shapeOf, tailOf, coreOf, committedCount}
+use Rattle.model.specs.Card.{shapeOf, tailOf, coreOf, committedCount}
 use Rattle.model.specs.Layout.{hasHead, maxNumber, isDescriptor}
-use Rattle.model.specs.Journal.{recordAt, recordsFrom, journal, journals, nameOf, namesOf, heldBy, blocksOf}
-use Rattle.model.specs.Shrink.{shrink}
-use Rattle.model.specs.Valid.{isIn, isMet, namesMet, validSet}
+use Rattle.model.specs.Journal.{recordAt, recordsFrom, journal, nameOf}
+use Rattle.model.specs.Valid.{isIn, validSet}
 use Rattle.model.specs.Command.{World, Outcome, refusal, unless, notUp, noCore}
-use Rattle.model.specs.Checkpoint.{committedNow, validNow, committedOf, oldest, share, sharesLower, checkpointConditions, checkpointed, checkpoint}
+use Rattle.model.specs.Checkpoint.{committedNow, validNow, committedOf, oldest, sharesLower, checkpointConditions, checkpointed, checkpoint}
 use Rattle.model.specs.declared.Shape.{Shape}
 use Rattle.model.specs.declared.Tail.{Tail}
-use Rattle.model.specs.declared.Name.{Name}
 use Rattle.model.specs.declared.Card.{Card}
 use Rattle.model.specs.declared.Committed.{Committed}
 use Rattle.model.specs.declared.Found.{Found}
 use Rattle.model.specs.declared.Found.the-variants.{Whole, Miss}
-use Rattle.model.proofs.Lists.{cases, and-left, and-right, any-append, flatMap-append, getD-map-below}
+use Rattle.model.proofs.Lists.{cases, and-left, and-right}
 use Rattle.model.proofs.Limits.{InRange}
 use Rattle.model.proofs.Command.{Clear, refusedWith, refusal-clear, unless-done, unless-refused}
 use Rattle.model.proofs.OneStore.{shape-limits, right-lengths}
 use Rattle.model.proofs.Journal.{Known, record-known, records-miss, records-hit, records-all}
 use Rattle.layout.specs.Loops.{some}
-use Rattle.layout.proofs.Loops.{some-none, some-step}
-use Rattle.journal.specs.Slots.{tailIn, numbersOf, numberIn, numbered, slotOf, isFilled, entry, foundAs, foundAt, listOf, entriesTo, entries}
+use Rattle.journal.specs.Slots.{tailIn, numbersOf, numberIn, numbered, isFilled, entries}
 use Rattle.journal.specs.Sets.{isHere}
 use Rattle.journal.specs.Walk.{Reads}
-use Rattle.journal.proofs.Slots.{number-at, reads-journals}
+use Rattle.journal.specs.Newest.{sharesBelow}
+use Rattle.journal.proofs.Slots.{number-at}
+use Rattle.journal.proofs.Model.{shares-numbers}
+use Rattle.journal.proofs.Commands.{slots-read, slots-valid}
 use Rattle.journal.proofs.Sets.{in-slot}
 use Rattle.state.specs.Answer.{world, outcomeOf, firstOf}
 use Rattle.state.specs.declared.Answer.{Answer}
-use Rattle.recovery.specs.Oldest.{countAt, counts, oldestAt, IsRead, lowerFound, lowerSlot, lowerClosed, closedLower, TellsValid, oldestConditions, nextStore, oldestOutcome}
+use Rattle.recovery.specs.Oldest.{countAt, counts, oldestAt, IsRead, lowerClosed, closedLower, TellsValid, oldestConditions, nextStore, oldestOutcome}
+use Rattle.recovery.proofs.CheckpointLaws.{core-low, count-in}
 use Rattle.state.proofs.Refusals.{first-hit, first-pass, refusal-joined, refusal-next, was-refused, was-done}
 
 -- ---- the oldest transaction
@@ -111,14 +112,10 @@ module _ (x : Card) (d : Bytes) (c : ℕ) where
       rw (z, recordsFrom))
       (λ t. records-miss (shapeOf x) d c ((tailOf x c) .number) ((tailOf x c) .position) ((shapeOf x) .journal) (committedCount x c) (rw t at h))
 
--- ---- the slots are the card's committed transactions
-flatMap-same : {A : Type 0} (f g : ℕ → List A) (n : ℕ) → ((i : ℕ) → i < n → f i ≡ g i) → flatMap f (below n) ≡ flatMap g (below n)
-unfolding below flatMap
-flatMap-same f g zero h = refl
-flatMap-same f g (suc n) h =
-    flatMap-append f (below n) (n ∷ [])
-    ∙ rw (flatMap-same f g n (λ i l. h i (omega arith)), flatMap, h n (omega arith)) (sym (flatMap-append g (below n) (n ∷ [])))
+pub oldest-whole : (x : Card) (d : Bytes) (c : ℕ) (f : Found) → f ≡ oldestAt x d c → (e : Committed) → f ≡ Whole e → oldestAt x d c ≡ Whole e
+oldest-whole x d c f q e z = sym q ∙ z
 
+-- ---- the slots are the card's committed transactions
 journal-capped : (s : Shape) (d : Bytes) (c : ℕ) (t : Tail) (n : ℕ) → InRange s → journal s d c t (min n 12) ≡ journal s d c t n
 unfolding journal
 journal-capped s d c t n l =
@@ -127,111 +124,79 @@ journal-capped s d c t n l =
       | no h ↦ (let z : min n 12 ≡ n = omega arith in rw z)
     ]
 
-count-in : (x : Card) (c : ℕ) → c < 8 → getD (counts x) c 0 ≡ min (committedCount x c) 12
-unfolding counts countAt
-count-in x c h = getD-map-below (countAt x) 8 c 0 h
+card-tail : (x : Card) (c : ℕ) → c < (shapeOf x) .cores → tailIn (x .tails) c ≡ tailOf x c
+unfolding tailOf
+card-tail x c h = refl
+
+card-bound : (x : Card) (d : Bytes) (c : ℕ) → c < (shapeOf x) .cores
+    → journal (shapeOf x) d c (tailOf x c) (getD (counts x) c 0) ≡ journal (shapeOf x) d c (tailOf x c) (committedCount x c)
+unfolding countAt
+card-bound x d c h = rw (count-in x c (core-low x c h)) (journal-capped (shapeOf x) d c (tailOf x c) (committedCount x c) (shape-limits x))
 
 module _ (x : Card) (d m : Bytes) (slots : List ℕ) (r : Reads (shapeOf x) d (x .tails) (counts x) slots) where
-  pub slots-committed : entries (shapeOf x) d (numbersOf (x .tails)) slots ≡ committedNow (world x d m)
-  unfolding committedNow journals tailOf
-  slots-committed =
-      let l = shape-limits x in
-      reads-journals (shapeOf x) d (x .tails) (counts x) slots r l
-      ∙ flatMap-same (λ (c : ℕ). journal (shapeOf x) d c (tailIn (x .tails) c) (getD (counts x) c 0)) (λ (c : ℕ). journal (shapeOf x) d c (tailIn (x .tails) c) (committedCount x c)) ((shapeOf x) .cores)
-      (λ c h. rw (count-in x c (omega (arith, l .few-cores))) (journal-capped (shapeOf x) d c (tailIn (x .tails) c) (committedCount x c) l))
+  slots-committed : entries (shapeOf x) d (numbersOf (x .tails)) slots ≡ committedNow (world x d m)
+  unfolding committedNow
+  slots-committed = slots-read (shape-limits x) d (x .tails) (counts x) slots r (tailOf x) (committedCount x) (card-tail x) (card-bound x d)
+
+  slots-share : (e : Committed) → any (sharesBelow (shapeOf x) d e) (entries (shapeOf x) d [] slots) ≡ any (sharesBelow (shapeOf x) d e) (committedNow (world x d m))
+  slots-share e =
+      shares-numbers (shapeOf x) d slots [] (numbersOf (x .tails)) e ∙ ap (any (sharesBelow (shapeOf x) d e)) slots-committed
+
+  module _ (valid : List ℕ) (v : entries (shapeOf x) d (numbersOf (x .tails)) valid
+      ≡ validSet (shapeOf x) d (numbered (numbersOf (x .tails))) (entries (shapeOf x) d (numbersOf (x .tails)) slots)) where
+    valid-committed : entries (shapeOf x) d (numbersOf (x .tails)) valid ≡ validNow (world x d m)
+    unfolding validNow committedNow
+    valid-committed = slots-valid (shape-limits x) d (x .tails) (counts x) slots r (tailOf x) (committedCount x) (card-tail x) (card-bound x d) valid v
 
 -- ---- the valid set
-number-same : (x : Card) → length (x .tails) ≡ 8 → (c : ℕ) → numberIn (numbersOf (x .tails)) c ≡ (tailOf x c) .number
+number-same : (x : Card) (c : ℕ) → c < 8 → numberIn (numbersOf (x .tails)) c ≡ (tailOf x c) .number
 unfolding numberIn tailOf
-number-same x n c =
-    elim (decLt c 8) [
-      | yes h ↦ rw (lt-ltb c 8 h) (number-at (x .tails) c h)
-      | no h ↦ (let g : 8 ≤ c = omega arith in
-          rw (le-ltb c 8 g, List·getD-eq-default (x .tails) (newTail 0 0) (let b : length (x .tails) ≤ c = omega arith in b)))
-    ]
-
-valid-tails : (x : Card) → length (x .tails) ≡ 8 → (s : Shape) (d : Bytes) (es : List Committed)
-    → validSet s d (numbered (numbersOf (x .tails))) es ≡ validSet s d (tailOf x) es
-unfolding validSet namesMet isMet numbered
-valid-tails x n s d es =
-    ap (λ (f : ℕ → ℕ). shrink (λ (fs : List Committed) (e : Committed). all (λ (k : Name). ltb (k .number) (f (k .core)) || isIn fs k) (namesOf s d e)) es) (fun-ext (number-same x n))
-
--- with the slots read, and those of the valid set
-module _ (x : Card) (d : Bytes) (size : length (x .tails) ≡ 8) (slots valid : List ℕ) (r : Reads (shapeOf x) d (x .tails) (counts x) slots)
-    (v : entries (shapeOf x) d (numbersOf (x .tails)) valid
-    ≡ validSet (shapeOf x) d (numbered (numbersOf (x .tails))) (entries (shapeOf x) d (numbersOf (x .tails)) slots)) where
-  pub slots-valid : (m : Bytes) → entries (shapeOf x) d (numbersOf (x .tails)) valid ≡ validNow (world x d m)
-  unfolding validNow
-  slots-valid m = v ∙ valid-tails x size (shapeOf x) d (entries (shapeOf x) d (numbersOf (x .tails)) slots) ∙ rw (slots-committed x d m slots r)
+number-same x c h = rw (lt-ltb c 8 h) (number-at (x .tails) c h)
 
 here-first : (s : Shape) (set : List ℕ) (n c k : ℕ) → c < s .cores → k ≡ n → isHere s set n c k ≡ isFilled s set (12 * c)
 unfolding isHere
 here-first s set n c k h e = let z : k - n ≡ 0 = omega arith in rw (lt-ltb c (s .cores) h, z, add-zero)
 
 -- the oldest is in a set exactly where its core's first slot is filled
-pub oldest-slot : (x : Card) → length (x .tails) ≡ 8 → (d : Bytes) (c : ℕ) (e : Committed) → oldestAt x d c ≡ Whole e → c < (shapeOf x) .cores → (set : List ℕ)
+oldest-slot : (x : Card) (d : Bytes) (c : ℕ) (e : Committed) → oldestAt x d c ≡ Whole e → c < (shapeOf x) .cores → (set : List ℕ)
     → isIn (entries (shapeOf x) d (numbersOf (x .tails)) set) (nameOf e) ≡ isFilled (shapeOf x) set (12 * c)
-oldest-slot x size d c e h l set =
+oldest-slot x d c e h l set =
     let k = tail-known x d c e h in
-    let n : numberIn (numbersOf (x .tails)) (e .core) ≡ (tailOf x c) .number = number-same x size (e .core) ∙ ap (λ (i : ℕ). (tailOf x i) .number) (k .core) in
+    let n : numberIn (numbersOf (x .tails)) (e .core) ≡ (tailOf x c) .number = ap (numberIn (numbersOf (x .tails))) (k .core) ∙ number-same x c (core-low x c l) in
     let q : e .number ≡ numberIn (numbersOf (x .tails)) (e .core) = k .number ∙ sym n in
     in-slot (shapeOf x) d (numbersOf (x .tails)) set (shape-limits x) (nameOf e) (omega arith)
     ∙ here-first (shapeOf x) set (numberIn (numbersOf (x .tails)) (e .core)) (e .core) (e .number) (omega (arith, k .core)) q
     ∙ ap (λ (i : ℕ). isFilled (shapeOf x) set (12 * i)) (k .core)
 
 -- ---- those of lower stamp that share a block
-module _ (s : Shape) (d : Bytes) (e : Committed) (ks set : List ℕ) where
-  lower-number : (i : ℕ) → lowerFound s d e (foundAt s d [] set i) ≡ lowerFound s d e (foundAt s d ks set i)
-  unfolding foundAt foundAs lowerFound blocksOf heldBy entry
-  lower-number i = cases (eqb (slotOf s set i) 0) (λ t. rw t) (λ t. rw t)
-
-  abbrev isLower : Committed → Bool
-  isLower f = ltb (f .stamp) (e .stamp) && share (blocksOf s d e) (blocksOf s d f)
-
-  lower-list : (f : Found) → any isLower (listOf f) ≡ lowerFound s d e f
-  unfolding any listOf lowerFound
-  lower-list Miss = refl
-  lower-list (Whole f) = or-false (isLower f)
-
-  lower-entries : (n : ℕ) → any isLower (entriesTo s d ks set n) ≡ some n (lowerSlot s d e set)
-  unfolding entriesTo any lowerSlot
-  lower-entries zero = sym (some-none _)
-  lower-entries (suc n) =
-      any-append isLower (entriesTo s d ks set n) (listOf (foundAt s d ks set n))
-      ∙ rw (lower-entries n, lower-list (foundAt s d ks set n), ← lower-number n) (sym (some-step (lowerSlot s d e set) n))
-
-  pub lower-all : any isLower (entries s d ks set) ≡ some 96 (lowerSlot s d e set)
-  unfolding entries
-  lower-all = lower-entries 96
-
-pub lower-parts : (x : Card) (d m : Bytes) (e : Committed) (slots : List ℕ) → Reads (shapeOf x) d (x .tails) (counts x) slots
-    → sharesLower (world x d m) e ≡ (some 96 (lowerSlot (shapeOf x) d e slots) || some ((shapeOf x) .cores) (closedLower x (shapeOf x) d e))
-unfolding sharesLower some closedLower lowerClosed
+lower-parts : (x : Card) (d m : Bytes) (e : Committed) (slots : List ℕ) → Reads (shapeOf x) d (x .tails) (counts x) slots
+    → sharesLower (world x d m) e
+    ≡ (any (sharesBelow (shapeOf x) d e) (entries (shapeOf x) d [] slots) || some ((shapeOf x) .cores) (closedLower (x .cores) (shapeOf x) d e))
+unfolding sharesLower some closedLower lowerClosed coreOf sharesBelow
 lower-parts x d m e slots r =
     ap
-    (λ (es : List Committed). any (isLower (shapeOf x) d e [] []) es || any (λ (c : ℕ). lowerClosed (shapeOf x) d e ((coreOf x c) .closed)) (below ((shapeOf x) .cores)))
-    (sym (slots-committed x d m slots r))
-    ∙ rw (lower-all (shapeOf x) d e (numbersOf (x .tails)) slots)
+    (λ (b : Bool). b || any (λ (c : ℕ). lowerClosed (shapeOf x) d e ((coreOf x c) .closed)) (below ((shapeOf x) .cores)))
+    (sym (slots-share x d m slots r e))
 
 -- ---- the number from the journals
 module _ (x : Card) (d : Bytes) (slots : List ℕ) (r : Reads (shapeOf x) d (x .tails) (counts x) slots) (s : Shape) (p : s ≡ shapeOf x) where
-  pub valid-told : (c : ℕ) → c < (shapeOf x) .cores → length (x .tails) ≡ 8 → (valid : List ℕ)
+  pub valid-told : (c : ℕ) → c < (shapeOf x) .cores → (valid : List ℕ)
       → entries s d (numbersOf (x .tails)) valid ≡ validSet s d (numbered (numbersOf (x .tails))) (entries s d (numbersOf (x .tails)) slots)
       → (b : Bool) → b ≡ isFilled s valid (12 * c) → TellsValid x d c b
   unfolding TellsValid
-  valid-told c l size valid v b q e h m =
+  valid-told c l valid v b q e h m =
       sym
-      (ap (λ (es : List Committed). isIn es (nameOf e)) (sym (slots-valid x d size slots valid r (rw p at v) m))
-      ∙ oldest-slot x size d c e h l valid ∙ sym (rw p at q))
+      (ap (λ (es : List Committed). isIn es (nameOf e)) (sym (valid-committed x d m slots r valid (rw p at v)))
+      ∙ oldest-slot x d c e h l valid ∙ sym (rw p at q))
 
-  module _ (e : Committed) (g : Bool) (y : g ≡ some 96 (lowerSlot s d e slots)) where
-    by-slots : g ≡ some 96 (lowerSlot (shapeOf x) d e slots)
+  module _ (e : Committed) (g : Bool) (y : g ≡ any (sharesBelow s d e) (entries s d [] slots)) where
+    by-slots : g ≡ any (sharesBelow (shapeOf x) d e) (entries (shapeOf x) d [] slots)
     by-slots = rw p at y
 
     pub lower-slots : g ≡ true → (m : Bytes) → true ≡ sharesLower (world x d m) e
     lower-slots t m = rw (lower-parts x d m e slots r, ← by-slots, t)
 
-    pub lower-closes : g ≡ false → (k : Bool) → k ≡ some (s .cores) (closedLower x s d e) → (m : Bytes) → k ≡ sharesLower (world x d m) e
+    pub lower-closes : g ≡ false → (k : Bool) → k ≡ some (s .cores) (closedLower (x .cores) s d e) → (m : Bytes) → k ≡ sharesLower (world x d m) e
     lower-closes t k w m = (rw p at w) ∙ rw (lower-parts x d m e slots r, ← by-slots, t)
 
 module _ (x : Card) (c : ℕ) (e : Committed) (d : Bytes) (h : oldestAt x d c ≡ Whole e) (b : Bool) (q : TellsValid x d c b) where
@@ -253,9 +218,6 @@ module _ (x : Card) (c : ℕ) (e : Committed) (d : Bytes) (h : oldestAt x d c �
     unshared-lower t m = rw (← told m, not-false b z, ← y m, t)
 
 -- ---- the checkpoint of the oldest
-pub core-low : (x : Card) (c : ℕ) → c < (shapeOf x) .cores → c < 8
-core-low x c h = omega (arith, shape-limits x .few-cores)
-
 module _ (x : Card) (c : ℕ) (e : Committed) (d : Bytes) (k : ℕ) (y : (m : Bytes) → k ≡ refusal (oldestConditions e (world x d m))) where
   pub oldest-refused : (k ≡ 0 → ⊥) → (m : Bytes) → refusedWith k (world x d m) ≡ oldestOutcome c e (world x d m)
   unfolding oldestOutcome
@@ -312,19 +274,16 @@ module _ (x : Card) (c : ℕ) (d m : Bytes) (n : ℕ) (e : n ≡ refusal (notUp 
           (first-pass n 31 _ _ e h (first-hit 31 (cond (eqb (length (committedOf (world x d m) c)) 0) 31 0) _ k (omega arith)) ∙ sym (stages c (world x d m))) (omega arith)
 
       module _ (t : Committed) (z : f ≡ Whole t) where
-        pub oldest-whole : oldestAt x d c ≡ Whole t
-        oldest-whole = sym q ∙ z
-
         last-stages : refusal (checkpointConditions c (world x d m)) ≡ refusal (oldestConditions t (world x d m))
         last-stages =
-            let u : _≡_ {A = ℕ} 0 (cond (eqb (length (committedOf (world x d m) c)) 0) 31 0) = rw (is-committed x d c t oldest-whole m) in
+            let u : _≡_ {A = ℕ} 0 (cond (eqb (length (committedOf (world x d m) c)) 0) 31 0) = rw (is-committed x d c t (oldest-whole x d c f q t z) m) in
             let a : refusal (oldestConditions t (world x d m)) ≡ refusal (oldestConditions (oldest (committedOf (world x d m) c)) (world x d m)) =
-            rw (is-oldest x d c t oldest-whole m) in
+            rw (is-oldest x d c t (oldest-whole x d c f q t z) m) in
             stages c (world x d m) ∙ sym (first-pass n _ _ _ e h (first-pass 0 _ (cond (eqb (length (committedOf (world x d m) c)) 0) 31 0) _ u refl a))
 
         store-same : nextStore c t (world x d m) ≡ checkpointed c (world x d m)
         unfolding checkpointed nextStore
-        store-same = sym (ap (λ (y : Committed). nextStore c y (world x d m)) (is-oldest x d c t oldest-whole m))
+        store-same = sym (ap (λ (y : Committed). nextStore c y (world x d m)) (is-oldest x d c t (oldest-whole x d c f q t z) m))
 
         pub oldest-settled : (r : Answer) (d₂ : Bytes) → ((m : Bytes) → outcomeOf r d₂ m ≡ oldestOutcome c t (world x d m)) → outcomeOf r d₂ m ≡ checkpoint c (world x d m)
         unfolding checkpoint oldestOutcome

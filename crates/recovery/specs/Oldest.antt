@@ -2,11 +2,12 @@
 use Prim.Native.Nat.{ℕ, _+_, _-_, _%_, _<_, min}
 use mathlib.Core.Path.{_≡_}
 use mathlib.Core.List.{List, [], _∷_, map}
-use mathlib.Core.Bool.{Bool, false, cond, not, _&&_}
+use mathlib.Core.Bool.{Bool, cond, not, _&&_}
+use lib.ListN.{getD}
 use lib.Dec.{ltb, eqb}
 use Rattle.model.specs.Lists.{below}
 use Rattle.model.specs.Bytes.{Bytes}
-use Rattle.model.specs.Card.{newTail, sameName, noHolder, taken, shapeOf, tailOf, coreOf, committedCount}
+use Rattle.model.specs.Card.{newTail, sameName, noHolder, taken, freshCore, shapeOf, tailOf, coreOf, committedCount}
 use Rattle.model.specs.Journal.{recordAt, nameOf, blocksOf}
 use Rattle.model.specs.Valid.{isIn}
 use Rattle.model.specs.Checkpoint.{share, validNow, sharesLower, storedHome, storedMaster}
@@ -22,7 +23,6 @@ use Rattle.model.specs.declared.Committed.{Committed}
 use Rattle.model.specs.declared.Found.{Found}
 use Rattle.model.specs.declared.Found.the-variants.{Whole, Miss}
 use Rattle.model.proofs.Journal.{Known}
-use Rattle.journal.specs.Slots.{foundAt}
 use Rattle.state.specs.Answer.{world}
 
 -- ---- retired
@@ -51,6 +51,10 @@ countAt x c = min (committedCount x c) 12
 unfoldable pub counts : Card → List ℕ
 counts x = map (countAt x) (below 8)
 
+-- an array of the counts; those of cores that the disk has not do not matter
+unfoldable pub Counts : Card → List ℕ → Type 0
+Counts x most = (c : ℕ) → c < (shapeOf x) .cores → getD most c 0 ≡ countAt x c
+
 -- core c's oldest transaction, if the card counts one
 unfoldable pub oldestAt : Card → Bytes → ℕ → Found
 oldestAt x d c =
@@ -61,21 +65,13 @@ pub record IsRead (s : Shape) (d : Bytes) (e : Committed) : Type 0 where
   pub core : e .core < s .cores
   pub known : Known s d (e .core) (e .number) e
 
--- ---- those of lower stamp that share a block with e
-unfoldable pub lowerFound : Shape → Bytes → Committed → Found → Bool
-lowerFound s d e Miss = false
-lowerFound s d e (Whole f) = ltb (f .stamp) (e .stamp) && share (blocksOf s d e) (blocksOf s d f)
-
+-- ---- those closed, of lower stamp, that share a block with e
 unfoldable pub lowerClosed : Shape → Bytes → Committed → Transaction → Bool
 lowerClosed s d e t = t .live && ltb (t .stamp) (e .stamp) && share (blocksOf s d e) (taken t)
 
--- the transaction in slot i is one
-unfoldable pub lowerSlot : Shape → Bytes → Committed → List ℕ → ℕ → Bool
-lowerSlot s d e set i = lowerFound s d e (foundAt s d [] set i)
-
--- core i's closed transaction is one
-unfoldable pub closedLower : Card → Shape → Bytes → Committed → ℕ → Bool
-closedLower x s d e i = lowerClosed s d e ((coreOf x i) .closed)
+-- the closed transaction of core i is one
+unfoldable pub closedLower : List Core → Shape → Bytes → Committed → ℕ → Bool
+closedLower ks s d e i = lowerClosed s d e ((getD ks i (freshCore 0)) .closed)
 
 -- the code's answer: core c's oldest transaction, if there is one, is in the valid set
 unfoldable pub TellsValid : Card → Bytes → ℕ → Bool → Type 0

@@ -15,10 +15,9 @@ ghost use Rattle.model.specs.Command.{refusal};
 ghost use Rattle.model.specs.declared.Found.the-variants.{Whole};
 ghost use Rattle.model.proofs.Limits.{InRange};
 ghost use Rattle.layout.specs.Loops.{some};
-ghost use Rattle.journal.specs.Slots.{Sized};
 ghost use Rattle.journal.specs.Walk.{Reads};
 ghost use Rattle.state.specs.Answer.{world, outcomeOf};
-ghost use Rattle.recovery.specs.Oldest.{freed, movedTail, retiredCore, homedCore, countAt, counts, oldestAt, IsRead, lowerSlot, lowerClosed, closedLower, TellsValid, oldestConditions, nextStore, oldestOutcome};
+ghost use Rattle.recovery.specs.Oldest.{freed, movedTail, retiredCore, homedCore, counts, Counts, oldestAt, IsRead, lowerClosed, closedLower, TellsValid, oldestConditions, nextStore, oldestOutcome};
 use crate::home::store_home;
 use model::Card;
 use model::Committed;
@@ -31,13 +30,10 @@ use model::Tail;
 use model::Transaction;
 use state::Answer;
 use state::block_count;
-use state::core_at;
 use state::entry_refusal;
 use state::same_name;
 use state::shape_of;
 use state::store_master;
-use state::tail_at;
-use state::with_core;
 
 // A block's holder after the transaction of this name is retired.
 fn freed(h: Holder, n: Name) -> Holder
@@ -103,14 +99,13 @@ fn retired_core(k: Core, e: Committed) -> Core
     after
 }
 
-// The card after core c's oldest transaction is retired.
-fn retired_card(card: Card, c: u8, e: Committed) -> Card
-    requires { ⌜ (c < 8) × (e .number ≤ maxNumber) ⌝ }
+// The card after the oldest transaction of core c, as it stands, is retired.
+fn retired_card(card: Card, c: u8, old: Core, e: Committed) -> Card
+    requires { ⌜ (c < 8) × (old ≡ coreOf card c) × (e .number ≤ maxNumber) ⌝ }
     ensures { λ r. ⌜ r ≡ retiredCard c e card ⌝ }
 {
     let s = shape_of(card);
     let t = moved_tail(s, e);
-    let old = core_at(card, c);
     let k = retired_core(old, e);
     let n = Name {
         core: e.core,
@@ -127,11 +122,11 @@ fn retired_card(card: Card, c: u8, e: Committed) -> Card
 }
 
 // The last store of a checkpoint: the master with the tail moved past the transaction.
-fn stored_master(card: Card, c: u8, e: Committed, disk: &mut [u8]) -> Answer
-    requires { ⌜ (c < 8) × (e .number ≤ maxNumber) × (length (now disk) ≡ 32896) ⌝ }
+fn stored_master(card: Card, c: u8, k: Core, e: Committed, disk: &mut [u8]) -> Answer
+    requires { ⌜ (c < 8) × (k ≡ coreOf card c) × (e .number ≤ maxNumber) × (length (now disk) ≡ 32896) ⌝ }
     ensures { λ r. ⌜ ((m : Bytes) → outcomeOf r (now (disk .exit)) m ≡ storedMaster c e (world card (now (disk .entry)) m)) ⌝ }
 {
-    let after = retired_card(card, c, e);
+    let after = retired_card(card, c, k, e);
     let s = after.shape;
     let tails = after.tails;
     store_master(s, tails, disk);
@@ -167,48 +162,47 @@ fn counted(k: Core, t: Tail) -> u8
     at_most_12(n)
 }
 
-fn count_at(card: Card, c: u8) -> u8
-    ensures { λ r. ⌜ r ≡ countAt card c ⌝ }
-{
-    let k = core_at(card, c);
-    let t = tail_at(card, c);
-    counted(k, t)
-}
-
-// The counts of all cores.
+// The counts of the cores that the disk has. Up to eight, the compiler would unroll the loop and take the card apart.
 fn counts(card: Card) -> [u8; 8]
-    ensures { λ r. ⌜ r ≡ counts card ⌝ }
+    ensures { λ r. ⌜ Counts card r ⌝ }
 {
+    let s = shape_of(card);
+    let n = s.cores as usize;
+    let cores = card.cores;
+    let tails = card.tails;
     let mut most = [0u8; 8];
     let mut i: usize = 0;
-    while i < 8 {
-        most[i] = count_at(card, i as u8);
+    while i < n {
+        let k = cores[i];
+        let t = tails[i];
+        most[i] = counted(k, t);
         i += 1;
     }
     most
 }
 
 // All committed transactions, as slots.
-fn committed_slots(card: Card, disk: &[u8]) -> [u16; 96]
-    requires { ⌜ length (now disk) ≡ 32896 ⌝ }
+fn committed_slots(card: Card, most: [u8; 8], disk: &[u8]) -> [u16; 96]
+    requires { ⌜ (length (now disk) ≡ 32896) × Counts card most ⌝ }
     ensures { λ r. ⌜ Reads (shapeOf card) (now (disk .entry)) (card .tails) (counts card) r ⌝ }
 {
     let s = shape_of(card);
-    let most = counts(card);
     let tails = card.tails;
     journal::read_journals(s, disk, tails, most)
 }
 
 // Core c's oldest committed transaction.
-fn oldest_of(card: Card, c: u8, disk: &[u8]) -> Found
-    requires { ⌜ (length (now disk) ≡ 32896) × (c < (shapeOf card) .cores) ⌝ }
+fn oldest_of(card: Card, c: u8, most: [u8; 8], disk: &[u8]) -> Found
+    requires { ⌜ (length (now disk) ≡ 32896) × (c < (shapeOf card) .cores) × Counts card most ⌝ }
     ensures { λ r. ⌜ r ≡ oldestAt card (now (disk .entry)) c ⌝ }
 {
-    if count_at(card, c) == 0 {
+    let i = c as usize;
+    if most[i] == 0 {
         return Found::Miss;
     }
     let s = shape_of(card);
-    let t = tail_at(card, c);
+    let tails = card.tails;
+    let t = tails[i];
     journal::read_record(s, disk, c, t.number, t.position, s.journal)
 }
 
@@ -221,60 +215,15 @@ fn block_at(s: Shape, disk: &[u8], e: Committed, i: usize) -> u8
     layout::held_block(block, i) as u8
 }
 
-// Whether a transaction took a block that another committed one took.
-fn shares_committed(s: Shape, disk: &[u8], e: Committed, f: Committed) -> bool
-    requires { ⌜ InRange s × (length (now disk) ≡ 32896) × IsRead s (now disk) e × Sized s f ⌝ }
-    ensures { λ r. ⌜ r ≡ share (blocksOf s (now (disk .entry)) e) (blocksOf s (now (disk .entry)) f) ⌝ }
-{
-    let n = e.count as usize;
-    let mut i: usize = 0;
-    while i < n {
-        let b = block_at(s, disk, e, i);
-        if journal::took_block(s, disk, f, b as u32) {
-            return true;
-        }
-        i += 1;
-    }
-    false
-}
-
-// Whether the transaction in slot i has a lower stamp and shares a block.
-fn lower_slot(s: Shape, disk: &[u8], slots: &[u16; 96], e: Committed, i: usize) -> bool
-    requires { ⌜ InRange s × (length (now disk) ≡ 32896) × IsRead s (now disk) e × (i < 96) ⌝ }
-    ensures { λ r. ⌜ r ≡ lowerSlot s (now (disk .entry)) e (now (slots .entry)) i ⌝ }
-{
-    let Found::Whole(f) = journal::entry_at(s, disk, slots, i) else {
-        return false;
-    };
-    if e.stamp <= f.stamp {
-        return false;
-    }
-    shares_committed(s, disk, e, f)
-}
-
-// Whether any committed one does.
-fn lower_committed(s: Shape, disk: &[u8], slots: &[u16; 96], e: Committed) -> bool
-    requires { ⌜ InRange s × (length (now disk) ≡ 32896) × IsRead s (now disk) e ⌝ }
-    ensures { λ r. ⌜ r ≡ some 96 (lowerSlot s (now (disk .entry)) e (now (slots .entry))) ⌝ }
-{
-    let mut i: usize = 0;
-    while i < 96 {
-        if lower_slot(s, disk, slots, e, i) {
-            return true;
-        }
-        i += 1;
-    }
-    false
-}
-
 // Whether a transaction took block b.
 fn takes_block(t: Transaction, b: u8) -> bool
     ensures { λ r. ⌜ r ≡ any (eqb b) (taken t) ⌝ }
 {
     let count = block_count(t);
+    let blocks = t.blocks;
     let mut i = 0;
     while i < count {
-        if t.blocks[i] == b {
+        if blocks[i] == b {
             return true;
         }
         i += 1;
@@ -313,22 +262,17 @@ fn lower_closed(s: Shape, disk: &[u8], e: Committed, t: Transaction) -> bool
     shares_closed(s, disk, e, t)
 }
 
-// Core i's closed transaction.
-fn closed_at(card: Card, i: u8) -> Transaction
-    ensures { λ r. ⌜ r ≡ (coreOf card i) .closed ⌝ }
-{
-    let k = core_at(card, i);
-    k.closed
-}
-
 // Whether any closed one does.
 fn any_closed(card: Card, s: Shape, disk: &[u8], e: Committed) -> bool
     requires { ⌜ InRange s × (length (now disk) ≡ 32896) × IsRead s (now disk) e ⌝ }
-    ensures { λ r. ⌜ r ≡ some (s .cores) (closedLower card s (now (disk .entry)) e) ⌝ }
+    ensures { λ r. ⌜ r ≡ some (s .cores) (closedLower (card .cores) s (now (disk .entry)) e) ⌝ }
 {
-    let mut i: u8 = 0;
-    while i < s.cores {
-        let t = closed_at(card, i);
+    let cores = card.cores;
+    let n = s.cores as usize;
+    let mut i: usize = 0;
+    while i < n {
+        let k = cores[i];
+        let t = k.closed;
         if lower_closed(s, disk, e, t) {
             return true;
         }
@@ -370,15 +314,16 @@ fn homed_core(k: Core, e: Committed) -> Core
 }
 
 // A home store: the image of the next block of the transaction.
-fn stored_home(card: Card, c: u8, e: Committed, disk: &mut [u8]) -> Answer
-    requires { ⌜ (length (now disk) ≡ 32896) × IsRead (shapeOf card) (now disk) e × ((coreOf card c) .homed < e .count) ⌝ }
+fn stored_home(card: Card, c: u8, k: Core, e: Committed, disk: &mut [u8]) -> Answer
+    requires { ⌜ (length (now disk) ≡ 32896) × IsRead (shapeOf card) (now disk) e × (c < 8) × (k ≡ coreOf card c) × (k .homed < e .count) ⌝ }
     ensures { λ r. ⌜ ((m : Bytes) → outcomeOf r (now (disk .exit)) m ≡ storedHome c e (world card (now (disk .entry)) m)) ⌝ }
 {
     let s = shape_of(card);
-    let k = core_at(card, c);
     put_home(s, e, k.homed as usize, disk);
     let next = homed_core(k, e);
-    let after = with_core(card, c, next);
+    let i = c as usize;
+    let mut after = card;
+    after.cores[i] = next;
     Answer {
         number: 0,
         stores: 1,
@@ -386,16 +331,25 @@ fn stored_home(card: Card, c: u8, e: Committed, disk: &mut [u8]) -> Answer
     }
 }
 
+// Core c, one of the eight; of the card, the cores alone are copied.
+fn core_of(card: Card, c: u8) -> Core
+    requires { ⌜ c < 8 ⌝ }
+    ensures { λ r. ⌜ r ≡ coreOf card c ⌝ }
+{
+    let cores = card.cores;
+    cores[c as usize]
+}
+
 // The next store of the checkpoint of core c's oldest transaction.
 fn checkpointed(card: Card, c: u8, e: Committed, disk: &mut [u8]) -> Answer
     requires { ⌜ (length (now disk) ≡ 32896) × IsRead (shapeOf card) (now disk) e × (c < 8) × (e .number ≤ maxNumber) ⌝ }
     ensures { λ r. ⌜ ((m : Bytes) → outcomeOf r (now (disk .exit)) m ≡ nextStore c e (world card (now (disk .entry)) m)) ⌝ }
 {
-    let k = core_at(card, c);
+    let k = core_of(card, c);
     if k.homed < e.count {
-        return stored_home(card, c, e, disk);
+        return stored_home(card, c, k, e, disk);
     }
-    stored_master(card, c, e, disk)
+    stored_master(card, c, k, e, disk)
 }
 
 // Whether core c's oldest transaction is in the valid set.
@@ -415,18 +369,18 @@ fn shares_lower(card: Card, e: Committed, disk: &[u8], slots: [u16; 96]) -> bool
     ensures { λ r. ⌜ ((m : Bytes) → r ≡ sharesLower (world card (now (disk .entry)) m) e) ⌝ }
 {
     let s = shape_of(card);
-    if lower_committed(s, disk, &slots, e) {
+    if journal::shares_lower(s, disk, &slots, e) {
         return true;
     }
     any_closed(card, s, disk, e)
 }
 
 // 32, the oldest is not in the valid set; 33, one of lower stamp shares a block.
-fn oldest_refusal(card: Card, c: u8, e: Committed, disk: &[u8]) -> u8
-    requires { ⌜ (length (now disk) ≡ 32896) × (c < (shapeOf card) .cores) × (oldestAt card (now disk) c ≡ Whole e) ⌝ }
+fn oldest_refusal(card: Card, c: u8, most: [u8; 8], e: Committed, disk: &[u8]) -> u8
+    requires { ⌜ (length (now disk) ≡ 32896) × (c < (shapeOf card) .cores) × Counts card most × (oldestAt card (now disk) c ≡ Whole e) ⌝ }
     ensures { λ r. ⌜ ((m : Bytes) → r ≡ refusal (oldestConditions e (world card (now (disk .entry)) m))) ⌝ }
 {
-    let slots = committed_slots(card, disk);
+    let slots = committed_slots(card, most, disk);
     if !is_valid(card, c, disk, slots) {
         return 32;
     }
@@ -437,11 +391,11 @@ fn oldest_refusal(card: Card, c: u8, e: Committed, disk: &[u8]) -> u8
 }
 
 // The checkpoint of core c's oldest transaction: refused, or its next store.
-fn checkpoint_oldest(card: Card, c: u8, e: Committed, disk: &mut [u8]) -> Answer
-    requires { ⌜ (length (now disk) ≡ 32896) × (c < (shapeOf card) .cores) × (oldestAt card (now disk) c ≡ Whole e) ⌝ }
+fn checkpoint_oldest(card: Card, c: u8, most: [u8; 8], e: Committed, disk: &mut [u8]) -> Answer
+    requires { ⌜ (length (now disk) ≡ 32896) × (c < (shapeOf card) .cores) × Counts card most × (oldestAt card (now disk) c ≡ Whole e) ⌝ }
     ensures { λ r. ⌜ ((m : Bytes) → outcomeOf r (now (disk .exit)) m ≡ oldestOutcome c e (world card (now (disk .entry)) m)) ⌝ }
 {
-    let n = oldest_refusal(card, c, e, disk);
+    let n = oldest_refusal(card, c, most, e, disk);
     if n != 0 {
         return Answer {
             number: n,
@@ -464,7 +418,8 @@ pub fn checkpoint(card: Card, c: u8, disk: &mut [u8], memory: &[u8]) -> Answer
             card,
         };
     }
-    let found = oldest_of(card, c, disk);
+    let most = counts(card);
+    let found = oldest_of(card, c, most, disk);
     let Found::Whole(e) = found else {
         return Answer {
             number: 31,
@@ -472,5 +427,5 @@ pub fn checkpoint(card: Card, c: u8, disk: &mut [u8], memory: &[u8]) -> Answer
             card,
         };
     };
-    checkpoint_oldest(card, c, e, disk)
+    checkpoint_oldest(card, c, most, e, disk)
 }

@@ -3,30 +3,38 @@ use borrow.Author.Needs.{needs}
 use Prim.Native.Nat.{_-_, _≤_}
 use mathlib.Core.Bool.{false}
 use mathlib.Core.Path.{_≡_}
+use lib.ListN.{length}
 use Rattle.layout.specs.Loops.{some}
 use Rattle.layout.proofs.Loops.{some-none, some-no}
+use Rattle.state.proofs.Parts.{facts}
 use Rattle.recovery.specs.Oldest.{closedLower}
-use Rattle.recovery.proofs.CheckpointLaws.{closed-hit, closed-missed}
+use Rattle.recovery.proofs.CheckpointLaws.{eight-cores, closed-hit, closed-missed}
 use Rattle.recovery.proofs.checkpoint.any_closed.Statement.{statement}
 use Rattle.recovery.proofs.checkpoint.any_closed.Tie as tie
 
 abbrev Inv-loop : tie.InvT-loop
-Inv-loop card s disk e i₀ i = (i ≤ s .cores) × (some i (closedLower card s disk e) ≡ false)
+Inv-loop s disk e cores n i₀ i = (n ≡ s .cores) × (n ≤ 8) × (length cores ≡ 8) × (i ≤ n) × (some i (closedLower cores s disk e) ≡ false)
 
 abbrev μ-loop : tie.MeasureT-loop
-μ-loop card s disk e i₀ i = s .cores - i
+μ-loop s disk e cores n i₀ i = n - i
+
+cast-n : tie.Need-cast-n Inv-loop μ-loop
+cast-n c = search needs
 
 loop-holds : tie.Need-loop-holds Inv-loop μ-loop
-loop-holds c = (search needs, some-none _)
+loop-holds c = (search needs, search (needs, eight-cores), search facts, search needs, some-none _)
 
-closed-at-requires : tie.Need-closed-at-requires Inv-loop μ-loop
-closed-at-requires c κs = search needs
+mul-k : tie.Need-mul-k Inv-loop μ-loop
+mul-k c = search needs
+
+array-copy-out-k : tie.Need-array-copy-out-k Inv-loop μ-loop
+array-copy-out-k c = search facts
 
 lower-closed-requires : tie.Need-lower-closed-requires Inv-loop μ-loop
 lower-closed-requires c κs = search needs
 
 returns : tie.Need-returns Inv-loop μ-loop
-returns c = search (needs, closed-hit)
+returns c = search (facts, closed-hit)
 
 add-i : tie.Need-add-i Inv-loop μ-loop
 add-i c = search needs
@@ -35,7 +43,7 @@ loop-less : tie.Need-loop-less Inv-loop μ-loop
 loop-less c = search needs
 
 loop-again : tie.Need-loop-again Inv-loop μ-loop
-loop-again c = (search needs, search (needs, closed-missed))
+loop-again c = (search needs, search needs, search facts, search needs, search (facts, closed-missed))
 
 returns-2 : tie.Need-returns-2 Inv-loop μ-loop
 returns-2 c = search (needs, some-no)
@@ -46,8 +54,10 @@ any-closed-spec =
     (tie.spec
     Inv-loop
     μ-loop
+    cast-n
     loop-holds
-    closed-at-requires
+    mul-k
+    array-copy-out-k
     lower-closed-requires
     returns
     add-i

@@ -13,6 +13,9 @@ same-length c = search needs
 returns : tie.Need-returns
 returns c = search (needs, first-refused)
 
+counts-requires : tie.Need-counts-requires
+counts-requires c κs = search needs
+
 oldest-of-requires : tie.Need-oldest-of-requires
 oldest-of-requires c κs = search (needs, first-disk, first-core)
 
@@ -29,7 +32,7 @@ returns-2 : tie.Need-returns-2
 returns-2 c = search (needs, none-committed)
 
 checkpoint-oldest-requires : tie.Need-checkpoint-oldest-requires
-checkpoint-oldest-requires c κs = (search (needs, first-disk), search (needs, first-core), search (needs, oldest-whole))
+checkpoint-oldest-requires c κs = (search (needs, first-disk), search (needs, first-core), search needs, search (needs, oldest-whole))
 
 same-length-3 : tie.Need-same-length-3
 same-length-3 c = search needs
@@ -44,6 +47,7 @@ checkpoint-spec =
     entry-refusal-requires
     same-length
     returns
+    counts-requires
     oldest-of-requires
     enum-known-found
     enum-told

@@ -1,5 +1,6 @@
 -- `recovery::checkpoint::checkpoint_oldest` meets its contract: refused, or the next store.
-use Rattle.recovery.proofs.OldestLaws.{core-low, oldest-was-read, number-low, oldest-refused, oldest-done}
+use Rattle.recovery.proofs.CheckpointLaws.{core-low}
+use Rattle.recovery.proofs.OldestLaws.{oldest-was-read, number-low, oldest-refused, oldest-done}
 use borrow.Author.Needs.{needs}
 use Rattle.recovery.proofs.checkpoint.checkpoint_oldest.Statement.{statement}
 use Rattle.recovery.proofs.checkpoint.checkpoint_oldest.Tie as tie

@@ -1,14 +1,14 @@
 -- `recovery::checkpoint::checkpointed` meets its contract: a home store, or the master.
-use Rattle.recovery.proofs.CheckpointLaws.{home-next, next-home, next-master}
+use Rattle.recovery.proofs.CheckpointLaws.{next-home, next-master}
 use borrow.Author.Needs.{needs}
 use Rattle.recovery.proofs.checkpoint.checkpointed.Statement.{statement}
 use Rattle.recovery.proofs.checkpoint.checkpointed.Tie as tie
 
-core-at-requires : tie.Need-core-at-requires
-core-at-requires c κs = search needs
+core-of-requires : tie.Need-core-of-requires
+core-of-requires c κs = search needs
 
 stored-home-requires : tie.Need-stored-home-requires
-stored-home-requires c κs = search (needs, home-next)
+stored-home-requires c κs = search needs
 
 same-length : tie.Need-same-length
 same-length c = search needs
@@ -29,7 +29,7 @@ pub checkpointed-spec : {M : Type 1} → statement M
 checkpointed-spec =
     tie.close
     (tie.spec
-    core-at-requires
+    core-of-requires
     stored-home-requires
     same-length
     returns

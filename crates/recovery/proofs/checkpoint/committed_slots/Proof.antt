@@ -7,9 +7,6 @@ use Rattle.recovery.proofs.checkpoint.committed_slots.Tie as tie
 shape-of-requires : tie.Need-shape-of-requires
 shape-of-requires c κs = search needs
 
-counts-requires : tie.Need-counts-requires
-counts-requires c κs = search needs
-
 read-journals-requires : tie.Need-read-journals-requires
 read-journals-requires c κs = search (needs, shape-range)
 
@@ -18,4 +15,4 @@ returns c = search (needs, reads-card)
 
 pub committed-slots-spec : {M : Type 1} → statement M
 committed-slots-spec =
-    tie.close (tie.spec shape-of-requires counts-requires read-journals-requires returns)
+    tie.close (tie.spec shape-of-requires read-journals-requires returns)

@@ -1,5 +1,4 @@
 -- `recovery::checkpoint::is_valid` meets its contract.
-use Rattle.state.proofs.Parts.{facts}
 use Rattle.recovery.proofs.CheckpointLaws.{shape-range, core-below}
 use Rattle.recovery.proofs.OldestLaws.{valid-told}
 use borrow.Author.Needs.{needs}
@@ -16,7 +15,7 @@ is-oldest-in-requires : tie.Need-is-oldest-in-requires
 is-oldest-in-requires c κs = search (needs, shape-range, core-below)
 
 returns : tie.Need-returns
-returns c = search (facts, valid-told)
+returns c = search (needs, valid-told)
 
 pub is-valid-spec : {M : Type 1} → statement M
 is-valid-spec =

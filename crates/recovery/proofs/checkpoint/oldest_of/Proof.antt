@@ -1,11 +1,12 @@
 -- `recovery::checkpoint::oldest_of` meets its contract: none counted, or what the record at the tail gives.
-use Rattle.recovery.proofs.CheckpointLaws.{shape-range, core-below, none-counted, oldest-read}
+use Rattle.state.proofs.Parts.{facts}
+use Rattle.recovery.proofs.CheckpointLaws.{shape-range, core-below, core-low, none-counted, oldest-read}
 use borrow.Author.Needs.{needs}
 use Rattle.recovery.proofs.checkpoint.oldest_of.Statement.{statement}
 use Rattle.recovery.proofs.checkpoint.oldest_of.Tie as tie
 
-count-at-requires : tie.Need-count-at-requires
-count-at-requires c κs = search needs
+array-read-if1 : tie.Need-array-read-if1
+array-read-if1 c = search (needs, core-low)
 
 returns : tie.Need-returns
 returns c = search (needs, none-counted)
@@ -13,22 +14,26 @@ returns c = search (needs, none-counted)
 shape-of-requires : tie.Need-shape-of-requires
 shape-of-requires c κs = search needs
 
-tail-at-requires : tie.Need-tail-at-requires
-tail-at-requires c κs = search needs
+mul-t : tie.Need-mul-t
+mul-t c = search needs
+
+array-copy-out-t : tie.Need-array-copy-out-t
+array-copy-out-t c = search (needs, core-low)
 
 read-record-requires : tie.Need-read-record-requires
 read-record-requires c κs = search (needs, shape-range, core-below)
 
 returns-2 : tie.Need-returns-2
-returns-2 c = search (needs, oldest-read)
+returns-2 c = search (facts, oldest-read)
 
 pub oldest-of-spec : {M : Type 1} → statement M
 oldest-of-spec =
     tie.close
     (tie.spec
-    count-at-requires
+    array-read-if1
     returns
     shape-of-requires
-    tail-at-requires
+    mul-t
+    array-copy-out-t
     read-record-requires
     returns-2)

@@ -11,9 +11,6 @@ shape-of-requires c κs = search needs
 moved-tail-requires : tie.Need-moved-tail-requires
 moved-tail-requires c κs = search (needs, shape-range)
 
-core-at-requires : tie.Need-core-at-requires
-core-at-requires c κs = search needs
-
 retired-core-requires : tie.Need-retired-core-requires
 retired-core-requires c κs = search needs
 
@@ -41,7 +38,6 @@ retired-card-spec =
     (tie.spec
     shape-of-requires
     moved-tail-requires
-    core-at-requires
     retired-core-requires
     release-requires
     mul-t

@@ -1,5 +1,5 @@
 -- `recovery::checkpoint::shares_lower` meets its contract: a committed one, or a closed one.
-use Rattle.recovery.proofs.CheckpointLaws.{shape-range, read-shape}
+use Rattle.recovery.proofs.CheckpointLaws.{shape-range, read-shape, read-sized}
 use Rattle.recovery.proofs.OldestLaws.{lower-slots, lower-closes}
 use borrow.Author.Needs.{needs}
 use Rattle.recovery.proofs.checkpoint.shares_lower.Statement.{statement}
@@ -8,8 +8,8 @@ use Rattle.recovery.proofs.checkpoint.shares_lower.Tie as tie
 shape-of-requires : tie.Need-shape-of-requires
 shape-of-requires c κs = search needs
 
-lower-committed-requires : tie.Need-lower-committed-requires
-lower-committed-requires c κs = search (needs, shape-range, read-shape)
+shares-lower-requires : tie.Need-shares-lower-requires
+shares-lower-requires c κs = search (needs, shape-range, read-sized)
 
 returns : tie.Need-returns
 returns c = search (needs, lower-slots)
@@ -23,4 +23,4 @@ returns-2 c = search (needs, lower-closes)
 pub shares-lower-spec : {M : Type 1} → statement M
 shares-lower-spec =
     tie.close
-    (tie.spec shape-of-requires lower-committed-requires returns any-closed-requires returns-2)
+    (tie.spec shape-of-requires shares-lower-requires returns any-closed-requires returns-2)

@@ -1,6 +1,6 @@
 -- `recovery::checkpoint::stored_home` meets its contract.
 use Rattle.state.proofs.Parts.{facts}
-use Rattle.recovery.proofs.CheckpointLaws.{shape-range, read-shape, home-left, home-stored}
+use Rattle.recovery.proofs.CheckpointLaws.{shape-range, read-shape, home-stored}
 use borrow.Author.Needs.{needs}
 use Rattle.recovery.proofs.checkpoint.stored_home.Statement.{statement}
 use Rattle.recovery.proofs.checkpoint.stored_home.Tie as tie
@@ -8,20 +8,20 @@ use Rattle.recovery.proofs.checkpoint.stored_home.Tie as tie
 shape-of-requires : tie.Need-shape-of-requires
 shape-of-requires c κs = search needs
 
-core-at-requires : tie.Need-core-at-requires
-core-at-requires c κs = search needs
-
 cast-put-home : tie.Need-cast-put-home
 cast-put-home c = search needs
 
 put-home-requires : tie.Need-put-home-requires
-put-home-requires c κs = search (needs, shape-range, read-shape, home-left)
+put-home-requires c κs = search (needs, shape-range, read-shape)
 
 homed-core-requires : tie.Need-homed-core-requires
-homed-core-requires c κs = search (needs, home-left)
+homed-core-requires c κs = search (needs)
 
-with-core-requires : tie.Need-with-core-requires
-with-core-requires c κs = search needs
+mul-next : tie.Need-mul-next
+mul-next c = search needs
+
+element-set-from-next : tie.Need-element-set-from-next
+element-set-from-next c = search needs
 
 same-length : tie.Need-same-length
 same-length c = search needs
@@ -34,10 +34,10 @@ stored-home-spec =
     tie.close
     (tie.spec
     shape-of-requires
-    core-at-requires
     cast-put-home
     put-home-requires
     homed-core-requires
-    with-core-requires
+    mul-next
+    element-set-from-next
     same-length
     returns)

@@ -1,32 +1,31 @@
 -- `recovery::checkpoint::takes_block` meets its contract. Invariant: none of the first i blocks is the one sought.
 use borrow.Author.Needs.{needs}
 use Prim.Native.Nat.{_-_, _≤_}
-use native.Mathlib.Omega.{arith}
 use mathlib.Core.Bool.{false}
 use mathlib.Core.Path.{_≡_}
+use mathlib.Core.List.{[]}
 use lib.Dec.{eqb}
 use lib.ListN.{length, take}
-use Rattle.model.specs.Card.{taken}
 use Rattle.model.specs.Lists.{any}
-use Rattle.state.proofs.Parts.{facts}
-use Rattle.recovery.proofs.CheckpointLaws.{few-taken, none-taken, block-hit, block-missed, not-taken}
+use Rattle.state.proofs.Parts.{facts, any-none}
+use Rattle.recovery.proofs.CheckpointLaws.{few-taken, block-hit, block-missed, not-taken}
 use Rattle.recovery.proofs.checkpoint.takes_block.Statement.{statement}
 use Rattle.recovery.proofs.checkpoint.takes_block.Tie as tie
 
 abbrev Inv-loop : tie.InvT-loop
-Inv-loop b t count i₀ i = (count ≡ length (taken t)) × (count ≤ 8) × (any (eqb b) (take i (taken t)) ≡ false)
+Inv-loop b count blocks i₀ i = (count ≤ 8) × (length blocks ≡ 8) × (any (eqb b) (take i (take count blocks)) ≡ false)
 
 abbrev μ-loop : tie.MeasureT-loop
-μ-loop b t count i₀ i = count - i
+μ-loop b count blocks i₀ i = count - i
 
 block-count-requires : tie.Need-block-count-requires Inv-loop μ-loop
 block-count-requires c κs = search needs
 
 loop-holds : tie.Need-loop-holds Inv-loop μ-loop
-loop-holds c = let h = few-taken (c .before .args .t1) (c .before .args .b) (search facts) in (search needs, omega (arith, c .block-count .ensures), none-taken (c .before .args .t1) (c .before .args .b))
+loop-holds c = (search (facts, few-taken), search facts, any-none _ [])
 
-element-copy-out-if1 : tie.Need-element-copy-out-if1 Inv-loop μ-loop
-element-copy-out-if1 c = search facts
+array-read-if1 : tie.Need-array-read-if1 Inv-loop μ-loop
+array-read-if1 c = search facts
 
 returns : tie.Need-returns Inv-loop μ-loop
 returns c = search (facts, block-hit)
@@ -38,7 +37,7 @@ loop-less : tie.Need-loop-less Inv-loop μ-loop
 loop-less c = search needs
 
 loop-again : tie.Need-loop-again Inv-loop μ-loop
-loop-again c = (search needs, search needs, search (facts, block-missed))
+loop-again c = (search needs, search facts, search (facts, block-missed))
 
 returns-2 : tie.Need-returns-2 Inv-loop μ-loop
 returns-2 c = search (facts, not-taken)
@@ -51,7 +50,7 @@ takes-block-spec =
     μ-loop
     block-count-requires
     loop-holds
-    element-copy-out-if1
+    array-read-if1
     returns
     add-i
     loop-less
