@@ -22,7 +22,7 @@ use Rattle.model.proofs.Valid.{sameName-refl}
 use Rattle.crash.specs.Book.{Stage, Entry, Book, emptyBook, change, staged, taking, naming, hasRunning, hasClosed, hasCommitted, begin, holderIn, Meeting, no-holder, own, running-holder, closed-holder, meets, ruled, note, wrote, close, store, checkpoint}
 use Rattle.crash.specs.Service.{Service, emptyService, noted, cutService, fed}
 use Rattle.crash.specs.Ledger.{Ledger, Stored, freshLedger, blankLedger, closeLedger, cutLedger, recoverLedger, entered, storedOf, storedSince}
-use Rattle.crash.specs.Claims.{readAs, JournalsRead, LedgerKept, blankStart, downStart, OnRuns, downLedger}
+use Rattle.crash.specs.Claims.{fedPoint, readAs, JournalsRead, LedgerKept, blankStart, downStart, OnRuns, downLedger}
 use Rattle.crash.proofs.BookEntries.{sameName-false, change-each}
 use Rattle.crash.proofs.Tests.{clash}
 use Rattle.crash.proofs.Theorem.{demands}
@@ -48,6 +48,10 @@ abbrev pub OnceAlong : Ledger → World → List Point → Type 0
 OnceAlong l w [] = NamesOnce (l .book) × ReadOnce w
 OnceAlong l w (p ∷ ps) =
     NamesOnce (l .book) × ReadOnce (p .before) × OnceAlong (entered (p .byte) (p .operands) (p .outcome .answer) l) (p .outcome .world) ps
+
+abbrev pub OnceServed : Service → List Point → Type 0
+OnceServed v [] = NamesOnce (v .book)
+OnceServed v (p ∷ ps) = NamesOnce (v .book) × OnceServed (fedPoint p v) ps
 
 -- ---- a name added where it does not stand
 none-added : (n x : Name) (ns : List Name) → any (sameName x) ns ≡ false → sameName x n ≡ false → any (sameName x) (ns ++ (n ∷ [])) ≡ false
@@ -126,7 +130,7 @@ noted-once k a b h =
     (by-test NamesOnce (eqb k 5) (by-test NamesOnce (hasCommitted b c) (checkpoint-once c b h) h) h)))
 
 -- ---- the service book and the ledger, fed any command with any answer
-pub fed-once : (k : ℕ) (a : Bytes) (n : ℕ) (v : Service) → NamesOnce (v .book) → NamesOnce ((fed k a n v) .book)
+fed-once : (k : ℕ) (a : Bytes) (n : ℕ) (v : Service) → NamesOnce (v .book) → NamesOnce ((fed k a n v) .book)
 unfolding fed emptyService cutService
 fed-once k a zero v h =
     let P : Service → Type 0 = λ v. NamesOnce (v .book) in
@@ -138,7 +142,7 @@ unfolding recoverLedger freshLedger
 recover-once [] l h = empty-once _
 recover-once (b ∷ bs) l h = h
 
-pub entered-once : (k : ℕ) (a : Bytes) (n : ℕ) (l : Ledger) → NamesOnce (l .book) → NamesOnce ((entered k a n l) .book)
+entered-once : (k : ℕ) (a : Bytes) (n : ℕ) (l : Ledger) → NamesOnce (l .book) → NamesOnce ((entered k a n l) .book)
 unfolding entered freshLedger closeLedger cutLedger
 entered-once k a zero l h =
     let P : Ledger → Type 0 = λ l. NamesOnce (l .book) in
@@ -177,6 +181,16 @@ along n l w (p ∷ ps) h k = (
   λ b. journals-once l (p .before .disk) h (k .0 .journals b),
   along (p .stores) (entered (p .byte) (p .operands) (p .outcome .answer) l) (p .outcome .world) ps (entered-once (p .byte) (p .operands) (p .outcome .answer) l h) (k .2),
 )
+
+served : (v : Service) (ps : List Point) → NamesOnce (v .book) → OnceServed v ps
+unfolding fedPoint
+served v [] h = h
+served v (p ∷ ps) h = (h, served (fedPoint p v) ps (fed-once (p .byte) (p .operands) (p .outcome .answer) v h))
+
+-- the service book needs no run: any points do
+pub service-once : (n : ℕ) (ps : List Point) → OnceServed (emptyService n) ps
+unfolding emptyService
+service-once n ps = served (emptyService n) ps (empty-once _)
 
 blank-once : NamesOnce (blankLedger .book)
 unfolding blankLedger
