@@ -12,7 +12,7 @@ use borrow.Author.Needs.{needs}
 use borrow.Author.Tests.{le-leb, lt-leb, lt-ltb, le-ltb, eq-eqb, ne-eqb, not-true, not-false}
 use Rattle.model.specs.Lists.{any}
 use Rattle.model.specs.Bytes.{Bytes, replaced, store, zeroMemory}
-use Rattle.model.specs.Card.{newTail, sameName, taken, listed, lists, freshCore, noHolder, tailOf, coreOf, holderOf, withCore, withHolder}
+use Rattle.model.specs.Card.{newTail, sameName, taken, listed, lists, freshCore, noHolder, tailOf, coreOf, holderOf, withCore}
 use Rattle.model.specs.declared.Tail.{Tail}
 use Rattle.model.specs.declared.Name.{Name}
 use Rattle.model.specs.declared.Transaction.{Transaction}
@@ -20,6 +20,7 @@ use Rattle.model.specs.declared.Core.{Core}
 use Rattle.model.specs.declared.Holder.{Holder}
 use Rattle.model.specs.declared.Card.{Card}
 use Rattle.model.proofs.Lists.{any-append, mem-any, getD-mem}
+use Rattle.state.specs.Writing.{withHolding}
 
 -- the value of a test from the fact that the code's branch tells
 pub ruleset tests = (le-leb, lt-leb, lt-ltb, le-ltb, eq-eqb, ne-eqb, not-true, not-false)
@@ -159,8 +160,8 @@ module _ (x : Card) (i : ℕ) where
   unfolding holderOf
   holder-past n h = element-past (x .holders) 64 n i noHolder noHolder refl h
 
-  pub holder-kept : length (x .holders) ≡ 64 → (n : Name) → 64 ≤ i → x ≡ withHolder x i n
-  holder-kept l n h = rw (set-past (x .holders) 64 l i (record { held = true; name = n }) h)
+  pub holder-kept : length (x .holders) ≡ 64 → (h : Holder) → 64 ≤ i → x ≡ withHolding x i h
+  holder-kept n h q = rw (set-past (x .holders) 64 n i h q)
 
 -- ---- a transaction's blocks and names: a count above the array's length counts as its length
 module _ (t : Transaction) where

@@ -3,11 +3,12 @@ use Prim.Native.Nat.{ℕ, zero, suc, _+_, _≤_, _<_, min}
 use native.Mathlib.Omega.{arith}
 use mathlib.Core.Path.{_≡_, refl, sym, ap, _∙_}
 use mathlib.Core.Bool.{Bool, true, false, cond, not, _&&_, _||_}
+use mathlib.Core.Logic.{_⊎_, inl, inr}
 use mathlib.Core.List.{List, [], _∷_}
 use lib.Dec.{ltb, leb, eqb}
 use lib.ListN.{length, set, getD, length-take, length-set}
 use borrow.Author.Tests.{leb-false, not-true, not-false}
-use Rattle.model.specs.Card.{newName, sameName, freshCore, opened, taken, lists, withBlock, withName, withRunning, withCore, withHolder, recordSize, shapeOf, coreOf, holderOf}
+use Rattle.model.specs.Card.{newName, sameName, noHolder, freshCore, opened, taken, lists, withBlock, withName, withRunning, withCore, withHolder, recordSize, shapeOf, coreOf, holderOf}
 use Rattle.model.specs.Command.{refusal}
 use Rattle.model.specs.Layout.{maxNumber}
 use Rattle.model.specs.Write.{writer, writerName, isRunning, ruleFor, takesBlock, namesHolder, isNamedBack, writerAfter, passesTwelve, listsFull, closedBlocks, journalFull, writtenCard}
@@ -20,7 +21,8 @@ use Rattle.model.specs.declared.Card.{Card}
 use Rattle.model.specs.declared.Rule.{Rule}
 use Rattle.model.specs.declared.Rule.the-variants.{Free, Own, Running, Closed}
 use Rattle.model.proofs.Lists.{cases}
-use Rattle.state.specs.Writing.{writerListFull, holderListFull, ninthBlock, numbersEnd, roomConditions, Room, writerOf, runsAs, ruleOf, partConditions, namedBy, afterBy, backBy}
+use Rattle.state.proofs.Parts.{core-kept}
+use Rattle.state.specs.Writing.{writerListFull, holderListFull, ninthBlock, numbersEnd, roomConditions, Room, writerOf, runsAs, ruleOf, partConditions, namedBy, afterBy, backBy, heldBy, withHolding}
 
 -- ---- the writer
 module _ (k : Core) where
@@ -33,9 +35,6 @@ module _ (k : Core) where
   writer-opened t q h = q ∙ rw h
 
   -- 27
-  pub number-kept : k .running .live ≡ true → false ≡ (not (k .running .live) && ltb maxNumber (k .next))
-  number-kept h = rw h
-
   pub number-opens : k .running .live ≡ false → ltb maxNumber (k .next) ≡ (not (k .running .live) && ltb maxNumber (k .next))
   number-opens h = rw h
 
@@ -105,7 +104,7 @@ record-small t l n e =
     (rw e, omega arith)
 
 module _ (t v : Transaction) (b : ℕ) (l : length (t .blocks) ≡ 8) (p : v .count ≡ t .count) (q : v .blocks ≡ t .blocks) where
-  pub size-same : recordSize v ≡ recordSize t
+  size-same : recordSize v ≡ recordSize t
   unfolding recordSize taken
   size-same = rw (p, q)
 
@@ -117,10 +116,10 @@ module _ (t v : Transaction) (b : ℕ) (l : length (t .blocks) ≡ 8) (p : v .co
   unfolding recordSize taken
   size-with = rw (length-take (v .count + 1) (set (v .blocks) (v .count) b), length-set (v .blocks) (v .count) b, p, q, l)
 
-  pub size-more : recordSize t < 10 → recordSize t + 1 ≡ recordSize (withBlock v b)
+  size-more : recordSize t < 10 → recordSize t + 1 ≡ recordSize (withBlock v b)
   size-more h = omega (arith, size-of, size-with)
 
-  pub size-most : 10 ≤ recordSize t → recordSize t ≡ recordSize (withBlock v b)
+  size-most : 10 ≤ recordSize t → recordSize t ≡ recordSize (withBlock v b)
   size-most h = omega (arith, size-of, size-with)
 
 -- ---- 24, either list
@@ -202,17 +201,27 @@ module _ (r : Rule) (t : Transaction) (g : Bool) (q : g ≡ takesBlock r) where
     size-full h k n b = rw (after-taken n b h, s) (size-most t (namedBy r t n) b l (after-count r t n) (after-blocks r t n) (omega (arith, s)))
 
 -- the holder's list
-module _ (r : Rule) (x : Card) (c : ℕ) (k : Core) (w : Name) (g : Bool) (q : g ≡ isNamedBack r) where
-  pub same-card : not g ≡ true → x ≡ backBy r x c k w
+module _ (r : Rule) (k : Core) (w : Name) (g : Bool) (q : g ≡ isNamedBack r) where
+  pub same-core : not g ≡ true → k ≡ backBy r k w
   unfolding backBy
-  same-card h = rw (← q, not-true g h)
+  same-core h = rw (← q, not-true g h)
 
   pub back-room : (isNamedBack r && passesTwelve (k .running) w) ≡ false → not g ≡ false → passesTwelve (k .running) w ≡ false
   back-room m h = rw (← q, not-false g h) at m
 
-  pub named-back : (v : Transaction) (y : Card) → v ≡ withName (k .running) w → y ≡ withCore x c (withRunning k v) → not g ≡ false → y ≡ backBy r x c k w
+  pub named-back : (v : Transaction) → v ≡ withName (k .running) w → not g ≡ false → withRunning k v ≡ backBy r k w
   unfolding backBy
-  named-back v y i j h = j ∙ rw (← q, not-false g h, i)
+  named-back v i h = rw (← q, not-false g h, i)
+
+-- the block's holder
+module _ (r : Rule) (h : Holder) (w : Name) (g : Bool) (q : g ≡ takesBlock r) where
+  pub same-holder : not g ≡ true → h ≡ heldBy r h w
+  unfolding heldBy
+  same-holder z = rw (← q, not-true g z)
+
+  pub new-holder : not g ≡ false → record { held = true; name = w } ≡ heldBy r h w
+  unfolding heldBy
+  new-holder z = rw (← q, not-false g z)
 
 cond-true : (t : Bool) (a b : ℕ) → t ≡ true → cond t a b ≡ a
 cond-true t a b h = rw h
@@ -241,31 +250,67 @@ core-unseen : (x : Card) (u c : ℕ) (v t : Transaction) → withRunning (coreOf
 unfolding coreOf
 core-unseen x u c v t = set-unseen (λ (k : Core). withRunning k t) (λ (k : Core). withRunning k v) (λ (k : Core). refl) (freshCore 0) (x .cores) u c
 
-back-unseen : (r : Rule) (x : Card) (u c : ℕ) (w : Name) (t : Transaction) → withRunning (coreOf (backBy r x u (coreOf x u) w) c) t ≡ withRunning (coreOf x c) t
+-- what is read and put back changes nothing
+set-same : {A : Type 0} (l : List A) (i : ℕ) (d : A) → set l i (getD l i d) ≡ l
+set-same [] i d = refl
+set-same (a ∷ l) zero d = refl
+set-same {A = A} (a ∷ l) (suc i) d = ap {B = List A} (λ r. a ∷ r) (set-same l i d)
+
+core-same : (x : Card) (u : ℕ) → withCore x u (coreOf x u) ≡ x
+unfolding coreOf
+core-same x u = rw (set-same (x .cores) u (freshCore 0))
+
+holder-same : (x : Card) (b : ℕ) → withHolding x b (holderOf x b) ≡ x
+unfolding holderOf
+holder-same x b = rw (set-same (x .holders) b noHolder)
+
+-- the model's card with the holder's list, and with the block's holder
+abbrev backOf : Rule → Card → ℕ → Name → Card
+backOf r x u w = cond (isNamedBack r) (withCore x u (withRunning (coreOf x u) (withName ((coreOf x u) .running) w))) x
+
+back-card : (r : Rule) (x : Card) (u : ℕ) (w : Name) → withCore x u (backBy r (coreOf x u) w) ≡ backOf r x u w
 unfolding backBy
+back-card r x u w = cases (isNamedBack r) (λ h. rw h) (λ h. rw h (core-same x u))
+
+back-unseen : (r : Rule) (x : Card) (u c : ℕ) (w : Name) (t : Transaction) → withRunning (coreOf (backOf r x u w) c) t ≡ withRunning (coreOf x c) t
 back-unseen r x u c w t = cases (isNamedBack r) (λ h. rw h (core-unseen x u c _ t)) (λ h. rw h)
+
+held-card : (r : Rule) (y : Card) (b : ℕ) (w : Name) → withHolding y b (heldBy r (holderOf y b) w) ≡ cond (takesBlock r) (withHolder y b w) y
+unfolding heldBy
+held-card r y b w = cases (takesBlock r) (λ h. rw h) (λ h. rw h (holder-same y b))
+
+holder-beside : (x : Card) (u c b : ℕ) (v k : Core) → holderOf (withCore (withCore x u v) c k) b ≡ holderOf x b
+unfolding holderOf
+holder-beside x u c b v k = refl
 
 module _ (x : Card) (c b : ℕ) where
   after-of : afterBy (ruleFor x c b) (writer x c) ((holderOf x b) .name) b ≡ writerAfter x c b
   unfolding afterBy namedBy writerAfter
   after-of = refl
 
-  abbrev backOf : Card
-  backOf = let u = ((holderOf x b) .name) .core in backBy (ruleFor x c b) x u (coreOf x u) (writerName x c)
+  module _ (u : ℕ) (r : Rule) (w : Name) (t : Transaction) where
+    -- the cores as the code puts them, and as the model does
+    abbrev coresPut : Card
+    coresPut = withCore (withCore x u (backBy r (coreOf x u) w)) c (withRunning (coreOf x c) t)
 
-  abbrev afterOf : Card
-  afterOf = withCore backOf c (withRunning (coreOf x c) (writerAfter x c b))
+    abbrev coresOf : Card
+    coresOf = withCore (backOf r x u w) c (withRunning (coreOf (backOf r x u w) c) t)
 
-  same-after : withCore backOf c (withRunning (coreOf backOf c) (writerAfter x c b)) ≡ afterOf
-  same-after = ap (λ (k : Core). withCore backOf c k) (back-unseen (ruleFor x c b) x (((holderOf x b) .name) .core) c (writerName x c) (writerAfter x c b))
+    cores-after : coresPut ≡ coresOf
+    cores-after =
+        ap (λ (y : Card). withCore y c (withRunning (coreOf x c) t)) (back-card r x u w)
+        ∙ ap (λ (k : Core). withCore (backOf r x u w) c k) (sym (back-unseen r x u c w t))
 
-  card-kept : takesBlock (ruleFor x c b) ≡ false → writtenCard x c b ≡ afterOf
-  unfolding writtenCard backBy
-  card-kept h = rw h same-after
+    card-after : withHolding coresPut b (heldBy r (holderOf x b) w) ≡ cond (takesBlock r) (withHolder coresOf b w) coresOf
+    card-after =
+        ap (λ (h : Holder). withHolding coresPut b (heldBy r h w)) (sym (holder-beside x u c b (backBy r (coreOf x u) w) (withRunning (coreOf x c) t)))
+        ∙ held-card r coresPut b w
+        ∙ ap (λ (y : Card). cond (takesBlock r) (withHolder y b w) y) cores-after
 
-  card-held : takesBlock (ruleFor x c b) ≡ true → writtenCard x c b ≡ withHolder afterOf b (writerName x c)
-  unfolding writtenCard backBy
-  card-held h = rw h (ap (λ (y : Card). withHolder y b (writerName x c)) same-after)
+  card-written : withHolding (withCore (withCore x (((holderOf x b) .name) .core) (backBy (ruleFor x c b) (coreOf x (((holderOf x b) .name) .core)) (writerName x c))) c (withRunning (coreOf x c) (writerAfter x c b))) b (heldBy (ruleFor x c b) (holderOf x b) (writerName x c))
+      ≡ writtenCard x c b
+  unfolding writtenCard
+  card-written = card-after (((holderOf x b) .name) .core) (ruleFor x c b) (writerName x c) (writerAfter x c b)
 
   module _ (k : Core) (e : k ≡ coreOf x c) (h : Holder) (p : h ≡ holderOf x b) (u : Core) (q : u ≡ coreOf x ((h .name) .core)) (w : Name) (i : w ≡ newName c (k .next)) where
     writer-met : writerOf k ≡ writer x c
@@ -294,15 +339,21 @@ module _ (x : Card) (c b : ℕ) where
         unfolding writerListFull ninthBlock
         room-own m = (rw (rule-met, s, writer-met, p) (m .own), rw (rule-met, s, writer-met) (m .blocks))
 
-        module _ (a : Transaction) (f : a ≡ afterBy r t (h .name) b) (y z : Card) (d : y ≡ backBy r x ((h .name) .core) u w) (l : z ≡ withCore y c (withRunning k a)) (g : Bool) (o : g ≡ takesBlock r) where
-          after-met : z ≡ afterOf
-          after-met = l ∙ rw (d, f, rule-met, name-met, s, writer-met, q, p, after-of, e)
+        pub written-met : (a : Transaction) → a ≡ afterBy r t (h .name) b → (v : Core) → v ≡ backBy r u w → (o : Holder) → o ≡ heldBy r h w → (y : Card)
+            → y ≡ withHolding (withCore (withCore x ((h .name) .core) v) c (withRunning k a)) b o → y ≡ writtenCard x c b
+        written-met a f v d o g y l = l ∙ rw (f, d, g, rule-met, name-met, s, writer-met, q, p, after-of, e) card-written
 
-          pub written-kept : not g ≡ true → z ≡ writtenCard x c b
-          written-kept v = after-met ∙ sym (card-kept (rw (← rule-met, ← o) (not-true g v)))
+-- ---- parts put in their places, where the index is below the end
+core-joined : {P Q : Type 0} (x y : Card) (i : ℕ) (k : Core) → length (x .cores) ≡ 8 → (P × (y ≡ withCore x i k)) ⊎ (Q × (y ≡ x)) → (Q → 8 ≤ i) → y ≡ withCore x i k
+core-joined x y i k n (inl p) f = p .1
+core-joined x y i k n (inr q) f = q .1 ∙ core-kept x i n k (f (q .0))
 
-          pub written-held : (n : Card) → n ≡ withHolder z b w → not g ≡ false → n ≡ writtenCard x c b
-          written-held n v m = v ∙ rw (after-met, name-met) (sym (card-held (rw (← rule-met, ← o) (not-false g m))))
+pub cores-joined : {P Q R S : Type 0} (x y z : Card) (u c : ℕ) (v k : Core) → length (x .cores) ≡ 8
+    → (P × (y ≡ withCore x u v)) ⊎ (Q × (y ≡ x)) → (Q → 8 ≤ u) → (R × (z ≡ withCore y c k)) ⊎ (S × (z ≡ y)) → (S → 8 ≤ c) → z ≡ withCore (withCore x u v) c k
+cores-joined x y z u c v k n a f b g =
+    let e : y ≡ withCore x u v = core-joined x y u v n a f in
+    let l : length (y .cores) ≡ 8 = ap (λ (w : Card). length (w .cores)) e ∙ length-set (x .cores) u v ∙ n in
+    core-joined y z c k l b g ∙ ap (λ (w : Card). withCore w c k) e
 
 -- ---- the refusals by the parts, in turn
 module _ (j : ℕ) (k u : Core) (r : Rule) (w n : Name) (t : Transaction) (e : t ≡ writerOf k) (f : Bool) (p : f ≡ (namesHolder r && passesTwelve t n || isNamedBack r && passesTwelve (u .running) w)) where

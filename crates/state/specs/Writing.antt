@@ -1,12 +1,12 @@
 -- WRITE in stages: conditions and parts of the model's definition under names of their own.
 use Prim.Native.Nat.{ℕ, _+_, _≤_, _<_}
 use mathlib.Core.Path.{_≡_}
-use mathlib.Core.Bool.{Bool, false, cond, not, _&&_, _||_}
+use mathlib.Core.Bool.{Bool, true, false, cond, not, _&&_, _||_}
 use mathlib.Core.List.{List, [], _∷_}
 use lib.Dec.{ltb, leb, eqb}
-use lib.ListN.{length}
+use lib.ListN.{length, set}
 use Rattle.model.specs.Bytes.{Bytes}
-use Rattle.model.specs.Card.{sameName, opened, recordSize, shapeOf, coreOf, holderOf, withBlock, withName, withRunning, withCore}
+use Rattle.model.specs.Card.{sameName, opened, recordSize, shapeOf, coreOf, holderOf, withBlock, withName, withRunning}
 use Rattle.model.specs.Layout.{maxNumber}
 use Rattle.model.specs.Write.{writer, writerName, ruleFor, takesBlock, namesHolder, isNamedBack, passesTwelve, listsFull, closedBlocks, journalFull}
 use Rattle.model.specs.declared.Name.{Name}
@@ -77,9 +77,13 @@ namedBy r t n = cond (namesHolder r) (withName t n) t
 unfoldable pub afterBy : Rule → Transaction → Name → ℕ → Transaction
 afterBy r t n b = cond (takesBlock r) (withBlock (namedBy r t n) b) (namedBy r t n)
 
--- the card, the list of the holder, of core u, naming the writer where the rule asks for it
-unfoldable pub backBy : Rule → Card → ℕ → Core → Name → Card
-backBy r x u k w = cond (isNamedBack r) (withCore x u (withRunning k (withName (k .running) w))) x
+-- the holder's core, the list of its running transaction naming the writer where the rule asks for it
+unfoldable pub backBy : Rule → Core → Name → Core
+backBy r k w = cond (isNamedBack r) (withRunning k (withName (k .running) w)) k
+
+-- the block's holder: the writer where it takes the block
+unfoldable pub heldBy : Rule → Holder → Name → Holder
+heldBy r h w = cond (takesBlock r) (record { held = true; name = w }) h
 
 -- 24 to 27
 abbrev pub partConditions : ℕ → Core → Core → Rule → Name → Name → ℕ → List (Bool × ℕ)
@@ -89,3 +93,16 @@ partConditions j k u r w n b =
     ∷ (ltb j (closedBlocks k + recordSize (afterBy r (writerOf k) n b)), 26)
     ∷ (not (k .running .live) && ltb maxNumber (k .next), 27)
     ∷ []
+
+-- the card with block b's holder replaced
+abbrev pub withHolding : Card → ℕ → Holder → Card
+withHolding x b h =
+    record {
+      phase = x .phase;
+      shape = x .shape;
+      closes = x .closes;
+      recovered = x .recovered;
+      tails = x .tails;
+      cores = x .cores;
+      holders = set (x .holders) b h;
+    }

@@ -10,7 +10,7 @@ ghost use Prim.Native.Nat.{ℕ};
 ghost use lib.ListN.{length, getD, replicate};
 ghost use Rattle.model.specs.Bytes.{store};
 ghost use Rattle.model.specs.Shape.{clamped};
-ghost use Rattle.model.specs.Card.{newTail, sameName, taken, freshCore, freshCard, listed, lists, shapeOf, tailOf, coreOf, holderOf, withCore, withHolder};
+ghost use Rattle.model.specs.Card.{newTail, sameName, taken, freshCore, freshCard, listed, lists, shapeOf, tailOf, coreOf, holderOf, withCore};
 ghost use Rattle.model.specs.Layout.{masterBlock};
 ghost use Rattle.model.specs.Command.{refusal, wrongLength, notUp, noCore};
 ghost use Rattle.model.specs.declared.Phase.the-variants.{Up};
@@ -114,21 +114,6 @@ pub fn holder_at(card: Card, b: u8) -> Holder
         held: false,
         name: Name { core: 0, number: 0 },
     }
-}
-
-// The card with home block b held by the transaction of this name.
-pub fn with_holder(mut card: Card, b: u8, n: Name) -> Card
-    ensures { λ r. ⌜ r ≡ withHolder card b n ⌝ }
-{
-    let i = b as usize;
-    if 64 <= i {
-        return card;
-    }
-    card.holders[i] = Holder {
-        held: true,
-        name: n,
-    };
-    card
 }
 
 // The master stored, with these tails.

@@ -5,19 +5,17 @@ ghost use mathlib.Core.Path.{_≡_};
 ghost use mathlib.Core.Bool.{false, not, _&&_, _||_};
 ghost use Prim.Native.Nat.{ℕ, _+_, _<_, _≤_};
 ghost use lib.Dec.{ltb, leb};
-ghost use Rattle.model.specs.Card.{newName, opened, recordSize, withBlock, withName, withRunning, withCore};
+ghost use Rattle.model.specs.Card.{newName, opened, recordSize, withBlock, withName, withCore};
 ghost use Rattle.model.specs.Command.{refusal};
 ghost use Rattle.model.specs.Layout.{maxNumber};
 ghost use Rattle.model.specs.Write.{ruleFor, takesBlock, namesHolder, isNamedBack, loadsImage, passesTwelve, closedBlocks, writtenCard};
-ghost use Rattle.state.specs.Writing.{roomConditions, Room, writerOf, runsAs, ruleOf, partConditions, namedBy, afterBy, backBy};
+ghost use Rattle.state.specs.Writing.{roomConditions, Room, writerOf, runsAs, ruleOf, partConditions, namedBy, afterBy, backBy, heldBy, withHolding};
 use crate::block_count;
 use crate::core_at;
 use crate::holder_at;
 use crate::lists_name;
 use crate::same_name;
 use crate::shape_of;
-use crate::with_core;
-use crate::with_holder;
 use model::Card;
 use model::Core;
 use model::Holder;
@@ -321,25 +319,49 @@ fn writer_after(rule: Rule, t: Transaction, n: Name, b: u8) -> Transaction
     with_block(named, b)
 }
 
-// The card with core c as k, its running transaction replaced.
-fn with_running(card: Card, c: u8, mut k: Core, t: Transaction) -> Card
-    ensures { λ r. ⌜ r ≡ withCore card c (withRunning k t) ⌝ }
-{
-    k.running = t;
-    with_core(card, c, k)
-}
-
-// The card, the list of the holder, of core c, naming the writer where the rule asks for it.
-fn named_back(card: Card, rule: Rule, c: u8, k: Core, own: Name) -> Card
+// The holder's core, its running transaction's list naming the writer where the rule asks for it.
+fn named_back(rule: Rule, mut k: Core, own: Name) -> Core
     requires { ⌜ (isNamedBack rule && passesTwelve (k .running) own) ≡ false ⌝ }
-    ensures { λ r. ⌜ r ≡ backBy rule card c k own ⌝ }
+    ensures { λ r. ⌜ r ≡ backBy rule k own ⌝ }
 {
     if !is_named_back(rule) {
-        return card;
+        return k;
     }
     let t = k.running;
-    let named = with_name(t, own);
-    with_running(card, c, k, named)
+    k.running = with_name(t, own);
+    k
+}
+
+// The block's holder: the writer where it takes the block.
+fn holder_after(rule: Rule, h: Holder, own: Name) -> Holder
+    ensures { λ r. ⌜ r ≡ heldBy rule h own ⌝ }
+{
+    if !takes_block(rule) {
+        return h;
+    }
+    Holder {
+        held: true,
+        name: own,
+    }
+}
+
+// The card with cores u and c and block b's holder replaced, in one copy; past the end nothing changes.
+fn with_parts(mut card: Card, u: u8, v: Core, c: u8, k: Core, b: u8, h: Holder) -> Card
+    ensures { λ r. ⌜ r ≡ withHolding (withCore (withCore card u v) c k) b h ⌝ }
+{
+    let i = u as usize;
+    if i < 8 {
+        card.cores[i] = v;
+    }
+    let i = c as usize;
+    if i < 8 {
+        card.cores[i] = k;
+    }
+    let i = b as usize;
+    if i < 64 {
+        card.holders[i] = h;
+    }
+    card
 }
 
 // The card afterwards: the holder's list, the writer, the block's holder.
@@ -347,18 +369,15 @@ pub fn written_card(card: Card, c: u8, b: u8) -> Card
     requires { ⌜ Room card c b ⌝ }
     ensures { λ r. ⌜ r ≡ writtenCard card c b ⌝ }
 {
-    let k = core_at(card, c);
+    let mut k = core_at(card, c);
     let h = holder_at(card, b);
     let n = h.name;
     let u = core_at(card, n.core);
     let own = writer_name(k, c);
     let rule = rule_at(h, own, u);
     let t = writer(k);
-    let after = writer_after(rule, t, n, b);
-    let named = named_back(card, rule, n.core, u, own);
-    let written = with_running(named, c, k, after);
-    if !takes_block(rule) {
-        return written;
-    }
-    with_holder(written, b, own)
+    k.running = writer_after(rule, t, n, b);
+    let v = named_back(rule, u, own);
+    let held = holder_after(rule, h, own);
+    with_parts(card, n.core, v, c, k, b, held)
 }

@@ -1,11 +1,11 @@
 -- `state::rules::named_back` meets its contract.
-use Rattle.state.proofs.WriterLaws.{same-card, back-room, named-back}
+use Rattle.state.proofs.WriterLaws.{same-core, back-room, named-back}
 use borrow.Author.Needs.{needs}
 use Rattle.state.proofs.rules.named_back.Statement.{statement}
 use Rattle.state.proofs.rules.named_back.Tie as tie
 
 returns : tie.Need-returns
-returns c = search (needs, same-card)
+returns c = search (needs, same-core)
 
 with-name-requires : tie.Need-with-name-requires
 with-name-requires c κs = search (needs, back-room)
@@ -14,4 +14,4 @@ returns-2 : tie.Need-returns-2
 returns-2 c = search (needs, named-back)
 
 pub named-back-spec : {M : Type 1} → statement M
-named-back-spec = tie.close (tie.spec (λ c κs. search needs) returns with-name-requires (λ c κs. search needs) returns-2)
+named-back-spec = tie.close (tie.spec (λ c κs. search needs) returns with-name-requires returns-2)

@@ -1,5 +1,5 @@
--- `state::rules::written_card` meets its contract: the holder's core is written first, and what it became does not matter to core c.
-use Rattle.state.proofs.WriterLaws.{room-own, room-back, written-kept, written-held}
+-- `state::rules::written_card` meets its contract: what core u became does not matter where core c's running transaction is replaced.
+use Rattle.state.proofs.WriterLaws.{room-own, room-back, written-met}
 use borrow.Author.Needs.{needs}
 use Rattle.state.proofs.rules.written_card.Statement.{statement}
 use Rattle.state.proofs.rules.written_card.Tie as tie
@@ -11,10 +11,7 @@ named-back-requires : tie.Need-named-back-requires
 named-back-requires c κs = search (needs, room-back)
 
 returns : tie.Need-returns
-returns c = written-kept _ _ _ _ (c .before .before .before .before .before .before .before .before .before .before .before .core-at .ensures) _ (c .before .before .before .before .before .before .before .before .before .before .holder-at .ensures) _ (c .before .before .before .before .before .before .before .before .core-at2 .ensures) _ (c .before .before .before .before .before .before .before .writer-name .ensures) _ (c .before .before .before .before .before .before .rule-at .ensures) _ (c .before .before .before .before .before .writer .ensures) _ (c .before .before .before .before .writer-after .ensures) _ _ (c .before .before .before .named-back .ensures) (c .before .before .with-running .ensures) _ (c .before .takes-block .ensures) (c .if1 .taken)
-
-returns-2 : tie.Need-returns-2
-returns-2 c = written-held _ _ _ _ (c .before .before .before .before .before .before .before .before .before .before .before .before .core-at .ensures) _ (c .before .before .before .before .before .before .before .before .before .before .before .holder-at .ensures) _ (c .before .before .before .before .before .before .before .before .before .core-at2 .ensures) _ (c .before .before .before .before .before .before .before .before .writer-name .ensures) _ (c .before .before .before .before .before .before .before .rule-at .ensures) _ (c .before .before .before .before .before .before .writer .ensures) _ (c .before .before .before .before .before .writer-after .ensures) _ _ (c .before .before .before .before .named-back .ensures) (c .before .before .before .with-running .ensures) _ (c .before .before .takes-block .ensures) _ (c .with-holder .ensures) (c .before .if1 .left)
+returns c = written-met _ _ _ _ (c .before .before .before .before .before .before .before .before .before .before .core-at .ensures) _ (c .before .before .before .before .before .before .before .before .before .holder-at .ensures) _ (c .before .before .before .before .before .before .before .core-at2 .ensures) _ (c .before .before .before .before .before .before .writer-name .ensures) _ (c .before .before .before .before .before .rule-at .ensures) _ (c .before .before .before .before .writer .ensures) _ (c .before .before .before .writer-after .ensures) _ (c .before .before .named-back .ensures) _ (c .before .holder-after .ensures) _ (c .with-parts .ensures)
 
 pub written-card-spec : {M : Type 1} → statement M
-written-card-spec = tie.close (tie.spec (λ c κs. search needs) (λ c κs. search needs) (λ c κs. search needs) (λ c κs. search needs) (λ c κs. search needs) (λ c κs. search needs) writer-after-requires named-back-requires (λ c κs. search needs) (λ c κs. search needs) returns (λ c κs. search needs) returns-2)
+written-card-spec = tie.close (tie.spec (λ c κs. search needs) (λ c κs. search needs) (λ c κs. search needs) (λ c κs. search needs) (λ c κs. search needs) (λ c κs. search needs) writer-after-requires named-back-requires (λ c κs. search needs) (λ c κs. search needs) returns)
