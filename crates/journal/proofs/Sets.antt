@@ -1,6 +1,6 @@
 -- Sets as slots and as lists: which transactions a set has, a name looked up by its slot, one round of striking, and how
 -- many are left.
-use Prim.Native.Nat.{ℕ, zero, suc, _+_, _*_, _-_, _/_, _%_, _≤_, _<_}
+use Prim.Native.Nat.{ℕ, zero, suc, _+_, _*_, _-_, _/_, _%_, _≤_, _<_, min}
 use native.Mathlib.Omega.{arith}
 use native.Mathlib.Decide.{decLt}
 use mathlib.Core.Path.{_≡_, refl, sym, ap, _∙_, fun-ext}
@@ -13,7 +13,7 @@ use borrow.Author.Tests.{lt-ltb, le-ltb, ltb-true, ltb-false, eqb-true, eqb-fals
 use Rattle.model.specs.Lists.{below, all, select}
 use Rattle.model.specs.Bytes.{Bytes}
 use Rattle.model.specs.Card.{newName, sameName}
-use Rattle.model.specs.Layout.{pairAt, pairsIn, namesIn}
+use Rattle.model.specs.Layout.{pairAt, pairsIn, namesIn, blockCount, nameCount}
 use Rattle.model.specs.Journal.{journalAt, nameOf, namesOf}
 use Rattle.model.specs.Shrink.{strike}
 use Rattle.model.specs.Valid.{isIn, isMet, namesMet}
@@ -257,23 +257,34 @@ module _ (s : Shape) (d : Bytes) (ks set : List ℕ) where
   unfolding nameMet
   name-is f i c k r p q e = e ∙ rw (p, q)
 
-  pub names-are : (e : Committed) (f : Bytes) (r : Bool) → f ≡ journalAt s d (e .core) (e .position + (e .count + 1)) → r ≡ every (e .named) (nameMet s ks set f) → InRange s
+  names-are : (e : Committed) (f : Bytes) (r : Bool) → f ≡ journalAt s d (e .core) (e .position + (e .count + 1)) → r ≡ every (e .named) (nameMet s ks set f) → InRange s
       → r ≡ namesMet s d (numbered ks) (entries s d ks set) e
   names-are e f r q h l = h ∙ rw q (sym (names-slot s d ks set l e))
 
-  module _ (i : ℕ) (f : Found) (e : f ≡ foundAt s d [] set i) where
-    pub kept-none : f ≡ Miss → 0 ≡ kept s d ks set i
-    unfolding kept keeps
-    kept-none h = rw (← e, h)
+  -- as they are read from a slot's descriptor and commit
+  pub names-read : (c v x n y m : ℕ) (b f : Bytes) (r : Bool) → b ≡ journalAt s d c (v - 1) → x ≡ blockCount b → n ≡ min x 8
+      → f ≡ journalAt s d c (v - 1 + (n + 1)) → y ≡ nameCount f → m ≡ min y 12 → r ≡ every m (nameMet s ks set f) → InRange s
+      → (k : ℕ) → r ≡ namesMet s d (numbered ks) (entries s d ks set) (entry s d c k v)
+  unfolding entry
+  names-read c v x n y m b f r eb ex en ef ey em er l k =
+      let h : n ≡ min (blockCount (journalAt s d c (v - 1))) 8 = en ∙ rw (ex, eb) in
+      let g : f ≡ journalAt s d c (v - 1 + (min (blockCount (journalAt s d c (v - 1))) 8 + 1)) = rw h at ef in
+      let a : m ≡ (entry s d c k v) .named = em ∙ ap (λ (n : ℕ). min n 12) (ey ∙ ap nameCount g) in
+      names-are (entry s d c k v) f r g (er ∙ ap (λ (n : ℕ). every n (nameMet s ks set f)) a) l
 
-    module _ (x : Committed) (r : Bool) (h : f ≡ Whole x) (q : r ≡ namesMet s d (numbered ks) (entries s d ks set) x) where
+  module _ (i v : ℕ) (e : v ≡ slotOf s set i) where
+    pub kept-none : v ≡ 0 → 0 ≡ kept s d ks set i
+    unfolding kept keeps
+    kept-none h = rw (empty-slot s d [] set i (sym e ∙ h))
+
+    module _ (h : v ≡ 0 → ⊥) (r : Bool) (q : (k : ℕ) → r ≡ namesMet s d (numbered ks) (entries s d ks set) (entry s d (i / 12) k v)) where
       pub kept-in : r ≡ true → getD set i 0 ≡ kept s d ks set i
       unfolding kept keeps
-      kept-in t = rw (← e, h, ← q, t)
+      kept-in t = rw (filled-slot s d [] set i v (sym e) h, ← q (getD [] (i / 12) 0 + i % 12), t)
 
       pub kept-out : r ≡ false → 0 ≡ kept s d ks set i
       unfolding kept keeps
-      kept-out t = rw (← e, h, ← q, t)
+      kept-out t = rw (filled-slot s d [] set i v (sym e) h, ← q (getD [] (i / 12) 0 + i % 12), t)
 
 pub all-struck : (s : Shape) (d : Bytes) (ks set next : List ℕ) (i : ℕ) → Filled (kept s d ks set) 96 next i → 96 ≤ i → next ≡ struck s d ks set
 unfolding struck

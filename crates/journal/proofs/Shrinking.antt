@@ -78,7 +78,13 @@ module _ (s : Shape) (d : Bytes) (ks xs ys : List ℕ) (m n : ℕ) (e : ys ≡ s
   pub shrink-falls : (m ≡ n → ⊥) → filledFrom s ys 0 96 < filledFrom s xs 0 96
   shrink-falls h = omega (arith, h, size ys, size xs, ap length round, strike-length (namesMet s d (numbered ks)) (entries s d ks xs))
 
--- the first round, then the recursion
+-- the first round; where none goes it is the last one
+pub valid-same : (s : Shape) (d : Bytes) (ts : List Tail) (ks xs ys : List ℕ) (m n : ℕ) → ks ≡ numbersOf ts → ys ≡ struck s d ks xs → m ≡ filledFrom s ys 0 96 → n ≡ filledFrom s xs 0 96
+    → m ≡ n → entries s d (numbersOf ts) ys ≡ validSet s d (numbered (numbersOf ts)) (entries s d (numbersOf ts) xs)
+unfolding validSet
+valid-same s d ts ks xs ys m n e r p q h = let g = shrink-same s d ks xs ys m n r p q h in rw e at g
+
+-- otherwise the recursion follows
 pub valid-is : (s : Shape) (d : Bytes) (ts : List Tail) (ks xs ys zs : List ℕ) → ks ≡ numbersOf ts → ys ≡ struck s d ks xs
     → entries s d ks zs ≡ shrink (namesMet s d (numbered ks)) (entries s d ks ys)
     → entries s d (numbersOf ts) zs ≡ validSet s d (numbered (numbersOf ts)) (entries s d (numbersOf ts) xs)

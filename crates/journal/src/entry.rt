@@ -13,7 +13,7 @@ use model::Found;
 use model::Shape;
 
 // The lower of the two: a slot that no reading filled may lead to any number.
-fn at_most(x: u32, most: u8) -> u8
+pub fn at_most(x: u32, most: u8) -> u8
     ensures { λ r. ⌜ r ≡ min x most ⌝ }
 {
     if x < most as u32 {
@@ -32,7 +32,7 @@ fn slot_value(x: u16) -> usize
 }
 
 // Slot i of a set, empty for a core that the disk has not.
-fn slot_of(s: Shape, set: &[u16; 96], i: usize) -> usize
+pub fn slot_of(s: Shape, set: &[u16; 96], i: usize) -> usize
     requires { ⌜ i < 96 ⌝ }
     ensures { λ r. ⌜ (r ≡ slotOf s (now (set .entry)) i) × (r ≤ 256) ⌝ }
 {

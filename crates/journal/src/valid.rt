@@ -1,19 +1,18 @@
 // The valid set: of the transactions read, those whose names are all met, found by striking the others until none goes.
 ghost use mathlib.Core.Path.{_≡_};
-ghost use Prim.Native.Nat.{_*_, _≤_, _<_};
+ghost use Prim.Native.Nat.{ℕ, _*_, _≤_, _<_};
 ghost use lib.ListN.{length};
 ghost use Rattle.model.proofs.Limits.{InRange};
 ghost use Rattle.model.specs.Shrink.{shrink};
 ghost use Rattle.model.specs.Valid.{namesMet, validSet};
-ghost use Rattle.journal.specs.Slots.{numbersOf, numbered, entries, isFilled, Sized, filledFrom};
+ghost use Rattle.journal.specs.Slots.{numbersOf, numbered, entry, entries, isFilled, filledFrom};
 ghost use Rattle.layout.specs.Loops.{every};
 ghost use Rattle.journal.specs.Sets.{isHere, slotMet, nameMet, kept, struck};
+use crate::entry::at_most;
 use crate::entry::count_slots;
-use crate::entry::entry_at;
 use crate::entry::is_filled;
+use crate::entry::slot_of;
 use crate::record::journal_part;
-use model::Committed;
-use model::Found;
 use model::Shape;
 use model::Tail;
 
@@ -72,14 +71,17 @@ fn are_met(s: Shape, numbers: &[u32; 8], set: &[u16; 96], commit: &[u8], n: usiz
     true
 }
 
-// Whether each name of a transaction is met.
-fn names_met(s: Shape, disk: &[u8], numbers: &[u32; 8], set: &[u16; 96], e: Committed) -> bool
-    requires { ⌜ InRange s × (length (now disk) ≡ 32896) × Sized s e ⌝ }
-    ensures { λ r. ⌜ r ≡ namesMet s (now (disk .entry)) (numbered (now (numbers .entry))) (entries s (now (disk .entry)) (now (numbers .entry)) (now (set .entry))) e ⌝ }
+// Whether each name of core c's transaction is met, with v the position after its descriptor. Its number and its stamp play
+// no part.
+fn names_met(s: Shape, disk: &[u8], numbers: &[u32; 8], set: &[u16; 96], c: u8, v: usize) -> bool
+    requires { ⌜ InRange s × (length (now disk) ≡ 32896) × (c < s .cores) × (1 ≤ v) × (v ≤ 256) ⌝ }
+    ensures { λ r. ⌜ ((k : ℕ) → r ≡ namesMet s (now (disk .entry)) (numbered (now (numbers .entry))) (entries s (now (disk .entry)) (now (numbers .entry)) (now (set .entry))) (entry s (now (disk .entry)) c k v)) ⌝ }
 {
-    let at = e.position as usize + (e.count as usize + 1);
-    let commit = journal_part(s, disk, e.core, at);
-    are_met(s, numbers, set, commit, e.named as usize)
+    let at = v - 1;
+    let count = at_most(layout::block_count(journal_part(s, disk, c, at)), 8);
+    let commit = journal_part(s, disk, c, at + (count as usize + 1));
+    let named = at_most(layout::name_count(commit), 12);
+    are_met(s, numbers, set, commit, named as usize)
 }
 
 // Slot i after one round: struck where a name is unmet.
@@ -87,10 +89,11 @@ fn keep_slot(s: Shape, disk: &[u8], numbers: &[u32; 8], set: &[u16; 96], i: usiz
     requires { ⌜ InRange s × (length (now disk) ≡ 32896) × (i < 96) ⌝ }
     ensures { λ r. ⌜ r ≡ kept s (now (disk .entry)) (now (numbers .entry)) (now (set .entry)) i ⌝ }
 {
-    let Found::Whole(e) = entry_at(s, disk, set, i) else {
+    let v = slot_of(s, set, i);
+    if v == 0 {
         return 0;
-    };
-    if names_met(s, disk, numbers, set, e) {
+    }
+    if names_met(s, disk, numbers, set, (i / 12) as u8, v) {
         return set[i];
     }
     0
@@ -154,16 +157,20 @@ fn numbers_of(tails: [Tail; 8]) -> [u32; 8]
     numbers
 }
 
-// The valid set of the transactions read; the first round is done here. No public entry.
+// The valid set of the transactions read; the first round is done here, and mostly none goes. No public entry.
 pub fn valid_slots(s: Shape, disk: &[u8], tails: [Tail; 8], committed: [u16; 96]) -> [u16; 96]
     requires { ⌜ InRange s × (length (now disk) ≡ 32896) ⌝ }
     ensures { λ r. ⌜ entries s (now (disk .entry)) (numbersOf tails) r ≡ validSet s (now (disk .entry)) (numbered (numbersOf tails)) (entries s (now (disk .entry)) (numbersOf tails) committed) ⌝ }
 {
     let numbers = numbers_of(tails);
+    let before = count_slots(s, &committed, 0, 96);
     let mut set = committed;
     strike_round(s, disk, &numbers, &mut set);
-    let count = count_slots(s, &set, 0, 96);
-    shrink_set(s, disk, &numbers, &mut set, count);
+    let left = count_slots(s, &set, 0, 96);
+    if left == before {
+        return set;
+    }
+    shrink_set(s, disk, &numbers, &mut set, left);
     set
 }
 

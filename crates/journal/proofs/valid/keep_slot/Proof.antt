@@ -1,6 +1,6 @@
 -- `journal::keep_slot` meets its contract: each return is one case of `kept`.
 use Rattle.journal.proofs.Sets.{kept-none, kept-in, kept-out}
-use Rattle.journal.proofs.Entries.{found-sized}
+use Rattle.journal.proofs.Entries.{slot-core}
 use borrow.Author.Needs.{needs}
 use Rattle.journal.proofs.valid.keep_slot.Statement.{statement}
 use Rattle.journal.proofs.valid.keep_slot.Tie as tie
@@ -9,7 +9,7 @@ returns : tie.Need-returns
 returns c = search (needs, kept-none)
 
 names-met-requires : tie.Need-names-met-requires
-names-met-requires c κs = search (needs, found-sized)
+names-met-requires c κs = search (needs, slot-core)
 
 returns-2 : tie.Need-returns-2
 returns-2 c = search (needs, kept-in)
@@ -20,5 +20,5 @@ returns-3 c = search (needs, kept-out)
 pub keep-slot-spec : {M : Type 1} → statement M
 keep-slot-spec =
     tie.close
-    (tie.spec (λ c κs. search needs) (λ c. search needs) (λ c. search needs) returns names-met-requires
+    (tie.spec (λ c κs. search needs) returns (λ c. search needs) names-met-requires
     (λ c. search needs) (λ c. search needs) returns-2 returns-3)

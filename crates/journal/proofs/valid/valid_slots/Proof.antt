@@ -1,12 +1,17 @@
--- `journal::valid_slots` meets its contract: what the recursion leaves is the valid set.
-use Rattle.journal.proofs.Shrinking.{valid-is}
+-- `journal::valid_slots` meets its contract: what the first round leaves, or the recursion after it, is the valid set.
+use Rattle.journal.proofs.Shrinking.{valid-same, valid-is}
 use borrow.Author.Needs.{needs}
 use Rattle.journal.proofs.valid.valid_slots.Statement.{statement}
 use Rattle.journal.proofs.valid.valid_slots.Tie as tie
 
 returns : tie.Need-returns
-returns c = search (needs, valid-is)
+returns c = search (needs, valid-same)
+
+returns-2 : tie.Need-returns-2
+returns-2 c = search (needs, valid-is)
 
 pub valid-slots-spec : {M : Type 1} → statement M
 valid-slots-spec =
-    tie.close (tie.spec (λ c κs. search needs) (λ c κs. search needs) (λ c κs. search needs) (λ c κs. search needs) returns)
+    tie.close
+    (tie.spec (λ c κs. search needs) (λ c κs. search needs) (λ c κs. search needs) (λ c κs. search needs) returns
+    (λ c κs. search needs) returns-2)
