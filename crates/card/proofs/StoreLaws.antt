@@ -17,10 +17,9 @@ use Rattle.model.specs.declared.Tail.{Tail}
 use Rattle.model.specs.declared.Transaction.{Transaction}
 use Rattle.model.specs.declared.Core.{Core}
 use Rattle.model.specs.declared.Card.{Card}
-use Rattle.model.proofs.Lists.{getD-map-below}
+use Rattle.model.proofs.Lists.{getD-map-below, map-below}
 use Rattle.model.proofs.OneStore.{shape-limits, stored-low, position}
 use Rattle.layout.proofs.Blocks.{block-lent}
-use Rattle.layout.proofs.Loops.{same-below}
 use Rattle.state.specs.Answer.{world}
 use Rattle.state.proofs.Refusals.{was-done}
 use Rattle.state.proofs.EntryLaws.{entry, entry-hit, entry-pass, Entered, entered}
@@ -68,7 +67,7 @@ unfolding heldCopies
 same-held t c m fs e n =
     let l : length (taken t) ≡ min (t .count) 8 = took t n in
     rw l
-    (same-below _ _ (min (t .count) 8)
+    (map-below _ _ (min (t .count) 8)
     (λ i h.
     let a : getD (t .blocks) i 0 ≡ getD (taken t) i 0 = taken-at t i (omega arith) in
     let b : getD fs i 0 ≡ copyFlag c m i = ap (λ (l : List ℕ). getD l i 0) e ∙ getD-map-below (copyFlag c m) 8 i 0 (omega arith) in

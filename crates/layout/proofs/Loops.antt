@@ -11,7 +11,7 @@ use lib.Seq.{take-suc-set, take-all}
 use borrow.Author.Tests.{not-true, not-false}
 use borrow.Author.Needs.{needs}
 use Rattle.model.specs.Lists.{below, all, any}
-use Rattle.model.proofs.Lists.{cases, all-mem, all-append, any-append, all-map, any-map, mem-any, below-mem, map-below}
+use Rattle.model.proofs.Lists.{cases, all-mem, all-append, any-append, all-map, any-map, mem-any, below-mem}
 use Rattle.layout.specs.Loops.{every, some}
 
 -- ---- a test at each index
@@ -109,10 +109,6 @@ module _ (p : ℕ → Bool) (n : ℕ) where
     missed-end w h = some-no p i n (w .fails) (w .most) h
 
 pub ruleset missed = (needs, missed-start, some-in, missed-more, missed-end)
-
--- ---- lists given by an index
-pub same-below : {A : Type 0} (f g : ℕ → A) (n : ℕ) → ((i : ℕ) → i < n → f i ≡ g i) → map f (below n) ≡ map g (below n)
-same-below = map-below
 
 -- ---- an array filled
 module _ {A : Type 0} (f : ℕ → A) where

@@ -122,7 +122,8 @@ module _ {ts : List (Bool × ℕ)} {w : World} {done o : Outcome} where
   decided-done (refused n p f e) z = absurd (let h : o .answer ≡ n = ap (λ (o : Outcome). o .answer) e in omega arith)
   decided-done (carried-out c e) z = (c, e)
 
-unless-same : (xs ys : List (Bool × ℕ)) (w : World) (done : Outcome) → refusal xs ≡ refusal ys → unless xs w done ≡ unless ys w done
+-- the outcome hangs on the number of the refusal alone
+pub unless-same : (xs ys : List (Bool × ℕ)) (w : World) (done : Outcome) → refusal xs ≡ refusal ys → unless xs w done ≡ unless ys w done
 unfolding unless
 unless-same xs ys w done h = rw (h, unless)
 

@@ -26,7 +26,7 @@ use Rattle.model.specs.declared.Card.{Card}
 use Rattle.model.specs.declared.Committed.{Committed}
 use Rattle.model.specs.declared.Found.{Found}
 use Rattle.model.specs.declared.Found.the-variants.{Miss}
-use Rattle.model.proofs.Lists.{cases, any-mem, mem-any, getD-mem, mem-getD, mem-below, below-mem, getD-map-below}
+use Rattle.model.proofs.Lists.{any-mem, mem-any, getD-mem, mem-getD, mem-below, below-mem, getD-map-below, both-ways}
 use Rattle.model.proofs.OneStore.{shape-limits}
 use Rattle.model.proofs.Limits.{InRange, clamped-same}
 use Rattle.model.proofs.Journal.{journal-low}
@@ -172,10 +172,6 @@ module _ (s : Shape) (d : Bytes) (e : Committed) (r : IsRead s d e) (i : ℕ) (b
   block-fits l = omega (arith, block-low l)
 
 -- ---- blocks shared
-both-ways : (a b : Bool) → (a ≡ true → b ≡ true) → (b ≡ true → a ≡ true) → a ≡ b
-both-ways true b f g = sym (f refl)
-both-ways false b f g = cases b (λ h. g h ∙ sym h) (λ h. sym h)
-
 -- the block at place i is one of those
 unfoldable pub sharesAt : List ℕ → List ℕ → ℕ → Bool
 sharesAt bs cs i = any (eqb (getD bs i 0)) cs
@@ -183,7 +179,7 @@ sharesAt bs cs i = any (eqb (getD bs i 0)) cs
 some-share : (bs cs : List ℕ) → some (length bs) (sharesAt bs cs) ≡ share bs cs
 unfolding some share sharesAt
 some-share bs cs =
-    both-ways _ _
+    both-ways
     (λ h.
     let m = any-mem (λ (i : ℕ). any (eqb (getD bs i 0)) cs) (below (length bs)) h in
     mem-any (λ (b : ℕ). any (eqb b) cs) (getD-mem bs (m .0) 0 (mem-below (length bs) (m .1))) (m .2))

@@ -1,5 +1,5 @@
 -- CHECKPOINT's refusals: the slots against the model's lists, the oldest transaction, and the stages one after another.
-use Prim.Native.Nat.{ℕ, zero, suc, _+_, _*_, _-_, _%_, _≤_, _<_, min}
+use Prim.Native.Nat.{ℕ, suc, _+_, _*_, _-_, _%_, _≤_, _<_, min}
 use native.Mathlib.Omega.{arith}
 use native.Mathlib.Nat.{add-zero}
 use native.Mathlib.Decide.{decLt}
@@ -15,7 +15,7 @@ use Rattle.model.specs.Card.{shapeOf, tailOf, coreOf, committedCount}
 use Rattle.model.specs.Layout.{hasHead, maxNumber, isDescriptor}
 use Rattle.model.specs.Journal.{recordAt, recordsFrom, journal, nameOf}
 use Rattle.model.specs.Valid.{isIn, validSet}
-use Rattle.model.specs.Command.{World, Outcome, refusal, unless, notUp, noCore}
+use Rattle.model.specs.Command.{World, refusal, unless, notUp, noCore}
 use Rattle.model.specs.Checkpoint.{committedNow, validNow, committedOf, oldest, sharesLower, checkpointConditions, checkpointed, checkpoint}
 use Rattle.model.specs.declared.Shape.{Shape}
 use Rattle.model.specs.declared.Tail.{Tail}
@@ -25,7 +25,7 @@ use Rattle.model.specs.declared.Found.{Found}
 use Rattle.model.specs.declared.Found.the-variants.{Whole, Miss}
 use Rattle.model.proofs.Lists.{cases, and-left, and-right}
 use Rattle.model.proofs.Limits.{InRange}
-use Rattle.model.proofs.Command.{Clear, refusedWith, refusal-clear, unless-done, unless-refused}
+use Rattle.model.proofs.Command.{Clear, refusedWith, refusal-clear, unless-same}
 use Rattle.model.proofs.OneStore.{shape-limits, right-lengths}
 use Rattle.model.proofs.Journal.{Known, record-known, records-miss, records-hit, records-all}
 use Rattle.layout.specs.Loops.{some}
@@ -226,14 +226,6 @@ module _ (x : Card) (c : ℕ) (e : Committed) (d : Bytes) (k : ℕ) (y : (m : By
   pub oldest-done : k ≡ 0 → (r : Answer) (d₂ : Bytes) → ((m : Bytes) → outcomeOf r d₂ m ≡ nextStore c e (world x d m)) → (m : Bytes) → outcomeOf r d₂ m ≡ oldestOutcome c e (world x d m)
   unfolding oldestOutcome
   oldest-done h r d₂ o m = was-done (oldestConditions e (world x d m)) _ _ k (y m) h (outcomeOf r d₂ m) (o m)
-
--- the outcome hangs on the number of the refusal alone
-unless-same : (ts us : List (Bool × ℕ)) (w : World) (o : Outcome) → refusal ts ≡ refusal us → unless ts w o ≡ unless us w o
-unless-same ts us w o e = at (refusal us) refl
-  where
-    at : (n : ℕ) → refusal us ≡ n → unless ts w o ≡ unless us w o
-    at zero h = unless-done ts w o (e ∙ h) ∙ sym (unless-done us w o h)
-    at (suc n) h = unless-refused ts w o (suc n) (e ∙ h) (omega arith) ∙ sym (unless-refused us w o (suc n) h (omega arith))
 
 -- ---- the command
 abbrev firstConditions : ℕ → World → List (Bool × ℕ)

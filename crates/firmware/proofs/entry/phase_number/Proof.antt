@@ -4,15 +4,6 @@ use borrow.Author.Needs.{needs}
 use Rattle.firmware.proofs.entry.phase_number.Statement.{statement}
 use Rattle.firmware.proofs.entry.phase_number.Tie as tie
 
-enum-told : tie.Need-enum-told
-enum-told c = search needs
-
-enum-told-2 : tie.Need-enum-told-2
-enum-told-2 c = search needs
-
-enum-told-3 : tie.Need-enum-told-3
-enum-told-3 c = search needs
-
 returns : tie.Need-returns
 unfolding phaseNumber
 returns c = rw (c .enum-told .given .1)
@@ -27,4 +18,4 @@ returns-3 c = rw (c .enum-told3 .given .1)
 
 pub phase-number-spec : {M : Type 1} → statement M
 phase-number-spec =
-    tie.close (tie.spec enum-told enum-told-2 enum-told-3 returns returns-2 returns-3)
+    tie.close (tie.spec (λ c. search needs) (λ c. search needs) (λ c. search needs) returns returns-2 returns-3)

@@ -4,21 +4,6 @@ use borrow.Author.Needs.{needs}
 use Rattle.firmware.proofs.entry.rev_d_command.Statement.{statement}
 use Rattle.firmware.proofs.entry.rev_d_command.Tie as tie
 
-session-of-requires : tie.Need-session-of-requires
-session-of-requires c κs = search needs
-
-command-requires : tie.Need-command-requires
-command-requires c κs = search needs
-
-state-of-requires : tie.Need-state-of-requires
-state-of-requires c κs = search needs
-
-same-length : tie.Need-same-length
-same-length c = search needs
-
-same-length-2 : tie.Need-same-length-2
-same-length-2 c = search needs
-
 returns : tie.Need-returns
 returns c =
     let r = c .before .before .before .before .before .command .ensures in
@@ -36,9 +21,9 @@ pub rev-d-command-spec : {M : Type 1} → statement M
 rev-d-command-spec =
     tie.close
     (tie.spec
-    session-of-requires
-    command-requires
-    state-of-requires
-    same-length
-    same-length-2
+    (λ c κs. search needs)
+    (λ c κs. search needs)
+    (λ c κs. search needs)
+    (λ c. search needs)
+    (λ c. search needs)
     returns)

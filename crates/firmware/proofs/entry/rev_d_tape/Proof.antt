@@ -8,21 +8,6 @@ use borrow.Author.Needs.{needs}
 use Rattle.firmware.proofs.entry.rev_d_tape.Statement.{statement}
 use Rattle.firmware.proofs.entry.rev_d_tape.Tie as tie
 
-session-of-requires : tie.Need-session-of-requires
-session-of-requires c κs = search needs
-
-run-requires : tie.Need-run-requires
-run-requires c κs = search needs
-
-state-of-requires : tie.Need-state-of-requires
-state-of-requires c κs = search needs
-
-same-length : tie.Need-same-length
-same-length c = search needs
-
-same-length-2 : tie.Need-same-length-2
-same-length-2 c = search needs
-
 returns : tie.Need-returns
 returns c =
     let r = c .before .before .before .before .before .run .ensures in
@@ -37,4 +22,4 @@ returns c =
 pub rev-d-tape-spec : {M : Type 1} → statement M
 rev-d-tape-spec =
     tie.close
-    (tie.spec session-of-requires run-requires state-of-requires same-length same-length-2 returns)
+    (tie.spec (λ c κs. search needs) (λ c κs. search needs) (λ c κs. search needs) (λ c. search needs) (λ c. search needs) returns)

@@ -6,18 +6,6 @@ use borrow.Author.Needs.{needs}
 use Rattle.firmware.proofs.session.command.Statement.{statement}
 use Rattle.firmware.proofs.session.command.Tie as tie
 
-command-requires : tie.Need-command-requires
-command-requires c κs = search needs
-
-counted-requires : tie.Need-counted-requires
-counted-requires c κs = search needs
-
-same-length : tie.Need-same-length
-same-length c = search needs
-
-same-length-2 : tie.Need-same-length-2
-same-length-2 c = search needs
-
 returns : tie.Need-returns
 returns c =
     let e = c .before .before .before .before .before .before .before .command .ensures in (
@@ -30,4 +18,4 @@ returns c =
 
 pub command-spec : {M : Type 1} → statement M
 command-spec =
-    tie.close (tie.spec command-requires counted-requires same-length same-length-2 returns)
+    tie.close (tie.spec (λ c κs. search needs) (λ c κs. search needs) (λ c. search needs) (λ c. search needs) returns)

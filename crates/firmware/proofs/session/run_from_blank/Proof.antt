@@ -4,18 +4,6 @@ use borrow.Author.Needs.{needs}
 use Rattle.firmware.proofs.session.run_from_blank.Statement.{statement}
 use Rattle.firmware.proofs.session.run_from_blank.Tie as tie
 
-blank-requires : tie.Need-blank-requires
-blank-requires c κs = search needs
-
-run-requires : tie.Need-run-requires
-run-requires c κs = search needs
-
-same-length : tie.Need-same-length
-same-length c = search needs
-
-same-length-2 : tie.Need-same-length-2
-same-length-2 c = search needs
-
 returns : tie.Need-returns
 returns c =
     let r = c .before .before .before .before .run .ensures in (
@@ -26,4 +14,4 @@ returns c =
 
 pub run-from-blank-spec : {M : Type 1} → statement M
 run-from-blank-spec =
-    tie.close (tie.spec blank-requires run-requires same-length same-length-2 returns)
+    tie.close (tie.spec (λ c κs. search needs) (λ c κs. search needs) (λ c. search needs) (λ c. search needs) returns)
