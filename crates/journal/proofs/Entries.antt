@@ -27,6 +27,10 @@ use Rattle.journal.proofs.Slots.{empty-slot, filled-slot}
 
 -- ---- a slot
 module _ (s : Shape) (set : List ℕ) (i : ℕ) where
+  pub slot-zero : getD set i 0 ≡ 0 → 0 ≡ slotOf s set i
+  unfolding slotOf
+  slot-zero h = cases (ltb (i / 12) (s .cores)) (λ t. rw (t, h)) (λ t. rw t)
+
   pub slot-absent : s .cores ≤ i / 12 → 0 ≡ slotOf s set i
   unfolding slotOf
   slot-absent h = rw (le-ltb (i / 12) (s .cores) h)

@@ -29,7 +29,7 @@ use Rattle.model.proofs.Valid.{sameName-true, sameName-refl}
 use Rattle.layout.specs.Loops.{every}
 use Rattle.layout.proofs.Loops.{every-map, Filled, filled-all}
 use Rattle.journal.specs.Slots.{tailIn, numbersOf, numberIn, numbered, slotOf, isFilled, entry, foundAs, foundAt, listOf, entriesTo, entries, entriesOf, filledFrom}
-use Rattle.journal.specs.Sets.{isHere, slotMet, nameMet, keeps, kept, struck}
+use Rattle.journal.specs.Sets.{isHere, slotMet, nameMet, keeps, kept, struck, SameTo}
 use Rattle.journal.proofs.Slots.{empty-slot, filled-slot}
 use Rattle.journal.proofs.Entries.{slot-core}
 
@@ -285,6 +285,32 @@ module _ (s : Shape) (d : Bytes) (ks set : List ℕ) where
       pub kept-out : r ≡ false → 0 ≡ kept s d ks set i
       unfolding kept keeps
       kept-out t = rw (filled-slot s d [] set i v (sym e) h, ← q (getD [] (i / 12) 0 + i % 12), t)
+
+-- ---- the same slots
+module _ (a b : List ℕ) where
+  pub same-none : SameTo a b 0
+  unfolding SameTo
+  same-none i h = absurd (omega arith)
+
+  pub same-more : (i : ℕ) → SameTo a b i → getD a i 0 ≡ getD b i 0 → SameTo a b (i + 1)
+  unfolding SameTo
+  same-more i w e j h =
+      elim (decLt j i) [
+        | yes l ↦ w j l
+        | no l ↦ (let z : j ≡ i = omega arith in rw z e)
+      ]
+
+  pub same-all : (i n : ℕ) → SameTo a b i → i ≤ n → n ≤ i → SameTo a b n
+  same-all i n w p q = let z : i ≡ n = omega arith in rw z at w
+
+  entries-to : (s : Shape) (d : Bytes) (ks : List ℕ) (n : ℕ) → SameTo a b n → entriesTo s d ks a n ≡ entriesTo s d ks b n
+  unfolding entriesTo SameTo
+  entries-to s d ks zero w = refl
+  entries-to s d ks (suc n) w = rw (entries-to s d ks n (λ i h. w i (omega arith)), slot-same s d ks [] a b n (w n (omega arith)))
+
+  pub entries-same : (s : Shape) (d : Bytes) (ks : List ℕ) → SameTo a b 96 → entries s d ks a ≡ entries s d ks b
+  unfolding entries
+  entries-same s d ks w = entries-to s d ks 96 w
 
 pub all-struck : (s : Shape) (d : Bytes) (ks set next : List ℕ) (i : ℕ) → Filled (kept s d ks set) 96 next i → 96 ≤ i → next ≡ struck s d ks set
 unfolding struck

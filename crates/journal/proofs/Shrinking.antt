@@ -2,7 +2,7 @@
 use Prim.Native.Nat.{ℕ, zero, suc, _≤_, _<_}
 use native.Mathlib.Omega.{arith}
 use mathlib.Core.Path.{_≡_, refl, sym, ap, _∙_}
-use mathlib.Core.Bool.{Bool}
+use mathlib.Core.Bool.{Bool, true}
 use mathlib.Core.List.{List, [], _∷_}
 use lib.ListN.{length}
 use lib.Dec.{eqb}
@@ -17,8 +17,8 @@ use Rattle.model.proofs.Lists.{cases}
 use Rattle.model.proofs.Shrink.{settled, goes-on}
 use Rattle.model.proofs.Select.{select-length, select-all, select-same}
 use Rattle.journal.specs.Slots.{numbersOf, numbered, entries, filledFrom}
-use Rattle.journal.specs.Sets.{struck}
-use Rattle.journal.proofs.Sets.{entries-length, struck-entries}
+use Rattle.journal.specs.Sets.{struck, SameTo}
+use Rattle.journal.proofs.Sets.{entries-length, struck-entries, entries-same}
 
 module _ {A : Type 0} (stays : List A → A → Bool) where
   strike-length : (es : List A) → length (strike stays es) ≤ length es
@@ -78,11 +78,14 @@ module _ (s : Shape) (d : Bytes) (ks xs ys : List ℕ) (m n : ℕ) (e : ys ≡ s
   pub shrink-falls : (m ≡ n → ⊥) → filledFrom s ys 0 96 < filledFrom s xs 0 96
   shrink-falls h = omega (arith, h, size ys, size xs, ap length round, strike-length (namesMet s d (numbered ks)) (entries s d ks xs))
 
--- the first round; where none goes it is the last one
-pub valid-same : (s : Shape) (d : Bytes) (ts : List Tail) (ks xs ys : List ℕ) (m n : ℕ) → ks ≡ numbersOf ts → ys ≡ struck s d ks xs → m ≡ filledFrom s ys 0 96 → n ≡ filledFrom s xs 0 96
-    → m ≡ n → entries s d (numbersOf ts) ys ≡ validSet s d (numbered (numbersOf ts)) (entries s d (numbersOf ts) xs)
+-- the first round; where no slot changes it is the last one
+pub valid-same : (s : Shape) (d : Bytes) (ts : List Tail) (ks xs ys : List ℕ) (r : Bool) → ks ≡ numbersOf ts → ys ≡ struck s d ks xs
+    → (r ≡ true → SameTo xs ys 96) → r ≡ true → entries s d (numbersOf ts) ys ≡ validSet s d (numbered (numbersOf ts)) (entries s d (numbersOf ts) xs)
 unfolding validSet
-valid-same s d ts ks xs ys m n e r p q h = let g = shrink-same s d ks xs ys m n r p q h in rw e at g
+valid-same s d ts ks xs ys r e z w t =
+    let round : entries s d ks ys ≡ strike (namesMet s d (numbered ks)) (entries s d ks xs) = rw z (struck-entries s d ks xs) in
+    let g = round ∙ shrink-stop (namesMet s d (numbered ks)) (entries s d ks xs) (ap length (sym round ∙ sym (entries-same xs ys s d ks (w t)))) in
+    rw e at g
 
 -- otherwise the recursion follows
 pub valid-is : (s : Shape) (d : Bytes) (ts : List Tail) (ks xs ys zs : List ℕ) → ks ≡ numbersOf ts → ys ≡ struck s d ks xs

@@ -1,5 +1,6 @@
 -- The valid set over slots: a name looked up by its slot, and one round that strikes those with a name unmet.
-use Prim.Native.Nat.{ℕ, _+_, _*_, _-_}
+use Prim.Native.Nat.{ℕ, _+_, _*_, _-_, _<_}
+use mathlib.Core.Path.{_≡_}
 use mathlib.Core.List.{List, [], map}
 use mathlib.Core.Bool.{Bool, false, cond, _&&_, _||_}
 use lib.ListN.{getD}
@@ -36,3 +37,7 @@ kept s d ks set i = cond (keeps s d ks set (foundAt s d [] set i)) (getD set i 0
 
 unfoldable pub struck : Shape → Bytes → List ℕ → List ℕ → List ℕ
 struck s d ks set = map (kept s d ks set) (below 96)
+
+-- the first n slots of two sets are the same
+unfoldable pub SameTo : List ℕ → List ℕ → ℕ → Type 0
+SameTo a b n = (i : ℕ) → i < n → getD a i 0 ≡ getD b i 0

@@ -36,10 +36,14 @@ pub fn slot_of(s: Shape, set: &[u16; 96], i: usize) -> usize
     requires { ⌜ i < 96 ⌝ }
     ensures { λ r. ⌜ (r ≡ slotOf s (now (set .entry)) i) × (r ≤ 256) ⌝ }
 {
+    let x = set[i];
+    if x == 0 {
+        return 0;
+    }
     if s.cores as usize <= i / 12 {
         return 0;
     }
-    slot_value(set[i])
+    slot_value(x)
 }
 
 // Whether slot i holds a transaction.

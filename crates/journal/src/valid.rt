@@ -1,5 +1,6 @@
 // The valid set: of the transactions read, those whose names are all met, found by striking the others until none goes.
 ghost use mathlib.Core.Path.{_≡_};
+ghost use mathlib.Core.Bool.{true};
 ghost use Prim.Native.Nat.{ℕ, _*_, _≤_, _<_};
 ghost use lib.ListN.{length};
 ghost use Rattle.model.proofs.Limits.{InRange};
@@ -7,7 +8,7 @@ ghost use Rattle.model.specs.Shrink.{shrink};
 ghost use Rattle.model.specs.Valid.{namesMet, validSet};
 ghost use Rattle.journal.specs.Slots.{numbersOf, numbered, entry, entries, isFilled, filledFrom};
 ghost use Rattle.layout.specs.Loops.{every};
-ghost use Rattle.journal.specs.Sets.{isHere, slotMet, nameMet, kept, struck};
+ghost use Rattle.journal.specs.Sets.{isHere, slotMet, nameMet, kept, struck, SameTo};
 use crate::entry::at_most;
 use crate::entry::count_slots;
 use crate::entry::is_filled;
@@ -157,19 +158,32 @@ fn numbers_of(tails: [Tail; 8]) -> [u32; 8]
     numbers
 }
 
+// Whether two sets have the same slots.
+fn same_slots(a: &[u16; 96], b: &[u16; 96]) -> bool
+    ensures { λ r. ⌜ (r ≡ true → SameTo (now (a .entry)) (now (b .entry)) 96) ⌝ }
+{
+    let mut i: usize = 0;
+    while i < 96 {
+        if a[i] != b[i] {
+            return false;
+        }
+        i += 1;
+    }
+    true
+}
+
 // The valid set of the transactions read; the first round is done here, and mostly none goes. No public entry.
 pub fn valid_slots(s: Shape, disk: &[u8], tails: [Tail; 8], committed: [u16; 96]) -> [u16; 96]
     requires { ⌜ InRange s × (length (now disk) ≡ 32896) ⌝ }
     ensures { λ r. ⌜ entries s (now (disk .entry)) (numbersOf tails) r ≡ validSet s (now (disk .entry)) (numbered (numbersOf tails)) (entries s (now (disk .entry)) (numbersOf tails) committed) ⌝ }
 {
     let numbers = numbers_of(tails);
-    let before = count_slots(s, &committed, 0, 96);
     let mut set = committed;
     strike_round(s, disk, &numbers, &mut set);
-    let left = count_slots(s, &set, 0, 96);
-    if left == before {
+    if same_slots(&committed, &set) {
         return set;
     }
+    let left = count_slots(s, &set, 0, 96);
     shrink_set(s, disk, &numbers, &mut set, left);
     set
 }

@@ -34,8 +34,7 @@ use Rattle.journal.specs.Sets.{isHere}
 use Rattle.journal.specs.Walk.{Reads}
 use Rattle.journal.specs.Newest.{sharesBelow}
 use Rattle.journal.proofs.Slots.{number-at}
-use Rattle.journal.proofs.Model.{shares-numbers}
-use Rattle.journal.proofs.Commands.{slots-read, slots-valid}
+use Rattle.journal.proofs.Commands.{slots-valid, slots-share}
 use Rattle.journal.proofs.Sets.{in-slot}
 use Rattle.state.specs.Answer.{world, outcomeOf, firstOf}
 use Rattle.state.specs.declared.Answer.{Answer}
@@ -134,13 +133,10 @@ unfolding countAt
 card-bound x d c h = rw (count-in x c (core-low x c h)) (journal-capped (shapeOf x) d c (tailOf x c) (committedCount x c) (shape-limits x))
 
 module _ (x : Card) (d m : Bytes) (slots : List ℕ) (r : Reads (shapeOf x) d (x .tails) (counts x) slots) where
-  slots-committed : entries (shapeOf x) d (numbersOf (x .tails)) slots ≡ committedNow (world x d m)
+  shares-committed : (e : Committed)
+      → any (sharesBelow (shapeOf x) d e) (entries (shapeOf x) d [] slots) ≡ any (sharesBelow (shapeOf x) d e) (committedNow (world x d m))
   unfolding committedNow
-  slots-committed = slots-read (shape-limits x) d (x .tails) (counts x) slots r (tailOf x) (committedCount x) (card-tail x) (card-bound x d)
-
-  slots-share : (e : Committed) → any (sharesBelow (shapeOf x) d e) (entries (shapeOf x) d [] slots) ≡ any (sharesBelow (shapeOf x) d e) (committedNow (world x d m))
-  slots-share e =
-      shares-numbers (shapeOf x) d slots [] (numbersOf (x .tails)) e ∙ ap (any (sharesBelow (shapeOf x) d e)) slots-committed
+  shares-committed e = slots-share (shape-limits x) d (x .tails) (counts x) slots r (tailOf x) (committedCount x) (card-tail x) (card-bound x d) e
 
   module _ (valid : List ℕ) (v : entries (shapeOf x) d (numbersOf (x .tails)) valid
       ≡ validSet (shapeOf x) d (numbered (numbersOf (x .tails))) (entries (shapeOf x) d (numbersOf (x .tails)) slots)) where
@@ -176,7 +172,7 @@ unfolding sharesLower some closedLower lowerClosed coreOf sharesBelow
 lower-parts x d m e slots r =
     ap
     (λ (b : Bool). b || any (λ (c : ℕ). lowerClosed (shapeOf x) d e ((coreOf x c) .closed)) (below ((shapeOf x) .cores)))
-    (sym (slots-share x d m slots r e))
+    (sym (shares-committed x d m slots r e))
 
 -- ---- the number from the journals
 module _ (x : Card) (d : Bytes) (slots : List ℕ) (r : Reads (shapeOf x) d (x .tails) (counts x) slots) (s : Shape) (p : s ≡ shapeOf x) where

@@ -30,6 +30,7 @@ use model::Tail;
 use model::Transaction;
 use state::Answer;
 use state::block_count;
+use state::core_at;
 use state::entry_refusal;
 use state::same_name;
 use state::shape_of;
@@ -331,21 +332,12 @@ fn stored_home(card: Card, c: u8, k: Core, e: Committed, disk: &mut [u8]) -> Ans
     }
 }
 
-// Core c, one of the eight; of the card, the cores alone are copied.
-fn core_of(card: Card, c: u8) -> Core
-    requires { ⌜ c < 8 ⌝ }
-    ensures { λ r. ⌜ r ≡ coreOf card c ⌝ }
-{
-    let cores = card.cores;
-    cores[c as usize]
-}
-
 // The next store of the checkpoint of core c's oldest transaction.
 fn checkpointed(card: Card, c: u8, e: Committed, disk: &mut [u8]) -> Answer
     requires { ⌜ (length (now disk) ≡ 32896) × IsRead (shapeOf card) (now disk) e × (c < 8) × (e .number ≤ maxNumber) ⌝ }
     ensures { λ r. ⌜ ((m : Bytes) → outcomeOf r (now (disk .exit)) m ≡ nextStore c e (world card (now (disk .entry)) m)) ⌝ }
 {
-    let k = core_of(card, c);
+    let k = core_at(card, c);
     if k.homed < e.count {
         return stored_home(card, c, k, e, disk);
     }

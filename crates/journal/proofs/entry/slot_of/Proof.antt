@@ -1,16 +1,19 @@
--- `journal::slot_of` meets its contract: the two cases of `slotOf`.
-use Rattle.journal.proofs.Entries.{slot-absent, slot-there, slot-low}
+-- `journal::slot_of` meets its contract: the cases of `slotOf`, an empty slot first.
+use Rattle.journal.proofs.Entries.{slot-zero, slot-absent, slot-there, slot-low}
 use borrow.Author.Needs.{needs}
 use Rattle.journal.proofs.entry.slot_of.Statement.{statement}
 use Rattle.journal.proofs.entry.slot_of.Tie as tie
 
 returns : tie.Need-returns
-returns c = (search (needs, slot-absent), search needs)
+returns c = (search (needs, slot-zero), search needs)
 
 returns-2 : tie.Need-returns-2
-returns-2 c = (search (needs, slot-there), search (needs, slot-low))
+returns-2 c = (search (needs, slot-absent), search needs)
+
+returns-3 : tie.Need-returns-3
+returns-3 c = (search (needs, slot-there), search (needs, slot-low))
 
 pub slot-of-spec : {M : Type 1} → statement M
 slot-of-spec =
     tie.close
-    (tie.spec (λ c. search needs) returns (λ c. search needs) (λ c. search needs) (λ c κs. search needs) returns-2)
+    (tie.spec (λ c. search needs) (λ c. search needs) returns (λ c. search needs) returns-2 (λ c κs. search needs) returns-3)

@@ -4,8 +4,8 @@ use borrow.Author.Needs.{needs}
 use Rattle.recovery.proofs.checkpoint.checkpointed.Statement.{statement}
 use Rattle.recovery.proofs.checkpoint.checkpointed.Tie as tie
 
-core-of-requires : tie.Need-core-of-requires
-core-of-requires c κs = search needs
+core-at-requires : tie.Need-core-at-requires
+core-at-requires c κs = search needs
 
 stored-home-requires : tie.Need-stored-home-requires
 stored-home-requires c κs = search needs
@@ -29,7 +29,7 @@ pub checkpointed-spec : {M : Type 1} → statement M
 checkpointed-spec =
     tie.close
     (tie.spec
-    core-of-requires
+    core-at-requires
     stored-home-requires
     same-length
     returns
