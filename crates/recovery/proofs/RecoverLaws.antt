@@ -10,11 +10,11 @@ use borrow.Author.Tests.{lt-ltb, le-ltb, ltb-true, not-false}
 use Rattle.model.specs.Lists.{below}
 use Rattle.model.specs.Bytes.{Bytes, be4, part, blockAt, store}
 use Rattle.model.specs.Shape.{homeBlock, checked, clamped}
-use Rattle.model.specs.Card.{newTail, freshCard, downCard}
+use Rattle.model.specs.Card.{newTail, freshCard}
 use Rattle.model.specs.Layout.{mark, maxNumber, shapeIn, tailIn, isMaster, masterBlock, unescaped}
 use Rattle.model.specs.Journal.{journal}
 use Rattle.model.specs.Valid.{validSet, newest}
-use Rattle.model.specs.Command.{Outcome, refusal, wrongLength}
+use Rattle.model.specs.Command.{Outcome, refusal}
 use Rattle.model.specs.Recovery.{shapeOn, tailOn, committedOn, validOn, blocksLeft, newestImage, recoveredTo, emptiedTail, broughtUp, recoverConditions, recoverStep, recovered, recover}
 use Rattle.model.specs.declared.Card.{Card}
 use Rattle.model.specs.declared.Tail.{Tail}
@@ -39,9 +39,6 @@ use Rattle.recovery.specs.Recovering.{numbersOn, tailAfter, OnDisk}
 use Rattle.state.proofs.Refusals.{was-done, none-held}
 
 -- ---- refusals
-pub disk-right : (d m : Bytes) (r : Bool) → ((x : Card) → r ≡ wrongLength (world x d m)) → r ≡ false → length d ≡ 32896
-disk-right d m r e h = right-lengths (world downCard d m) (sym (e downCard) ∙ h) .0
-
 -- with none met the first block is a master
 module _ (x : Card) (d m : Bytes) (n : ℕ) (e : n ≡ refusal (recoverConditions (world x d m))) (h : n ≡ 0) where
   pub recover-clear : (length d ≡ 32896) × (isMaster (blockAt d 0) ≡ true)

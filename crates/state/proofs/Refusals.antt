@@ -2,23 +2,21 @@
 use Prim.Native.Nat.{ℕ, _<_}
 use native.Mathlib.Omega.{arith}
 use mathlib.Core.Path.{_≡_, refl, sym, _∙_}
-use mathlib.Core.Bool.{Bool, false, cond, not}
+use mathlib.Core.Bool.{Bool, cond, not}
 use mathlib.Core.List.{List, [], _∷_, _++_}
-use lib.Dec.{eqb}
 use lib.ListN.{length}
-use borrow.Author.Tests.{eqb-true, eqb-false, ne-eqb}
+use borrow.Author.Tests.{ne-eqb}
 use Rattle.model.specs.Card.{isBlank, isUp, isDown}
 use Rattle.model.specs.Command.{World, Outcome, refusal, unless, notUp, wrongLength}
 use Rattle.model.specs.Layout.{isMaster}
 use Rattle.model.specs.Recovery.{cutConditions, recoverConditions}
-use Rattle.model.specs.Bytes.{Bytes, blockAt}
-use Rattle.model.specs.declared.Card.{Card}
+use Rattle.model.specs.Bytes.{blockAt}
 use Rattle.model.specs.declared.Phase.{Phase}
 use Rattle.model.specs.declared.Phase.the-variants.{Blank, Up, Down}
 use Rattle.model.proofs.Lists.{cases}
 use Rattle.model.proofs.OneStore.{right-lengths}
 use Rattle.model.proofs.Command.{Clear, Numbered, refusal-clear, refusedWith, unless-refused, unless-done}
-use Rattle.state.specs.Answer.{world, firstOf, byPhase, phaseRefusal}
+use Rattle.state.specs.Answer.{firstOf, byPhase, phaseRefusal}
 
 -- ---- the first of two stages that refuses
 pub first-hit : (n a b : ℕ) → n ≡ a → (n ≡ 0 → ⊥) → n ≡ firstOf a b
@@ -28,11 +26,6 @@ first-hit n a b e h = rw (← e) (simp (ne-eqb n 0 h))
 pub first-pass : (n r a b : ℕ) → n ≡ a → n ≡ 0 → r ≡ b → r ≡ firstOf a b
 unfolding firstOf
 first-pass n r a b e h q = rw (← e, h) q
-
-pub passed-first : (a b : ℕ) → firstOf a b ≡ 0 → (a ≡ 0) × (b ≡ 0)
-unfolding firstOf
-passed-first a b e =
-    cases (eqb a 0) (λ t. (eqb-true _ _ t, rw t at e)) (λ t. let z : a ≡ 0 = rw t at e in absurd (eqb-false _ _ t z))
 
 -- a list of conditions in two stages
 pub refusal-joined : (xs ys : List (Bool × ℕ)) → Numbered xs → refusal (xs ++ ys) ≡ firstOf (refusal xs) (refusal ys)
@@ -55,23 +48,6 @@ refusal-one t n = refl
 -- one condition, then the rest
 pub refusal-next : (t : Bool) (n : ℕ) (ys : List (Bool × ℕ)) → 0 < n → refusal ((t, n) ∷ ys) ≡ firstOf (cond t n 0) (refusal ys)
 refusal-next t n ys h = refusal-joined ((t, n) ∷ []) ys (h, tt) ∙ rw refusal-one
-
--- a stage of one condition that does not refuse
-pub passed-one : (t : Bool) (n r : ℕ) → 0 < n → r ≡ cond t n 0 → r ≡ 0 → t ≡ false
-passed-one t n r h e z =
-    cases t (λ q. let k : r ≡ n = rw q at e in absurd (omega arith)) (λ q. q)
-
--- the first stage passed: the slices have their lengths
-module _ (x : Card) (d m : Bytes) (n : ℕ) (e : n ≡ refusal (notUp (world x d m) [])) (h : n ≡ 0) where
-  up-lengths : (length d ≡ 32896) × (length m ≡ 16384)
-  up-lengths =
-      right-lengths (world x d m) (refusal-clear (notUp (world x d m) []) (omega arith, (omega arith, (omega arith, tt))) (sym e ∙ h) .0)
-
-  pub disk-length : length d ≡ 32896
-  disk-length = up-lengths .0
-
-  pub memory-length : length m ≡ 16384
-  memory-length = up-lengths .1
 
 -- ---- the code's number is the refusal of the conditions
 module _ (ts : List (Bool × ℕ)) (w : World) (done : Outcome) (n : ℕ) (e : n ≡ refusal ts) where
