@@ -24,7 +24,7 @@ same-length c = search needs
 
 returns : tie.Need-returns
 returns c = let n = c .before .before .before .before .before .before .before in let v = n .before .before .before in
-    λ m. recovered-home _ _ _ (v .before .before .before .before .disk-shape .ensures .0) _ (v .valid-set .ensures) _ (n .next-held .ensures) m (c .before .before .before .before .before .if1 .taken) _ (λ bs. c .before .before .restore-block .ensures bs m)
+    λ m. recovered-home (v .before .before .before .before .before .before .before .args .card) _ _ (v .before .before .before .before .disk-shape .ensures .0) _ (v .valid-set .ensures) _ (n .next-held .ensures) m (c .before .before .before .before .before .if1 .taken) _ (λ bs. c .before .before .restore-block .ensures bs m)
 
 bring-up-requires : tie.Need-bring-up-requires
 bring-up-requires c κs = search needs
