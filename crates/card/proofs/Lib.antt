@@ -1,7 +1,4 @@
--- Laws that the proofs of the commands cite.
+-- Laws that the proofs of FORMAT, CUT and the reader cite.
 pub mod CutLaws
 pub mod ReadLaws
 pub mod FormatLaws
-pub mod WriteLaws
-pub mod CloseLaws
-pub mod StoreLaws

@@ -9,16 +9,16 @@ ghost use Rattle.model.specs.Command.{refusal, wrongLength};
 ghost use Rattle.model.specs.Write.{write};
 ghost use Rattle.model.specs.Tape.{operandLength, step, commandByte, isUnknown, endsEarly, commandAt, nextOffset};
 ghost use Rattle.state.specs.Answer.{world, outcomeOf};
-use card::commit::close;
-use card::commit::store;
 use card::cut::cut;
 use card::format::format;
-use card::transaction::write;
+use checkpoint::checkpoint;
+use commit::close;
+use commit::store;
 use model::Card;
-use recovery::checkpoint::checkpoint;
-use recovery::recover::recover;
+use recovery::recover;
 use state::Answer;
 use state::wrong_length;
+use transaction::write;
 
 // The bytes of the operands of commands 1 to 7; there is no command 0.
 const OPERAND_LENGTHS: [u8; 8] = [0, 3, 8, 1, 1, 1, 0, 0];

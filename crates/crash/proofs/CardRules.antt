@@ -15,7 +15,7 @@ use lib.Seq.{take-suc-set}
 use borrow.Author.Tests.{eq-eqb, ne-eqb}
 use Rattle.model.specs.Lists.{any}
 use Rattle.model.specs.Bytes.{Bytes}
-use Rattle.model.specs.Card.{newName, sameName, opened, taken, listed, lists, withBlock, withName, coreOf, holderOf}
+use Rattle.model.specs.Card.{newName, sameName, opened, taken, listed, lists, withBlock, withName, newHolder, coreOf, holderOf}
 use Rattle.model.specs.Command.{World}
 use Rattle.model.specs.Write.{writer, writerName, isRunning as isRunningIn, ruleFor, writerAfter}
 use Rattle.model.specs.declared.Name.{Name}
@@ -170,7 +170,7 @@ module _ {l : Ledger} {w : World} (u : Up l w) where
           go : (h : Option Name) → holderIn (l .book) b (l .book .writes) ≡ h → Met
           go none e = let q = u .holders b low ∙ ap holderAs e in met-none e (rw e refl) (rw q refl)
           go (some n) e =
-              let q : holderOf (w .card) b ≡ record { held = true; name = n } = u .holders b low ∙ ap holderAs e in
+              let q : holderOf (w .card) b ≡ newHolder n = u .holders b low ∙ ap holderAs e in
               let t = nextName c (l .book) in
               same-or-not n t
               (λ s. met-own (e ∙ ap some s) (rw q refl) (rw (e, s, sameName-refl t) refl) (rw (q, writer-name, s, sameName-refl t) refl))

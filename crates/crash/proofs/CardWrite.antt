@@ -12,7 +12,7 @@ use lib.ListN.{length, length-set}
 use lib.Seq.{getD-set-same, getD-set-other}
 use Rattle.model.specs.Bytes.{Bytes, replaced, blockAt, store}
 use Rattle.model.specs.Shape.{homeBlock}
-use Rattle.model.specs.Card.{newName, noHolder, withName, withRunning, tailOf, coreOf, holderOf, withCore, withHolder}
+use Rattle.model.specs.Card.{newName, noHolder, newHolder, withName, withRunning, tailOf, coreOf, holderOf, withCore, withHolder}
 use Rattle.model.specs.Command.{World}
 use Rattle.model.specs.Write.{writerName, ruleFor, takesBlock, isNamedBack, loadsImage, writerAfter, writtenCard, writtenMemory, written}
 use Rattle.model.specs.Commit.{copyBlock}
@@ -56,7 +56,7 @@ module _ (x : Card) where
   kept-core : (y : Card) (c : ℕ) (k : Core) → Kept x y → Kept x (withCore y c k)
   kept-core y c k h = record { phase = h .phase; shape = h .shape; closes = h .closes; tails = h .tails; cores = length-set (y .cores) c k ∙ h .cores; holders = h .holders }
 
-  kept-holder : (y : Card) (b : ℕ) (n : Name) → Kept x y → Kept x (withHolder y b n)
+  kept-holder : (y : Card) (b : ℕ) (n : Holder) → Kept x y → Kept x (withHolder y b n)
   kept-holder y b n h = record { phase = h .phase; shape = h .shape; closes = h .closes; tails = h .tails; cores = h .cores; holders = length-set (y .holders) b _ ∙ h .holders }
 
   module _ (c b : ℕ) where
@@ -80,17 +80,17 @@ module _ (x : Card) where
     unfolding writtenCard
     written-kept =
         let k = kept-core namedBack c writerCore named-kept in
-        kept-cond (takesBlock (ruleFor x c b)) (kept-holder (withCore namedBack c writerCore) b (writerName x c) k) k
+        kept-cond (takesBlock (ruleFor x c b)) (kept-holder (withCore namedBack c writerCore) b (newHolder (writerName x c)) k) k
 
     -- holders
-    written-holders : (j : ℕ) → holderOf (writtenCard x c b) j ≡ holderOf (cond (takesBlock (ruleFor x c b)) (withHolder x b (writerName x c)) x) j
+    written-holders : (j : ℕ) → holderOf (writtenCard x c b) j ≡ holderOf (cond (takesBlock (ruleFor x c b)) (withHolder x b (newHolder (writerName x c))) x) j
     unfolding writtenCard holderOf
     written-holders j =
         cases (takesBlock (ruleFor x c b))
         (λ h. cases (isNamedBack (ruleFor x c b)) (λ e. rw (h, e) refl) (λ e. rw (h, e) refl))
         (λ h. cases (isNamedBack (ruleFor x c b)) (λ e. rw (h, e) refl) (λ e. rw (h, e) refl))
 
-    written-taken : takesBlock (ruleFor x c b) ≡ true → b < length (x .holders) → holderOf (writtenCard x c b) b ≡ record { held = true; name = writerName x c }
+    written-taken : takesBlock (ruleFor x c b) ≡ true → b < length (x .holders) → holderOf (writtenCard x c b) b ≡ newHolder (writerName x c)
     written-taken h n = written-holders b ∙ rw h (unfold holderOf in getD-set-same (x .holders) b _ noHolder n)
 
     written-other : (j : ℕ) → j ≢ b → holderOf (writtenCard x c b) j ≡ holderOf x j

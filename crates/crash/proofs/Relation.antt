@@ -12,7 +12,7 @@ use lib.Dec.{leb, eqb}
 use Rattle.model.specs.Lists.{below, any, select}
 use Rattle.model.specs.Bytes.{Bytes, blockAt}
 use Rattle.model.specs.Shape.{homeBlock}
-use Rattle.model.specs.Card.{newName, taken, listed, noHolder, tailOf, coreOf, holderOf}
+use Rattle.model.specs.Card.{newName, taken, listed, noHolder, newHolder, tailOf, coreOf, holderOf}
 use Rattle.model.specs.Layout.{masterBlock, isCommit}
 use Rattle.model.specs.Journal.{journalAt}
 use Rattle.model.specs.Command.{World}
@@ -148,7 +148,7 @@ pub record CoreUp (l : Ledger) (m : Bytes) (c : ℕ) (k : Core) : Type 0 where
 
 abbrev pub holderAs : Option Name → Holder
 holderAs none = noHolder
-holderAs (some u) = record { held = true; name = u }
+holderAs (some u) = newHolder u
 
 -- (the invariant of layer A, `Inv` with the disk's home blocks, stands beside it)
 pub record Up (l : Ledger) (w : World) : Type 0 where

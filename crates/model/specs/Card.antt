@@ -91,6 +91,9 @@ recordSize t = length (taken t) + 2
 abbrev pub noHolder : Holder
 noHolder = record { held = false; name = newName 0 0 }
 
+abbrev pub newHolder : Name → Holder
+newHolder n = record { held = true; name = n }
+
 -- a card with empty journals
 unfoldable pub freshCard : Phase → Shape → List Tail → Card
 freshCard p s ts =
@@ -146,8 +149,8 @@ withCores x ks =
 abbrev pub withCore : Card → ℕ → Core → Card
 withCore x c k = withCores x (set (x .cores) c k)
 
-abbrev pub withHolder : Card → ℕ → Name → Card
-withHolder x b n =
+abbrev pub withHolder : Card → ℕ → Holder → Card
+withHolder x b h =
     record {
       phase = x .phase;
       shape = x .shape;
@@ -155,5 +158,5 @@ withHolder x b n =
       recovered = x .recovered;
       tails = x .tails;
       cores = x .cores;
-      holders = set (x .holders) b (record { held = true; name = n });
+      holders = set (x .holders) b h;
     }

@@ -5,7 +5,7 @@ use mathlib.Core.Bool.{Bool, true, false, cond, not, _&&_, _||_}
 use lib.Dec.{ltb, leb, eqb}
 use Rattle.model.specs.Bytes.{Bytes, blockAt, store, replaced}
 use Rattle.model.specs.Shape.{homeBlock}
-use Rattle.model.specs.Card.{newName, sameName, opened, lists, withBlock, withName, withRunning, recordSize, shapeOf, coreOf, holderOf, withCore, withHolder}
+use Rattle.model.specs.Card.{newName, sameName, opened, lists, withBlock, withName, withRunning, recordSize, shapeOf, coreOf, holderOf, newHolder, withCore, withHolder}
 use Rattle.model.specs.Layout.{maxNumber}
 use Rattle.model.specs.Command.{World, Outcome, unstored, unless, notUp, noCore, noBlock}
 use Rattle.model.specs.declared.Name.{Name}
@@ -107,7 +107,7 @@ writtenCard x c b =
     let u = ((holderOf x b) .name) .core in
     let x₁ = cond (isNamedBack r) (withCore x u (withRunning (coreOf x u) (withName ((coreOf x u) .running) (writerName x c)))) x in
     let x₂ = withCore x₁ c (withRunning (coreOf x₁ c) (writerAfter x c b)) in
-    cond (takesBlock r) (withHolder x₂ b (writerName x c)) x₂
+    cond (takesBlock r) (withHolder x₂ b (newHolder (writerName x c))) x₂
 
 -- memory afterwards: v at the offset of the block's image
 unfoldable pub writtenMemory : World → ℕ → ℕ → ℕ → Bytes → Bytes

@@ -1,4 +1,2 @@
--- Laws that the proofs of CHECKPOINT and RECOVER cite.
+-- Laws that the proofs of RECOVER cite.
 pub mod RecoverLaws
-pub mod CheckpointLaws
-pub mod OldestLaws

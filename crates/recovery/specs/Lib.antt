@@ -1,3 +1,2 @@
--- What the contracts of CHECKPOINT and RECOVER say beyond crate `model`.
+-- What the contracts of RECOVER say beyond crate `model`.
 pub mod Recovering
-pub mod Oldest

@@ -7,7 +7,7 @@ use lib.Dec.{eqb, leb, ltb}
 use Rattle.model.specs.Lists.{below, select, any}
 use Rattle.model.specs.Bytes.{Bytes, blockAt, part, replaced}
 use Rattle.model.specs.Shape.{homeBlock, journalBlock}
-use Rattle.model.specs.Card.{taken, listed, lists, stamped, withBlock, withHolder, recordSize, freshCard, shapeOf, tailOf, coreOf, holderOf}
+use Rattle.model.specs.Card.{taken, listed, lists, stamped, withBlock, newHolder, withHolder, recordSize, freshCard, shapeOf, tailOf, coreOf, holderOf}
 use Rattle.model.specs.Layout.{maxNumber, masterBlock, newHeld, descriptorBlock, commitBlock}
 use Rattle.model.specs.Journal.{journalAt, nameOf, blocksOf}
 use Rattle.model.specs.Shrink.{strike}
@@ -173,7 +173,7 @@ writerTakesRunning =
     let c = coreIn a in
     let b = blockIn a in
     cond (isNamedBack (ruleFor (w .card) c b))
-    (patched (λ (x : Card). withHolder (onRunning c (λ (t : Transaction). withBlock t b) x) b (writerName x c)) (step 2 a w))
+    (patched (λ (x : Card). withHolder (onRunning c (λ (t : Transaction). withBlock t b) x) b (newHolder (writerName x c))) (step 2 a w))
     (step 2 a w))
 
 -- 'T's list names U and U's list names T': only T's, only U's

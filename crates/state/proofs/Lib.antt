@@ -2,4 +2,3 @@
 pub mod Parts
 pub mod Refusals
 pub mod EntryLaws
-pub mod WriterLaws

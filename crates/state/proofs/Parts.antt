@@ -1,5 +1,5 @@
 -- Arrays of known length, read and set at any index, and the tests of a list's first elements.
-use Prim.Native.Nat.{ℕ, zero, suc, _+_, _%_, _≤_, _<_, min}
+use Prim.Native.Nat.{ℕ, zero, suc, _+_, _-_, _*_, _%_, _≤_, _<_, min}
 use native.Mathlib.Omega.{arith}
 use native.Mathlib.Numerals.{add-one}
 use mathlib.Core.Path.{_≡_, refl, sym, ap, _∙_}
@@ -12,7 +12,8 @@ use borrow.Author.Needs.{needs}
 use borrow.Author.Tests.{le-leb, lt-leb, lt-ltb, le-ltb, eq-eqb, ne-eqb, not-true, not-false}
 use Rattle.model.specs.Lists.{any}
 use Rattle.model.specs.Bytes.{Bytes, replaced, store, zeroMemory}
-use Rattle.model.specs.Card.{newTail, sameName, taken, listed, lists, freshCore, noHolder, tailOf, coreOf, holderOf, withCore}
+use Rattle.model.specs.Shape.{homeBlock}
+use Rattle.model.specs.Card.{newTail, sameName, taken, listed, lists, freshCore, noHolder, tailOf, coreOf, holderOf, withCore, withHolder}
 use Rattle.model.specs.declared.Tail.{Tail}
 use Rattle.model.specs.declared.Name.{Name}
 use Rattle.model.specs.declared.Transaction.{Transaction}
@@ -20,7 +21,7 @@ use Rattle.model.specs.declared.Core.{Core}
 use Rattle.model.specs.declared.Holder.{Holder}
 use Rattle.model.specs.declared.Card.{Card}
 use Rattle.model.proofs.Lists.{any-append, mem-any, getD-mem}
-use Rattle.state.specs.Writing.{withHolding}
+use Rattle.layout.proofs.Blocks.{block-lent}
 
 -- the value of a test from the fact that the code's branch tells
 pub ruleset tests = (le-leb, lt-leb, lt-ltb, le-ltb, eq-eqb, ne-eqb, not-true, not-false)
@@ -160,7 +161,7 @@ module _ (x : Card) (i : ℕ) where
   unfolding holderOf
   holder-past n h = element-past (x .holders) 64 n i noHolder noHolder refl h
 
-  pub holder-kept : length (x .holders) ≡ 64 → (h : Holder) → 64 ≤ i → x ≡ withHolding x i h
+  pub holder-kept : length (x .holders) ≡ 64 → (h : Holder) → 64 ≤ i → x ≡ withHolder x i h
   holder-kept n h q = rw (set-past (x .holders) 64 n i h q)
 
 -- ---- a transaction's blocks and names: a count above the array's length counts as its length
@@ -206,3 +207,8 @@ module _ (t : Transaction) where
 pub first-stored : (d w b : Bytes) → w ≡ b → w ++ drop 128 d ≡ store d 0 b
 unfolding store replaced
 first-stored d w b e = rw e
+
+-- and of a home block
+pub home-lent : (d : Bytes) (b : ℕ) (image : Bytes) (k : ℕ) → k ≡ homeBlock b → (w : Bytes) → w ≡ image
+    → take (128 * k) d ++ (w ++ drop (128 * k + 128 - 128 * k) (drop (128 * k) d)) ≡ store d (homeBlock b) image
+home-lent d b image k r w z = block-lent d k w image z ∙ rw r

@@ -1,3 +1,2 @@
--- The answer of a command as the model's outcome, and WRITE's conditions in stages.
+-- The answer of a command as the model's outcome.
 pub mod Answer
-pub mod Writing

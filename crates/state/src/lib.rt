@@ -1,19 +1,19 @@
 // What the commands share: their answer, parts of the card read and replaced, and the refusals that come first.
 // Reading past the end of an array gives the empty value and replacing there changes nothing, so no caller owes an index.
-pub mod rules; // what a WRITE makes of it
 
 ghost use mathlib.Core.Path.{_≡_};
 ghost use mathlib.Core.Bool.{cond};
 ghost use mathlib.Core.List.{[], _∷_, map};
 ghost use lib.Dec.{leb};
-ghost use Prim.Native.Nat.{ℕ};
+ghost use Prim.Native.Nat.{ℕ, _<_};
 ghost use lib.ListN.{length, getD, replicate};
 ghost use Rattle.model.specs.Bytes.{store};
-ghost use Rattle.model.specs.Shape.{clamped};
+ghost use Rattle.model.specs.Shape.{clamped, homeBlock};
 ghost use Rattle.model.specs.Card.{newTail, sameName, taken, freshCore, freshCard, listed, lists, shapeOf, tailOf, coreOf, holderOf, withCore};
 ghost use Rattle.model.specs.Layout.{masterBlock};
 ghost use Rattle.model.specs.Command.{refusal, wrongLength, notUp, noCore};
 ghost use Rattle.model.specs.declared.Phase.the-variants.{Up};
+ghost use Rattle.model.proofs.Limits.{InRange};
 ghost use Rattle.state.specs.Answer.{world, phaseRefusal};
 use model::Card;
 use model::Core;
@@ -122,6 +122,16 @@ pub fn store_master(s: Shape, tails: [Tail; 8], disk: &mut [u8])
     ensures { λ _. ⌜ now (disk .exit) ≡ store (now (disk .entry)) 0 (masterBlock (clamped s) (λ (c : ℕ). getD tails c (newTail 0 0))) ⌝ }
 {
     layout::write_master(&mut disk[0..128], s, tails);
+}
+
+// Home block b becomes the image.
+pub fn store_home(s: Shape, b: u8, image: [u8; 128], disk: &mut [u8])
+    requires { ⌜ InRange s × (length (now disk) ≡ 32896) × (b < 64) ⌝ }
+    ensures { λ _. ⌜ now (disk .exit) ≡ store (now (disk .entry)) (homeBlock b) image ⌝ }
+{
+    let from = 128 * s.home_block(b);
+    let to = from + 128;
+    layout::write_image(&mut disk[from..to], image);
 }
 
 // Every core with an empty journal that begins at its tail.

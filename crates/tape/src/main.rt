@@ -108,7 +108,7 @@ fn master_count(disk: &[u8]) -> u8
     if !layout::is_master(&disk[0..128]) {
         return 0;
     }
-    let s = recovery::recover::disk_shape(disk);
+    let s = recovery::disk_shape(disk);
     s.blocks
 }
 

@@ -1,0 +1,3 @@
+-- Laws that the proofs of CLOSE and STORE cite.
+pub mod CloseLaws
+pub mod StoreLaws
