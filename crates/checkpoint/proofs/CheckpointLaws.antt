@@ -1,17 +1,17 @@
 -- CHECKPOINT: a transaction retired, the journals read, and what refuses it.
-use Prim.Native.Nat.{ℕ, _+_, _*_, _-_, _%_, _≤_, _<_, min}
+use Prim.Native.Nat.{ℕ, _+_, _-_, _%_, _≤_, _<_, min}
 use native.Mathlib.Omega.{arith}
 use native.Mathlib.Decide.{decLt}
 use mathlib.Core.Path.{_≡_, refl, sym, ap, _∙_, subst}
 use mathlib.Core.Bool.{Bool, true, false, cond, not}
-use mathlib.Core.List.{List, _++_, map}
-use lib.ListN.{length, getD, set, take, drop, length-take, List·getD-map}
+use mathlib.Core.List.{List, map}
+use lib.ListN.{length, getD, set, take, length-take, List·getD-map}
 use lib.Dec.{eqb}
 use lib.Seq.{take-all, getD-take}
 use borrow.Author.Tests.{not-true, not-false, lt-ltb, le-ltb, eq-eqb, ne-eqb}
 use Rattle.model.specs.Lists.{below, any}
 use Rattle.model.specs.Bytes.{Bytes, blockAt, store}
-use Rattle.model.specs.Shape.{clamped, homeBlock, journalBlock}
+use Rattle.model.specs.Shape.{clamped, homeBlock}
 use Rattle.model.specs.Card.{newTail, newName, sameName, noHolder, taken, freshCore, shapeOf, tailOf, coreOf, committedCount, withCore}
 use Rattle.model.specs.Layout.{masterBlock, Held, newHeld, pairAt, pairsIn, heldIn, unescaped}
 use Rattle.model.specs.Journal.{journal, journalAt, recordAt, heldBy, blocksOf, imageOf}
@@ -28,12 +28,14 @@ use Rattle.model.specs.declared.Found.{Found}
 use Rattle.model.specs.declared.Found.the-variants.{Miss}
 use Rattle.model.proofs.Lists.{any-mem, mem-any, getD-mem, mem-getD, mem-below, below-mem, getD-map-below, both-ways}
 use Rattle.model.proofs.OneStore.{shape-limits}
-use Rattle.model.proofs.Limits.{InRange, clamped-same}
-use Rattle.model.proofs.Journal.{journal-low}
+use Rattle.model.proofs.Limits.{InRange}
 use Rattle.model.proofs.Records.{length-blocksOf, known-below}
 use Rattle.layout.specs.Loops.{some}
 use Rattle.layout.proofs.Loops.{Filled, filled-more, some-none, some-no, some-in, some-out}
 use Rattle.journal.specs.Slots.{tailIn, Sized}
+use Rattle.journal.specs.Newest.{imageAt}
+use Rattle.journal.specs.declared.newest.Image.{Image}
+use Rattle.journal.proofs.Model.{image-bytes}
 use Rattle.journal.specs.Walk.{Reads}
 use Rattle.state.specs.Answer.{world, outcomeOf}
 use Rattle.state.specs.declared.Answer.{Answer}
@@ -265,36 +267,26 @@ module _ (ks : List Core) (s : Shape) (d : Bytes) (e : Committed) (i : ℕ) (k :
   pub closed-missed : (n : ℕ) → some i (closedLower ks s d e) ≡ false → r ≡ false → i < n → n ≤ 8 → some (i + 1) (closedLower ks s d e) ≡ false
   closed-missed n h q l z = some-out (closedLower ks s d e) i r (is-lower (omega arith)) h q
 
--- ---- an image out of the journal
-module _ (s : Shape) (d : Bytes) (e : Committed) (r : IsRead s d e) (l : InRange s) (p k : ℕ) (z : k ≡ journalBlock (clamped s) (e .core) p) where
-  near : k ≡ journalBlock s (e .core) p
-  near = z ∙ rw (clamped-same s l)
-
-  pub image-within : length d ≡ 32896 → 128 * k + 128 ≤ length d
-  image-within n = omega (arith, near, journal-low l (e .core) p (r .core))
-
-  pub image-is : (i : ℕ) → p ≡ e .position + (i + 1) → i < e .count → (b : Bytes) → b ≡ journalAt s d (e .core) (e .position)
-      → (f : ℕ) → f ≡ (pairAt newHeld b 16 i) .flag → (g : Bytes) → g ≡ blockAt d k → (h : Bytes) → h ≡ unescaped f g → h ≡ imageOf s d e i
-  unfolding imageOf heldBy heldIn pairsIn journalAt
-  image-is i o c b q f u g y h x =
-      x ∙ rw (y, near, o, u, q, getD-map-below (pairAt newHeld (blockAt d (journalBlock s (e .core) (e .position))) 16) (e .count) i (newHeld 0 0) c)
-
 -- ---- a home store
+pub is-sized : (s : Shape) (d : Bytes) (e : Committed) → IsRead s d e → Sized s e
+is-sized s d e r = record { core = r .core; few = r .known .few; short = r .known .short }
+
 pub core-homed : (k : Core)
     → _≡_ {A = Core} (record { next = k .next; used = k .used; stored = k .stored; homed = k .homed + 1; running = k .running; closed = k .closed }) (homedCore k)
 unfolding homedCore
 core-homed k = refl
 
-pub home-put : (s : Shape) (d : Bytes) (e : Committed) (i b : ℕ) → b ≡ getD (blocksOf s d e) i 0 → (image : Bytes) → image ≡ imageOf s d e i
-    → (r : Bytes) → r ≡ store d (homeBlock b) image → r ≡ store d (homeBlock (getD (blocksOf s d e) i 0)) (imageOf s d e i)
-home-put s d e i b p image q r h = h ∙ rw (p, q)
+pub home-put : (s : Shape) (d : Bytes) (e : Committed) (i b : ℕ) → b ≡ getD (blocksOf s d e) i 0 → (at : Image) → at ≡ imageAt s d e i
+    → (g : Bytes) → g ≡ blockAt d (at .block) → (h : Bytes) → h ≡ unescaped (at .flag) g
+    → (r : Bytes) → r ≡ store d (homeBlock b) h → r ≡ store d (homeBlock (getD (blocksOf s d e) i 0)) (imageOf s d e i)
+home-put s d e i b p at q g y h x r z = z ∙ rw (p, x, y, q, image-bytes s d e i)
 
 module _ (x : Card) (s : Shape) (q : s ≡ shapeOf x) where
   pub read-shape : (d : Bytes) (e : Committed) → IsRead (shapeOf x) d e → IsRead s d e
   read-shape d e r = subst (λ (s : Shape). IsRead s d e) (sym q) r
 
   pub read-sized : (d : Bytes) (e : Committed) → IsRead (shapeOf x) d e → Sized s e
-  read-sized d e r = let z = read-shape d e r in record { core = z .core; few = z .known .few; short = z .known .short }
+  read-sized d e r = is-sized s d e (read-shape d e r)
 
 module _ (x : Card) (c : ℕ) (k : Core) (p : k ≡ coreOf x c) (e : Committed) where
   home-next : k .homed < e .count → (coreOf x c) .homed < e .count

@@ -282,26 +282,15 @@ fn any_closed(card: Card, s: Shape, disk: &[u8], e: Committed) -> bool
     false
 }
 
-// The image of the i-th block of a transaction, out of its journal.
-fn home_image(s: Shape, disk: &[u8], e: Committed, i: usize) -> [u8; 128]
-    requires { ⌜ InRange s × (length (now disk) ≡ 32896) × IsRead s (now disk) e × (i < e .count) ⌝ }
-    ensures { λ r. ⌜ r ≡ imageOf s (now (disk .entry)) e i ⌝ }
-{
-    let at = e.position as usize;
-    let flag = layout::held_flag(journal::journal_part(s, disk, e.core, at), i);
-    let k = s.journal_block(e.core, at + (i + 1));
-    let image = layout::load_block(disk, k);
-    layout::unescape(flag, image)
-}
-
-// The i-th block of a transaction stored home.
+// The i-th block of a transaction stored home, with its image out of the journal.
 fn put_home(s: Shape, e: Committed, i: usize, disk: &mut [u8])
-    requires { ⌜ InRange s × (length (now disk) ≡ 32896) × IsRead s (now disk) e × (i < e .count) ⌝ }
+    requires { ⌜ IsRead s (now disk) e × (i < e .count) × InRange s × (length (now disk) ≡ 32896) ⌝ }
     ensures { λ _. ⌜ now (disk .exit) ≡ store (now (disk .entry)) (homeBlock (getD (blocksOf s (now (disk .entry)) e) i 0)) (imageOf s (now (disk .entry)) e i) ⌝ }
 {
-    let b = block_at(s, disk, e, i);
-    let image = home_image(s, disk, e, i);
-    store_home(s, b, image, disk);
+    let b = block_at(s, disk, e, i) as usize;
+    let at = journal::image_at(s, disk, e, i);
+    let image = layout::load_block(disk, at.block);
+    store_home(s, b, layout::unescape(at.flag, image), disk);
 }
 
 // A core after one more home store.
@@ -384,7 +373,7 @@ fn oldest_refusal(card: Card, c: u8, most: [u8; 8], e: Committed, disk: &[u8]) -
 
 // The checkpoint of core c's oldest transaction: refused, or its next store.
 fn checkpoint_oldest(card: Card, c: u8, most: [u8; 8], e: Committed, disk: &mut [u8]) -> Answer
-    requires { ⌜ (length (now disk) ≡ 32896) × (c < (shapeOf card) .cores) × Counts card most × (oldestAt card (now disk) c ≡ Whole e) ⌝ }
+    requires { ⌜ (c < (shapeOf card) .cores) × (length (now disk) ≡ 32896) × Counts card most × (oldestAt card (now disk) c ≡ Whole e) ⌝ }
     ensures { λ r. ⌜ ((m : Bytes) → outcomeOf r (now (disk .exit)) m ≡ oldestOutcome c e (world card (now (disk .entry)) m)) ⌝ }
 {
     let n = oldest_refusal(card, c, most, e, disk);

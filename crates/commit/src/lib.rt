@@ -1,13 +1,13 @@
 // CLOSE and STORE: a transaction is frozen, then stored block by block until it is committed.
 ghost use mathlib.Core.Path.{_≡_};
-ghost use mathlib.Core.List.{[], _∷_, map};
+ghost use mathlib.Core.List.{map};
 ghost use Prim.Native.Nat.{ℕ, _≤_, _<_, _%_};
 ghost use lib.ListN.{length};
 ghost use Rattle.model.specs.Lists.{below};
 ghost use Rattle.model.specs.Bytes.{blockAt, store as storeBlock};
 ghost use Rattle.model.specs.Card.{taken};
 ghost use Rattle.model.specs.Layout.{descriptorBlock, flagOf};
-ghost use Rattle.model.specs.Command.{refusal, notUp, noCore};
+ghost use Rattle.model.specs.Command.{refusal};
 ghost use Rattle.model.specs.Commit.{copyBlock, copied, closeConditions, closedCard, close, heldCopies, closedNumber, nextStored, nextPosition, coreStored, storeConditions, storeNext};
 ghost use Rattle.state.specs.Answer.{world, outcomeOf};
 use model::Card;

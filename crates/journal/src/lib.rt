@@ -7,9 +7,8 @@ mod valid;
 mod walk;
 
 pub use entry::count_slots;
-pub use entry::entry_at;
-pub use entry::took_block;
 pub use newest::Image;
+pub use newest::image_at;
 pub use newest::newest_image;
 pub use newest::next_held;
 pub use newest::shares_lower;

@@ -27,7 +27,7 @@ pub struct Image {
 }
 
 // The image of the i-th block of a transaction.
-fn image_at(s: Shape, disk: &[u8], e: Committed, i: usize) -> Image
+pub fn image_at(s: Shape, disk: &[u8], e: Committed, i: usize) -> Image
     requires { ⌜ InRange s × (length (now disk) ≡ 32896) × Sized s e × (i < e .count) ⌝ }
     ensures { λ r. ⌜ (r ≡ imageAt s (now (disk .entry)) e i) × (r .block < 257) ⌝ }
 {

@@ -171,7 +171,7 @@ fn restore_block(card: Card, s: Shape, disk: &mut [u8], valid: &[u16; 96], b: u8
     ensures { λ r. ⌜ ((bs : List ℕ) (m : Bytes) → outcomeOf r (now (disk .exit)) m ≡ recoverStep (b ∷ bs) (world card (now (disk .entry)) m)) ⌝ }
 {
     let image = newest_block(s, disk, valid, b);
-    store_home(s, b, image, disk);
+    store_home(s, b as usize, image, disk);
     let mut next = card;
     next.recovered = b + 1;
     Answer {

@@ -125,11 +125,11 @@ pub fn store_master(s: Shape, tails: [Tail; 8], disk: &mut [u8])
 }
 
 // Home block b becomes the image.
-pub fn store_home(s: Shape, b: u8, image: [u8; 128], disk: &mut [u8])
+pub fn store_home(s: Shape, b: usize, image: [u8; 128], disk: &mut [u8])
     requires { ⌜ InRange s × (length (now disk) ≡ 32896) × (b < 64) ⌝ }
     ensures { λ _. ⌜ now (disk .exit) ≡ store (now (disk .entry)) (homeBlock b) image ⌝ }
 {
-    let from = 128 * s.home_block(b);
+    let from = 128 * s.home_block(b as u8);
     let to = from + 128;
     layout::write_image(&mut disk[from..to], image);
 }

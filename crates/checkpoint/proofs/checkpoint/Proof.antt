@@ -32,7 +32,7 @@ returns-2 : tie.Need-returns-2
 returns-2 c = search (needs, none-committed)
 
 checkpoint-oldest-requires : tie.Need-checkpoint-oldest-requires
-checkpoint-oldest-requires c κs = (search (needs, first-disk), search (needs, first-core), search needs, search (needs, oldest-whole))
+checkpoint-oldest-requires c κs = (search (needs, first-core), search (needs, first-disk), search needs, search (needs, oldest-whole))
 
 same-length-3 : tie.Need-same-length-3
 same-length-3 c = search needs

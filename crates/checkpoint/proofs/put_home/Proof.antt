@@ -1,5 +1,5 @@
 -- `checkpoint::put_home` meets its contract.
-use Rattle.checkpoint.proofs.CheckpointLaws.{home-put}
+use Rattle.checkpoint.proofs.CheckpointLaws.{home-put, is-sized}
 use borrow.Author.Needs.{needs}
 use Rattle.checkpoint.proofs.put_home.Statement.{statement}
 use Rattle.checkpoint.proofs.put_home.Tie as tie
@@ -7,8 +7,17 @@ use Rattle.checkpoint.proofs.put_home.Tie as tie
 block-at-requires : tie.Need-block-at-requires
 block-at-requires c κs = search needs
 
-home-image-requires : tie.Need-home-image-requires
-home-image-requires c κs = search needs
+cast-b : tie.Need-cast-b
+cast-b c = search needs
+
+image-at-requires : tie.Need-image-at-requires
+image-at-requires c κs = search (needs, is-sized)
+
+load-block-requires : tie.Need-load-block-requires
+load-block-requires c κs = search needs
+
+unescape-requires : tie.Need-unescape-requires
+unescape-requires c κs = search needs
 
 store-home-requires : tie.Need-store-home-requires
 store-home-requires c κs = search needs
@@ -24,7 +33,10 @@ put-home-spec =
     tie.close
     (tie.spec
     block-at-requires
-    home-image-requires
+    cast-b
+    image-at-requires
+    load-block-requires
+    unescape-requires
     store-home-requires
     same-length
     returns)

@@ -4,6 +4,9 @@ use Rattle.state.proofs.Parts.{home-lent}
 use Rattle.state.proofs.store_home.Statement.{statement}
 use Rattle.state.proofs.store_home.Tie as tie
 
+cast-home-block : tie.Need-cast-home-block
+cast-home-block c = search needs
+
 home-block-requires : tie.Need-home-block-requires
 home-block-requires c κs = search needs
 
@@ -35,6 +38,7 @@ pub store-home-spec : {M : Type 1} → statement M
 store-home-spec =
     tie.close
     (tie.spec
+    cast-home-block
     home-block-requires
     mul-from
     add-to
