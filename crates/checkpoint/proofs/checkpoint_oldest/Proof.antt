@@ -15,7 +15,7 @@ returns : tie.Need-returns
 returns c = search (needs, oldest-refused)
 
 checkpointed-requires : tie.Need-checkpointed-requires
-checkpointed-requires c κs = (search needs, search (needs, oldest-was-read), search (needs, core-low), search (needs, number-low))
+checkpointed-requires c κs = search (needs, oldest-was-read, core-low, number-low)
 
 same-length-2 : tie.Need-same-length-2
 same-length-2 c = search needs
