@@ -1,6 +1,6 @@
-// What the commands share: their answer, parts of the card read and replaced, and the refusals that come first.
-// Reading past the end of an array gives the empty value and replacing there changes nothing, so no caller owes an index.
-
+// What the commands share: their answer, parts of the card read and replaced, the refusals that come first, the master store and
+// the home store. Reading past the end of an array gives the empty value and replacing there changes nothing, so no caller owes an
+// index.
 ghost use mathlib.Core.Path.{_≡_};
 ghost use mathlib.Core.Bool.{cond};
 ghost use mathlib.Core.List.{[], _∷_, map};

@@ -1,0 +1,24 @@
+-- `layout::write_commit` meets its contract: with each turn one more word of the block stands, whatever it held before.
+use Prim.Native.Nat.{_-_}
+use lib.ListN.{take}
+use borrow.Author.Needs.{needs}
+use Rattle.model.specs.Layout.{commitBlock}
+use Rattle.layout.specs.Words.{commitWords}
+use Rattle.layout.proofs.Blocks.{Written, written}
+use Rattle.layout.proofs.Pairs.{length-commit, length-mapped}
+use Rattle.layout.proofs.commit_block.write_commit.Statement.{statement}
+use Rattle.layout.proofs.commit_block.write_commit.Tie as tie
+
+abbrev Inv-loop : tie.InvT-loop
+Inv-loop block₀ number stamp named names i₀ block i = Written (commitWords number stamp (take named names)) block i
+
+abbrev μ-loop : tie.MeasureT-loop
+μ-loop block₀ number stamp named names i₀ block i = 32 - i
+
+pub write-commit-spec : {M : Type 1} → statement M
+unfolding commitBlock commitWords
+write-commit-spec =
+    tie.close
+    (tie.spec Inv-loop μ-loop (λ c. search (written, length-commit, length-mapped)) (λ c κs. search needs)
+    (λ c. search needs) (λ c κs. search needs) (λ c. search needs) (λ c. search needs) (λ c. search written)
+    (λ c. search needs) (λ c. search written))

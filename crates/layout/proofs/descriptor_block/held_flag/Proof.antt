@@ -1,0 +1,14 @@
+-- `layout::held_flag` meets its contract: the second word of the pair.
+use borrow.Author.Needs.{needs}
+use Rattle.model.specs.Layout.{pairAt}
+use Rattle.layout.proofs.descriptor_block.held_flag.Statement.{statement}
+use Rattle.layout.proofs.descriptor_block.held_flag.Tie as tie
+
+returns : tie.Need-returns
+unfolding pairAt
+returns c = search needs
+
+pub held-flag-spec : {M : Type 1} → statement M
+held-flag-spec =
+    tie.close
+    (tie.spec (λ c. search needs) (λ c. search needs) (λ c. search needs) (λ c κs. search needs) returns)

@@ -1,0 +1,13 @@
+-- `layout::read_shape` meets its contract: the three words are the shape that is checked.
+use borrow.Author.Needs.{needs}
+use Rattle.layout.proofs.Readers.{shape-read}
+use Rattle.layout.proofs.master_block.read_shape.Statement.{statement}
+use Rattle.layout.proofs.master_block.read_shape.Tie as tie
+
+returns : tie.Need-returns
+returns c = search (needs, shape-read)
+
+pub read-shape-spec : {M : Type 1} → statement M
+read-shape-spec =
+    tie.close
+    (tie.spec (λ c κs. search needs) (λ c κs. search needs) (λ c κs. search needs) (λ c κs. search needs) returns)
