@@ -15,7 +15,7 @@ use Rattle.model.specs.Shape.{clamped, homeBlock}
 use Rattle.model.specs.Card.{newTail, newName, sameName, noHolder, taken, freshCore, shapeOf, tailOf, coreOf, committedCount, withCore}
 use Rattle.model.specs.Layout.{masterBlock, Held, newHeld, pairAt, pairsIn, heldIn, unescaped}
 use Rattle.model.specs.Journal.{journal, journalAt, recordAt, heldBy, blocksOf, imageOf}
-use Rattle.model.specs.Checkpoint.{share, released, retiredCard, storedHome, storedMaster}
+use Rattle.model.specs.Checkpoint.{share, homedCore, freed, released, movedTail, retiredCore, retiredCard, storedHome, storedMaster}
 use Rattle.model.specs.declared.Shape.{Shape}
 use Rattle.model.specs.declared.Tail.{Tail}
 use Rattle.model.specs.declared.Name.{Name}
@@ -39,7 +39,7 @@ use Rattle.journal.proofs.Model.{image-bytes}
 use Rattle.journal.specs.Walk.{Reads}
 use Rattle.state.specs.Answer.{world, outcomeOf}
 use Rattle.state.specs.declared.Answer.{Answer}
-use Rattle.checkpoint.specs.Oldest.{freed, movedTail, retiredCore, homedCore, countAt, counts, Counts, oldestAt, IsRead, lowerClosed, closedLower, nextStore}
+use Rattle.checkpoint.specs.Oldest.{countAt, counts, Counts, oldestAt, IsRead, lowerClosed, closedLower, nextStore}
 use Rattle.state.proofs.Parts.{element-in, tail-in, any-hit, any-more, any-all}
 
 -- the shape as it is read is within its limits
@@ -52,29 +52,21 @@ core-low x c h = omega (arith, shape-limits x .few-cores)
 -- ---- retired
 module _ (h : Holder) (n : Name) where
   pub freed-none : not (h .held) ≡ true → h ≡ freed n h
-  unfolding freed
   freed-none p = rw (not-true (h .held) p)
 
   module _ (g : Bool) (e : g ≡ sameName (h .name) n) (p : not (h .held) ≡ false) where
     pub freed-own : g ≡ true → noHolder ≡ freed n h
-    unfolding freed
     freed-own q = rw (not-false (h .held) p, ← e, q)
 
     pub freed-other : g ≡ false → h ≡ freed n h
-    unfolding freed
     freed-other q = rw (not-false (h .held) p, ← e, q)
 
 pub all-freed : (n : Name) (hs : List Holder) → map (freed n) hs ≡ released n hs
-unfolding released freed
+unfolding released
 all-freed n hs = refl
-
-pub tail-moved : (s : Shape) (e : Committed) → newTail (e .number + 1) ((e .position + (e .count + 2)) % s .journal) ≡ movedTail s e
-unfolding movedTail
-tail-moved s e = refl
 
 pub core-retired : (k : Core) (e : Committed) (u : ℕ) → u ≡ k .used - (e .count + 2)
     → _≡_ {A = Core} (record { next = k .next; used = u; stored = k .stored; homed = 0; running = k .running; closed = k .closed }) (retiredCore k e)
-unfolding retiredCore
 core-retired k e u q = rw q
 
 pub card-retired : (x : Card) (c : ℕ) (e : Committed) (s : Shape) → s ≡ shapeOf x → (t : Tail) → t ≡ movedTail s e → (old : Core) → old ≡ coreOf x c
@@ -88,7 +80,7 @@ pub card-retired : (x : Card) (c : ℕ) (e : Committed) (s : Shape) → s ≡ sh
       cores = set (x .cores) c k;
       holders = hs;
     }) (retiredCard c e x)
-unfolding retiredCard retiredCore movedTail
+unfolding retiredCard
 card-retired x c e s p t q old r k z hs y = rw (y, z, r, q, p)
 
 pub master-stored : (x : Card) (c : ℕ) (e : Committed) (d : Bytes) (y : Card) → y ≡ retiredCard c e x
@@ -271,11 +263,6 @@ module _ (ks : List Core) (s : Shape) (d : Bytes) (e : Committed) (i : ℕ) (k :
 pub is-sized : (s : Shape) (d : Bytes) (e : Committed) → IsRead s d e → Sized s e
 is-sized s d e r = record { core = r .core; few = r .known .few; short = r .known .short }
 
-pub core-homed : (k : Core)
-    → _≡_ {A = Core} (record { next = k .next; used = k .used; stored = k .stored; homed = k .homed + 1; running = k .running; closed = k .closed }) (homedCore k)
-unfolding homedCore
-core-homed k = refl
-
 pub home-put : (s : Shape) (d : Bytes) (e : Committed) (i b : ℕ) → b ≡ getD (blocksOf s d e) i 0 → (at : Image) → at ≡ imageAt s d e i
     → (g : Bytes) → g ≡ blockAt d (at .block) → (h : Bytes) → h ≡ unescaped (at .flag) g
     → (r : Bytes) → r ≡ store d (homeBlock b) h → r ≡ store d (homeBlock (getD (blocksOf s d e) i 0)) (imageOf s d e i)
@@ -295,7 +282,7 @@ module _ (x : Card) (c : ℕ) (k : Core) (p : k ≡ coreOf x c) (e : Committed) 
   pub home-stored : (s : Shape) → s ≡ shapeOf x → (d d₂ : Bytes) → d₂ ≡ store d (homeBlock (getD (blocksOf s d e) (k .homed) 0)) (imageOf s d e (k .homed))
       → (next : Core) → next ≡ homedCore k
       → (m : Bytes) → record { answer = 0; world = world (withCore x c next) d₂ m; stores = 1 } ≡ storedHome c e (world x d m)
-  unfolding storedHome homedCore
+  unfolding storedHome
   home-stored s q d d₂ r next z m = rw (r, z, p, q)
 
   module _ (d d₂ : Bytes) (r : Answer) where

@@ -25,24 +25,6 @@ use Rattle.model.specs.declared.Found.the-variants.{Whole, Miss}
 use Rattle.model.proofs.Journal.{Known}
 use Rattle.state.specs.Answer.{world}
 
--- ---- retired
--- no holder any more where it was the transaction of this name
-unfoldable pub freed : Name → Holder → Holder
-freed n h = cond (h .held && sameName (h .name) n) noHolder h
-
--- the tail past a transaction
-unfoldable pub movedTail : Shape → Committed → Tail
-movedTail s e = newTail (e .number + 1) ((e .position + (e .count + 2)) % s .journal)
-
--- the core without it
-unfoldable pub retiredCore : Core → Committed → Core
-retiredCore k e =
-    record { next = k .next; used = k .used - (e .count + 2); stored = k .stored; homed = 0; running = k .running; closed = k .closed }
-
--- the core after one more home store
-unfoldable pub homedCore : Core → Core
-homedCore k = record { next = k .next; used = k .used; stored = k .stored; homed = k .homed + 1; running = k .running; closed = k .closed }
-
 -- ---- read
 -- core c's count; a journal has no more than twelve records
 unfoldable pub countAt : Card → ℕ → ℕ

@@ -20,7 +20,7 @@ use Rattle.model.specs.Card.{newName, newTail, sameName, noHolder, freshCore, s
 use Rattle.model.specs.Layout.{masterBlock}
 use Rattle.model.specs.Journal.{journalAt}
 use Rattle.model.specs.Command.{World, Outcome, storing}
-use Rattle.model.specs.Checkpoint.{storedHome, released, retiredCard, storedMaster, checkpointed}
+use Rattle.model.specs.Checkpoint.{homedCore, storedHome, released, retiredCore, retiredCard, storedMaster, checkpointed}
 use Rattle.model.specs.declared.Name.{Name}
 use Rattle.model.specs.declared.Tail.{Tail}
 use Rattle.model.specs.declared.Core.{Core}
@@ -174,10 +174,7 @@ module _ {l : Ledger} {w : World} (u : Up l w) (c : ℕ) (in-range : c < l .shap
     abbrev image : Bytes
     image = getD (l .images t) (x .homed) []
 
-    abbrev homedCore : Core
-    homedCore = record { next = x .next; used = x .used; stored = x .stored; homed = x .homed + 1; running = x .running; closed = x .closed }
-
-    home-done : checkpointed c w ≡ storing w (withCore (w .card) c homedCore) (homeBlock b) image
+    home-done : checkpointed c w ≡ storing w (withCore (w .card) c (homedCore x)) (homeBlock b) image
     unfolding checkpointed storedHome
     home-done =
         let r : IsRead l (w .disk) c e = rw (oldest-of u c in-range some-committed) at (oldest-is u c in-range some-committed) in
@@ -205,7 +202,7 @@ module _ {l : Ledger} {w : World} (u : Up l w) (c : ℕ) (in-range : c < l .shap
               journal-kept l t (committed (suc (x .homed))) (l .book .oldest) a (not-closing a) (not-current a) d d (tailOf (w .card) a) (λ q. refl) refl (z .journals a h);
         }
 
-    home-core : (a : ℕ) → a < l .shape .cores → CoreUp l₂ (w .memory) a (coreOf (withCore (w .card) c homedCore) a)
+    home-core : (a : ℕ) → a < l .shape .cores → CoreUp l₂ (w .memory) a (coreOf (withCore (w .card) c (homedCore x)) a)
     home-core a h =
         let g = committed (suc (x .homed)) in
         let changed = one-changed l t g (l .book .oldest) in
@@ -213,18 +210,18 @@ module _ {l : Ledger} {w : World} (u : Up l w) (c : ℕ) (in-range : c < l .shap
         elim (ℕ-discrete a c) [
           | yes q ↦ (let y₂ = u .cores c in-range in
               let z : x .homed + 1 ≡ suc (x .homed) = omega arith in
-              rw (q, core-set (w .card) c homedCore core-room)
+              rw (q, core-set (w .card) c (homedCore x) core-room)
               (core-advanced l t g (l .book .oldest) c (not-closing c) (not-current c) (w .memory) x (x .used) (x .homed + 1) (y₂ .used)
               (λ _. rw z (changed .stage)) (λ n. absurd (omega arith)) y₂))
-          | no ne ↦ rw (core-other (w .card) c homedCore a ne)
+          | no ne ↦ rw (core-other (w .card) c (homedCore x) a ne)
               (core-advanced l t g (l .book .oldest) a (not-closing a) (not-current a) (w .memory) (coreOf (w .card) a) ((coreOf (w .card) a) .used) ((coreOf (w .card) a) .homed) (y .used)
               (λ n. ap (λ (v : Entry). v .stage) (changed .other (oldestName a (l .book)) (other-core (l .book .oldest a) (l .book .oldest c) ne)) ∙ y .homed n) (y .none-homed) y)
         ]
 
-    home-up : Fine l₂ → Up l₂ ((storing w (withCore (w .card) c homedCore) (homeBlock b) image) .world)
+    home-up : Fine l₂ → Up l₂ ((storing w (withCore (w .card) c (homedCore x)) (homeBlock b) image) .world)
     home-up fine =
         let holder = restages-holder (one-changed l t (committed (suc (x .homed))) (l .book .oldest)) (sym (ap isRetired stage-now)) in
-        core-up u c homedCore (l₂ .book) (storeBlock (w .disk) (homeBlock b) image) refl (λ b. holder b (l .book .writes)) fine home-disk home-core
+        core-up u c (homedCore x) (l₂ .book) (storeBlock (w .disk) (homeBlock b) image) refl (λ b. holder b (l .book .writes)) fine home-disk home-core
 
   -- ---- the master store
   module _ (all-home : x .homed ≡ length ((l .book .entry t) .blocks)) where
@@ -233,9 +230,6 @@ module _ {l : Ledger} {w : World} (u : Up l w) (c : ℕ) (in-range : c < l .shap
 
     abbrev tail : Tail
     tail = newTail (l .book .oldest c + 1) (((tailOf (w .card) c) .position + n) % l .shape .journal)
-
-    abbrev retiredCore : Core
-    retiredCore = record { next = x .next; used = x .used - n; stored = x .stored; homed = 0; running = x .running; closed = x .closed }
 
     abbrev card₂ : Card
     card₂ = retiredCard c e (w .card)
@@ -265,7 +259,7 @@ module _ {l : Ledger} {w : World} (u : Up l w) (c : ℕ) (in-range : c < l .shap
     unfolding tailOf retiredCard
     other-tail a ne = getD-set-other (w .card .tails) c a _ (newTail 0 0) ne
 
-    own-core : coreOf card₂ c ≡ retiredCore
+    own-core : coreOf card₂ c ≡ retiredCore x e
     unfolding coreOf retiredCard
     own-core = getD-set-same (w .card .cores) c _ (freshCore 0) core-room
 

@@ -88,6 +88,7 @@ unfoldable pub recordSize : Transaction → ℕ
 recordSize t = length (taken t) + 2
 
 -- ---- the card
+-- a block's holder: none, and the transaction of this name
 abbrev pub noHolder : Holder
 noHolder = record { held = false; name = newName 0 0 }
 
@@ -134,29 +135,23 @@ holderOf x b = getD (x .holders) b noHolder
 unfoldable pub committedCount : Card → ℕ → ℕ
 committedCount x c = let k = coreOf x c in k .next - (tailOf x c) .number - cond (k .closed .live) 1 0
 
-abbrev pub withCores : Card → List Core → Card
-withCores x ks =
+abbrev pub withLists : Card → List Tail → List Core → List Holder → Card
+withLists x ts ks hs =
     record {
       phase = x .phase;
       shape = x .shape;
       closes = x .closes;
       recovered = x .recovered;
-      tails = x .tails;
+      tails = ts;
       cores = ks;
-      holders = x .holders;
+      holders = hs;
     }
+
+abbrev pub withCores : Card → List Core → Card
+withCores x ks = withLists x (x .tails) ks (x .holders)
 
 abbrev pub withCore : Card → ℕ → Core → Card
 withCore x c k = withCores x (set (x .cores) c k)
 
 abbrev pub withHolder : Card → ℕ → Holder → Card
-withHolder x b h =
-    record {
-      phase = x .phase;
-      shape = x .shape;
-      closes = x .closes;
-      recovered = x .recovered;
-      tails = x .tails;
-      cores = x .cores;
-      holders = set (x .holders) b h;
-    }
+withHolder x b h = withLists x (x .tails) (x .cores) (set (x .holders) b h)

@@ -7,13 +7,16 @@ use lib.ListN.{length, getD, set}
 use lib.Dec.{ltb, eqb}
 use Rattle.model.specs.Lists.{below, any}
 use Rattle.model.specs.Shape.{homeBlock}
-use Rattle.model.specs.Card.{newTail, sameName, noHolder, taken, shapeOf, tailOf, coreOf, committedCount, withCore}
+use Rattle.model.specs.Card.{newTail, sameName, noHolder, taken, shapeOf, tailOf, coreOf, committedCount, withLists, withCore}
 use Rattle.model.specs.Layout.{masterBlock}
 use Rattle.model.specs.Journal.{journal, journals, nameOf, blocksOf, imageOf}
 use Rattle.model.specs.Valid.{isIn, validSet}
 use Rattle.model.specs.Command.{World, Outcome, storing, unless, notUp, noCore}
+use Rattle.model.specs.declared.Shape.{Shape}
+use Rattle.model.specs.declared.Tail.{Tail}
 use Rattle.model.specs.declared.Name.{Name}
 use Rattle.model.specs.declared.Transaction.{Transaction}
+use Rattle.model.specs.declared.Core.{Core}
 use Rattle.model.specs.declared.Holder.{Holder}
 use Rattle.model.specs.declared.Card.{Card}
 use Rattle.model.specs.declared.Committed.{Committed}
@@ -57,6 +60,10 @@ checkpointConditions c w =
     ∷ (sharesLower w e, 33)
     ∷ [])
 
+-- the core after one more home store
+abbrev pub homedCore : Core → Core
+homedCore k = record { next = k .next; used = k .used; stored = k .stored; homed = k .homed + 1; running = k .running; closed = k .closed }
+
 -- a home store: 'A block's home image comes from the journal, never from later memory.'
 unfoldable pub storedHome : ℕ → Committed → World → Outcome
 storedHome c e w =
@@ -64,28 +71,33 @@ storedHome c e w =
     let s = shapeOf x in
     let k = coreOf x c in
     storing w
-    (withCore x c (record { next = k .next; used = k .used; stored = k .stored; homed = k .homed + 1; running = k .running; closed = k .closed }))
+    (withCore x c (homedCore k))
     (homeBlock (getD (blocksOf s (w .disk) e) (k .homed) 0))
     (imageOf s (w .disk) e (k .homed))
 
 -- 'until that one is retired': its blocks have no holder any more
-unfoldable pub released : Name → List Holder → List Holder
-released n hs = map (λ (h : Holder). cond (h .held && sameName (h .name) n) noHolder h) hs
+abbrev pub freed : Name → Holder → Holder
+freed n h = cond (h .held && sameName (h .name) n) noHolder h
 
--- the master store
+unfoldable pub released : Name → List Holder → List Holder
+released n hs = map (freed n) hs
+
+-- 'the tail moved past it'
+abbrev pub movedTail : Shape → Committed → Tail
+movedTail s e = newTail (e .number + 1) ((e .position + (e .count + 2)) % s .journal)
+
+-- the core without it
+abbrev pub retiredCore : Core → Committed → Core
+retiredCore k e =
+    record { next = k .next; used = k .used - (e .count + 2); stored = k .stored; homed = 0; running = k .running; closed = k .closed }
+
+-- the card after the master store, 'which retires it'
 unfoldable pub retiredCard : ℕ → Committed → Card → Card
 retiredCard c e x =
-    let k = coreOf x c in
-    let n = e .count + 2 in
-    record {
-      phase = x .phase;
-      shape = x .shape;
-      closes = x .closes;
-      recovered = x .recovered;
-      tails = set (x .tails) c (newTail (e .number + 1) ((e .position + n) % (shapeOf x) .journal));
-      cores = set (x .cores) c (record { next = k .next; used = k .used - n; stored = k .stored; homed = 0; running = k .running; closed = k .closed });
-      holders = released (nameOf e) (x .holders);
-    }
+    withLists x
+    (set (x .tails) c (movedTail (shapeOf x) e))
+    (set (x .cores) c (retiredCore (coreOf x c) e))
+    (released (nameOf e) (x .holders))
 
 unfoldable pub storedMaster : ℕ → Committed → World → Outcome
 storedMaster c e w =

@@ -1,6 +1,5 @@
 -- `checkpoint::moved_tail` meets its contract.
 use Rattle.journal.proofs.Reading.{wrapped}
-use Rattle.checkpoint.proofs.CheckpointLaws.{tail-moved}
 use borrow.Author.Needs.{needs}
 use Rattle.checkpoint.proofs.moved_tail.Statement.{statement}
 use Rattle.checkpoint.proofs.moved_tail.Tie as tie
@@ -30,7 +29,7 @@ cast-t9 : tie.Need-cast-t9
 cast-t9 c = search (needs, wrapped)
 
 returns : tie.Need-returns
-returns c = search (needs, tail-moved)
+returns c = search needs
 
 pub moved-tail-spec : {M : Type 1} → statement M
 moved-tail-spec =

@@ -4,7 +4,7 @@ use Prim.Native.Nat.{_-_, _≤_}
 use native.Mathlib.Omega.{arith}
 use mathlib.Core.Path.{_≡_, sym, _∙_}
 use lib.ListN.{length, length-set}
-use Rattle.checkpoint.specs.Oldest.{freed}
+use Rattle.model.specs.Checkpoint.{freed}
 use Rattle.state.proofs.Parts.{facts, filled, filled-none, filled-more, filled-all}
 use Rattle.checkpoint.proofs.CheckpointLaws.{all-freed}
 use Rattle.checkpoint.proofs.release.Statement.{statement}
