@@ -1,5 +1,5 @@
 -- CHECKPOINT: a core's oldest transaction as the code finds it, and the tests of those that share a block with it.
-use Prim.Native.Nat.{ℕ, _+_, _-_, _%_, _<_, min}
+use Prim.Native.Nat.{ℕ, _-_, _<_, min}
 use mathlib.Core.Path.{_≡_}
 use mathlib.Core.List.{List, [], _∷_, map}
 use mathlib.Core.Bool.{Bool, cond, not, _&&_}
@@ -7,17 +7,14 @@ use lib.ListN.{getD}
 use lib.Dec.{ltb, eqb}
 use Rattle.model.specs.Lists.{below}
 use Rattle.model.specs.Bytes.{Bytes}
-use Rattle.model.specs.Card.{newTail, sameName, noHolder, taken, freshCore, shapeOf, tailOf, coreOf, committedCount}
+use Rattle.model.specs.Card.{taken, freshCore, shapeOf, tailOf, coreOf, committedCount}
 use Rattle.model.specs.Journal.{recordAt, nameOf, blocksOf}
 use Rattle.model.specs.Valid.{isIn}
 use Rattle.model.specs.Checkpoint.{share, validNow, sharesLower, storedHome, storedMaster}
 use Rattle.model.specs.Command.{World, Outcome, unless}
 use Rattle.model.specs.declared.Shape.{Shape}
-use Rattle.model.specs.declared.Tail.{Tail}
-use Rattle.model.specs.declared.Name.{Name}
 use Rattle.model.specs.declared.Transaction.{Transaction}
 use Rattle.model.specs.declared.Core.{Core}
-use Rattle.model.specs.declared.Holder.{Holder}
 use Rattle.model.specs.declared.Card.{Card}
 use Rattle.model.specs.declared.Committed.{Committed}
 use Rattle.model.specs.declared.Found.{Found}

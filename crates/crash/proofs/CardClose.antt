@@ -13,9 +13,9 @@ use mathlib.Core.Option.{some}
 use lib.ListN.{length, getD, length-set}
 use lib.Seq.{getD-set-same, getD-set-other}
 use Rattle.model.specs.Bytes.{Bytes, blockAt, store}
-use Rattle.model.specs.Card.{newName, freshCore, noTransaction, taken, listed, stamped, tailOf, coreOf, holderOf}
+use Rattle.model.specs.Card.{newName, freshCore, taken, listed, tailOf, coreOf, holderOf}
 use Rattle.model.specs.Command.{World}
-use Rattle.model.specs.Commit.{copyBlock, copied, closed as closedOutcome, closedCard}
+use Rattle.model.specs.Commit.{copyBlock, copied, closed as closedOutcome, closedCore, closedCard}
 use Rattle.model.specs.declared.Name.{Name}
 use Rattle.model.specs.declared.Core.{Core}
 use Rattle.model.specs.declared.Holder.{Holder}
@@ -226,15 +226,7 @@ module _ {l : Ledger} {w : World} (u : Up l w) (c : ℕ) (in-range : c < l .shap
       ∙ sym (getD-map (imageNow l) bs i 0 [] h))
 
   abbrev x₂ : Core
-  x₂ =
-      record {
-        next = (x .next + 1) % 2 ^ 32;
-        used = x .used;
-        stored = 0;
-        homed = x .homed;
-        running = noTransaction;
-        closed = stamped (x .running) ((w .card .closes + 1) % 2 ^ 64);
-      }
+  x₂ = closedCore x ((w .card .closes + 1) % 2 ^ 64)
 
   closed-core : coreOf (closedCard (w .card) c) c ≡ x₂
   unfolding closedCard coreOf

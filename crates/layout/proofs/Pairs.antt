@@ -9,14 +9,14 @@ use borrow.Author.Tests.{eq-eqb, ne-eqb}
 use Rattle.model.specs.Lists.{below}
 use Rattle.model.specs.Shape.{clamped}
 use Rattle.model.specs.Card.{newTail, newName}
-use Rattle.model.specs.Layout.{mark, pairWords, Held, newHeld}
+use Rattle.model.specs.Layout.{mark, pairWords, masterWords, Held, newHeld, descriptorWords, commitWords}
 use Rattle.model.specs.declared.Shape.{Shape}
 use Rattle.model.specs.declared.Tail.{Tail}
 use Rattle.model.specs.declared.Name.{Name}
 use Rattle.model.proofs.Lists.{length-below, getD-map-below}
 use Rattle.model.proofs.Limits.{clamped-range}
 use Rattle.model.proofs.Encoding.{length-pairs}
-use Rattle.layout.specs.Words.{pairWord, masterWords, heldOf, descriptorWords, commitWords}
+use Rattle.layout.specs.Words.{pairWord, masterFrom, heldOf, descriptorFrom}
 
 -- the length of an array of structs, as its type gives it
 pub length-mapped : {A B : Type 0} (f : A → B) (l : List A) (n : ℕ) → length (map f l) ≡ n → length l ≡ n
@@ -65,8 +65,8 @@ length-tails : (s : Shape) (ts : List Tail) → length (tails s ts) ≡ s .cores
 unfolding tails
 length-tails s ts = length-map (below (s .cores)) (λ (c : ℕ). getD ts c (newTail 0 0)) ∙ length-below (s .cores)
 
-pub length-master : (s : Shape) (ts : List Tail) → length (masterWords (clamped s) ts) ≤ 32
-unfolding masterWords tails
+pub length-master : (s : Shape) (ts : List Tail) → length (masterFrom (clamped s) ts) ≤ 32
+unfolding masterFrom masterWords tails
 length-master s ts =
     let n = clamped s in
     omega (arith, length-pairs (λ (t : Tail). t .number) (λ (t : Tail). t .position) (tails n ts), length-tails n ts, (clamped-range s) .few-cores)
@@ -79,33 +79,33 @@ module _ (s near : Shape) (e : near ≡ s) (ts : List Tail) (i : ℕ) where
   head : List ℕ
   head = mark ∷ 4 ∷ 0 ∷ near .cores ∷ near .blocks ∷ near .journal ∷ []
 
-  pub master-head : i < 6 → getD (mark ∷ 4 ∷ 0 ∷ near .cores ∷ near .blocks ∷ near .journal ∷ []) i 0 ≡ getD (masterWords s ts) i 0
-  unfolding masterWords head tails
-  master-head h = word-head (λ (t : Tail). t .number) (λ (t : Tail). t .position) head 6 refl (tails near ts) i h ∙ ap (λ (z : Shape). getD (masterWords z ts) i 0) e
+  pub master-head : i < 6 → getD (mark ∷ 4 ∷ 0 ∷ near .cores ∷ near .blocks ∷ near .journal ∷ []) i 0 ≡ getD (masterFrom s ts) i 0
+  unfolding masterFrom masterWords head tails
+  master-head h = word-head (λ (t : Tail). t .number) (λ (t : Tail). t .position) head 6 refl (tails near ts) i h ∙ ap (λ (z : Shape). getD (masterFrom z ts) i 0) e
 
-  pub master-rest : 6 ≤ i → near .cores ≤ (i - 6) / 2 → 0 ≡ getD (masterWords s ts) i 0
-  unfolding masterWords head tails
+  pub master-rest : 6 ≤ i → near .cores ≤ (i - 6) / 2 → 0 ≡ getD (masterFrom s ts) i 0
+  unfolding masterFrom masterWords head tails
   master-rest h q =
       word-rest (λ (t : Tail). t .number) (λ (t : Tail). t .position) head 6 refl (tails near ts) i h (omega (arith, length-tails near ts))
-      ∙ ap (λ (z : Shape). getD (masterWords z ts) i 0) e
+      ∙ ap (λ (z : Shape). getD (masterFrom z ts) i 0) e
 
   pub master-pair : (x : ℕ) → x ≡ pairWord ((getD ts ((i - 6) / 2) (newTail 0 0)) .number) ((getD ts ((i - 6) / 2) (newTail 0 0)) .position) (i - 6)
-      → 6 ≤ i → (i - 6) / 2 < near .cores → x ≡ getD (masterWords s ts) i 0
-  unfolding masterWords head tails
+      → 6 ≤ i → (i - 6) / 2 < near .cores → x ≡ getD (masterFrom s ts) i 0
+  unfolding masterFrom masterWords head tails
   master-pair x v h q =
       let t : getD (tails near ts) ((i - 6) / 2) (newTail 0 0) ≡ getD ts ((i - 6) / 2) (newTail 0 0) = getD-map-below (λ (c : ℕ). getD ts c (newTail 0 0)) (near .cores) ((i - 6) / 2) (newTail 0 0) q in
       v
       ∙ ap (λ (t : Tail). pairWord (t .number) (t .position) (i - 6)) (sym t)
       ∙ word-pair (λ (t : Tail). t .number) (λ (t : Tail). t .position) head 6 refl (tails near ts) i (newTail 0 0) h (omega (arith, length-tails near ts))
-      ∙ ap (λ (z : Shape). getD (masterWords z ts) i 0) e
+      ∙ ap (λ (z : Shape). getD (masterFrom z ts) i 0) e
 
 -- ---- descriptor
 length-heldOf : (n : ℕ) (bs fs : List ℕ) → length (heldOf n bs fs) ≡ n
 unfolding heldOf
 length-heldOf n bs fs = length-map (below n) (λ (i : ℕ). newHeld (getD bs i 0) (getD fs i 0)) ∙ length-below n
 
-pub length-descriptor : (k count : ℕ) (bs fs : List ℕ) → length (descriptorWords k (min count 8) bs fs) ≤ 32
-unfolding descriptorWords
+pub length-descriptor : (k count : ℕ) (bs fs : List ℕ) → length (descriptorFrom k (min count 8) bs fs) ≤ 32
+unfolding descriptorFrom descriptorWords
 length-descriptor k count bs fs =
     let n = min count 8 in
     omega (arith, length-pairs (λ (h : Held). h .block) (λ (h : Held). h .flag) (heldOf n bs fs), length-heldOf n bs fs)
@@ -115,19 +115,19 @@ module _ (k n m : ℕ) (e : m ≡ n) (bs fs : List ℕ) (i : ℕ) where
   descriptorHead : List ℕ
   descriptorHead = mark ∷ 1 ∷ k ∷ length (heldOf n bs fs) ∷ []
 
-  pub descriptor-head : i < 4 → getD (mark ∷ 1 ∷ k ∷ m ∷ []) i 0 ≡ getD (descriptorWords k n bs fs) i 0
-  unfolding descriptorWords descriptorHead
+  pub descriptor-head : i < 4 → getD (mark ∷ 1 ∷ k ∷ m ∷ []) i 0 ≡ getD (descriptorFrom k n bs fs) i 0
+  unfolding descriptorFrom descriptorWords descriptorHead
   descriptor-head h =
       let l : m ≡ length (heldOf n bs fs) = e ∙ sym (length-heldOf n bs fs) in
       rw l (word-head (λ (h : Held). h .block) (λ (h : Held). h .flag) descriptorHead 4 refl (heldOf n bs fs) i h)
 
-  pub descriptor-rest : 4 ≤ i → m ≤ (i - 4) / 2 → 0 ≡ getD (descriptorWords k n bs fs) i 0
-  unfolding descriptorWords descriptorHead
+  pub descriptor-rest : 4 ≤ i → m ≤ (i - 4) / 2 → 0 ≡ getD (descriptorFrom k n bs fs) i 0
+  unfolding descriptorFrom descriptorWords descriptorHead
   descriptor-rest h q = word-rest (λ (h : Held). h .block) (λ (h : Held). h .flag) descriptorHead 4 refl (heldOf n bs fs) i h (omega (arith, length-heldOf n bs fs))
 
   pub descriptor-pair : (x a b : ℕ) → x ≡ pairWord a b (i - 4) → a ≡ getD bs ((i - 4) / 2) 0 → b ≡ getD fs ((i - 4) / 2) 0
-      → 4 ≤ i → (i - 4) / 2 < m → x ≡ getD (descriptorWords k n bs fs) i 0
-  unfolding descriptorWords descriptorHead heldOf
+      → 4 ≤ i → (i - 4) / 2 < m → x ≡ getD (descriptorFrom k n bs fs) i 0
+  unfolding descriptorFrom descriptorWords descriptorHead heldOf
   descriptor-pair x a b v p r h q =
       let j = (i - 4) / 2 in
       let t : getD (heldOf n bs fs) j (newHeld 0 0) ≡ newHeld (getD bs j 0) (getD fs j 0) = getD-map-below (λ (i : ℕ). newHeld (getD bs i 0) (getD fs i 0)) n j (newHeld 0 0) (omega arith) in

@@ -5,7 +5,7 @@ ghost use Prim.Native.Nat.{ℕ, _≤_, _<_, min};
 ghost use lib.ListN.{length, getD};
 ghost use Rattle.model.specs.Lists.{below};
 ghost use Rattle.model.specs.Layout.{newHeld, descriptorBlock, pairAt, isHeld, isDescriptor, blockCount};
-ghost use Rattle.layout.specs.Words.{descriptorWords};
+ghost use Rattle.layout.specs.Words.{descriptorFrom};
 ghost use Rattle.layout.specs.Loops.{every};
 ghost use Rattle.layout.specs.Distinct.{isNew};
 use crate::words::MARK;
@@ -20,7 +20,7 @@ use model::Shape;
 
 // Word i of a descriptor.
 fn descriptor_word(number: u32, count: u8, blocks: [u8; 8], flags: [u8; 8], i: usize) -> u32
-    ensures { λ r. ⌜ r ≡ getD (descriptorWords number (min count 8) blocks flags) i 0 ⌝ }
+    ensures { λ r. ⌜ r ≡ getD (descriptorFrom number (min count 8) blocks flags) i 0 ⌝ }
 {
     let n = at_most(count, 8);
     if i < 4 {

@@ -9,7 +9,7 @@ ghost use Rattle.model.specs.Lists.{below};
 ghost use Rattle.model.specs.Shape.{checked, clamped};
 ghost use Rattle.model.specs.Card.{newTail};
 ghost use Rattle.model.specs.Layout.{masterBlock, tailIn, isTail, isMaster};
-ghost use Rattle.layout.specs.Words.{pairWord, masterWords};
+ghost use Rattle.layout.specs.Words.{pairWord, masterFrom};
 ghost use Rattle.layout.specs.Loops.{every};
 ghost use Rattle.layout.specs.Tails.{tailOrNone};
 use crate::words::MARK;
@@ -29,7 +29,7 @@ fn tail_word(t: Tail, k: usize) -> u32
 
 // Word i of the master.
 fn master_word(s: Shape, tails: [Tail; 8], i: usize) -> u32
-    ensures { λ r. ⌜ r ≡ getD (masterWords (clamped s) tails) i 0 ⌝ }
+    ensures { λ r. ⌜ r ≡ getD (masterFrom (clamped s) tails) i 0 ⌝ }
 {
     let near = s.clamped();
     if i < 6 {

@@ -1,6 +1,6 @@
 -- What is stored is read: master, descriptor, commit and data, over the one definition of their bytes.
 -- Stored data never begins with the mark, so it is never taken for a descriptor or a commit.
-use Prim.Native.Nat.{ℕ, zero, suc, _+_, _*_, _/_, _%_, _^_, _≤_, _<_}
+use Prim.Native.Nat.{ℕ, zero, suc, _+_, _*_, _≤_, _<_}
 use native.Mathlib.Omega.{arith}
 use native.Mathlib.Nat.{div-add-mod'}
 use mathlib.Core.Path.{_≡_, refl, ap, _∙_, sym}
@@ -14,7 +14,7 @@ use Rattle.model.specs.Lists.{below, all}
 use Rattle.model.specs.Bytes.{Bytes, bytes, number, part, be4, block}
 use Rattle.model.specs.Shape.{between}
 use Rattle.model.specs.Card.{newTail, newName}
-use Rattle.model.specs.Layout.{mark, maxNumber, hasHead, pairWords, pairAt, pairsIn, masterBlock, shapeIn, tailIn, isTail, isMaster, Held, newHeld, descriptorBlock, blockCount, heldIn, distinct, isHeld, isDescriptor, commitBlock, stampIn, nameCount, namesIn, isListable, isCommit, flagOf, escaped, unescaped}
+use Rattle.model.specs.Layout.{mark, maxNumber, hasHead, pairWords, pairAt, pairsIn, masterWords, masterBlock, shapeIn, tailIn, isTail, isMaster, Held, newHeld, descriptorWords, descriptorBlock, blockCount, heldIn, distinct, isHeld, isDescriptor, commitWords, commitBlock, stampIn, nameCount, namesIn, isListable, isCommit, flagOf, escaped, unescaped}
 use Rattle.model.specs.declared.Shape.{Shape}
 use Rattle.model.specs.declared.Tail.{Tail}
 use Rattle.model.specs.declared.Name.{Name}
@@ -66,7 +66,7 @@ module _ {A : Type 0} (f g : A → ℕ) where
 -- ---- master
 -- it has the tails of its cores alone
 pub master-same : (s : Shape) (f g : ℕ → Tail) → ((c : ℕ) → c < s .cores → f c ≡ g c) → masterBlock s f ≡ masterBlock s g
-unfolding masterBlock
+unfolding masterBlock masterWords
 master-same s f g h = rw (map-below f g (s .cores) h)
 
 pub tail-limits : (s : Shape) (t : Tail) → isTail s t ≡ true → (1 ≤ t .number) × (t .number ≤ suc maxNumber) × (t .position < s .journal)
@@ -75,13 +75,9 @@ tail-limits s t h =
     let n = between-known 1 (t .number) (suc maxNumber) (and-left _ _ h) in
     (n .0, n .1, ltb-true (t .position) (s .journal) (and-right (between 1 (t .number) (suc maxNumber)) _ h))
 
-unfoldable masterWords : Shape → (ℕ → Tail) → List ℕ
-masterWords s tailAt =
-    mark ∷ 4 ∷ 0 ∷ s .cores ∷ s .blocks ∷ s .journal ∷ pairWords (λ (t : Tail). t .number) (λ (t : Tail). t .position) (map tailAt (below (s .cores)))
-
 module _ {s : Shape} (l : InRange s) (tailAt : ℕ → Tail) where
   pub length-master : length (masterBlock s tailAt) ≡ 128
-  unfolding masterBlock
+  unfolding masterBlock masterWords
   length-master =
       length-block _
       (omega (arith, l .few-cores, length-pairs (λ (t : Tail). t .number) (λ (t : Tail). t .position) (map tailAt (below (s .cores))), length-map (below (s .cores)) tailAt, length-below (s .cores)))
@@ -153,18 +149,12 @@ pub record Sound (s : Shape) (k : ℕ) (hs : List Held) (stamp : ℕ) (ns : List
 
 -- ---- descriptor
 pub length-descriptor : (k : ℕ) (hs : List Held) → length hs ≤ 8 → length (descriptorBlock k hs) ≡ 128
-unfolding descriptorBlock
+unfolding descriptorBlock descriptorWords
 length-descriptor k hs h = length-block _ (omega (arith, length-pairs (λ (h : Held). h .block) (λ (h : Held). h .flag) hs))
 
 pub length-commit : (k stamp : ℕ) (ns : List Name) → length ns ≤ 12 → length (commitBlock k stamp ns) ≡ 128
-unfolding commitBlock
+unfolding commitBlock commitWords
 length-commit k stamp ns h = length-block _ (omega (arith, length-pairs (λ (n : Name). n .core) (λ (n : Name). n .number) ns))
-
-unfoldable descriptorWords : ℕ → List Held → List ℕ
-descriptorWords k hs = mark ∷ 1 ∷ k ∷ length hs ∷ pairWords (λ (h : Held). h .block) (λ (h : Held). h .flag) hs
-
-unfoldable commitWords : ℕ → ℕ → List Name → List ℕ
-commitWords k stamp ns = mark ∷ 2 ∷ k ∷ stamp / 2 ^ 32 ∷ stamp % 2 ^ 32 ∷ length ns ∷ pairWords (λ (n : Name). n .core) (λ (n : Name). n .number) ns
 
 held-limits : (s : Shape) (h : Held) → isHeld s h ≡ true → (h .block < s .blocks) × (h .flag ≤ 1)
 unfolding isHeld

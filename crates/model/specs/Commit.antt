@@ -29,10 +29,14 @@ closeConditions c w =
     let k = coreOf (w .card) c in
     notUp w ((noCore w c, 5) ∷ (not (k .running .live), 28) ∷ (k .closed .live, 29) ∷ [])
 
--- 'gives it a stamp: the count of closes since the card came up'; counts wrap at their width on a card that no run made
+-- a core with its running transaction closed under this stamp; counts wrap at their width on a card that no run made
+abbrev pub closedCore : Core → ℕ → Core
+closedCore k stamp =
+    record { next = (k .next + 1) % 2 ^ 32; used = k .used; stored = 0; homed = k .homed; running = noTransaction; closed = stamped (k .running) stamp }
+
+-- 'gives it a stamp: the count of closes since the card came up'
 unfoldable pub closedCard : Card → ℕ → Card
 closedCard x c =
-    let k = coreOf x c in
     let stamp = (x .closes + 1) % 2 ^ 64 in
     record {
       phase = x .phase;
@@ -40,9 +44,7 @@ closedCard x c =
       closes = stamp;
       recovered = x .recovered;
       tails = x .tails;
-      cores =
-          set (x .cores) c
-          (record { next = (k .next + 1) % 2 ^ 32; used = k .used; stored = 0; homed = k .homed; running = noTransaction; closed = stamped (k .running) stamp });
+      cores = set (x .cores) c (closedCore (coreOf x c) stamp);
       holders = x .holders;
     }
 

@@ -36,9 +36,12 @@ module _ {A : Type 0} where
   pairsIn make b at n = map (pairAt make b at) (below n)
 
 -- ---- 'Master, type 4, number 0: 12-15 C, 16-19 B, 20-23 J; from 24, per core, tail number (4), tail position (4)'
+unfoldable pub masterWords : Shape → (ℕ → Tail) → List ℕ
+masterWords s tailAt =
+    mark ∷ 4 ∷ 0 ∷ s .cores ∷ s .blocks ∷ s .journal ∷ pairWords (λ (t : Tail). t .number) (λ (t : Tail). t .position) (map tailAt (below (s .cores)))
+
 unfoldable pub masterBlock : Shape → (ℕ → Tail) → Bytes
-masterBlock s tailAt =
-    block (mark ∷ 4 ∷ 0 ∷ s .cores ∷ s .blocks ∷ s .journal ∷ pairWords (λ (t : Tail). t .number) (λ (t : Tail). t .position) (map tailAt (below (s .cores))))
+masterBlock s tailAt = block (masterWords s tailAt)
 
 unfoldable pub shapeIn : Bytes → Shape
 shapeIn m = record { cores = be4 m 12; blocks = be4 m 16; journal = be4 m 20 }
@@ -64,8 +67,11 @@ pub record Held : Type 0 where
 abbrev pub newHeld : ℕ → ℕ → Held
 newHeld b f = record { block = b; flag = f }
 
+unfoldable pub descriptorWords : ℕ → List Held → List ℕ
+descriptorWords k hs = mark ∷ 1 ∷ k ∷ length hs ∷ pairWords (λ (h : Held). h .block) (λ (h : Held). h .flag) hs
+
 unfoldable pub descriptorBlock : ℕ → List Held → Bytes
-descriptorBlock k hs = block (mark ∷ 1 ∷ k ∷ length hs ∷ pairWords (λ (h : Held). h .block) (λ (h : Held). h .flag) hs)
+descriptorBlock k hs = block (descriptorWords k hs)
 
 unfoldable pub blockCount : Bytes → ℕ
 blockCount b = be4 b 12
@@ -89,9 +95,11 @@ isDescriptor s k b =
     hasHead 1 k b && leb k maxNumber && leb n 8 && all (isHeld s) (heldIn b n) && distinct (heldIn b n)
 
 -- ---- 'Commit, type 2: 12-19 stamp, 20-23 name count; from 24, per name, core (4), number (4)'
+unfoldable pub commitWords : ℕ → ℕ → List Name → List ℕ
+commitWords k stamp ns = mark ∷ 2 ∷ k ∷ stamp / 2 ^ 32 ∷ stamp % 2 ^ 32 ∷ length ns ∷ pairWords (λ (n : Name). n .core) (λ (n : Name). n .number) ns
+
 unfoldable pub commitBlock : ℕ → ℕ → List Name → Bytes
-commitBlock k stamp ns =
-    block (mark ∷ 2 ∷ k ∷ stamp / 2 ^ 32 ∷ stamp % 2 ^ 32 ∷ length ns ∷ pairWords (λ (n : Name). n .core) (λ (n : Name). n .number) ns)
+commitBlock k stamp ns = block (commitWords k stamp ns)
 
 unfoldable pub stampIn : Bytes → ℕ
 stampIn b = be4 b 12 * 2 ^ 32 + be4 b 16

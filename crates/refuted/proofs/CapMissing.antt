@@ -14,7 +14,7 @@ use Rattle.model.specs.Lists.{all, below}
 use Rattle.model.specs.Bytes.{Bytes, part, store, zeroMemory}
 use Rattle.model.specs.Shape.{between, inRange}
 use Rattle.model.specs.Card.{newTail, isBlank, isUp}
-use Rattle.model.specs.Layout.{maxNumber, masterBlock}
+use Rattle.model.specs.Layout.{maxNumber, masterWords, masterBlock}
 use Rattle.model.specs.Journal.{journal}
 use Rattle.model.specs.Command.{World, Outcome, refusal, unless}
 use Rattle.model.specs.Recovery.{shapeOn, tailOn, recoverConditions, blocksLeft, newestImage}
@@ -162,7 +162,7 @@ unbounded t n = t + (n + 1)
 
 -- a master of one core has one tail
 one-tail : (f g : ℕ → Tail) → f 0 ≡ g 0 → masterBlock small f ≡ masterBlock small g
-unfolding masterBlock below
+unfolding masterBlock masterWords below
 one-tail f g e = ap (λ (t : Tail). masterBlock small (λ (c : ℕ). t)) e
 
 module _ (first : ℕ → ℕ) (top : first 0 ≡ suc maxNumber) (w : World) (o : Outcome) where

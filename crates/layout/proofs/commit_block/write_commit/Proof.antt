@@ -2,8 +2,7 @@
 use Prim.Native.Nat.{_-_}
 use lib.ListN.{take}
 use borrow.Author.Needs.{needs}
-use Rattle.model.specs.Layout.{commitBlock}
-use Rattle.layout.specs.Words.{commitWords}
+use Rattle.model.specs.Layout.{commitWords, commitBlock}
 use Rattle.layout.proofs.Blocks.{Written, written}
 use Rattle.layout.proofs.Pairs.{length-commit, length-mapped}
 use Rattle.layout.proofs.commit_block.write_commit.Statement.{statement}
@@ -16,7 +15,7 @@ abbrev μ-loop : tie.MeasureT-loop
 μ-loop block₀ number stamp named names i₀ block i = 32 - i
 
 pub write-commit-spec : {M : Type 1} → statement M
-unfolding commitBlock commitWords
+unfolding commitBlock
 write-commit-spec =
     tie.close
     (tie.spec Inv-loop μ-loop (λ c. search (written, length-commit, length-mapped)) (λ c κs. search needs)

@@ -3,20 +3,20 @@ use Prim.Native.Nat.{_-_}
 use borrow.Author.Needs.{needs}
 use Rattle.model.specs.Layout.{masterBlock}
 use Rattle.model.specs.Shape.{clamped}
-use Rattle.layout.specs.Words.{masterWords}
+use Rattle.layout.specs.Words.{masterFrom}
 use Rattle.layout.proofs.Blocks.{Written, written}
 use Rattle.layout.proofs.Pairs.{length-master}
 use Rattle.layout.proofs.master_block.write_master.Statement.{statement}
 use Rattle.layout.proofs.master_block.write_master.Tie as tie
 
 abbrev Inv-loop : tie.InvT-loop
-Inv-loop block₀ s tails i₀ block i = Written (masterWords (clamped s) tails) block i
+Inv-loop block₀ s tails i₀ block i = Written (masterFrom (clamped s) tails) block i
 
 abbrev μ-loop : tie.MeasureT-loop
 μ-loop block₀ s tails i₀ block i = 32 - i
 
 pub write-master-spec : {M : Type 1} → statement M
-unfolding masterBlock masterWords
+unfolding masterBlock masterFrom
 write-master-spec =
     tie.close
     (tie.spec Inv-loop μ-loop (λ c. search (written, length-master)) (λ c κs. search needs) (λ c. search needs)
