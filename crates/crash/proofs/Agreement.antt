@@ -1,7 +1,7 @@
 -- The service book and the ledger, fed the same commands and answers, agree at every point of a run: while the card is
 -- not down their books differ in numbers alone and their saved writes in names alone; while it is down, the service book
 -- has saved what the ledger still keeps in its book. So at every coming up both give the same area.
-use Prim.Native.Nat.{ℕ, zero, suc, _+_, _-_, _≤_, min}
+use Prim.Native.Nat.{ℕ, zero, suc, _+_, _-_, _≤_}
 use native.Mathlib.Omega.{arith}
 use mathlib.Core.Path.{_≡_, refl}
 use mathlib.Core.List.{List, [], _∷_, _++_}
@@ -12,13 +12,12 @@ use borrow.Author.Tests.{eqb-true, ne-eqb}
 use Rattle.model.specs.Lists.{select}
 use Rattle.model.specs.Bytes.{Bytes}
 use Rattle.model.specs.Card.{isDown}
-use Rattle.model.specs.Layout.{maxNumber}
 use Rattle.model.specs.declared.Phase.{Phase}
 use Rattle.model.specs.declared.Shape.{Shape}
 use Rattle.model.proofs.Lists.{cases}
 use Rattle.crash.specs.Book.{Book, emptyBook, keptWrites, image, blank, hasRunning}
 use Rattle.crash.specs.Service.{Service, emptyService, noted, cutService, fed}
-use Rattle.crash.specs.Ledger.{Ledger, freshLedger, blankLedger, withBook, closeLedger, cutLedger, recoverLedger, entered}
+use Rattle.crash.specs.Ledger.{Ledger, freshLedger, blankLedger, withBook, closeLedger, cutLedger, firstNumber, recoverLedger, entered}
 use Rattle.crash.specs.Claims.{downLedger}
 use Rattle.crash.proofs.Rename.{Renamed, SameWrites, empty-renamed, close-renamed, noted-renamed, same-image, kept-saved, running-renamed}
 use Rattle.crash.proofs.Tests.{clash}
@@ -76,7 +75,7 @@ module _ (v : Service) (l : Ledger) where
   unfolding recoverLedger freshLedger
   recover-agrees d (not-down shift p r s) bs = clash d p
   recover-agrees d (down p e s) [] =
-      let n : ℕ → ℕ = λ c. min (l .book .uncommitted c + 1) (suc maxNumber) in
+      let n : ℕ → ℕ = firstNumber l in
       not-down (λ c. n c - 1) refl (rw e (empty-renamed (λ c. n c - 1) (λ c. 1) n (λ c. omega arith))) s
   recover-agrees d (down p e s) (b ∷ bs) = down refl e s
 

@@ -1,7 +1,7 @@
 -- RECOVER on a card that is down by the ledger is carried out, and its store is the one that the ledger says. A home store
 -- changes neither journals nor master, so the rest of recovery stays as it was. With no block left the home area is the
 -- target, and the master store empties all journals: no commit has an uncommitted number, so a fresh card has come up.
-use Prim.Native.Nat.{ℕ, zero, suc, _+_, _-_, _≤_, _<_, min}
+use Prim.Native.Nat.{ℕ, zero, suc, _+_, _-_, _≤_, _<_}
 use native.Mathlib.Omega.{arith}
 use native.Mathlib.Decide.{ℕ-discrete}
 use mathlib.Core.Path.{_≡_, refl, sym, ap, _∙_, subst}
@@ -15,7 +15,7 @@ use Rattle.model.specs.Lists.{below, any, select}
 use Rattle.model.specs.Bytes.{blockAt, store}
 use Rattle.model.specs.Shape.{homeBlock}
 use Rattle.model.specs.Card.{isUp, newTail, freshCard}
-use Rattle.model.specs.Layout.{maxNumber, masterBlock, isCommit}
+use Rattle.model.specs.Layout.{masterBlock, isCommit}
 use Rattle.model.specs.Journal.{journal, journalAt}
 use Rattle.model.specs.Command.{World, Outcome, storing}
 use Rattle.model.specs.Recovery.{tailOn, blocksLeft, recoveredTo, emptiedTail, broughtUp, recoverStep, recovered}
@@ -26,7 +26,7 @@ use Rattle.model.proofs.Encoding.{master-same}
 use Rattle.model.proofs.Lists.{cases, mem-below, length-below, getD-map-below}
 use Rattle.model.proofs.Select.{select-mem, select-same}
 use Rattle.crash.specs.Book.{keptWrites, blank}
-use Rattle.crash.specs.Ledger.{Ledger, blocksIn, recoverLedger, recoverStored}
+use Rattle.crash.specs.Ledger.{Ledger, blocksIn, firstNumber, recoverLedger, recoverStored}
 use Rattle.crash.proofs.Tests.{impossible}
 use Rattle.crash.proofs.Relation.{IsBlock, Fine, Up, target, DownBy}
 use Rattle.crash.proofs.LedgerSteps.{image-block, blank-block, fine-home, phased, kept-fits}
@@ -138,11 +138,8 @@ module _ {l : Ledger} {w : World} (v : DownBy l w) where
         })
 
   -- ---- the master store
-  abbrev firstNumber : ℕ → ℕ
-  firstNumber c = min (l .book .uncommitted c + 1) (suc maxNumber)
-
   abbrev firstTail : ℕ → Tail
-  firstTail c = newTail (firstNumber c) 0
+  firstTail c = newTail (firstNumber l c) 0
 
   -- 'two above the last committed one read in its journal'
   emptied : (c : ℕ) → c < l .shape .cores → emptiedTail (w .disk) c ≡ firstTail c
@@ -173,13 +170,13 @@ module _ {l : Ledger} {w : World} (v : DownBy l w) where
     pub recovered-home : (b : ℕ) → b < l .shape .blocks → blockAt ((recovered w) .world .disk) (homeBlock b) ≡ target l b
     recovered-home b h = master-other (homeBlock b) (λ q. omega arith) ∙ v .at-home b h (rw e (unfold any in refl))
 
-    recovered-clear : (c : ℕ) → c < l .shape .cores → (i q : ℕ) → firstNumber c ≤ i → isCommit (l .shape) i (journalAt (l .shape) ((recovered w) .world .disk) c q) ≡ false
+    recovered-clear : (c : ℕ) → c < l .shape .cores → (i q : ℕ) → firstNumber l c ≤ i → isCommit (l .shape) i (journalAt (l .shape) ((recovered w) .world .disk) c q) ≡ false
     recovered-clear c h i q k =
         let r = v .fine .ranks c h in
         rw (master-outcome, low-journal (v .fine) (v .disk) 0 (omega arith) (masterBlock (l .shape) firstTail) is-master c q)
         (v .disk .journals c h .clear i q (omega (arith, r .mid, r .top)))
 
-    recovered-comes-up : ComeUp (l .shape) firstNumber ((recovered w) .world)
+    recovered-comes-up : ComeUp (l .shape) (firstNumber l) ((recovered w) .world)
     recovered-comes-up =
         let o = master-outcome in
         let m = masterBlock (l .shape) firstTail in

@@ -129,10 +129,13 @@ downWith bs l =
 unfoldable pub cutLedger : Ledger → Ledger
 cutLedger l = downWith (blocksIn (l .shape .blocks) (l .book)) l
 
--- RECOVER: a home store of the lowest block left; then the master store, and numbers go on 'two above the last
--- committed one'
+-- the first number after a recovery: 'two above the last committed one'
+abbrev pub firstNumber : Ledger → ℕ → ℕ
+firstNumber l c = min (l .book .uncommitted c + 1) (suc maxNumber)
+
+-- RECOVER: a home store of the lowest block left; then the master store
 unfoldable pub recoverLedger : List ℕ → Ledger → Ledger
-recoverLedger [] l = freshLedger (l .shape) (keptWrites (l .book) ++ l .saved) (λ (c : ℕ). min (l .book .uncommitted c + 1) (suc maxNumber))
+recoverLedger [] l = freshLedger (l .shape) (keptWrites (l .book) ++ l .saved) (firstNumber l)
 recoverLedger (b ∷ bs) l = downWith bs l
 
 -- command byte, operands and answer
@@ -204,7 +207,7 @@ checkpointStored c l d =
 -- RECOVER: the lowest block left gets the bytes that the kept writes give it; where none is left, 'one master store
 -- empties all journals'
 unfoldable pub recoverStored : List ℕ → Ledger → Bytes → Bytes
-recoverStored [] l d = store d 0 (masterBlock (l .shape) (λ (c : ℕ). newTail (min (l .book .uncommitted c + 1) (suc maxNumber)) 0))
+recoverStored [] l d = store d 0 (masterBlock (l .shape) (λ (c : ℕ). newTail (firstNumber l c) 0))
 recoverStored (b ∷ bs) l d = store d (homeBlock b) (image blank (keptWrites (l .book) ++ l .saved) b)
 
 -- the disk after a command carried out, by command byte and operands

@@ -68,12 +68,15 @@ recoveredTo x b =
     record { phase = x .phase; shape = x .shape; closes = x .closes; recovered = b; tails = x .tails; cores = x .cores; holders = x .holders }
 
 -- 'for each core a tail number two above the last committed one read in its journal (with none, one above the old
--- tail), at most 4,000,000,001', 'position 0'
+-- tail), at most 4,000,000,001', 'position 0'; n were read
+abbrev pub tailPast : Tail → ℕ → Tail
+tailPast t n = newTail (min (t .number + (n + 1)) (suc maxNumber)) 0
+
 unfoldable pub emptiedTail : Bytes → ℕ → Tail
 emptiedTail d c =
     let s = shapeOn d in
     let t = tailOn d c in
-    cond (ltb c (s .cores)) (newTail (min (t .number + (length (journal s d c t (s .journal)) + 1)) (suc maxNumber)) 0) (newTail 0 0)
+    cond (ltb c (s .cores)) (tailPast t (length (journal s d c t (s .journal)))) (newTail 0 0)
 
 -- 'Then one master store empties all journals ..' 'The card is up, stamps start again at 1.'
 unfoldable pub broughtUp : Bytes → Card

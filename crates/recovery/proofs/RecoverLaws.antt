@@ -15,7 +15,7 @@ use Rattle.model.specs.Layout.{mark, maxNumber, shapeIn, tailIn, isMaster, mast
 use Rattle.model.specs.Journal.{journal}
 use Rattle.model.specs.Valid.{validSet, newest}
 use Rattle.model.specs.Command.{Outcome, refusal}
-use Rattle.model.specs.Recovery.{shapeOn, tailOn, committedOn, validOn, blocksLeft, newestImage, recoveredTo, emptiedTail, broughtUp, recoverConditions, recoverStep, recovered, recover}
+use Rattle.model.specs.Recovery.{shapeOn, tailOn, committedOn, validOn, blocksLeft, newestImage, recoveredTo, tailPast, emptiedTail, broughtUp, recoverConditions, recoverStep, recovered, recover}
 use Rattle.model.specs.declared.Card.{Card}
 use Rattle.model.specs.declared.Tail.{Tail}
 use Rattle.model.specs.declared.Shape.{Shape}
@@ -93,10 +93,10 @@ module _ (d : Bytes) (h : isMaster (blockAt d 0) ≡ true) where
 
 -- ---- tails
 module _ (t : Tail) (n : ℕ) where
-  pub next-below : t .number + (n + 1) < 4000000001 → newTail (t .number + (n + 1)) 0 ≡ newTail (min (t .number + (n + 1)) (suc maxNumber)) 0
+  pub next-below : t .number + (n + 1) < 4000000001 → newTail (t .number + (n + 1)) 0 ≡ tailPast t n
   next-below h = let q : min (t .number + (n + 1)) (suc maxNumber) ≡ t .number + (n + 1) = omega arith in rw q
 
-  pub next-last : 4000000001 ≤ t .number + (n + 1) → newTail 4000000001 0 ≡ newTail (min (t .number + (n + 1)) (suc maxNumber)) 0
+  pub next-last : 4000000001 ≤ t .number + (n + 1) → newTail 4000000001 0 ≡ tailPast t n
   next-last h = let q : min (t .number + (n + 1)) (suc maxNumber) ≡ 4000000001 = omega arith in rw q
 
 module _ (s : Shape) (ts : List Tail) (set : List ℕ) (c : ℕ) where
@@ -105,7 +105,7 @@ module _ (s : Shape) (ts : List Tail) (set : List ℕ) (c : ℕ) where
   after-none h = rw (le-ltb c (s .cores) h)
 
   pub after-some : c < s .cores → (n : ℕ) → n ≡ filledFrom s set (12 * c) 12
-      → (r : Tail) → r ≡ newTail (min ((getD ts c (newTail 0 0)) .number + (n + 1)) (suc maxNumber)) 0 → r ≡ tailAfter s ts set c
+      → (r : Tail) → r ≡ tailPast (getD ts c (newTail 0 0)) n → r ≡ tailAfter s ts set c
   unfolding tailAfter
   after-some h n q r z = z ∙ rw (lt-ltb c (s .cores) h, ← q)
 

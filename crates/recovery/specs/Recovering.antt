@@ -1,5 +1,5 @@
 -- RECOVER over slots: the tail numbers of a disk, and a core's tail after recovery.
-use Prim.Native.Nat.{ℕ, suc, _+_, _*_, min}
+use Prim.Native.Nat.{ℕ, _*_}
 use mathlib.Core.Path.{_≡_}
 use mathlib.Core.List.{List, map}
 use mathlib.Core.Bool.{cond}
@@ -8,7 +8,7 @@ use lib.Dec.{ltb}
 use Rattle.model.specs.Lists.{below}
 use Rattle.model.specs.Bytes.{Bytes, blockAt}
 use Rattle.model.specs.Card.{newTail}
-use Rattle.model.specs.Layout.{maxNumber}
+use Rattle.model.specs.Recovery.{tailPast}
 use Rattle.model.specs.declared.Shape.{Shape}
 use Rattle.model.specs.declared.Tail.{Tail}
 use Rattle.layout.specs.Tails.{tailOrNone}
@@ -22,7 +22,7 @@ numbersOn d = numbersOf (map (tailOrNone (blockAt d 0)) (below 8))
 -- two above the last committed number read, with none one above the old tail; the slots hold all journals, read whole
 unfoldable pub tailAfter : Shape → List Tail → List ℕ → ℕ → Tail
 tailAfter s ts set c =
-    cond (ltb c (s .cores)) (newTail (min ((getD ts c (newTail 0 0)) .number + (filledFrom s set (12 * c) 12 + 1)) (suc maxNumber)) 0) (newTail 0 0)
+    cond (ltb c (s .cores)) (tailPast (getD ts c (newTail 0 0)) (filledFrom s set (12 * c) 12)) (newTail 0 0)
 
 -- the tails of a disk's master, and all its journals read whole
 pub record OnDisk (s : Shape) (d : Bytes) (ts : List Tail) (set : List ℕ) : Type 0 where

@@ -3,14 +3,13 @@
 ghost use mathlib.Core.Path.{_≡_};
 ghost use mathlib.Core.Bool.{true, cond, not};
 ghost use mathlib.Core.List.{List, [], _∷_, map};
-ghost use Prim.Native.Nat.{ℕ, suc, _+_, _≤_, _<_, min};
+ghost use Prim.Native.Nat.{ℕ, _+_, _≤_, _<_};
 ghost use lib.ListN.{length};
 ghost use Rattle.model.specs.Lists.{below};
 ghost use Rattle.model.specs.Bytes.{Bytes, blockAt};
-ghost use Rattle.model.specs.Card.{newTail};
-ghost use Rattle.model.specs.Layout.{maxNumber, isMaster};
+ghost use Rattle.model.specs.Layout.{isMaster};
 ghost use Rattle.model.specs.Command.{refusal};
-ghost use Rattle.model.specs.Recovery.{shapeOn, validOn, newestImage, recoverConditions, recoverStep, recovered, recover};
+ghost use Rattle.model.specs.Recovery.{shapeOn, validOn, tailPast, newestImage, recoverConditions, recoverStep, recovered, recover};
 ghost use Rattle.model.proofs.Limits.{InRange};
 ghost use Rattle.journal.specs.Slots.{entries};
 ghost use Rattle.state.specs.Answer.{world, outcomeOf};
@@ -66,7 +65,7 @@ pub fn disk_shape(disk: &[u8]) -> Shape
 // The tail of a journal emptied after so many records: one above the number that would come next, at most 4,000,000,001.
 fn next_tail(t: Tail, count: usize) -> Tail
     requires { ⌜ count ≤ 12 ⌝ }
-    ensures { λ r. ⌜ r ≡ newTail (min (t .number + (count + 1)) (suc maxNumber)) 0 ⌝ }
+    ensures { λ r. ⌜ r ≡ tailPast t count ⌝ }
 {
     let number = t.number as usize + (count + 1);
     if number < 4000000001 {
