@@ -1,0 +1,152 @@
+-- Which values fit a cell, by its place; and arrays of cells that differ in some.
+use Prim.Native.Nat.{ℕ, _+_, _-_, _*_, _%_, _≤_, _<_}
+use native.Mathlib.Omega.{arith}
+use mathlib.Core.Path.{_≡_, refl, sym, ap, _∙_}
+use mathlib.Core.Bool.{Bool, true, cond}
+use mathlib.Core.List.{List}
+use lib.Dec.{eqb, ltb, leb}
+use lib.ListN.{length, getD, set, length-set}
+use lib.Seq.{getD-set-same, getD-set-other, set-out}
+use borrow.Author.Tests.{lt-ltb, le-ltb, le-leb, eq-eqb, ne-eqb, eqb-true, eqb-false, ltb-true, ltb-false}
+use Rattle.model.proofs.Lists.{cases}
+use Rattle.cells.specs.Cells.{IsPlace, corePlace, tailPlace, holderPlace, runningPlace, closedPlace, fitsHeader, fitsTransaction, fitsCore, fitsAt, Fits, Frame}
+
+either : (t a b : Bool) → a ≡ true → b ≡ true → cond t a b ≡ true
+either true a b p q = p
+either false a b p q = q
+  where
+    use mathlib.Core.Bool.{false}
+
+-- 0 fits everywhere
+fits-nothing : (i : ℕ) → fitsTransaction i 0 ≡ true
+unfolding fitsTransaction
+fits-nothing i = either _ _ _ refl (either _ _ _ refl (either _ _ _ refl refl))
+
+pub fits-zero : (i : ℕ) → fitsAt i 0 ≡ true
+unfolding fitsAt fitsHeader fitsCore
+fits-zero i =
+    either _ _ _
+    (either _ _ _ refl (either _ _ _ refl (either _ _ _ refl (either _ _ _ refl refl))))
+    (either _ _ _ (either _ _ _ refl refl) (either _ _ _ refl (either _ _ _ refl (either _ _ _ refl (fits-nothing _)))))
+
+-- ---- the header
+pub fits-phase : (x : ℕ) → x < 3 → fitsAt 0 x ≡ true
+unfolding fitsAt fitsHeader
+fits-phase x h = lt-ltb x 3 h
+
+pub fits-field : (i x : ℕ) → 0 < i → i < 7 → x < 256 → fitsAt i x ≡ true
+unfolding fitsAt fitsHeader
+fits-field i x p q h =
+    rw (lt-ltb i 16 (omega arith), ne-eqb i 0 (omega arith), lt-ltb i 7 q, lt-ltb x 256 h) (either _ _ _ refl (either _ _ _ refl refl))
+
+pub fits-closes : (x : ℕ) → fitsAt 4 x ≡ true
+unfolding fitsAt fitsHeader
+fits-closes x = refl
+
+pub fits-stores : (x : ℕ) → fitsAt 6 x ≡ true
+unfolding fitsAt fitsHeader
+fits-stores x = refl
+
+-- ---- tails and holders
+pub fits-number : (c x : ℕ) → c < 8 → x < 4294967296 → fitsAt (tailPlace c) x ≡ true
+unfolding fitsAt
+fits-number c x p h =
+    rw (le-ltb (16 + 2 * c) 16 (omega arith), lt-ltb (16 + 2 * c) 32 (omega arith), eq-eqb ((16 + 2 * c) % 2) 0 (omega arith), lt-ltb x 4294967296 h)
+
+pub fits-position : (c x : ℕ) → c < 8 → x < 256 → fitsAt (tailPlace c + 1) x ≡ true
+unfolding fitsAt
+fits-position c x p h =
+    rw (le-ltb (16 + 2 * c + 1) 16 (omega arith), lt-ltb (16 + 2 * c + 1) 32 (omega arith), ne-eqb ((16 + 2 * c + 1) % 2) 0 (omega arith), lt-ltb x 256 h)
+
+pub fits-holder : (b x : ℕ) → b < 64 → x ≤ 34359738368 → fitsAt (holderPlace b) x ≡ true
+unfolding fitsAt
+fits-holder b x p h =
+    rw (le-ltb (32 + b) 16 (omega arith), le-ltb (32 + b) 32 (omega arith), lt-ltb (32 + b) 96 (omega arith), le-leb x 34359738368 h)
+
+-- ---- cores and transactions
+fits-in-core : (c j x : ℕ) → c < 8 → j < 52 → fitsAt (corePlace c + j) x ≡ fitsCore j x
+unfolding fitsAt
+fits-in-core c j x p q =
+    let e : (96 + 52 * c + j - 96) % 52 ≡ j = omega arith in
+    rw (le-ltb (96 + 52 * c + j) 16 (omega arith), le-ltb (96 + 52 * c + j) 32 (omega arith), le-ltb (96 + 52 * c + j) 96 (omega arith), e)
+
+pub fits-next : (c x : ℕ) → c < 8 → x < 4294967296 → fitsAt (corePlace c) x ≡ true
+unfolding fitsCore
+fits-next c x p h =
+    let z : 96 + 52 * c + 0 ≡ 96 + 52 * c = omega arith in
+    ap (λ (i : ℕ). fitsAt i x) (sym z) ∙ fits-in-core c 0 x p (omega arith) ∙ lt-ltb x 4294967296 h
+
+pub fits-count : (c j x : ℕ) → c < 8 → 0 < j → j < 4 → x < 256 → fitsAt (corePlace c + j) x ≡ true
+unfolding fitsCore
+fits-count c j x p q r h =
+    fits-in-core c j x p (omega arith) ∙ rw (ne-eqb j 0 (omega arith), lt-ltb j 4 r, lt-ltb x 256 h)
+
+pub running-place : (c : ℕ) → c < 8 → IsPlace (runningPlace c)
+running-place c h = (omega arith, omega arith, omega arith)
+
+pub closed-place : (c : ℕ) → c < 8 → IsPlace (closedPlace c)
+closed-place c h = (omega arith, omega arith, omega arith)
+
+module _ (a : ℕ) (p : 96 ≤ a) (q : a + 24 ≤ 512) (r : (a - 96) % 52 % 24 ≡ 4) where
+  pub fits-at : (k x : ℕ) → k < 24 → fitsAt (a + k) x ≡ fitsTransaction k x
+  unfolding fitsAt fitsCore
+  fits-at k x h =
+      let e : ((a + k - 96) % 52 - 4) % 24 ≡ k = omega arith in
+      rw (le-ltb (a + k) 16 (omega arith), le-ltb (a + k) 32 (omega arith), le-ltb (a + k) 96 (omega arith), ne-eqb ((a + k - 96) % 52) 0 (omega arith), le-ltb ((a + k - 96) % 52) 4 (omega arith), e)
+
+  pub fits-live : (x : ℕ) → x < 2 → fitsAt a x ≡ true
+  unfolding fitsTransaction
+  fits-live x h =
+      let z : a + 0 ≡ a = omega arith in
+      ap (λ (i : ℕ). fitsAt i x) (sym z) ∙ fits-at 0 x (omega arith) ∙ lt-ltb x 2 h
+
+  pub fits-stamp : (x : ℕ) → fitsAt (a + 1) x ≡ true
+  unfolding fitsTransaction
+  fits-stamp x = fits-at 1 x (omega arith)
+
+  pub fits-byte : (k x : ℕ) → 2 ≤ k → k < 12 → x < 256 → fitsAt (a + k) x ≡ true
+  unfolding fitsTransaction
+  fits-byte k x l m h =
+      fits-at k x (omega arith) ∙ rw (ne-eqb k 0 (omega arith), ne-eqb k 1 (omega arith), lt-ltb k 12 m, lt-ltb x 256 h)
+
+  pub fits-name : (k x : ℕ) → 12 ≤ k → k < 24 → x < 34359738368 → fitsAt (a + k) x ≡ true
+  unfolding fitsTransaction
+  fits-name k x l m h =
+      fits-at k x m ∙ rw (ne-eqb k 0 (omega arith), ne-eqb k 1 (omega arith), le-ltb k 12 l, lt-ltb x 34359738368 h)
+
+-- ---- arrays that differ in some cells
+pub fits-set : (v : List ℕ) (j x : ℕ) → fitsAt j x ≡ true → Fits v → Fits (set v j x)
+unfolding Fits
+fits-set v j x e f i h =
+    cases (eqb i j)
+    (λ t. let z : i ≡ j = eqb-true i j t in
+    cases (ltb j (length v))
+    (λ l. ap (fitsAt i) (ap (λ (k : ℕ). getD (set v j x) k 0) z ∙ getD-set-same v j x 0 (ltb-true j (length v) l)) ∙ ap (λ (k : ℕ). fitsAt k x) z ∙ e)
+    (λ l. ap (λ (u : List ℕ). fitsAt i (getD u i 0)) (set-out v j x (ltb-false j (length v) l)) ∙ f i h))
+    (λ t. ap (fitsAt i) (getD-set-other v j i x 0 (eqb-false i j t)) ∙ f i h)
+
+module _ (v w : List ℕ) where
+  pub frame-wider : (a n b m : ℕ) → Frame v w a n → b ≤ a → a + n ≤ b + m → Frame v w b m
+  frame-wider a n b m e p q =
+      record { size = e .size; low = λ i h. e .low i (omega arith); high = λ i h. e .high i (omega arith); kept = e .kept }
+
+  pub frame-then : (u : List ℕ) (a n : ℕ) → Frame u v a n → Frame v w a n → Frame u w a n
+  frame-then u a n p q =
+      record {
+        size = q .size ∙ p .size;
+        low = λ i h. q .low i h ∙ p .low i h;
+        high = λ i h. q .high i h ∙ p .high i h;
+        kept = λ f. q .kept (p .kept f);
+      }
+
+pub frame-same : (v : List ℕ) (a n : ℕ) → Frame v v a n
+frame-same v a n = record { size = refl; low = λ i h. refl; high = λ i h. refl; kept = λ f. f }
+
+pub frame-set : (v : List ℕ) (a n j x : ℕ) → a ≤ j → j < a + n → fitsAt j x ≡ true → Frame v (set v j x) a n
+frame-set v a n j x p q e =
+    record {
+      size = length-set v j x;
+      low = λ i h. getD-set-other v j i x 0 (omega arith);
+      high = λ i h. getD-set-other v j i x 0 (omega arith);
+      kept = fits-set v j x e;
+    }

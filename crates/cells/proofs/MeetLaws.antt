@@ -1,0 +1,25 @@
+-- A command over the cells that was refused, or carried out.
+use Prim.Native.Nat.{ℕ}
+use mathlib.Core.Path.{_≡_, refl, _∙_}
+use mathlib.Core.List.{List}
+use mathlib.Core.Bool.{Bool}
+use lib.ListN.{length}
+use Rattle.model.specs.Bytes.{Bytes}
+use Rattle.model.specs.Command.{Outcome, refusal, unless}
+use Rattle.cells.specs.declared.Answer.{Answer}
+use Rattle.cells.specs.Answer.{worldIn, outcomeIn, newAnswer, Meets}
+use Rattle.cells.specs.Cells.{Frame}
+use Rattle.cells.proofs.Refusals.{was-refused, was-done}
+
+-- the cells of a changed array
+pub same-long : (v w : List ℕ) (a n : ℕ) → length v ≡ 512 → Frame v w a n → length w ≡ 512
+same-long v w a n e b = b .size ∙ e
+
+module _ (cs : List (Bool × ℕ)) (v : List ℕ) (d m : Bytes) (done : Outcome) (l : length v ≡ 512) (n : ℕ) (e : n ≡ refusal cs) where
+  pub meets-refused : (n ≡ 0 → ⊥) → Meets (unless cs (worldIn v d m) done) v v d m (newAnswer n 0)
+  meets-refused h = record { outcome = was-refused cs (worldIn v d m) done n e h; size = l; kept = λ f. f; refused = λ z. refl }
+
+  pub meets-done : n ≡ 0 → (w : List ℕ) (k b : Bytes) (s : ℕ) → outcomeIn (newAnswer 0 s) w k b ≡ done → (a c : ℕ) → Frame v w a c
+      → Meets (unless cs (worldIn v d m) done) v w k b (newAnswer 0 s)
+  meets-done h w k b s q a c f =
+      record { outcome = was-done cs (worldIn v d m) done n e h _ q; size = same-long v w a c l f; kept = f .kept; refused = λ z. absurd (z refl) }

@@ -1,0 +1,172 @@
+-- Arrays of known length, the tests of a list's first elements, arrays filled in a loop, a transaction's blocks and names.
+use Prim.Native.Nat.{ℕ, zero, suc, _+_, _-_, _*_, _≤_, _<_, min}
+use native.Mathlib.Omega.{arith}
+use native.Mathlib.Numerals.{add-one}
+use mathlib.Core.Path.{_≡_, refl, sym, ap, _∙_}
+use mathlib.Core.Bool.{Bool, true, false}
+use mathlib.Core.List.{List, [], _∷_, _++_, map, append-nil}
+use lib.Dec.{leb}
+use lib.ListN.{length, take, drop, replicate, getD, set, length-map, length-take, List·getD-eq-default, drop-of-length-le}
+use lib.Seq.{drop-length, set-out, take-all, take-suc, getD-take}
+use borrow.Author.Fill.{fill-none, fill-more}
+use borrow.Author.Needs.{needs}
+use borrow.Author.Tests.{le-leb, lt-leb, lt-ltb, le-ltb, eq-eqb, ne-eqb, not-true, not-false, leb-false}
+use Rattle.model.specs.Lists.{any}
+use Rattle.model.specs.Bytes.{zeroMemory}
+use Rattle.model.specs.Card.{sameName, taken, listed, lists, withName}
+use Rattle.model.specs.Write.{passesTwelve}
+use Rattle.model.specs.declared.Name.{Name}
+use Rattle.model.specs.declared.Transaction.{Transaction}
+use Rattle.model.proofs.Lists.{any-append, mem-any, getD-mem}
+
+-- the value of a test from the fact that the code's branch tells
+pub ruleset tests = (le-leb, lt-leb, lt-ltb, le-ltb, eq-eqb, ne-eqb, not-true, not-false)
+
+-- a field that is an array of structs is known by the list of its elements' images
+pub length-mapped : (A B : Type 0) (f : A → B) (l : List A) (n : ℕ) → length (map f l) ≡ n → length l ≡ n
+length-mapped A B f l n e = sym (length-map l f) ∙ e
+
+pub ruleset facts = (needs, length-mapped)
+
+module _ {A : Type 0} where
+  -- within the list, what is read past its end does not matter
+  pub getD-any : (l : List A) (i : ℕ) (d e : A) → i < length l → getD l i d ≡ getD l i e
+  getD-any [] i d e h = absurd (omega arith)
+  getD-any (x ∷ l) zero d e h = refl
+  getD-any (x ∷ l) (suc i) d e h = getD-any l i d e (omega arith)
+
+  pub pair-same : (a : A) (i : ℕ) (d : A) → i < 2 → getD (a ∷ a ∷ []) i d ≡ a
+  pair-same a zero d h = refl
+  pair-same a (suc zero) d h = refl
+  pair-same a (suc (suc i)) d h = absurd (omega arith)
+
+  module _ (l : List A) (n : ℕ) (size : length l ≡ n) (i : ℕ) where
+    pub element-in : (d e : A) → i < n → getD l i d ≡ getD l i e
+    element-in d e h = getD-any l i d e (omega arith)
+
+    pub element-past : (e a : A) → a ≡ e → n ≤ i → a ≡ getD l i e
+    element-past e a q h = q ∙ sym (List·getD-eq-default l e (let b : length l ≤ i = omega arith in b))
+
+    pub set-past : (a : A) → n ≤ i → set l i a ≡ l
+    set-past a h = set-out l i a (omega arith)
+
+  -- a search through the first n elements
+  module _ (p : A → Bool) (l : List A) (n i : ℕ) (h : i < length (take n l)) where
+    below-length : (i < n) × (i < length l)
+    below-length = let q : i < min n (length l) = rw (length-take n l) at h in (omega arith, omega arith)
+
+    pub any-hit : (d : A) → p (getD l i d) ≡ true → any p (take n l) ≡ true
+    any-hit d e =
+        mem-any p (getD-mem (take n l) i d h) (ap p (getD-take n l i d (below-length .0)) ∙ e)
+
+    pub any-more : (d : A) → any p (take i (take n l)) ≡ false → p (getD l i d) ≡ false → any p (take (i + 1) (take n l)) ≡ false
+    unfolding any
+    any-more d q e = rw (add-one, take-suc (take n l) i d h, any-append, q, getD-take n l i d (below-length .0), e)
+
+  pub any-none : (p : A → Bool) (l : List A) → any p (take 0 l) ≡ false
+  unfolding any
+  any-none p l = refl
+
+  pub any-all : (p : A → Bool) (l : List A) (i : ℕ) → any p (take i l) ≡ false → length l ≤ i → any p l ≡ false
+  any-all p l i h e = ap (any p) (sym (take-all i l e)) ∙ h
+
+-- ---- bytes zeroed from the front
+-- the first i bytes zero, the others as they were
+unfoldable pub zeroed : ℕ → List ℕ → List ℕ
+zeroed i d = replicate i 0 ++ drop i d
+
+pub zeroed-none : (d : List ℕ) → d ≡ zeroed 0 d
+unfolding zeroed
+zeroed-none d = fill-none d 0
+
+pub zeroed-more : (i : ℕ) (d : List ℕ) → i < length d → set (zeroed i d) i 0 ≡ zeroed (i + 1) d
+unfolding zeroed
+zeroed-more i d h = fill-more i 0 d h
+
+pub zeroed-all : (s : List ℕ) (i : ℕ) (d : List ℕ) → s ≡ zeroed i d → i ≤ length d → length d ≤ i → s ≡ replicate (length d) 0
+unfolding zeroed
+zeroed-all s i d e h k = let q : i ≡ length d = omega arith in e ∙ rw (q, drop-length, append-nil)
+
+-- memory of its length, zeroed
+pub zero-memory : (m : List ℕ) → length m ≡ 16384 → replicate (length m) 0 ≡ zeroMemory
+unfolding zeroMemory
+zero-memory m h = ap (λ (n : ℕ). replicate n 0) h
+
+-- ---- an array filled from another, element by element
+module _ {A B : Type 0} (f : A → B) where
+  -- the first i elements made, the others as they were
+  unfoldable pub filled : ℕ → List A → List B → List B
+  filled i l ks = map f (take i l) ++ drop i ks
+
+  pub filled-none : (l : List A) (ks : List B) → ks ≡ filled 0 l ks
+  unfolding filled
+  filled-none l ks = refl
+
+  pub filled-more : (i : ℕ) (l : List A) (ks : List B) (d : A) → i < length l → length ks ≡ length l → set (filled i l ks) i (f (getD l i d)) ≡ filled (i + 1) l ks
+  unfolding filled
+  filled-more i [] ks d h e = absurd (omega arith)
+  filled-more i (x ∷ l) [] d h e = absurd (omega arith)
+  filled-more zero (x ∷ l) (k ∷ ks) d h e = refl
+  filled-more (suc i) (x ∷ l) (k ∷ ks) d h e =
+      let q : suc i + 1 ≡ suc (i + 1) = omega arith in
+      rw q (ap {B = List B} (λ r. f x ∷ r) (filled-more i l ks d (omega arith) (omega arith)))
+
+  pub filled-all : (i : ℕ) (l : List A) (ks : List B) → length ks ≡ length l → length l ≤ i → filled i l ks ≡ map f l
+  unfolding filled
+  filled-all i l ks e h = rw (take-all i l h, drop-of-length-le ks (let g : length ks ≤ i = omega arith in g), append-nil)
+
+-- ---- a transaction's blocks and names: a count above the array's length counts as its length
+module _ (t : Transaction) where
+  pub took-all : length (t .blocks) ≡ 8 → 8 ≤ t .count → 8 ≡ length (taken t)
+  unfolding taken
+  took-all n h = sym (length-take (t .count) (t .blocks) ∙ omega arith)
+
+  pub took-some : length (t .blocks) ≡ 8 → t .count ≤ 8 → t .count ≡ length (taken t)
+  unfolding taken
+  took-some n h = sym (length-take (t .count) (t .blocks) ∙ omega arith)
+
+  pub named-all : length (t .names) ≡ 12 → 12 ≤ t .named → 12 ≡ length (listed t)
+  unfolding listed
+  named-all n h = sym (length-take (t .named) (t .names) ∙ omega arith)
+
+  pub named-some : length (t .names) ≡ 12 → t .named ≤ 12 → t .named ≡ length (listed t)
+  unfolding listed
+  named-some n h = sym (length-take (t .named) (t .names) ∙ omega arith)
+
+  pub few-listed : length (t .names) ≡ 12 → length (listed t) ≤ 12
+  unfolding listed
+  few-listed n = simp length-take (omega arith)
+
+  -- a search through the names
+  module _ (n : Name) where
+    pub none-listed : any (sameName n) (take 0 (listed t)) ≡ false
+    none-listed = any-none (sameName n) (listed t)
+
+    pub name-hit : (i : ℕ) (d : Name) (count : ℕ) → count ≡ length (listed t) → i < count → (g : Bool) → g ≡ sameName n (getD (t .names) i d) → g ≡ true → true ≡ lists t n
+    unfolding lists listed
+    name-hit i d count e h g q r = sym (any-hit (sameName n) (t .names) (t .named) i (omega arith) d (sym q ∙ r))
+
+    pub name-missed : (i : ℕ) (d : Name) (count : ℕ) → count ≡ length (listed t) → i < count → any (sameName n) (take i (listed t)) ≡ false → (g : Bool) → g ≡ sameName n (getD (t .names) i d) → g ≡ false → any (sameName n) (take (i + 1) (listed t)) ≡ false
+    unfolding listed
+    name-missed i d count e h q g r z = any-more (sameName n) (t .names) (t .named) i (omega arith) d q (sym r ∙ z)
+
+    pub all-missed : (i count : ℕ) → count ≡ length (listed t) → any (sameName n) (take i (listed t)) ≡ false → count ≤ i → false ≡ lists t n
+    unfolding lists
+    all-missed i count e q h = sym (any-all (sameName n) (listed t) i q (omega arith))
+
+-- ---- names: 24
+module _ (t : Transaction) (n : Name) (g : Bool) (e : g ≡ lists t n) where
+  pub passes-not : g ≡ true → false ≡ passesTwelve t n
+  unfolding passesTwelve
+  passes-not h = rw (← e, h)
+
+  pub passes-full : g ≡ false → leb 12 (t .named) ≡ passesTwelve t n
+  unfolding passesTwelve
+  passes-full h = rw (← e, h)
+
+  pub name-room : passesTwelve t n ≡ false → g ≡ false → t .named < 12
+  name-room p h = leb-false 12 (t .named) (passes-full h ∙ p)
+
+  pub name-stands : g ≡ true → t ≡ withName t n
+  unfolding withName
+  name-stands h = rw (← e, h)

@@ -1,0 +1,12 @@
+-- `cells::lists::add_name` meets its contract: 24 leaves room for a name that is not listed.
+use Rattle.cells.proofs.Parts.{name-stands}
+use Rattle.cells.proofs.CellLaws.{frame-same, name-in, named-in, name-put-there, name-frame}
+use borrow.Author.Needs.{needs}
+use Rattle.cells.proofs.lists.add_name.Statement.{statement}
+use Rattle.cells.proofs.lists.add_name.Tie as tie
+
+returns-2 : tie.Need-returns-2
+returns-2 c = (search (needs, name-put-there), search (needs, name-frame))
+
+pub add-name-spec : {M : Type 1} → statement M
+add-name-spec = tie.close (tie.spec (λ c κs. search needs) (λ c. search needs) (λ c. (search (needs, name-stands), frame-same _ _ _)) (λ c. search needs) (λ c κs. search needs) (λ c κs. search needs) (λ c. search needs) (λ c. search needs) (λ c. search needs) (λ c. search needs) (λ c. search (needs, name-in)) (λ c. search needs) (λ c. search needs) (λ c. search needs) (λ c. search needs) (λ c. search (needs, named-in)) (λ c. search needs) returns-2)

@@ -1,0 +1,51 @@
+-- A command over lent cells as the model's outcome, and refusals met stage by stage.
+use Prim.Native.Nat.{ℕ}
+use mathlib.Core.Path.{_≡_}
+use mathlib.Core.List.{List}
+use mathlib.Core.Bool.{cond}
+use lib.Dec.{eqb}
+use lib.ListN.{length}
+use Rattle.model.specs.Bytes.{Bytes}
+use Rattle.model.specs.Command.{World, Outcome, wrongLength}
+use Rattle.model.specs.declared.Phase.{Phase}
+use Rattle.model.specs.declared.Phase.the-variants.{Blank, Up, Down}
+use Rattle.model.specs.declared.Card.{Card}
+use Rattle.cells.specs.declared.Answer.{Answer}
+use Rattle.cells.specs.Cells.{cardIn, Fits}
+
+-- a card over its two slices
+abbrev pub world : Card → Bytes → Bytes → World
+world x d m = record { card = x; disk = d; memory = m }
+
+-- the card in its cells, over its two slices
+abbrev pub worldIn : List ℕ → Bytes → Bytes → World
+worldIn w d m = world (cardIn w) d m
+
+abbrev pub newAnswer : ℕ → ℕ → Answer
+newAnswer n s = record { number = n; stores = s }
+
+-- what a command answered, with cells and slices as it left them
+abbrev pub outcomeIn : Answer → List ℕ → Bytes → Bytes → Outcome
+outcomeIn r w d m = record { answer = r .number; world = worldIn w d m; stores = r .stores }
+
+-- A command meets its definition: it found the cells v and left w, d and m. Its outcome is the one defined, no bit above a field's
+-- width appears, and a refusal leaves every cell as it was.
+pub record Meets (o : Outcome) (v w : List ℕ) (d m : Bytes) (r : Answer) : Type 0 where
+  pub outcome : outcomeIn r w d m ≡ o
+  pub size : length w ≡ 512
+  pub kept : Fits v → Fits w
+  pub refused : (r .number ≡ 0 → ⊥) → w ≡ v
+
+-- of the refusals of two stages, the one met first; 0 for none
+unfoldable pub firstOf : ℕ → ℕ → ℕ
+firstOf a b = cond (eqb a 0) b a
+
+-- the number that a command has for a phase
+unfoldable pub byPhase : Phase → ℕ → ℕ → ℕ → ℕ
+byPhase Blank blank up down = blank
+byPhase Up blank up down = up
+byPhase Down blank up down = down
+
+-- what a command meets first: slices of a wrong length, then its number for the card's phase
+unfoldable pub phaseRefusal : World → ℕ → ℕ → ℕ → ℕ
+phaseRefusal w blank up down = cond (wrongLength w) 1 (byPhase (w .card .phase) blank up down)

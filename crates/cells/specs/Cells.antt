@@ -1,0 +1,203 @@
+-- The card's state in 512 cells of eight bytes that the caller lends: what each cell means (`cardIn`), the cells of a card and its
+-- count of stores (`cellsOf`), and which values a cell has in a run (`fitsAt`).
+-- A field narrower than its cell is the cell modulo its width, so every value of a cell has a meaning.
+use Prim.Native.Nat.{ℕ, _+_, _-_, _*_, _/_, _%_, _≤_, _<_}
+use mathlib.Core.Path.{_≡_}
+use mathlib.Core.List.{List, map}
+use mathlib.Core.Bool.{Bool, true, cond, not}
+use lib.Dec.{eqb, ltb, leb}
+use lib.ListN.{length, getD}
+use Rattle.model.specs.Lists.{below}
+use Rattle.model.specs.Card.{newTail, newName, noHolder, newHolder, opened, tailOf, coreOf, holderOf}
+use Rattle.model.specs.declared.Phase.{Phase}
+use Rattle.model.specs.declared.Phase.the-variants.{Blank, Up, Down}
+use Rattle.model.specs.declared.Shape.{Shape}
+use Rattle.model.specs.declared.Tail.{Tail}
+use Rattle.model.specs.declared.Name.{Name}
+use Rattle.model.specs.declared.Transaction.{Transaction}
+use Rattle.model.specs.declared.Core.{Core}
+use Rattle.model.specs.declared.Holder.{Holder}
+use Rattle.model.specs.declared.Card.{Card}
+
+-- ---- where each part stands
+-- A header of 16 cells: 0 phase, 1 to 3 shape, 4 closes, 5 recovered, 6 count of stores; 7 to 15 are unused.
+-- A tail has two cells: number, position.
+abbrev pub tailPlace : ℕ → ℕ
+tailPlace c = 16 + 2 * c
+
+abbrev pub holderPlace : ℕ → ℕ
+holderPlace b = 32 + b
+
+-- A core has 52 cells: next, used, stored, homed, then its running transaction and its closed one.
+abbrev pub corePlace : ℕ → ℕ
+corePlace c = 96 + 52 * c
+
+-- A transaction has 24 cells: live, stamp, count, named, from 4 on the blocks, from 12 on the names.
+abbrev pub runningPlace : ℕ → ℕ
+runningPlace c = corePlace c + 4
+
+abbrev pub closedPlace : ℕ → ℕ
+closedPlace c = corePlace c + 28
+
+-- the place of a transaction: that of a core's running one, or of its closed one
+abbrev pub IsPlace : ℕ → Type 0
+IsPlace a = (96 ≤ a) × (a + 24 ≤ 512) × ((a - 96) % 52 % 24 ≡ 4)
+
+-- ---- what the cells mean
+-- a field of one byte, and of four
+abbrev pub byteIn : List ℕ → ℕ → ℕ
+byteIn w i = getD w i 0 % 256
+
+abbrev pub numberIn : List ℕ → ℕ → ℕ
+numberIn w i = getD w i 0 % 4294967296
+
+-- 0 blank, 1 up, any other down
+unfoldable pub phaseIn : ℕ → Phase
+phaseIn n = cond (eqb n 0) Blank (cond (eqb n 1) Up Down)
+
+-- a name is 8 times its number, and its core
+unfoldable pub nameIn : ℕ → Name
+nameIn n = newName (n % 8) (n / 8 % 4294967296)
+
+-- a holder is one above its name, 0 for none
+unfoldable pub holderIn : ℕ → Holder
+holderIn n = cond (eqb n 0) noHolder (newHolder (nameIn (n - 1)))
+
+unfoldable pub tailFrom : List ℕ → ℕ → Tail
+tailFrom w a = newTail (numberIn w a) (byteIn w (a + 1))
+
+unfoldable pub transactionIn : List ℕ → ℕ → Transaction
+transactionIn w a =
+    record {
+      live = not (eqb (getD w a 0) 0);
+      stamp = getD w (a + 1) 0;
+      count = byteIn w (a + 2);
+      blocks = map (λ (i : ℕ). byteIn w (a + 4 + i)) (below 8);
+      named = byteIn w (a + 3);
+      names = map (λ (i : ℕ). nameIn (getD w (a + 12 + i) 0)) (below 12);
+    }
+
+unfoldable pub coreIn : List ℕ → ℕ → Core
+coreIn w a =
+    record {
+      next = numberIn w a;
+      used = byteIn w (a + 1);
+      stored = byteIn w (a + 2);
+      homed = byteIn w (a + 3);
+      running = transactionIn w (a + 4);
+      closed = transactionIn w (a + 28);
+    }
+
+unfoldable pub cardIn : List ℕ → Card
+cardIn w =
+    record {
+      phase = phaseIn (getD w 0 0);
+      shape = record { cores = byteIn w 1; blocks = byteIn w 2; journal = byteIn w 3 };
+      closes = getD w 4 0;
+      recovered = byteIn w 5;
+      tails = map (λ (c : ℕ). tailFrom w (tailPlace c)) (below 8);
+      cores = map (λ (c : ℕ). coreIn w (corePlace c)) (below 8);
+      holders = map (λ (b : ℕ). holderIn (getD w (holderPlace b) 0)) (below 64);
+    }
+
+-- the count of stores, which is no part of the card
+abbrev pub storesIn : List ℕ → ℕ
+storesIn w = getD w 6 0
+
+-- ---- the cells of a card
+unfoldable pub phaseCell : Phase → ℕ
+phaseCell Blank = 0
+phaseCell Up = 1
+phaseCell Down = 2
+
+unfoldable pub nameCell : Name → ℕ
+nameCell n = 8 * n .number + n .core
+
+unfoldable pub holderCell : Holder → ℕ
+holderCell h = cond (h .held) (nameCell (h .name) + 1) 0
+
+-- cell i of a header, of a transaction, of a core
+unfoldable pub headerCell : Card → ℕ → ℕ → ℕ
+headerCell x n i =
+    cond (eqb i 0) (phaseCell (x .phase))
+    (cond (eqb i 1) (x .shape .cores)
+    (cond (eqb i 2) (x .shape .blocks)
+    (cond (eqb i 3) (x .shape .journal)
+    (cond (eqb i 4) (x .closes)
+    (cond (eqb i 5) (x .recovered)
+    (cond (eqb i 6) n 0))))))
+
+unfoldable pub transactionCell : Transaction → ℕ → ℕ
+transactionCell t i =
+    cond (eqb i 0) (cond (t .live) 1 0)
+    (cond (eqb i 1) (t .stamp)
+    (cond (eqb i 2) (t .count)
+    (cond (eqb i 3) (t .named)
+    (cond (ltb i 12) (getD (t .blocks) (i - 4) 0) (nameCell (getD (t .names) (i - 12) (newName 0 0)))))))
+
+unfoldable pub coreCell : Core → ℕ → ℕ
+coreCell k i =
+    cond (eqb i 0) (k .next)
+    (cond (eqb i 1) (k .used)
+    (cond (eqb i 2) (k .stored)
+    (cond (eqb i 3) (k .homed)
+    (cond (ltb i 28) (transactionCell (k .running) (i - 4)) (transactionCell (k .closed) (i - 28))))))
+
+unfoldable pub tailCell : Tail → ℕ → ℕ
+tailCell t i = cond (eqb i 0) (t .number) (t .position)
+
+-- cell i of a card with n stores
+unfoldable pub cellOf : Card → ℕ → ℕ → ℕ
+cellOf x n i =
+    cond (ltb i 16) (headerCell x n i)
+    (cond (ltb i 32) (tailCell (tailOf x ((i - 16) / 2)) (i % 2))
+    (cond (ltb i 96) (holderCell (holderOf x (i - 32))) (coreCell (coreOf x ((i - 96) / 52)) ((i - 96) % 52))))
+
+unfoldable pub cellsOf : Card → ℕ → List ℕ
+cellsOf x n = map (cellOf x n) (below 512)
+
+-- cells that are those of their card and count: nothing stands in an unused cell or above a field's width
+unfoldable pub Exact : List ℕ → Type 0
+Exact w = w ≡ cellsOf (cardIn w) (storesIn w)
+
+-- ---- the same, cell by cell
+-- whether a value has no bit above its field's width: in a header, a transaction, a core
+unfoldable pub fitsHeader : ℕ → ℕ → Bool
+fitsHeader i x =
+    cond (eqb i 0) (ltb x 3)
+    (cond (eqb i 4) true
+    (cond (eqb i 6) true
+    (cond (ltb i 7) (ltb x 256) (eqb x 0))))
+
+unfoldable pub fitsTransaction : ℕ → ℕ → Bool
+fitsTransaction i x =
+    cond (eqb i 0) (ltb x 2)
+    (cond (eqb i 1) true
+    (cond (ltb i 12) (ltb x 256) (ltb x 34359738368)))
+
+unfoldable pub fitsCore : ℕ → ℕ → Bool
+fitsCore i x =
+    cond (eqb i 0) (ltb x 4294967296)
+    (cond (ltb i 4) (ltb x 256) (fitsTransaction ((i - 4) % 24) x))
+
+-- in cell i
+unfoldable pub fitsAt : ℕ → ℕ → Bool
+fitsAt i x =
+    cond (ltb i 16) (fitsHeader i x)
+    (cond (ltb i 32) (cond (eqb (i % 2) 0) (ltb x 4294967296) (ltb x 256))
+    (cond (ltb i 96) (leb x 34359738368) (fitsCore ((i - 96) % 52) x)))
+
+unfoldable pub Fits : List ℕ → Type 0
+Fits w = (i : ℕ) → i < 512 → fitsAt i (getD w i 0) ≡ true
+
+-- ---- a change of some cells
+-- w is v but for the n cells from a on, and what is put there fits
+pub record Frame (v w : List ℕ) (a n : ℕ) : Type 0 where
+  pub size : length w ≡ length v
+  pub low : (i : ℕ) → i < a → getD w i 0 ≡ getD v i 0
+  pub high : (i : ℕ) → a + n ≤ i → getD w i 0 ≡ getD v i 0
+  pub kept : Fits v → Fits w
+
+-- the transaction, or one that opens
+unfoldable pub openedOr : Transaction → Transaction
+openedOr t = cond (t .live) t opened

@@ -1,0 +1,3 @@
+-- The card's state in lent cells, and what a command over them answers.
+pub mod Cells
+pub mod Answer

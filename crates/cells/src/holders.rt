@@ -1,0 +1,47 @@
+// The transaction that holds a block.
+ghost use mathlib.Core.Path.{_≡_};
+ghost use Prim.Native.Nat.{_+_, _<_};
+ghost use lib.ListN.{length};
+ghost use Rattle.model.specs.Card.{newHolder, holderOf, withHolder};
+ghost use Rattle.cells.specs.Cells.{cardIn, holderPlace, Frame};
+use crate::fields::HOLDERS;
+use crate::lists::cell_of;
+use crate::lists::name_of;
+use model::Holder;
+use model::Name;
+
+// Block b's holder.
+pub fn holder_at(w: &[u64], b: u8) -> Holder
+    requires { ⌜ (length (now w) ≡ 512) × (b < 64) ⌝ }
+    ensures { λ r. ⌜ (r ≡ holderOf (cardIn (now (w .entry))) b) × (r .name .core < 8) ⌝ }
+{
+    let n = w[HOLDERS + b as usize];
+    if n == 0 {
+        return Holder {
+            held: false,
+            name: Name { core: 0, number: 0 },
+        };
+    }
+    Holder {
+        held: true,
+        name: name_of(n - 1),
+    }
+}
+
+// Whether a transaction holds block b.
+pub fn is_held(w: &[u64], b: u8) -> bool
+    requires { ⌜ (length (now w) ≡ 512) × (b < 64) ⌝ }
+    ensures { λ r. ⌜ r ≡ (holderOf (cardIn (now (w .entry))) b) .held ⌝ }
+{
+    let h = holder_at(w, b);
+    h.held
+}
+
+// Block b held by the transaction of this name.
+pub fn hold(w: &mut [u64], b: u8, n: Name)
+    requires { ⌜ (length (now w) ≡ 512) × (b < 64) × (n .core < 8) ⌝ }
+    ensures { λ _. ⌜ (cardIn (now (w .exit)) ≡ withHolder (cardIn (now (w .entry))) b (newHolder n)) × Frame (now (w .entry)) (now (w .exit)) (holderPlace b) 1 ⌝ }
+{
+    let cell = cell_of(n);
+    w[HOLDERS + b as usize] = cell + 1;
+}

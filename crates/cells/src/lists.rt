@@ -1,0 +1,146 @@
+// A transaction at its place: whether there is one, its blocks and its names.
+ghost use mathlib.Core.Path.{_≡_};
+ghost use mathlib.Core.Bool.{false};
+ghost use Prim.Native.Nat.{_+_, _<_, _≤_};
+ghost use lib.ListN.{length};
+ghost use Rattle.model.specs.Card.{noTransaction, sameName, taken, listed, lists, withName, withBlock};
+ghost use Rattle.model.specs.Write.{passesTwelve};
+ghost use Rattle.cells.specs.Cells.{nameIn, nameCell, transactionIn, openedOr, IsPlace, Frame};
+use crate::fields::byte_in;
+use model::Name;
+
+// The cells of a transaction: live, stamp, count of its blocks, count of its names, the blocks, the names.
+const COUNT: usize = 2;
+
+const NAMED: usize = 3;
+
+const BLOCKS: usize = 4;
+
+const NAMES: usize = 12;
+
+const SIZE: usize = 24;
+
+// Whether there is a transaction at a place.
+pub fn is_live(w: &[u64], at: usize) -> bool
+    requires { ⌜ (length (now w) ≡ 512) × (at + 24 ≤ 512) ⌝ }
+    ensures { λ r. ⌜ r ≡ (transactionIn (now (w .entry)) at) .live ⌝ }
+{
+    w[at] != 0
+}
+
+// How many blocks it took.
+pub fn block_count(w: &[u64], at: usize) -> usize
+    requires { ⌜ (length (now w) ≡ 512) × (at + 24 ≤ 512) ⌝ }
+    ensures { λ r. ⌜ (r ≡ length (taken (transactionIn (now (w .entry)) at))) × (r ≤ 8) ⌝ }
+{
+    let n = byte_in(w, at + COUNT);
+    if 8 < n {
+        return 8;
+    }
+    n as usize
+}
+
+// How many names its list has.
+pub fn name_count(w: &[u64], at: usize) -> usize
+    requires { ⌜ (length (now w) ≡ 512) × (at + 24 ≤ 512) ⌝ }
+    ensures { λ r. ⌜ (r ≡ length (listed (transactionIn (now (w .entry)) at))) × (r ≤ 12) ⌝ }
+{
+    let n = byte_in(w, at + NAMED);
+    if 12 < n {
+        return 12;
+    }
+    n as usize
+}
+
+// The name in a cell.
+pub fn name_of(n: u64) -> Name
+    ensures { λ r. ⌜ r ≡ nameIn n ⌝ }
+{
+    Name {
+        core: (n % 8) as u8,
+        number: (n / 8 % 4294967296) as u32,
+    }
+}
+
+// The cell of a name.
+pub fn cell_of(n: Name) -> u64
+    requires { ⌜ n .core < 8 ⌝ }
+    ensures { λ r. ⌜ (nameIn r ≡ n) × (r < 34359738368) ⌝ }
+{
+    8 * n.number as u64 + n.core as u64
+}
+
+// Whether two names are one.
+pub fn same_name(a: Name, b: Name) -> bool
+    ensures { λ r. ⌜ r ≡ sameName a b ⌝ }
+{
+    if a.core == b.core {
+        return a.number == b.number;
+    }
+    false
+}
+
+// Whether the list of the transaction at a place has the name.
+pub fn lists_name(w: &[u64], at: usize, n: Name) -> bool
+    requires { ⌜ (length (now w) ≡ 512) × (at + 24 ≤ 512) ⌝ }
+    ensures { λ r. ⌜ r ≡ lists (transactionIn (now (w .entry)) at) n ⌝ }
+{
+    let count = name_count(w, at);
+    let mut i: usize = 0;
+    while i < count {
+        let m = name_of(w[at + NAMES + i]);
+        if same_name(n, m) {
+            return true;
+        }
+        i += 1;
+    }
+    false
+}
+
+// The name added to the list, where it does not stand in it.
+pub fn add_name(w: &mut [u64], at: usize, n: Name)
+    requires { ⌜ (length (now w) ≡ 512) × IsPlace at × (n .core < 8) × (passesTwelve (transactionIn (now w) at) n ≡ false) ⌝ }
+    ensures { λ _. ⌜ (transactionIn (now (w .exit)) at ≡ withName (transactionIn (now (w .entry)) at) n) × Frame (now (w .entry)) (now (w .exit)) at 24 ⌝ }
+{
+    if lists_name(w, at, n) {
+        return;
+    }
+    let i = byte_in(w, at + NAMED);
+    let cell = cell_of(n);
+    w[at + NAMES + i as usize] = cell;
+    w[at + NAMED] = i as u64 + 1;
+}
+
+// The block taken.
+pub fn add_block(w: &mut [u64], at: usize, b: u8)
+    requires { ⌜ (length (now w) ≡ 512) × IsPlace at × ((transactionIn (now w) at) .count < 8) ⌝ }
+    ensures { λ _. ⌜ (transactionIn (now (w .exit)) at ≡ withBlock (transactionIn (now (w .entry)) at) b) × Frame (now (w .entry)) (now (w .exit)) at 24 ⌝ }
+{
+    let i = byte_in(w, at + COUNT);
+    w[at + BLOCKS + i as usize] = b as u64;
+    w[at + COUNT] = i as u64 + 1;
+}
+
+// No transaction at a place.
+pub fn clear(w: &mut [u64], at: usize)
+    requires { ⌜ (length (now w) ≡ 512) × (at + 24 ≤ 512) ⌝ }
+    ensures { λ _. ⌜ (transactionIn (now (w .exit)) at ≡ noTransaction) × Frame (now (w .entry)) (now (w .exit)) at 24 ⌝ }
+{
+    let mut i: usize = 0;
+    while i < SIZE {
+        w[at + i] = 0;
+        i += 1;
+    }
+}
+
+// The transaction at a place, or one that opens.
+pub fn open_at(w: &mut [u64], at: usize)
+    requires { ⌜ (length (now w) ≡ 512) × IsPlace at ⌝ }
+    ensures { λ _. ⌜ (transactionIn (now (w .exit)) at ≡ openedOr (transactionIn (now (w .entry)) at)) × Frame (now (w .entry)) (now (w .exit)) at 24 ⌝ }
+{
+    if is_live(w, at) {
+        return;
+    }
+    clear(w, at);
+    w[at] = 1;
+}
