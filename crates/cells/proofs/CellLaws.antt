@@ -361,6 +361,9 @@ holder-cell : (x : ℕ) (n : Name) → nameIn x ≡ n → holderIn (x + 1) ≡ n
 unfolding holderIn
 holder-cell x n e = rw (ne-eqb (x + 1) 0 (omega arith), back-one x, e)
 
+pub holder-frame : (v : List ℕ) (b x : ℕ) → b < 64 → x < 34359738368 → Frame v (set v (holderPlace b) (x + 1)) (holderPlace b) 1
+holder-frame v b x h l = frame-set v (holderPlace b) 1 (holderPlace b) (x + 1) (omega arith) (omega arith) (fits-holder b (x + 1) h (omega arith))
+
 pub holder-put : (v : List ℕ) (b x : ℕ) → length v ≡ 512 → b < 64 → (n : Name) → nameIn x ≡ n → cardIn (set v (holderPlace b) (x + 1)) ≡ withHolder (cardIn v) b (newHolder n)
 unfolding cardIn
 holder-put v b x l h n e =
@@ -374,7 +377,7 @@ holder-put v b x l h n e =
     (tabled-set (λ (d : ℕ). holderIn (getD v (holderPlace d) 0)) (λ (d : ℕ). holderIn (getD (set v (holderPlace b) (x + 1)) (holderPlace d) 0)) 64 b noHolder h (λ d p q. ap holderIn (other (holderPlace d) (omega arith)))
     ∙ ap (λ (k : Holder). set (map (λ (d : ℕ). holderIn (getD v (holderPlace d) 0)) (below 64)) b k) (ap holderIn (getD-set-same v (holderPlace b) (x + 1) 0 (omega arith)) ∙ holder-cell x n e))
   where
-    other : (m : ℕ) → (m ≡ 24 + b → ⊥) → getD (set v (holderPlace b) (x + 1)) m 0 ≡ getD v m 0
+    other : (m : ℕ) → (m ≡ holderPlace b → ⊥) → getD (set v (holderPlace b) (x + 1)) m 0 ≡ getD v m 0
     other m f = getD-set-other v (holderPlace b) m (x + 1) 0 f
 
 -- ---- a search through the names

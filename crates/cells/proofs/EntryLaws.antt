@@ -14,7 +14,7 @@ use Rattle.model.specs.declared.Card.{Card}
 use Rattle.model.proofs.Command.{Clear, Numbered, refusal-clear}
 use Rattle.model.proofs.OneStore.{shape-limits, right-lengths}
 use Rattle.cells.specs.Answer.{world, firstOf}
-use Rattle.cells.proofs.Refusals.{first-hit, first-pass, refusal-joined, refusal-up, refusal-one}
+use Rattle.cells.proofs.RefusalLaws.{first-hit, first-pass, refusal-joined, refusal-up, refusal-one}
 
 -- lengths, phase and core
 abbrev pub entry : ℕ → World → List (Bool × ℕ)

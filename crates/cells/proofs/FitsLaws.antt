@@ -2,7 +2,7 @@
 use Prim.Native.Nat.{ℕ, _+_, _-_, _*_, _%_, _≤_, _<_}
 use native.Mathlib.Omega.{arith}
 use mathlib.Core.Path.{_≡_, refl, sym, ap, _∙_}
-use mathlib.Core.Bool.{Bool, true, cond}
+use mathlib.Core.Bool.{Bool, true, false, cond}
 use mathlib.Core.List.{List}
 use lib.Dec.{eqb, ltb, leb}
 use lib.ListN.{length, getD, set, length-set}
@@ -14,20 +14,21 @@ use Rattle.cells.specs.Cells.{IsPlace, corePlace, tailPlace, holderPlace
 either : (t a b : Bool) → a ≡ true → b ≡ true → cond t a b ≡ true
 either true a b p q = p
 either false a b p q = q
-  where
-    use mathlib.Core.Bool.{false}
 
 -- 0 fits everywhere
 fits-nothing : (i : ℕ) → fitsTransaction i 0 ≡ true
 unfolding fitsTransaction
-fits-nothing i = either _ _ _ refl (either _ _ _ refl (either _ _ _ refl refl))
+fits-nothing i = either (eqb i 0) _ _ refl (either (eqb i 1) _ _ refl (either (ltb i 12) _ _ refl refl))
 
 pub fits-zero : (i : ℕ) → fitsAt i 0 ≡ true
 unfolding fitsAt fitsHeader fitsCore
 fits-zero i =
-    either _ _ _
-    (either _ _ _ refl (either _ _ _ refl (either _ _ _ refl (either _ _ _ refl refl))))
-    (either _ _ _ (either _ _ _ refl refl) (either _ _ _ refl (either _ _ _ refl (either _ _ _ refl (fits-nothing _)))))
+    either (ltb i 16) _ _
+    (either (eqb i 0) _ _ refl (either (eqb i 4) _ _ refl (either (eqb i 6) _ _ refl (either (ltb i 7) _ _ refl refl))))
+    (either (ltb i 32) _ _
+    (either (eqb (i % 2) 0) _ _ refl refl)
+    (either (ltb i 96) _ _ refl
+    (either (eqb ((i - 96) % 52) 0) _ _ refl (either (ltb ((i - 96) % 52) 4) _ _ refl (fits-nothing (((i - 96) % 52 - 4) % 24))))))
 
 -- ---- the header
 pub fits-phase : (x : ℕ) → x < 3 → fitsAt 0 x ≡ true
@@ -37,7 +38,7 @@ fits-phase x h = lt-ltb x 3 h
 pub fits-field : (i x : ℕ) → 0 < i → i < 7 → x < 256 → fitsAt i x ≡ true
 unfolding fitsAt fitsHeader
 fits-field i x p q h =
-    rw (lt-ltb i 16 (omega arith), ne-eqb i 0 (omega arith), lt-ltb i 7 q, lt-ltb x 256 h) (either _ _ _ refl (either _ _ _ refl refl))
+    rw (lt-ltb i 16 (omega arith), ne-eqb i 0 (omega arith), lt-ltb i 7 q, lt-ltb x 256 h) (either (eqb i 4) _ _ refl (either (eqb i 6) _ _ refl refl))
 
 pub fits-closes : (x : ℕ) → fitsAt 4 x ≡ true
 unfolding fitsAt fitsHeader
@@ -82,17 +83,25 @@ fits-count c j x p q r h =
     fits-in-core c j x p (omega arith) ∙ rw (ne-eqb j 0 (omega arith), lt-ltb j 4 r, lt-ltb x 256 h)
 
 pub running-place : (c : ℕ) → c < 8 → IsPlace (runningPlace c)
-running-place c h = (omega arith, omega arith, omega arith)
+running-place c h = (omega arith, omega arith, let e : (96 + 52 * c + 4 - 96) % 52 ≡ 4 = omega arith in rw e)
 
 pub closed-place : (c : ℕ) → c < 8 → IsPlace (closedPlace c)
-closed-place c h = (omega arith, omega arith, omega arith)
+closed-place c h = (omega arith, omega arith, let e : (96 + 52 * c + 28 - 96) % 52 ≡ 28 = omega arith in rw e)
+
+-- where a transaction stands in its core
+low-place : (m : ℕ) → m < 52 → m % 24 ≡ 4 → (4 ≤ m) × (m ≤ 28)
+low-place m h r = (omega arith, omega arith)
+
+in-place : (m k : ℕ) → m % 24 ≡ 4 → k < 24 → (m + k - 4) % 24 ≡ k
+in-place m k r h = omega arith
 
 module _ (a : ℕ) (p : 96 ≤ a) (q : a + 24 ≤ 512) (r : (a - 96) % 52 % 24 ≡ 4) where
   pub fits-at : (k x : ℕ) → k < 24 → fitsAt (a + k) x ≡ fitsTransaction k x
   unfolding fitsAt fitsCore
   fits-at k x h =
-      let e : ((a + k - 96) % 52 - 4) % 24 ≡ k = omega arith in
-      rw (le-ltb (a + k) 16 (omega arith), le-ltb (a + k) 32 (omega arith), le-ltb (a + k) 96 (omega arith), ne-eqb ((a + k - 96) % 52) 0 (omega arith), le-ltb ((a + k - 96) % 52) 4 (omega arith), e)
+      let l : (4 ≤ (a - 96) % 52) × ((a - 96) % 52 ≤ 28) = low-place ((a - 96) % 52) (omega arith) r in
+      let e : (a + k - 96) % 52 ≡ (a - 96) % 52 + k = omega (arith, l .0, l .1) in
+      rw (le-ltb (a + k) 16 (omega arith), le-ltb (a + k) 32 (omega arith), le-ltb (a + k) 96 (omega arith), e, ne-eqb ((a - 96) % 52 + k) 0 (omega (arith, l .0)), le-ltb ((a - 96) % 52 + k) 4 (omega (arith, l .0)), in-place ((a - 96) % 52) k r h)
 
   pub fits-live : (x : ℕ) → x < 2 → fitsAt a x ≡ true
   unfolding fitsTransaction

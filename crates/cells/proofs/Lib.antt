@@ -1,6 +1,6 @@
 -- Laws of the cells: parts of lists, refusals in stages, which values fit, fields read and changed in place.
 pub mod Parts
-pub mod Refusals
+pub mod RefusalLaws
 pub mod EntryLaws
 pub mod FitsLaws
 pub mod CellLaws

@@ -9,7 +9,7 @@ use Rattle.model.specs.Command.{Outcome, refusal, unless}
 use Rattle.cells.specs.declared.Answer.{Answer}
 use Rattle.cells.specs.Answer.{worldIn, outcomeIn, newAnswer, Meets}
 use Rattle.cells.specs.Cells.{Frame}
-use Rattle.cells.proofs.Refusals.{was-refused, was-done}
+use Rattle.cells.proofs.RefusalLaws.{was-refused, was-done}
 
 -- the cells of a changed array
 pub same-long : (v w : List ℕ) (a n : ℕ) → length v ≡ 512 → Frame v w a n → length w ≡ 512

@@ -10,7 +10,11 @@ use model::Shape;
 // The header: phase, the shape's three numbers, closes, how far recovery is, the count of stores; then unused cells.
 pub const PHASE: usize = 0;
 
-pub const SHAPE: usize = 1;
+pub const SHAPE_CORES: usize = 1;
+
+pub const SHAPE_BLOCKS: usize = 2;
+
+pub const SHAPE_JOURNAL: usize = 3;
 
 pub const CLOSES: usize = 4;
 
@@ -54,9 +58,9 @@ pub fn shape_of(w: &[u64]) -> Shape
     ensures { λ r. ⌜ r ≡ shapeOf (cardIn (now (w .entry))) ⌝ }
 {
     let s = Shape {
-        cores: byte_in(w, SHAPE),
-        blocks: byte_in(w, SHAPE + 1),
-        journal: byte_in(w, SHAPE + 2),
+        cores: byte_in(w, SHAPE_CORES),
+        blocks: byte_in(w, SHAPE_BLOCKS),
+        journal: byte_in(w, SHAPE_JOURNAL),
     };
     s.clamped()
 }

@@ -6,16 +6,16 @@ mod lists; // a transaction's blocks and names
 mod holders; // the transaction that holds a block
 mod refusals; // what commands meet first
 
-pub use fields::CORES;
 pub use fields::CORE_SIZE;
+pub use fields::CORES;
 pub use fields::HOLDERS;
 pub use fields::PHASE;
 pub use fields::RECOVERED;
 pub use fields::STORES;
 pub use fields::TAILS;
 pub use fields::byte_in;
-pub use fields::core_place;
 pub use fields::closed_place;
+pub use fields::core_place;
 pub use fields::number_in;
 pub use fields::phase_of;
 pub use fields::running_place;

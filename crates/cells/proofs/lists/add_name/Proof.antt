@@ -1,6 +1,7 @@
 -- `cells::lists::add_name` meets its contract: 24 leaves room for a name that is not listed.
 use Rattle.cells.proofs.Parts.{name-stands}
-use Rattle.cells.proofs.CellLaws.{frame-same, name-in, named-in, name-put-there, name-frame}
+use Rattle.cells.proofs.CellLaws.{name-in, named-in, name-put-there, name-frame}
+use Rattle.cells.proofs.FitsLaws.{frame-same}
 use borrow.Author.Needs.{needs}
 use Rattle.cells.proofs.lists.add_name.Statement.{statement}
 use Rattle.cells.proofs.lists.add_name.Tie as tie

@@ -1,5 +1,6 @@
 -- `cells::lists::open_at` meets its contract.
-use Rattle.cells.proofs.CellLaws.{frame-same, open-live, still-in, opened-there, opened-frame}
+use Rattle.cells.proofs.CellLaws.{open-live, still-in, opened-there, opened-frame}
+use Rattle.cells.proofs.FitsLaws.{frame-same}
 use borrow.Author.Needs.{needs}
 use Rattle.cells.proofs.lists.open_at.Statement.{statement}
 use Rattle.cells.proofs.lists.open_at.Tie as tie

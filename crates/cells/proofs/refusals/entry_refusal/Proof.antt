@@ -1,6 +1,6 @@
 -- `cells::refusals::entry_refusal` meets its contract: the state, then the core.
 use mathlib.Core.Path.{_∙_}
-use Rattle.cells.proofs.Refusals.{first-hit, first-pass}
+use Rattle.cells.proofs.RefusalLaws.{first-hit, first-pass}
 use Rattle.cells.proofs.EntryLaws.{entry-stages}
 use borrow.Author.Needs.{needs}
 use Rattle.cells.proofs.refusals.entry_refusal.Statement.{statement}

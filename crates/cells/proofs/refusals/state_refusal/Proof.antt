@@ -1,6 +1,6 @@
 -- `cells::refusals::state_refusal` meets its contract: the length, then the phase.
 use mathlib.Core.Path.{_∙_}
-use Rattle.cells.proofs.Refusals.{up-numbers}
+use Rattle.cells.proofs.RefusalLaws.{up-numbers}
 use borrow.Author.Needs.{needs}
 use Rattle.cells.proofs.refusals.state_refusal.Statement.{statement}
 use Rattle.cells.proofs.refusals.state_refusal.Tie as tie
