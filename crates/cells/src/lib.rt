@@ -5,6 +5,7 @@ mod fields; // the header, and where each part stands
 mod cores; // a core's numbers
 mod lists; // a transaction's blocks and names
 mod holders; // the transaction that holds a block
+mod stores; // the count of stores
 mod refusals; // what commands meet first
 
 pub use cores::put_numbers;
@@ -43,6 +44,8 @@ pub use refusals::entry_refusal;
 pub use refusals::phase_refusal;
 pub use refusals::state_refusal;
 pub use refusals::wrong_length;
+pub use stores::put_stores;
+pub use stores::stores_of;
 
 // What a command answers: the number of its refusal, 0 if it is done, and the stores that it did.
 pub struct Answer {

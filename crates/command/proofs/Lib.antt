@@ -1,2 +1,3 @@
 -- Laws that the proofs of one command at an offset cite.
 pub mod TapeLaws
+pub mod CountLaws

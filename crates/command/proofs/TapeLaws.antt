@@ -4,7 +4,7 @@ use native.Mathlib.Omega.{arith}
 use native.Mathlib.Nat.{le-max-left, le-max-right, max-le}
 use mathlib.Core.Path.{_≡_, refl, sym, ap, _∙_}
 use mathlib.Core.Bool.{Bool, true, false, not, _&&_}
-use mathlib.Core.List.{[], _∷_}
+use mathlib.Core.List.{List, [], _∷_}
 use lib.ListN.{length, take, drop, getD, length-take, length-drop, List·getD-eq-default}
 use lib.Seq.{drop-cons}
 use lib.Dec.{leb, ltb}
@@ -21,9 +21,11 @@ use Rattle.model.specs.Recovery.{cut, recover}
 use Rattle.model.specs.Tape.{operandLengths, operandLength, step, commandByte, operandsAt, isUnknown, endsEarly, commandAt, nextOffset}
 use Rattle.model.specs.declared.Card.{Card}
 use Rattle.model.proofs.Lists.{cases, all-mem, getD-mem}
-use Rattle.model.proofs.Command.{tapeConditions, refusedWith, refusal-clear}
-use Rattle.state.specs.Answer.{world}
-use Rattle.state.proofs.Refusals.{was-refused, was-done}
+use Rattle.model.proofs.Command.{tapeConditions, refusal-clear}
+use Rattle.cells.specs.declared.Answer.{Answer}
+use Rattle.cells.specs.Answer.{world, worldIn, newAnswer, Meets}
+use Rattle.cells.proofs.MeetLaws.{meets-refused, meets-same}
+use Rattle.model.proofs.Command.{unless-done}
 
 -- past the end of a slice stands 0
 pub byte-past : (s : Bytes) (i : ℕ) → length s ≤ i → 0 ≡ getD s i 0
@@ -139,40 +141,40 @@ module _ (a : Bytes) (h : length a ≡ 8) where
   unfolding part
   bytes-operand = rw (drop-cons a 4 0 (omega arith), drop-cons a 5 0 (omega arith), drop-cons a 6 0 (omega arith), drop-cons a 7 0 (omega arith))
 
-  pub write-operands : (w : World) (o : Outcome) (x y : ℕ) → x ≡ getD a 1 0 → y ≡ getD a 2 0
-      → o ≡ write (getD a 0 0) (x * 256 + y) (getD a 3 0) (getD a 4 0 ∷ getD a 5 0 ∷ getD a 6 0 ∷ getD a 7 0 ∷ []) w
-      → o ≡ write (getD a 0 0) (number 0 (part 1 2 a)) (getD a 3 0) (part 4 4 a) w
-  write-operands w o x y p q e = rw (← block-operand, ← bytes-operand, ← p, ← q) e
+  pub write-operands : (v : List ℕ) (d₀ m₀ : Bytes) (w : List ℕ) (d m : Bytes) (r : Answer) (x y : ℕ) → x ≡ getD a 1 0 → y ≡ getD a 2 0
+      → Meets (write (getD a 0 0) (x * 256 + y) (getD a 3 0) (getD a 4 0 ∷ getD a 5 0 ∷ getD a 6 0 ∷ getD a 7 0 ∷ []) (worldIn v d₀ m₀)) v w d m r
+      → Meets (write (getD a 0 0) (number 0 (part 1 2 a)) (getD a 3 0) (part 4 4 a) (worldIn v d₀ m₀)) v w d m r
+  write-operands v d₀ m₀ w d m r x y p q e = meets-same _ _ v w d m r e (rw (← block-operand, ← bytes-operand, ← p, ← q))
 
 -- ---- which of the seven
-module _ (k : ℕ) (a : Bytes) (w : World) (o : Outcome) (c : ℕ) (e : c ≡ getD a 0 0) where
-  pub step-format : k ≡ 1 → (x : ℕ) → x ≡ getD a 1 0 → (y : ℕ) → y ≡ getD a 2 0 → o ≡ format c x y w → o ≡ step k a w
+module _ (k : ℕ) (a : Bytes) (v : List ℕ) (d₀ m₀ : Bytes) (w : List ℕ) (d m : Bytes) (r : Answer) (c : ℕ) (e : c ≡ getD a 0 0) where
+  pub step-format : k ≡ 1 → (x : ℕ) → x ≡ getD a 1 0 → (y : ℕ) → y ≡ getD a 2 0 → Meets (format c x y (worldIn v d₀ m₀)) v w d m r → Meets (step k a (worldIn v d₀ m₀)) v w d m r
   unfolding step
-  step-format h x p y q f = f ∙ rw (h, e, p, q)
+  step-format h x p y q f = meets-same _ _ v w d m r f (rw (h, e, p, q))
 
-  pub step-write : k ≡ 2 → o ≡ write (getD a 0 0) (number 0 (part 1 2 a)) (getD a 3 0) (part 4 4 a) w → o ≡ step k a w
+  pub step-write : k ≡ 2 → Meets (write (getD a 0 0) (number 0 (part 1 2 a)) (getD a 3 0) (part 4 4 a) (worldIn v d₀ m₀)) v w d m r → Meets (step k a (worldIn v d₀ m₀)) v w d m r
   unfolding step
-  step-write h f = f ∙ rw h
+  step-write h f = meets-same _ _ v w d m r f (rw h)
 
-  pub step-close : k ≡ 3 → o ≡ close c w → o ≡ step k a w
+  pub step-close : k ≡ 3 → Meets (close c (worldIn v d₀ m₀)) v w d m r → Meets (step k a (worldIn v d₀ m₀)) v w d m r
   unfolding step
-  step-close h f = f ∙ rw (h, e)
+  step-close h f = meets-same _ _ v w d m r f (rw (h, e))
 
-  pub step-store : k ≡ 4 → o ≡ storeNext c w → o ≡ step k a w
+  pub step-store : k ≡ 4 → Meets (storeNext c (worldIn v d₀ m₀)) v w d m r → Meets (step k a (worldIn v d₀ m₀)) v w d m r
   unfolding step
-  step-store h f = f ∙ rw (h, e)
+  step-store h f = meets-same _ _ v w d m r f (rw (h, e))
 
-  pub step-checkpoint : k ≡ 5 → o ≡ checkpoint c w → o ≡ step k a w
+  pub step-checkpoint : k ≡ 5 → Meets (checkpoint c (worldIn v d₀ m₀)) v w d m r → Meets (step k a (worldIn v d₀ m₀)) v w d m r
   unfolding step
-  step-checkpoint h f = f ∙ rw (h, e)
+  step-checkpoint h f = meets-same _ _ v w d m r f (rw (h, e))
 
-  pub step-cut : k ≡ 6 → o ≡ cut w → o ≡ step k a w
+  pub step-cut : k ≡ 6 → Meets (cut (worldIn v d₀ m₀)) v w d m r → Meets (step k a (worldIn v d₀ m₀)) v w d m r
   unfolding step
-  step-cut h f = f ∙ rw h
+  step-cut h f = meets-same _ _ v w d m r f (rw h)
 
-  pub step-recover : (k ≡ 1 → ⊥) → (k ≡ 2 → ⊥) → (k ≡ 3 → ⊥) → (k ≡ 4 → ⊥) → (k ≡ 5 → ⊥) → (k ≡ 6 → ⊥) → o ≡ recover w → o ≡ step k a w
+  pub step-recover : (k ≡ 1 → ⊥) → (k ≡ 2 → ⊥) → (k ≡ 3 → ⊥) → (k ≡ 4 → ⊥) → (k ≡ 5 → ⊥) → (k ≡ 6 → ⊥) → Meets (recover (worldIn v d₀ m₀)) v w d m r → Meets (step k a (worldIn v d₀ m₀)) v w d m r
   unfolding step
-  step-recover h₁ h₂ h₃ h₄ h₅ h₆ f = f ∙ simp (ne-eqb k 1 h₁, ne-eqb k 2 h₂, ne-eqb k 3 h₃, ne-eqb k 4 h₄, ne-eqb k 5 h₅, ne-eqb k 6 h₆)
+  step-recover h₁ h₂ h₃ h₄ h₅ h₆ f = meets-same _ _ v w d m r f (simp (ne-eqb k 1 h₁, ne-eqb k 2 h₂, ne-eqb k 3 h₃, ne-eqb k 4 h₄, ne-eqb k 5 h₅, ne-eqb k 6 h₆))
 
 pub write-length : (a : Bytes) (k : ℕ) → length a ≡ operandLength k → k ≡ 2 → length a ≡ 8
 unfolding operandLength operandLengths
@@ -185,14 +187,14 @@ pub record Whole (t : Bytes) (at k next : ℕ) : Type 0 where
   pub within : next ≤ length t
   pub operands : length (take (next - (at + 1)) (drop (at + 1) t)) ≡ operandLength k
 
-module _ (t : Bytes) (at : ℕ) (x : Card) (d m : Bytes) (n : ℕ) (e : (y : Card) → n ≡ refusal (tapeConditions t at (world y d m))) where
-  pub at-refused : (n ≡ 0 → ⊥) → refusedWith n (world x d m) ≡ commandAt step t at (world x d m)
+module _ (t : Bytes) (at : ℕ) (v : List ℕ) (d m : Bytes) (n : ℕ) (e : (y : Card) → n ≡ refusal (tapeConditions t at (world y d m))) where
+  pub at-refused : length v ≡ 512 → (n ≡ 0 → ⊥) → Meets (commandAt step t at (worldIn v d m)) v v d m (newAnswer n 0)
   unfolding commandAt
-  at-refused h = was-refused (tapeConditions t at (world x d m)) (world x d m) _ n (e x) h
+  at-refused l h = meets-refused (tapeConditions t at (worldIn v d m)) v d m _ l n (e _) h
 
   module _ (h : n ≡ 0) (k : ℕ) (b : k ≡ getD t at 0) (next : ℕ) (f : next ≡ nextOffset t at) where
     clear : (isUnknown t at ≡ false) × (endsEarly t at ≡ false)
-    clear = let c = refusal-clear (tapeConditions t at (world x d m)) (omega arith, (omega arith, (omega arith, tt))) (sym (e x) ∙ h) in (c .1 .0, c .1 .1 .0)
+    clear = let c = refusal-clear (tapeConditions t at (worldIn v d m)) (omega arith, (omega arith, (omega arith, tt))) (sym (e _) ∙ h) in (c .1 .0, c .1 .1 .0)
 
     byte-same : commandByte t at ≡ k
     unfolding commandByte
@@ -212,8 +214,8 @@ module _ (t : Bytes) (at : ℕ) (x : Card) (d m : Bytes) (n : ℕ) (e : (y : Car
           operands = simp (length-take, length-drop) (omega (arith, next-same, next-within));
         }
 
-    pub at-done : (o : Outcome) → o ≡ step k (take (next - (at + 1)) (drop (at + 1) t)) (world x d m) → o ≡ commandAt step t at (world x d m)
+    pub at-done : (w : List ℕ) (d′ m′ : Bytes) (r : Answer) → Meets (step k (take (next - (at + 1)) (drop (at + 1) t)) (worldIn v d m)) v w d′ m′ r → Meets (commandAt step t at (worldIn v d m)) v w d′ m′ r
     unfolding commandAt operandsAt part
-    at-done o q =
+    at-done w d′ m′ r q =
         let z : next - (at + 1) ≡ operandLength k = omega (arith, next-same) in
-        was-done (tapeConditions t at (world x d m)) (world x d m) _ n (e x) h o (rw (byte-same, ← z) q)
+        meets-same _ _ v w d′ m′ r q (rw (byte-same, ← z) (sym (unless-done (tapeConditions t at (worldIn v d m)) (worldIn v d m) _ (sym (e _) ∙ h))))

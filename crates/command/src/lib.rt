@@ -8,17 +8,19 @@ ghost use Rattle.model.specs.Bytes.{number, part};
 ghost use Rattle.model.specs.Command.{refusal, wrongLength};
 ghost use Rattle.model.specs.Write.{write};
 ghost use Rattle.model.specs.Tape.{operandLength, step, commandByte, isUnknown, endsEarly, commandAt, nextOffset};
-ghost use Rattle.state.specs.Answer.{world, outcomeOf};
-use card::cut::cut;
-use card::format::format;
-use checkpoint::checkpoint;
-use commit::close;
-use commit::store;
+ghost use Rattle.cells.specs.Cells.{storesIn};
+ghost use Rattle.cells.specs.Answer.{world, worldIn, Meets};
+ghost use Rattle.command.specs.Counting.{counted, countedIn, Performs};
+use cells::Answer;
+use cells::wrong_length;
+use checkpointing::checkpoint;
+use committing::close;
+use committing::store;
+use formatting::format;
 use model::Card;
-use recovery::recover;
-use state::Answer;
-use state::wrong_length;
-use transaction::write;
+use recovering::cut;
+use recovering::recover;
+use writing::write;
 
 // The bytes of the operands of commands 1 to 7; there is no command 0.
 const OPERAND_LENGTHS: [u8; 8] = [0, 3, 8, 1, 1, 1, 0, 0];
@@ -111,44 +113,57 @@ fn tape_refusal(tape: &[u8], at: usize, disk: &[u8], memory: &[u8]) -> u8
 }
 
 // WRITE with its operands: core, block of two bytes, offset, the four bytes.
-fn perform_write(card: Card, operands: &[u8], disk: &[u8], memory: &mut [u8]) -> Answer
-    requires { ⌜ length (now operands) ≡ 8 ⌝ }
-    ensures { λ r. ⌜ outcomeOf r (now (disk .entry)) (now (memory .exit)) ≡ write (getD (now (operands .entry)) 0 0) (number 0 (part 1 2 (now (operands .entry)))) (getD (now (operands .entry)) 3 0) (part 4 4 (now (operands .entry))) (world card (now (disk .entry)) (now (memory .entry))) ⌝ }
+fn perform_write(w: &mut [u64], operands: &[u8], disk: &[u8], memory: &mut [u8]) -> Answer
+    requires { ⌜ (length (now w) ≡ 512) × (length (now operands) ≡ 8) ⌝ }
+    ensures { λ r. ⌜
+        (let a = now (operands .entry) in
+        Meets (write (getD a 0 0) (number 0 (part 1 2 a)) (getD a 3 0) (part 4 4 a) (worldIn (now (w .entry)) (now (disk .entry)) (now (memory .entry))))
+        (now (w .entry)) (now (w .exit)) (now (disk .entry)) (now (memory .exit)) r)
+    ⌝ }
 {
     let high = byte_at(operands, 1);
     let low = byte_at(operands, 2);
     let block = high as u16 * 256 + low as u16;
     let bytes = [operands[4], operands[5], operands[6], operands[7]];
-    write(card, operands[0], block, operands[3], bytes, disk, memory)
+    write(w, operands[0], block, operands[3], bytes, disk, memory)
 }
 
 // Command k with its operands, which are all there. The tape has no byte but 1 to 7 here, so the last case is 7.
-fn perform(card: Card, k: u8, operands: &[u8], disk: &mut [u8], memory: &mut [u8]) -> Answer
-    requires { ⌜ length (now operands) ≡ operandLength k ⌝ }
-    ensures { λ r. ⌜ outcomeOf r (now (disk .exit)) (now (memory .exit)) ≡ step k (now (operands .entry)) (world card (now (disk .entry)) (now (memory .entry))) ⌝ }
+fn perform(w: &mut [u64], k: u8, operands: &[u8], disk: &mut [u8], memory: &mut [u8]) -> Answer
+    requires { ⌜ (length (now w) ≡ 512) × (length (now operands) ≡ operandLength k) ⌝ }
+    ensures { λ r. ⌜
+        Meets (step k (now (operands .entry)) (worldIn (now (w .entry)) (now (disk .entry)) (now (memory .entry))))
+        (now (w .entry)) (now (w .exit)) (now (disk .exit)) (now (memory .exit)) r
+    ⌝ }
 {
     let c = byte_at(operands, 0);
     match k {
         1 => format(
-            card,
+            w,
             c,
             byte_at(operands, 1),
             byte_at(operands, 2),
             disk,
             memory,
         ),
-        2 => perform_write(card, operands, disk, memory),
-        3 => close(card, c, disk, memory),
-        4 => store(card, c, disk, memory),
-        5 => checkpoint(card, c, disk, memory),
-        6 => cut(card, disk, memory),
-        _ => recover(card, disk, memory),
+        2 => perform_write(w, operands, disk, memory),
+        3 => close(w, c, disk, memory),
+        4 => store(w, c, disk, memory),
+        5 => checkpoint(w, c, disk, memory),
+        6 => cut(w, disk, memory),
+        _ => recover(w, disk, memory),
     }
 }
 
 // The command at an offset. Where none begins there, nothing is changed and the offset stays.
-pub fn command(card: Card, tape: &[u8], at: usize, disk: &mut [u8], memory: &mut [u8]) -> Performed
-    ensures { λ r. ⌜ (outcomeOf (r .answer) (now (disk .exit)) (now (memory .exit)) ≡ commandAt step (now (tape .entry)) at (world card (now (disk .entry)) (now (memory .entry)))) × (r .byte ≡ commandByte (now (tape .entry)) at) × (r .next ≡ nextOffset (now (tape .entry)) at) ⌝ }
+fn command(w: &mut [u64], tape: &[u8], at: usize, disk: &mut [u8], memory: &mut [u8]) -> Performed
+    requires { ⌜ length (now w) ≡ 512 ⌝ }
+    ensures { λ r. ⌜
+        Meets (commandAt step (now (tape .entry)) at (worldIn (now (w .entry)) (now (disk .entry)) (now (memory .entry))))
+        (now (w .entry)) (now (w .exit)) (now (disk .exit)) (now (memory .exit)) (r .answer)
+        × (r .byte ≡ commandByte (now (tape .entry)) at)
+        × (r .next ≡ nextOffset (now (tape .entry)) at)
+    ⌝ }
 {
     let byte = byte_at(tape, at);
     let next = next_offset(tape, at);
@@ -157,11 +172,55 @@ pub fn command(card: Card, tape: &[u8], at: usize, disk: &mut [u8], memory: &mut
         let answer = Answer {
             number: n,
             stores: 0,
-            card,
         };
         return Performed { answer, byte, next };
     }
     let from = at + 1;
-    let answer = perform(card, byte, &tape[from..next], disk, memory);
+    let answer = perform(w, byte, &tape[from..next], disk, memory);
     Performed { answer, byte, next }
+}
+
+// A count grown by k; it stays at the largest number, which no run reaches.
+fn counted(n: u64, k: u8) -> u64
+    ensures { λ r. ⌜ r ≡ counted n k ⌝ }
+{
+    let more = k as u64;
+    if u64::MAX - n < more {
+        return u64::MAX;
+    }
+    n + more
+}
+
+// The count of stores after a command, before it n; a refusal puts nothing.
+fn count(w: &mut [u64], n: u64, answer: Answer)
+    requires { ⌜ length (now w) ≡ 512 ⌝ }
+    ensures { λ _. ⌜ now (w .exit) ≡ countedIn (now (w .entry)) n answer ⌝ }
+{
+    if answer.number != 0 {
+        return;
+    }
+    let after = counted(n, answer.stores);
+    cells::put_stores(w, after);
+}
+
+// The command at an offset, its stores counted. The count is read before the command, which may overwrite its cell.
+pub fn counted_command(
+    w: &mut [u64],
+    tape: &[u8],
+    at: usize,
+    disk: &mut [u8],
+    memory: &mut [u8],
+) -> Performed
+    requires { ⌜ length (now w) ≡ 512 ⌝ }
+    ensures { λ r. ⌜
+        Performs (commandAt step (now (tape .entry)) at (worldIn (now (w .entry)) (now (disk .entry)) (now (memory .entry))))
+        (now (w .entry)) (now (w .exit)) (now (disk .exit)) (now (memory .exit)) (r .answer .number)
+        × (r .byte ≡ commandByte (now (tape .entry)) at)
+        × (r .next ≡ nextOffset (now (tape .entry)) at)
+    ⌝ }
+{
+    let before = cells::stores_of(w);
+    let done = command(w, tape, at, disk, memory);
+    count(w, before, done.answer);
+    done
 }

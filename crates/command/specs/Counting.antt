@@ -1,0 +1,29 @@
+-- The count of stores in the cells, and what a counted command leaves.
+use Prim.Native.Nat.{ℕ, _+_, min}
+use mathlib.Core.Path.{_≡_}
+use mathlib.Core.List.{List}
+use mathlib.Core.Bool.{cond}
+use lib.Dec.{eqb}
+use lib.ListN.{set}
+use Rattle.model.specs.Bytes.{Bytes}
+use Rattle.model.specs.Command.{Outcome}
+use Rattle.cells.specs.Cells.{storesIn, Exact}
+use Rattle.cells.specs.Answer.{worldIn}
+use Rattle.cells.specs.declared.Answer.{Answer}
+
+-- a count of stores grown by k, which stays at the largest number of eight bytes
+unfoldable pub counted : ℕ → ℕ → ℕ
+counted n k = min (n + k) 18446744073709551615
+
+-- the cells with the count after a command; n before it. A refusal puts nothing.
+unfoldable pub countedIn : List ℕ → ℕ → Answer → List ℕ
+countedIn w n a = cond (eqb (a .number) 0) (set w 6 (counted n (a .stores))) w
+
+-- A command that found the cells v, left w, d and m and answered n: the answer and the world of its outcome, its stores counted;
+-- cells that are those of their card and count stay so; a refusal leaves every cell as it was.
+pub record Performs (o : Outcome) (v w : List ℕ) (d m : Bytes) (n : ℕ) : Type 0 where
+  pub answer : n ≡ o .answer
+  pub world : worldIn w d m ≡ o .world
+  pub stores : storesIn w ≡ counted (storesIn v) (o .stores)
+  pub exact : Exact v → Exact w
+  pub refused : (n ≡ 0 → ⊥) → w ≡ v

@@ -1,0 +1,2 @@
+-- What the contract of a counted command says.
+pub mod Counting
