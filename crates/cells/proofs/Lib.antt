@@ -5,3 +5,4 @@ pub mod EntryLaws
 pub mod FitsLaws
 pub mod CellLaws
 pub mod MeetLaws
+pub mod TailLaws
