@@ -292,7 +292,7 @@ tail-same v w b e =
     (ap (λ (n : ℕ). n % 4294967296) (e b (omega arith) (omega arith)))
     (ap (λ (n : ℕ). n % 256) (e (b + 1) (omega arith) (omega arith)))
 
-same-core : (a b c d e f g h : ℕ) (r s t u : Transaction) → a ≡ b → c ≡ d → e ≡ f → g ≡ h → r ≡ s → t ≡ u
+pub same-core : (a b c d e f g h : ℕ) (r s t u : Transaction) → a ≡ b → c ≡ d → e ≡ f → g ≡ h → r ≡ s → t ≡ u
     → _≡_ {A = Core} (record { next = a; used = c; stored = e; homed = g; running = r; closed = t }) (record { next = b; used = d; stored = f; homed = h; running = s; closed = u })
 same-core a b c d e f g h r s t u i j k l m n = rw (i, j, k, l, m, n)
 
