@@ -282,7 +282,7 @@ unfolding openedOr
 open-new s t e h = e ∙ rw h
 
 -- ---- the card where some cells changed
-same-tail : (a b c d : ℕ) → a ≡ b → c ≡ d → newTail a c ≡ newTail b d
+pub same-tail : (a b c d : ℕ) → a ≡ b → c ≡ d → newTail a c ≡ newTail b d
 same-tail a b c d p q = rw (p, q)
 
 pub tail-same : (v w : List ℕ) (b : ℕ) → ((i : ℕ) → b ≤ i → i < b + 2 → getD w i 0 ≡ getD v i 0) → tailFrom w b ≡ tailFrom v b

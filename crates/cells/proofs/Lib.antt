@@ -6,3 +6,4 @@ pub mod FitsLaws
 pub mod CellLaws
 pub mod CoreLaws
 pub mod MeetLaws
+pub mod TailLaws

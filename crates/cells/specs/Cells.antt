@@ -6,9 +6,9 @@ use mathlib.Core.Path.{_≡_}
 use mathlib.Core.List.{List, map}
 use mathlib.Core.Bool.{Bool, true, cond, not}
 use lib.Dec.{eqb, ltb, leb}
-use lib.ListN.{length, getD}
+use lib.ListN.{length, getD, set}
 use Rattle.model.specs.Lists.{below}
-use Rattle.model.specs.Card.{newTail, newName, noHolder, newHolder, opened, tailOf, coreOf, holderOf}
+use Rattle.model.specs.Card.{newTail, newName, noHolder, newHolder, opened, tailOf, coreOf, holderOf, withLists}
 use Rattle.model.specs.declared.Phase.{Phase}
 use Rattle.model.specs.declared.Phase.the-variants.{Blank, Up, Down}
 use Rattle.model.specs.declared.Shape.{Shape}
@@ -214,3 +214,7 @@ withClosed k t = record { next = k .next; used = k .used; stored = k .stored; ho
 abbrev pub withCloses : Card → ℕ → Card
 withCloses x n =
     record { phase = x .phase; shape = x .shape; closes = n; recovered = x .recovered; tails = x .tails; cores = x .cores; holders = x .holders }
+
+-- the card with core c's tail replaced
+abbrev pub withTail : Card → ℕ → Tail → Card
+withTail x c t = withLists x (set (x .tails) c t) (x .cores) (x .holders)

@@ -6,6 +6,7 @@ mod cores; // a core's numbers
 mod lists; // a transaction's blocks and names
 mod holders; // the transaction that holds a block
 mod stores; // the count of stores
+mod tails; // where each core's journal begins
 mod refusals; // what commands meet first
 
 pub use cores::put_numbers;
@@ -46,6 +47,9 @@ pub use refusals::state_refusal;
 pub use refusals::wrong_length;
 pub use stores::put_stores;
 pub use stores::stores_of;
+pub use tails::put_tail;
+pub use tails::tail_at;
+pub use tails::tails_of;
 
 // What a command answers: the number of its refusal, 0 if it is done, and the stores that it did.
 pub struct Answer {
