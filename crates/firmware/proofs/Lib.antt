@@ -1,3 +1,2 @@
 -- Laws that the proofs of sessions cite.
 pub mod RunLaws
-pub mod EntryLaws

@@ -1,3 +1,2 @@
--- What the contracts of sessions say beyond crates `model`, `card` and `crash`.
+-- What the contracts of the library's entries say beyond crates `model`, `cells`, `command` and `crash`.
 pub mod Session
-pub mod Entry

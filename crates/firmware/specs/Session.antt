@@ -1,5 +1,6 @@
--- A session over its lent slices as the model's world, its count of stores, and what reading leaves in a lent buffer.
-use Prim.Native.Nat.{ℕ, _+_, min}
+-- A whole tape over the cells: its stores, where it stopped, the demands. What reading leaves in a lent buffer, and where a block's
+-- bytes stand.
+use Prim.Native.Nat.{ℕ}
 use mathlib.Core.Path.{_≡_}
 use mathlib.Core.List.{List, [], _∷_}
 use mathlib.Core.Bool.{true, cond}
@@ -9,43 +10,41 @@ use Rattle.model.specs.Bytes.{Bytes}
 use Rattle.model.specs.Shape.{inRange}
 use Rattle.model.specs.Card.{blankCard, downCard}
 use Rattle.model.specs.Format.{formatted}
-use Rattle.model.specs.Command.{World, Outcome}
+use Rattle.model.specs.Command.{World}
 use Rattle.model.specs.Reading.{readBlock}
-use Rattle.model.specs.Tape.{Point, step, commandAt, run}
+use Rattle.model.specs.Tape.{Point, step, commandByte, nextOffset, commandAt, run, worldAfter}
 use Rattle.model.specs.declared.Shape.{Shape}
-use Rattle.model.specs.declared.Card.{Card}
 use Rattle.crash.specs.Service.{emptyService}
 use Rattle.crash.specs.Ledger.{blankLedger}
 use Rattle.crash.specs.Claims.{AreaKept, LedgerKept, downLedger}
-use Rattle.state.specs.Answer.{world}
-use Rattle.firmware.specs.declared.session.Session.{Session}
-
-abbrev pub newSession : Card → ℕ → Session
-newSession x n = record { card = x; stores = n }
-
-abbrev pub worldOf : Session → Bytes → Bytes → World
-worldOf s d m = world (s .card) d m
-
--- the outcome of the command at an offset
-abbrev pub outcomeAt : Session → Bytes → ℕ → Bytes → Bytes → Outcome
-outcomeAt s t at d m = commandAt step t at (worldOf s d m)
-
--- the count of stores, which stays at the largest number of eight bytes
-unfoldable pub counted : ℕ → ℕ → ℕ
-counted n k = min (n + k) 18446744073709551615
+use Rattle.cells.specs.Cells.{storesIn, Exact}
+use Rattle.cells.specs.Answer.{worldIn}
+use Rattle.reading.specs.Part.{partOf}
+use Rattle.command.specs.Counting.{counted, Performs}
+use Rattle.firmware.specs.declared.session.Reply.{Reply}
+use Rattle.firmware.specs.declared.session.Stop.{Stop}
+use Rattle.firmware.specs.declared.session.Part.{Part}
 
 -- the stores after the points of a run, with n before
 unfoldable pub storesAfter : ℕ → List Point → ℕ
 storesAfter n [] = n
 storesAfter n (p ∷ ps) = storesAfter (p .stores) ps
 
--- the session after commands that left the world w and made k stores
-abbrev pub sessionAfter : Session → World → ℕ → Session
-sessionAfter s w k = newSession (w .card) (counted (s .stores) k)
+-- where a run stopped: its last command's offset, number and byte
+abbrev pub newStop : ℕ → ℕ → ℕ → Stop
+newStop at n k = record { at = at; number = n; byte = k }
+
+unfoldable pub stopAfter : Stop → List Point → Stop
+stopAfter s [] = s
+stopAfter s (p ∷ ps) = stopAfter (newStop (p .offset) (p .outcome .answer) (p .byte)) ps
 
 -- a buffer after reading block b with the number n: its bytes, or for a refusal as it was
 unfoldable pub readInto : ℕ → ℕ → World → Bytes → Bytes
 readInto n b w out = cond (eqb n 0) (readBlock b w) out
+
+-- where the bytes of block b stand, in fields of a foreign caller's widths
+unfoldable pub partIn : ℕ → World → Part
+partIn b w = let p = partOf b w in record { number = p .number; slice = p .slice; from = p .from; length = p .length }
 
 -- The demands, of the run of a tape from a world: from a blank card over slices of their lengths, and from a card that is
 -- down over a disk as FORMAT leaves it.
@@ -54,3 +53,19 @@ pub record DemandsMet (t : Bytes) (w : World) : Type 0 where
       → AreaKept (emptyService 0) (run step t w) × LedgerKept 0 blankLedger w (run step t w)
   pub from-down : (s : Shape) → inRange (s .cores) (s .blocks) (s .journal) ≡ true → w .card ≡ downCard → w .disk ≡ (formatted s) .world .disk → length (w .memory) ≡ 16384
       → AreaKept (emptyService (s .blocks)) (run step t w) × LedgerKept 0 (downLedger s) w (run step t w)
+
+-- The command at an offset of a tape t, over the cells v, the disk d and memory m, left u, e and k: what it performs, its byte, and
+-- the offset of the next one.
+pub record RunsCommand (t : Bytes) (at : ℕ) (v : List ℕ) (d m : Bytes) (u : List ℕ) (e k : Bytes) (r : Reply) : Type 0 where
+  pub performs : Performs (commandAt step t at (worldIn v d m)) v u e k (r .number)
+  pub byte : r .byte ≡ commandByte t at
+  pub next : r .next ≡ nextOffset t at
+
+-- A tape t run over the cells v, the disk d and memory m left u, e and k: the world after the run, its stores counted; cells that
+-- are those of their card and count stay so; where it stopped; and the run meets the demands.
+pub record RunsTape (t : Bytes) (v : List ℕ) (d m : Bytes) (u : List ℕ) (e k : Bytes) (r : Stop) : Type 0 where
+  pub world : worldIn u e k ≡ worldAfter (worldIn v d m) (run step t (worldIn v d m))
+  pub stores : storesIn u ≡ counted (storesIn v) (storesAfter 0 (run step t (worldIn v d m)))
+  pub exact : Exact v → Exact u
+  pub stopped : r ≡ stopAfter (newStop 0 0 0) (run step t (worldIn v d m))
+  pub demands : DemandsMet t (worldIn v d m)
