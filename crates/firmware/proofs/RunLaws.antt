@@ -2,20 +2,27 @@
 use Prim.Native.Nat.{ℕ, _+_, _≤_, _<_}
 use native.Mathlib.Omega.{arith}
 use mathlib.Core.Path.{_≡_, refl, sym, ap, _∙_, subst}
-use mathlib.Core.List.{List}
+use mathlib.Core.Bool.{Bool}
+use mathlib.Core.List.{List, [], _∷_}
 use lib.ListN.{length, getD}
 use lib.Dec.{ltb}
 use borrow.Author.Tests.{lt-ltb, eq-eqb, ne-eqb}
 use Rattle.model.specs.Bytes.{Bytes}
 use Rattle.model.specs.Shape.{homeBlock}
-use Rattle.model.specs.Card.{holderOf, downCard}
-use Rattle.model.specs.Command.{World}
+use Rattle.model.specs.Card.{holderOf, coreOf, downCard}
+use Rattle.model.specs.Command.{World, Outcome}
 use Rattle.model.specs.Reading.{readNumber, readBlock}
-use Rattle.model.specs.Tape.{Point, step, commandByte, commandAt, nextOffset, run, worldAfter}
+use Rattle.model.specs.Tape.{Point, step, commandByte, operandsAt, commandAt, nextOffset, run, worldAfter}
 use Rattle.model.specs.declared.Card.{Card}
+use Rattle.model.specs.Format.{formatted}
+use Rattle.model.specs.Write.{written}
+use Rattle.model.specs.Commit.{closed, stored}
+use Rattle.model.specs.Checkpoint.{committedOf, oldest, storedHome, storedMaster, checkpointed}
+use Rattle.model.specs.Recovery.{blocksLeft, recoverStep, recovered}
+use Rattle.model.proofs.Command.{Decided, refused, carried-out, of-command, Row, rowOf, command-decided}
 use Rattle.model.proofs.Lists.{cases, mem-all, mem-getD}
 use Rattle.model.proofs.Store.{length-blockAt}
-use Rattle.model.proofs.Tape.{Runs, at-end, one-more, run-runs}
+use Rattle.model.proofs.Tape.{Runs, at-end, one-more, next-past, next-within, run-runs}
 use Rattle.crash.specs.Service.{emptyService}
 use Rattle.crash.specs.Ledger.{blankLedger}
 use Rattle.crash.specs.Claims.{IsBytes, AreaKept, LedgerKept, downLedger}
@@ -24,7 +31,7 @@ use Rattle.cells.specs.Cells.{storesIn, Exact}
 use Rattle.cells.specs.Answer.{world, worldIn}
 use Rattle.reading.proofs.ReadLaws.{readable}
 use Rattle.command.specs.Counting.{counted, Performs}
-use Rattle.command.proofs.CountLaws.{counted-none, counted-more}
+use Rattle.command.proofs.CountLaws.{counted-sum, counted-none, counted-more}
 use Rattle.firmware.specs.Session.{storesAfter, newStop, stopAfter, readInto, DemandsMet, RunsCommand, RunsTape}
 use Rattle.firmware.specs.declared.session.Reply.{Reply}
 use Rattle.firmware.specs.declared.session.Stop.{Stop}
@@ -54,6 +61,44 @@ module _ (t : Bytes) where
   unfolding worldAfter storesAfter stopAfter
   ended (at-end h) l = (refl, refl, λ s. refl)
   ended (one-more k e r) l = absurd (omega arith)
+
+-- ---- no run reaches the largest count: a command stores one block at most, and takes one byte of the tape at least
+recoverStep-stores : (bs : List ℕ) (w : World) → (recoverStep bs w) .stores ≤ 1
+unfolding recoverStep
+recoverStep-stores [] w = omega arith
+recoverStep-stores (b ∷ bs) w = omega arith
+
+checkpointed-stores : (c : ℕ) (w : World) → (checkpointed c w) .stores ≤ 1
+unfolding checkpointed storedHome storedMaster
+checkpointed-stores c w =
+    let e = oldest (committedOf w c) in
+    cases (ltb ((coreOf (w .card) c) .homed) (e .count)) (λ h. rw h (omega arith)) (λ h. rw h (omega arith))
+
+row-stores : (k : ℕ) (a : Bytes) (w : World) → (rowOf k a w) .done .stores ≤ 1
+unfolding rowOf formatted written closed stored recovered
+row-stores k a w =
+    of-command (λ (r : Row). r .done .stores ≤ 1) k (omega arith) (λ h. omega arith) (omega arith) (omega arith) (checkpointed-stores (getD a 0 0) w) (omega arith)
+    (recoverStep-stores (blocksLeft w) w)
+
+decided-stores : {ts : List (Bool × ℕ)} {w : World} {done o : Outcome} → Decided ts w done o → done .stores ≤ 1 → o .stores ≤ 1
+decided-stores (refused n p f e) h = rw e (omega arith)
+decided-stores (carried-out c e) h = rw e h
+
+few-stores : (t : Bytes) (at : ℕ) (w : World) → (commandAt step t at w) .stores ≤ 1
+few-stores t at w = decided-stores (command-decided t at w) (row-stores (commandByte t at) (operandsAt t at) w)
+
+bounded : (t : Bytes) {at n : ℕ} {w : World} {ps : List Point} → Runs step t at n w ps → at ≤ length t → storesAfter n ps + at ≤ n + length t
+unfolding storesAfter
+bounded t (at-end h) l = omega arith
+bounded t (one-more {at} {n} {w} {p = p} {ps = ps} k e r) l =
+    let q : p .stores ≡ n + (commandAt step t at w) .stores = ap (λ (p : Point). p .stores) e in
+    omega (arith, few-stores t at w, next-past t at k, bounded t r (next-within t at l))
+
+pub run-stores : (t : Bytes) (w : World) → length t < 18446744073709551616 → counted 0 (storesAfter 0 (run step t w)) ≡ storesAfter 0 (run step t w)
+run-stores t w h =
+    let k = storesAfter 0 (run step t w) in
+    let e : 0 + k ≡ k = omega arith in
+    sym (counted-sum 0 k (omega (arith, bounded t (run-runs step t w) (omega arith))) (omega arith)) ∙ e
 
 -- what is left of the run over the cells v₀, the disk d₀ and memory m₀: at an offset, over the cells v, d and m, the last command s
 pub record Left (t : Bytes) (v₀ : List ℕ) (d₀ m₀ : Bytes) (at : ℕ) (v : List ℕ) (d m : Bytes) (s : Stop) : Type 0 where
@@ -96,12 +141,14 @@ module _ (t : Bytes) (v₀ : List ℕ) (d₀ m₀ : Bytes) (at : ℕ) (v : List 
         stops = rw (p .answer, c .byte) (sym (f .last s)) ∙ l .stops;
       }
 
-  pub left-end : length t ≤ at → DemandsMet t (worldIn v₀ d₀ m₀) → RunsTape t v₀ d₀ m₀ v d m s
-  left-end h x =
+  pub left-end : length t ≤ at → length t < 18446744073709551616 → DemandsMet t (worldIn v₀ d₀ m₀) → RunsTape t v₀ d₀ m₀ v d m s
+  left-end h q x =
       let f = ended t (l .runs) h in
+      let n : storesIn v ≡ counted (storesIn v₀) (storesAfter 0 (run step t (worldIn v₀ d₀ m₀))) = l .capped ∙ ap (counted (storesIn v₀)) (sym (f .1 .0) ∙ l .total) in
       record {
         world = sym (f .0) ∙ l .world-after;
-        stores = l .capped ∙ ap (counted (storesIn v₀)) (sym (f .1 .0) ∙ l .total);
+        stores = n;
+        from-none = λ z. n ∙ ap (λ (k : ℕ). counted k (storesAfter 0 (run step t (worldIn v₀ d₀ m₀)))) z ∙ run-stores t (worldIn v₀ d₀ m₀) q;
         exact = l .exact;
         stopped = sym (f .1 .1 s) ∙ l .stops;
         demands = x;

@@ -61,11 +61,13 @@ pub record RunsCommand (t : Bytes) (at : ℕ) (v : List ℕ) (d m : Bytes) (u : 
   pub byte : r .byte ≡ commandByte t at
   pub next : r .next ≡ nextOffset t at
 
--- A tape t run over the cells v, the disk d and memory m left u, e and k: the world after the run, its stores counted; cells that
--- are those of their card and count stay so; where it stopped; and the run meets the demands.
+-- A tape t run over the cells v, the disk d and memory m left u, e and k: the world after the run, its stores counted, and
+-- exactly where none were counted before; cells that are those of their card and count stay so; where it stopped; and the run meets
+-- the demands.
 pub record RunsTape (t : Bytes) (v : List ℕ) (d m : Bytes) (u : List ℕ) (e k : Bytes) (r : Stop) : Type 0 where
   pub world : worldIn u e k ≡ worldAfter (worldIn v d m) (run step t (worldIn v d m))
   pub stores : storesIn u ≡ counted (storesIn v) (storesAfter 0 (run step t (worldIn v d m)))
+  pub from-none : storesIn v ≡ 0 → storesIn u ≡ storesAfter 0 (run step t (worldIn v d m))
   pub exact : Exact v → Exact u
   pub stopped : r ≡ stopAfter (newStop 0 0 0) (run step t (worldIn v d m))
   pub demands : DemandsMet t (worldIn v d m)
