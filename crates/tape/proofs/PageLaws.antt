@@ -34,18 +34,3 @@ module _ (b : Bytes) where
   pub zero-all : (i : ℕ) → all (eqb 0) (take i b) ≡ true → length b ≤ i → true ≡ isZero b
   unfolding isZero
   zero-all i q h = sym (ap (all (eqb 0)) (sym (take-all i b h)) ∙ q)
-
--- ---- the home blocks that a disk's master counts
-module _ (d : Bytes) (r : Bool) (e : r ≡ isMaster (take 128 d)) where
-  block-same : r ≡ isMaster (blockAt d 0)
-  unfolding blockAt part
-  block-same = e
-
-  pub is-fit : r ≡ true → isMaster (blockAt d 0) ≡ true
-  is-fit h = sym block-same ∙ h
-
-  pub count-unfit : r ≡ false → 0 ≡ cond (isMaster (blockAt d 0)) ((shapeOn d) .blocks) 0
-  count-unfit h = rw (← block-same, h)
-
-  pub count-fit : r ≡ true → (s : Shape) → s ≡ shapeOn d → s .blocks ≡ cond (isMaster (blockAt d 0)) ((shapeOn d) .blocks) 0
-  count-fit h s f = ap (λ (s : Shape). s .blocks) f ∙ rw (is-fit h)

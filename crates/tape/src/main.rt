@@ -2,26 +2,17 @@
 // number answered and the stores so far. Then come the home blocks that are not all zero.
 ghost use mathlib.Core.Path.{_≡_};
 ghost use Prim.Native.Nat.{_≤_};
-ghost use mathlib.Core.Bool.{cond};
 ghost use lib.ListN.{length};
-ghost use Rattle.model.specs.Bytes.{Bytes, blockAt};
-ghost use Rattle.model.specs.Layout.{isMaster};
-ghost use Rattle.model.specs.Recovery.{shapeOn};
-ghost use Rattle.model.specs.Tape.{homeCount, isZero};
-ghost use Rattle.state.specs.Answer.{world};
-use firmware::session::Session;
-use model::Card;
-use model::Phase;
+ghost use Rattle.model.specs.Tape.{isZero};
 
 // Where the reading stands; `more` is false once the tape has ended.
 struct Course {
-    session: Session,
     offset: u64,
     more: bool,
 }
 
 // A command's line.
-fn print_line(offset: u64, byte: u8, number: u8, stores: u64) {
+fn print_line(offset: u64, byte: u32, number: u32, stores: u64) {
     io::print_decimal(1, offset);
     io::write_all(1, b" ");
     io::print_decimal(1, byte as u64);
@@ -55,7 +46,7 @@ fn advanced(offset: u64, size: usize) -> u64 {
 }
 
 // One command: read, run, printed.
-fn step(c: Course, disk: &mut [u8], memory: &mut [u8]) -> Course {
+fn step(c: Course, w: &mut [u64; 512], disk: &mut [u8], memory: &mut [u8]) -> Course {
     let mut next = c;
     next.more = false;
     let mut text = [0u8; 9];
@@ -63,10 +54,9 @@ fn step(c: Course, disk: &mut [u8], memory: &mut [u8]) -> Course {
     if size == 0 {
         return next;
     }
-    let done = firmware::session::command(c.session, &text[..size], 0, disk, memory);
-    let session = done.session;
-    next.session = session;
-    print_line(c.offset, done.byte, done.number, session.stores);
+    let done = firmware::session::command(w, &text[..size], 0, disk, memory);
+    let stores = firmware::session::stores(w);
+    print_line(c.offset, done.byte, done.number, stores);
     // 2 and 3 end the tape
     if done.number == 2 {
         return next;
@@ -79,52 +69,20 @@ fn step(c: Course, disk: &mut [u8], memory: &mut [u8]) -> Course {
     next
 }
 
-// Every command from a blank card on. The budget only shows that the loop ends: no input reaches it.
-fn run_tape(disk: &mut [u8], memory: &mut [u8]) -> Session {
-    let blank = firmware::session::blank();
+// Every command of the tape. The budget only shows that the loop ends: no input reaches it.
+fn run_tape(w: &mut [u64; 512], disk: &mut [u8], memory: &mut [u8]) {
     let mut c = Course {
-        session: blank,
         offset: 0,
         more: true,
     };
     let mut turns = u64::MAX;
     while 0 < turns {
-        c = step(c, disk, memory);
-        let s = c.session;
+        c = step(c, w, disk, memory);
         let more = c.more;
         if !more {
-            return s;
+            return;
         }
         turns -= 1;
-    }
-    c.session
-}
-
-// The home blocks that the disk's master counts, none where it is unfit.
-fn master_count(disk: &[u8]) -> u8
-    requires { ⌜ length (now disk) ≡ 32896 ⌝ }
-    ensures { λ r. ⌜ r ≡ cond (isMaster (blockAt (now (disk .entry)) 0)) ((shapeOn (now (disk .entry))) .blocks) 0 ⌝ }
-{
-    if !layout::is_master(&disk[0..128]) {
-        return 0;
-    }
-    let s = recovery::disk_shape(disk);
-    s.blocks
-}
-
-// How many home blocks the card has: a blank one none, one that is down as many as its disk says.
-fn home_count(card: Card, disk: &[u8]) -> u8
-    requires { ⌜ length (now disk) ≡ 32896 ⌝ }
-    ensures { λ r. ⌜ ((m : Bytes) → r ≡ homeCount (world card (now (disk .entry)) m)) ⌝ }
-{
-    let p = card.phase;
-    match p {
-        Phase::Blank => 0,
-        Phase::Up => {
-            let s = state::shape_of(card);
-            s.blocks
-        }
-        Phase::Down => master_count(disk),
     }
 }
 
@@ -182,9 +140,11 @@ fn print_blocks(count: usize, disk: &[u8])
 }
 
 fn main() {
+    let mut state = [0u64; 512];
     let mut disk = [0u8; 32896];
     let mut memory = [0u8; 16384];
-    let s = run_tape(&mut disk, &mut memory);
-    let n = home_count(s.card, &disk);
+    firmware::session::blank(&mut state);
+    run_tape(&mut state, &mut disk, &mut memory);
+    let n = recovering::home_count(&state, &disk);
     print_blocks(n as usize, &disk);
 }
