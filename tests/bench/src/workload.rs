@@ -2,7 +2,7 @@
 
 use crate::plain::Plain;
 use card_library::session::Session;
-use card_library::watcher::Implementation;
+use card_library::stage::{Implementation, Stage};
 use card_tests::card::{Card, Phase};
 use card_tests::command::{from_hex, hex, Command};
 use card_tests::directed;
@@ -25,14 +25,6 @@ pub struct Workload {
     pub commands: usize,
 }
 
-/// A card with its slices.
-#[derive(Clone)]
-pub struct Stage<I> {
-    pub card: I,
-    pub disk: Vec<u8>,
-    pub memory: Vec<u8>,
-}
-
 impl Workload {
     /// Three lines of hex, for another process.
     pub fn to_text(&self) -> String {
@@ -48,20 +40,12 @@ impl Workload {
 
     /// A card as the measured tape finds it.
     pub fn stage<I: Implementation>(&self) -> Stage<I> {
-        let card = if self.foreign.is_some() { I::down() } else { I::blank() };
-        let disk = self.foreign.clone().unwrap_or(vec![0; DISK]);
-        let mut stage = Stage { card, disk, memory: vec![0; MEMORY] };
+        let mut stage = Stage::default();
+        if let Some(disk) = &self.foreign {
+            stage.start(true, disk, &[0; MEMORY]);
+        }
         stage.run(&self.prepare);
         stage
-    }
-}
-
-impl<I: Implementation> Stage<I> {
-    fn run(&mut self, tape: &[u8]) {
-        let mut at = 0;
-        while at < tape.len() {
-            at = self.card.command(tape, at, &mut self.disk, &mut self.memory).next;
-        }
     }
 }
 
@@ -283,8 +267,7 @@ pub fn require_same(workload: &Workload) {
     let (mut library, mut plain) = (workload.stage::<Session>(), workload.stage::<Plain>());
     let mut at = 0;
     while at < workload.tape.len() {
-        let one = library.card.command(&workload.tape, at, &mut library.disk, &mut library.memory);
-        let other = plain.card.command(&workload.tape, at, &mut plain.disk, &mut plain.memory);
+        let (one, other) = (library.command(&workload.tape, at), plain.command(&workload.tape, at));
         assert_eq!((one.number, one.next), (other.number, other.next), "{} at {at}", workload.name);
         assert!(library.disk == plain.disk && library.memory == plain.memory, "{} at {at}", workload.name);
         assert_eq!(library.card.stores(), plain.card.stores(), "{} at {at}", workload.name);
