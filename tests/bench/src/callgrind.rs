@@ -69,5 +69,5 @@ fn function(line: &str) -> Option<(String, u64)> {
 fn short(name: &str) -> String {
     let name = name.split('\'').next().unwrap_or(name);
     let name = ["memcpy", "memset", "memmove"].into_iter().find(|part| name.contains(part)).unwrap_or(name);
-    name.replace("card_library::", "").replace("card_bench::", "").replace(" as watcher::Implementation", "")
+    name.replace("card_library::", "").replace("card_bench::", "").replace(" as stage::Implementation", "")
 }

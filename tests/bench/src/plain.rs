@@ -3,7 +3,7 @@
 
 use crate::records::Records;
 use card_library::session::Done;
-use card_library::watcher::Implementation;
+use card_library::stage::Implementation;
 use card_tests::command::{self, Command};
 use card_tests::few::Few;
 use card_tests::layout::{
@@ -325,10 +325,7 @@ impl Implementation for Plain {
         }
     }
 
-    fn read_block(&self, block: u16, disk: &[u8], memory: &[u8], out: &mut [u8]) -> u8 {
-        if out.len() != BLOCK {
-            return 1;
-        }
+    fn read_block(&self, block: u16, disk: &[u8], memory: &[u8], out: &mut Block) -> u8 {
         let number = self.read_number(block, disk, memory);
         if number != 0 {
             return number;

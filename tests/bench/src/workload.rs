@@ -2,7 +2,7 @@
 
 use crate::plain::Plain;
 use card_library::session::Session;
-use card_library::watcher::Implementation;
+use card_library::stage::{Implementation, Stage};
 use card_tests::card::{Card, Phase};
 use card_tests::command::{from_hex, hex, Command};
 use card_tests::directed;
@@ -12,8 +12,9 @@ use card_tests::shrink::tape_of;
 pub const LARGE: Shape = directed::LARGEST;
 pub const SMALL: Shape = Shape { cores: 2, blocks: 4, journal: 12 };
 
-/// About so many commands has a tape whose speed is measured.
-const LENGTH: usize = 10_000;
+/// About so many commands has a tape whose speed is measured, and one that is only held to its limit.
+pub const LENGTH: usize = 10_000;
+pub const SHORT: usize = 2_000;
 
 /// A tape that is measured, and what comes before it.
 pub struct Workload {
@@ -23,14 +24,6 @@ pub struct Workload {
     prepare: Vec<u8>,
     pub tape: Vec<u8>,
     pub commands: usize,
-}
-
-/// A card with its slices.
-#[derive(Clone)]
-pub struct Stage<I> {
-    pub card: I,
-    pub disk: Vec<u8>,
-    pub memory: Vec<u8>,
 }
 
 impl Workload {
@@ -48,20 +41,12 @@ impl Workload {
 
     /// A card as the measured tape finds it.
     pub fn stage<I: Implementation>(&self) -> Stage<I> {
-        let card = if self.foreign.is_some() { I::down() } else { I::blank() };
-        let disk = self.foreign.clone().unwrap_or(vec![0; DISK]);
-        let mut stage = Stage { card, disk, memory: vec![0; MEMORY] };
+        let mut stage = Stage::default();
+        if let Some(disk) = &self.foreign {
+            stage.start(true, disk, &[0; MEMORY]);
+        }
         stage.run(&self.prepare);
         stage
-    }
-}
-
-impl<I: Implementation> Stage<I> {
-    fn run(&mut self, tape: &[u8]) {
-        let mut at = 0;
-        while at < tape.len() {
-            at = self.card.command(tape, at, &mut self.disk, &mut self.memory).next;
-        }
     }
 }
 
@@ -158,8 +143,8 @@ impl Script {
     }
 
     /// The rounds until the tape is long enough; the format comes before it.
-    fn rounds(mut self, kind: &str, mut round: impl FnMut(&mut Script)) -> Workload {
-        while self.commands.len() < LENGTH {
+    fn rounds(mut self, kind: &str, length: usize, mut round: impl FnMut(&mut Script)) -> Workload {
+        while self.commands.len() < length {
             round(&mut self);
         }
         let Shape { cores, blocks, journal } = self.shape;
@@ -168,9 +153,9 @@ impl Script {
 }
 
 /// Each core in turn writes 32 times into its own blocks, at most four; the transaction is committed and checkpointed.
-fn write_heavy(shape: Shape) -> Workload {
+fn write_heavy(shape: Shape, length: usize) -> Workload {
     let own = (shape.blocks / shape.cores).min(4) as usize;
-    Script::new(shape).rounds("write", |script| {
+    Script::new(shape).rounds("write", length, |script| {
         for core in 0..shape.cores {
             (0..32).for_each(|i| script.write(core, core as usize * own + i % own));
             script.commit(core);
@@ -180,16 +165,16 @@ fn write_heavy(shape: Shape) -> Workload {
 }
 
 /// Full journals of transactions that share blocks; then every core in turn tries a checkpoint until all are empty.
-fn checkpoint_heavy(shape: Shape) -> Workload {
-    Script::new(shape).rounds("checkpoint", |script| {
+fn checkpoint_heavy(shape: Shape, length: usize) -> Workload {
+    Script::new(shape).rounds("checkpoint", length, |script| {
         script.fill_up(true);
         script.drain();
     })
 }
 
 /// Full journals, a cut, and recovery, which is cut nine times before its last store.
-fn recovery_heavy(shape: Shape) -> Workload {
-    Script::new(shape).rounds("recovery", |script| {
+fn recovery_heavy(shape: Shape, length: usize) -> Workload {
+    Script::new(shape).rounds("recovery", length, |script| {
         script.fill_up(false);
         for _ in 0..9 {
             script.issue(Command::Cut);
@@ -199,9 +184,9 @@ fn recovery_heavy(shape: Shape) -> Workload {
     })
 }
 
-/// The six tapes whose speed is compared.
-pub fn tapes() -> Vec<Workload> {
-    let both = |make: fn(Shape) -> Workload| [make(LARGE), make(SMALL)];
+/// The six tapes whose speed is compared, of about so many commands.
+pub fn tapes(length: usize) -> Vec<Workload> {
+    let both = |make: fn(Shape, usize) -> Workload| [make(LARGE, length), make(SMALL, length)];
     [both(write_heavy), both(checkpoint_heavy), both(recovery_heavy)].into_iter().flatten().collect()
 }
 
@@ -215,6 +200,17 @@ fn single(name: String, make_ready: impl FnOnce(&mut Script), command: Command) 
 }
 
 const WRITE: Command = Command::Write { core: 0, block: 0, offset: 0, data: [1, 2, 3, 4] };
+
+/// WRITE under each of the four rules.
+pub fn writes() -> Vec<Workload> {
+    let by = |holder: &str, make_ready: fn(&mut Script)| single(format!("WRITE, {holder}"), make_ready, WRITE);
+    vec![
+        by("no holder", |_| ()),
+        by("own block", |script| script.write(0, 0)),
+        by("running holder", |script| script.write(1, 0)),
+        by("closed holder", |script| script.transaction(1, 0, 1)),
+    ]
+}
 
 /// WRITE, CHECKPOINT and RECOVER with so many records of one block in the journals.
 pub fn with_records(count: usize) -> Vec<Workload> {
@@ -251,7 +247,14 @@ fn cut(script: &mut Script, make_ready: impl FnOnce(&mut Script)) {
 pub fn all() -> Vec<Workload> {
     let records = RECORDS.into_iter().flat_map(with_records);
     let blocks = BLOCKS.into_iter().flat_map(with_blocks);
-    tapes().into_iter().chain(records).chain(blocks).chain(worst()).chain(LENGTHS.map(of_length)).collect()
+    tapes(LENGTH)
+        .into_iter()
+        .chain(writes())
+        .chain(records)
+        .chain(blocks)
+        .chain(worst())
+        .chain(LENGTHS.map(of_length))
+        .collect()
 }
 
 pub const RECORDS: [usize; 5] = [1, 8, 16, 32, 56];
@@ -270,7 +273,7 @@ pub fn worst() -> Vec<Workload> {
 
 /// The first so many commands of the write-heavy tape.
 pub fn of_length(length: usize) -> Workload {
-    let full = write_heavy(LARGE);
+    let full = write_heavy(LARGE, LENGTH);
     let mut end = 0;
     for _ in 0..length {
         end = card_tests::command::read(&full.tape, end).map_or(full.tape.len(), |(_, next)| next);
@@ -283,8 +286,7 @@ pub fn require_same(workload: &Workload) {
     let (mut library, mut plain) = (workload.stage::<Session>(), workload.stage::<Plain>());
     let mut at = 0;
     while at < workload.tape.len() {
-        let one = library.card.command(&workload.tape, at, &mut library.disk, &mut library.memory);
-        let other = plain.card.command(&workload.tape, at, &mut plain.disk, &mut plain.memory);
+        let (one, other) = (library.command(&workload.tape, at), plain.command(&workload.tape, at));
         assert_eq!((one.number, one.next), (other.number, other.next), "{} at {at}", workload.name);
         assert!(library.disk == plain.disk && library.memory == plain.memory, "{} at {at}", workload.name);
         assert_eq!(library.card.stores(), plain.card.stores(), "{} at {at}", workload.name);

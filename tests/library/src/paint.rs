@@ -1,6 +1,6 @@
 // paint.rs: how much stack a call touches. The stack below is painted before it; afterwards the paint that is left is counted.
 
-const PAINTED: usize = 128 * 1024;
+const PAINTED: usize = 32 * 1024;
 const PAINT: u8 = 0xC7;
 
 /// The addresses between which a call touched the stack.

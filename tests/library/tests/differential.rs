@@ -1,5 +1,6 @@
 // differential.rs: the library does what the model does, and the comparison tells every wrong card apart.
 
+use card_library::cells::CELLS;
 use card_library::session::Session;
 use card_library::watcher::Library;
 use card_tests::checks::{Bench, Checks};
@@ -39,8 +40,14 @@ fn slices_of_a_wrong_length_are_refused() {
         let done = session.command(&tape, random.below(14), &mut disk, &mut memory);
         let is_wrong = disk_before.len() != DISK || memory_before.len() != MEMORY;
         assert!(!is_wrong || (done.number == 1 && disk == disk_before && memory == memory_before));
-        let mut buffer = vec![3; random.below(300)];
+        let mut buffer = [3; 128];
         let number = session.read_block(0, &disk, &memory, &mut buffer);
-        assert!(number != 0 && buffer.iter().all(|byte| *byte == 3));
+        assert!(number != 0 && buffer == [3; 128]);
     }
+}
+
+/// Cells that a caller has zeroed are a blank card.
+#[test]
+fn zeroed_cells_are_a_blank_card() {
+    assert!(Session::blank().cells() == &[0; CELLS]);
 }

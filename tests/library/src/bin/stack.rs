@@ -3,10 +3,11 @@
 
 use card_library::paint::{touched, Touched};
 use card_library::session::Session;
+use card_library::stage::Stage;
 use card_tests::checks::{Bench, Checks, Seen, Watcher};
 use card_tests::command::Command;
 use card_tests::directed;
-use card_tests::layout::{DISK, MEMORY};
+use card_tests::layout::MEMORY;
 use card_tests::shrink::tape_of;
 use card_tests::wrong::Wrong;
 use std::sync::atomic::{AtomicUsize, Ordering};
@@ -27,64 +28,57 @@ macro_rules! noting_jumps {
     };
 }
 
-noting_jumps!("rev_d_blank", "rev_d_down", "rev_d_command", "rev_d_tape", "rev_d_read_number", "rev_d_read_block");
+noting_jumps!(
+    "rev_d_blank",
+    "rev_d_down",
+    "rev_d_command",
+    "rev_d_tape",
+    "rev_d_read_number",
+    "rev_d_read_part",
+    "rev_d_read_block"
+);
 
-/// What a command may use; more ends with a status other than 0.
-const LIMIT: usize = 64 * 1024;
+/// What an entry may use; more ends with a status other than 0.
+const LIMIT: usize = 12 * 1024;
 
-/// Bytes below the call of an entry, its return address with them, and the same with the wrapper's copies of the session.
-#[derive(Clone, Copy, Default)]
-struct Used {
-    entry: usize,
-    with_wrapper: usize,
+/// Bytes below the call of an entry, its return address with them.
+fn used(call: impl FnOnce()) -> usize {
+    let Touched { lowest, .. } = touched(call);
+    ENTERED.load(Ordering::Relaxed) + 8 - lowest
 }
 
-impl Used {
-    fn of(call: impl FnOnce()) -> Used {
-        let Touched { lowest, top } = touched(call);
-        Used { entry: ENTERED.load(Ordering::Relaxed) + 8 - lowest, with_wrapper: top - lowest }
-    }
-
-    fn most(&mut self, other: Used) {
-        self.entry = self.entry.max(other.entry);
-        self.with_wrapper = self.with_wrapper.max(other.with_wrapper);
-    }
-}
-
+#[derive(Default)]
 struct Gauge {
-    session: Session,
-    disk: Vec<u8>,
-    memory: Vec<u8>,
+    stage: Stage<Session>,
     /// The most that each command used, by its byte.
-    most: [Used; 8],
+    most: [usize; 8],
     /// The same of reading a block, and of running one command as a tape.
-    reading: Used,
-    tape: Used,
+    reading: usize,
+    tape: usize,
 }
 
 impl Gauge {
-    fn new() -> Gauge {
-        let (disk, memory, none) = (vec![0; DISK], vec![0; MEMORY], Used::default());
-        Gauge { session: Session::blank(), disk, memory, most: [none; 8], reading: none, tape: none }
-    }
-
-    /// The command by itself; the same as a tape, over copies; then a reading.
+    /// The command by itself; the same as a tape, over copies; then the readings.
     fn run(&mut self, tape: &[u8], offset: usize) -> usize {
         self.run_as_tape(&tape[offset..]);
-        let Gauge { session, disk, memory, most, reading, .. } = self;
         let mut next = offset;
-        let used = Used::of(|| next = session.command(tape, offset, disk, memory).next);
-        most[(tape[offset] as usize).min(7)].most(used);
-        let mut block = [0; 128];
-        reading.most(Used::of(|| _ = session.read_number(0, disk, memory)));
-        reading.most(Used::of(|| _ = session.read_block(0, disk, memory, &mut block)));
+        let bytes = used(|| next = self.stage.command(tape, offset).next);
+        let most = &mut self.most[(tape[offset] as usize).min(7)];
+        *most = bytes.max(*most);
+        let (Stage { card, disk, memory }, mut block) = (&self.stage, [0; 128]);
+        let readings = [
+            used(|| _ = card.read_number(0, disk, memory)),
+            used(|| _ = card.locate(0, disk, memory)),
+            used(|| _ = card.read_block(0, disk, memory, &mut block)),
+        ];
+        self.reading = readings.into_iter().fold(self.reading, usize::max);
         next
     }
 
     fn run_as_tape(&mut self, rest: &[u8]) {
         let length = card_tests::command::read(rest, 0).map_or(rest.len(), |(_, next)| next);
-        let (mut session, mut disk, mut memory) = (self.session, self.disk.clone(), self.memory.clone());
-        self.tape.most(Used::of(|| session.run(&rest[..length], &mut disk, &mut memory)));
+        let Stage { mut card, mut disk, mut memory } = self.stage.clone();
+        self.tape = self.tape.max(used(|| _ = card.run(&rest[..length], &mut disk, &mut memory)));
     }
 
     fn run_all(&mut self, commands: &[Command]) {
@@ -95,18 +89,20 @@ impl Gauge {
         }
     }
 
+    /// Of each command, of a tape, of reading.
+    fn figures(&self) -> impl Iterator<Item = usize> + '_ {
+        self.most[1..].iter().copied().chain([self.tape, self.reading])
+    }
+
     fn print(&self, name: &str) {
-        let entries = self.most[1..].iter().chain([&self.tape, &self.reading]);
-        let figures: Vec<String> = entries.map(|used| format!("{:>6}/{:>6}", used.entry, used.with_wrapper)).collect();
+        let figures: Vec<String> = self.figures().map(|bytes| format!("{bytes:>10}")).collect();
         println!("{name:<34} {}", figures.join(" "));
     }
 }
 
 impl Watcher for Gauge {
     fn start(&mut self, is_down: bool, disk: &[u8], memory: &[u8]) {
-        self.session = if is_down { Session::down() } else { Session::blank() };
-        self.disk.copy_from_slice(disk);
-        self.memory.copy_from_slice(memory);
+        self.stage.start(is_down, disk, memory);
     }
 
     fn command(&mut self, tape: &[u8], offset: usize, _: Seen) -> Result<(), String> {
@@ -117,7 +113,7 @@ impl Watcher for Gauge {
 
 /// Recovery of a disk, every step of it and one command more.
 fn recovered(name: &str, disk: &[u8]) -> Gauge {
-    let mut gauge = Gauge::new();
+    let mut gauge = Gauge::default();
     gauge.start(true, disk, &[0; MEMORY]);
     for _ in 0..70 {
         gauge.run_all(&[Command::Recover]);
@@ -128,9 +124,9 @@ fn recovered(name: &str, disk: &[u8]) -> Gauge {
 
 /// A tape, then a CHECKPOINT of each core, then a cut and recovery.
 fn checkpointed(name: &str, commands: &[Command], change: impl FnOnce(&mut [u8])) -> Gauge {
-    let mut gauge = Gauge::new();
+    let mut gauge = Gauge::default();
     gauge.run_all(commands);
-    change(&mut gauge.disk);
+    change(&mut gauge.stage.disk);
     (0..8).for_each(|core| gauge.run_all(&[Command::Checkpoint { core }]));
     gauge.run_all(&[Command::Cut, Command::Recover]);
     gauge.print(name);
@@ -138,7 +134,7 @@ fn checkpointed(name: &str, commands: &[Command], change: impl FnOnce(&mut [u8])
 }
 
 fn generated(commands: u64) -> Gauge {
-    let mut gauge = Gauge::new();
+    let mut gauge = Gauge::default();
     let mut bench = Bench::new(Wrong::No, Checks::NONE, Some(&mut gauge));
     bench.soak(commands, 9).unwrap_or_else(|failure| panic!("{}", failure.detail));
     gauge.print(&format!("{commands} generated commands"));
@@ -147,9 +143,9 @@ fn generated(commands: u64) -> Gauge {
 
 fn main() {
     let commands = std::env::args().nth(1).map_or(50_000, |arg| arg.parse().expect("a number"));
-    println!("bytes of stack below the call of an entry / with the wrapper's copies of the session");
+    println!("bytes of stack below the call of an entry");
     let names = ["FORMAT", "WRITE", "CLOSE", "STORE", "CHECKPOINT", "CUT", "RECOVER", "tape", "reading"];
-    println!("{:<34} {}", "", names.map(|name| format!("{name:>13}")).join(" "));
+    println!("{:<34} {}", "", names.map(|name| format!("{name:>10}")).join(" "));
     let (chain, links) = directed::chain_tape();
     let full = directed::full_tape();
     let all = [
@@ -163,11 +159,7 @@ fn main() {
         checkpointed("the same over a chain of 94", &full, |disk| directed::put_chain(disk, directed::FULL, 0, false)),
         generated(commands),
     ];
-    let of_all = all.iter().flat_map(|gauge| gauge.most.iter().chain([&gauge.tape, &gauge.reading]));
-    let most = of_all.fold(Used::default(), |mut most, used| {
-        most.most(*used);
-        most
-    });
-    println!("the most of all: {} bytes, {} with the wrapper; the limit is {LIMIT}", most.entry, most.with_wrapper);
-    std::process::exit((LIMIT < most.entry) as i32);
+    let most = all.iter().flat_map(Gauge::figures).max().unwrap_or(0);
+    println!("the most of all: {most} bytes; the limit is {LIMIT}");
+    std::process::exit((LIMIT < most) as i32);
 }

@@ -1,0 +1,140 @@
+/* rev_d.h: the revision D storage card as a library. For x86-64 with the System V calling convention; link libfirmware.a.
+ *
+ * The card is three buffers that the caller lends to each call: its state in 512 cells of eight bytes, the disk, the memory. The
+ * library keeps nothing between calls and has no global variable: different cards may be in use at the same time, one card by one
+ * thread at a time. No call allocates, blocks or ends the program, and none uses more than 12,288 bytes of stack.
+ *
+ * What is asked of a caller, at every entry:
+ * - No pointer is null, also where its length is 0. A pointer with a length has that many bytes behind it, `cells` has 512 cells
+ *   and is aligned to 8, `out` has 128 bytes.
+ * - rev_d_command and rev_d_tape write cells, disk and memory: no two of cells, tape, disk and memory overlap.
+ * - A reading writes nothing but `out`, which overlaps none of the others.
+ * Nothing else is: slices of any length, any tape, any offset and any value in any cell have an answer.
+ */
+#ifndef REV_D_H
+#define REV_D_H
+
+#include <stddef.h>
+#include <stdint.h>
+
+#ifdef __cplusplus
+extern "C" {
+#endif
+
+/* Cells, and bytes of the two slices; slices of another length are answered 1. A block has 128 bytes. */
+#define REV_D_CELLS 512
+#define REV_D_DISK 32896
+#define REV_D_MEMORY 16384
+#define REV_D_BLOCK 128
+
+/* What a number stands for: 0 is done, any other a refusal, which changes no cell and no byte.
+ *
+ *  1  disk slice not 32,896 bytes, or memory slice not 16,384
+ *  2  unknown command byte
+ *  3  operands end early
+ *  4  C, B or J out of range
+ *  5  core not below C
+ *  6  block not below B
+ *  7  offset above 124
+ *  8  RECOVER: master has a wrong mark or type, C, B, J out of range, or, for a core below C, a tail number outside
+ *     1 to 4,000,000,001 or a position not below J; its other bytes are not looked at
+ * 20  blank (all but FORMAT)
+ * 21  FORMAT, not blank
+ * 22  down (WRITE, CLOSE, STORE, CHECKPOINT, reading)
+ * 23  RECOVER while up
+ * 24  a list, the writer's or the holder's, would pass 12 names
+ * 25  a ninth block
+ * 26  journal full: blocks of the records of closed unretired transactions, stored yet or not, plus 2 and the blocks of the
+ *     running one, would pass J. Retired blocks count as free.
+ * 27  a number above 4,000,000,000 would open
+ * 28  CLOSE, none running
+ * 29  CLOSE, the previous is not fully stored
+ * 30  STORE, none closed and still uncommitted
+ * 31  CHECKPOINT, none committed
+ * 32  CHECKPOINT, oldest not valid
+ * 33  CHECKPOINT, a lower-stamped unretired transaction shares a block (both took it)
+ *
+ * Where several hold: 1, 2, 3, then 20 to 23, then 4 to 8, then 24 to 33, lowest first.
+ */
+
+/* The cells. They may be looked at, copied and put back; a copy put back goes with the disk and memory of the same moment.
+ * Cells that are all zero are the blank card. Single cells: */
+#define REV_D_CELL_PHASE 0     /* 0 blank, 1 up, any other down */
+#define REV_D_CELL_CORES 1     /* C, 0 unless the card is up */
+#define REV_D_CELL_BLOCKS 2    /* B, likewise */
+#define REV_D_CELL_JOURNAL 3   /* J, likewise */
+#define REV_D_CELL_CLOSES 4    /* closes since the card came up */
+#define REV_D_CELL_RECOVERED 5 /* while down: recovery has passed the home blocks below this one */
+#define REV_D_CELL_STORES 6    /* stores since format; the count stays at its largest */
+
+/* Groups: core c's tail has two cells from REV_D_FIRST_TAIL + 2 * c on: number, position. Block b's holder is cell
+ * REV_D_FIRST_HOLDER + b: 0 for none, else 1 above the holder's name; a name is 8 * number + core. Core c has REV_D_CORE_SIZE cells
+ * from REV_D_FIRST_CORE + REV_D_CORE_SIZE * c on: the number that runs or opens next, journal blocks of its committed unretired
+ * records, stores done of its closed transaction, home stores done of its oldest committed one; from REV_D_CORE_RUNNING on its
+ * running transaction, from REV_D_CORE_CLOSED on its closed one. A transaction has 24 cells: 1 where there is one, stamp, how many
+ * blocks it took, how many names its list has, from 4 on the blocks, from 12 on the names. All other cells are unused and stay 0. */
+#define REV_D_FIRST_TAIL 16
+#define REV_D_FIRST_HOLDER 32
+#define REV_D_FIRST_CORE 96
+#define REV_D_CORE_SIZE 52
+#define REV_D_CORE_RUNNING 4
+#define REV_D_CORE_CLOSED 28
+
+/* What came of a command: the offset of the next one, its number, its byte (0 past the tape's end). */
+struct rev_d_reply {
+    uint64_t next;
+    uint32_t number;
+    uint32_t byte;
+};
+
+/* The last command of a tape: where it stands, its number, its byte. 0 0 0 for an empty tape. */
+struct rev_d_stop {
+    uint64_t at;
+    uint32_t number;
+    uint32_t byte;
+};
+
+/* Where a block is read: slice 1 is the disk, 2 the memory; from which byte on, and how many bytes. Where refused, the number and
+ * 0 0 0. */
+struct rev_d_part {
+    uint32_t number;
+    uint32_t slice;
+    uint64_t from;
+    uint64_t length;
+};
+
+/* A blank card, which takes FORMAT first. */
+void rev_d_blank(uint64_t *cells);
+
+/* A card that is down, over a disk written elsewhere; it takes RECOVER first. */
+void rev_d_down(uint64_t *cells);
+
+/* The command at an offset of a tape: one byte, then operands of fixed widths, numbers big-endian.
+ *
+ * 1 FORMAT C, B, J | 2 WRITE core, block (2 bytes), offset, data (4 bytes) | 3 CLOSE core | 4 STORE core | 5 CHECKPOINT core | 6 CUT
+ * | 7 RECOVER
+ *
+ * After 2 or 3 the tape ends: `next` is its length. */
+struct rev_d_reply rev_d_command(uint64_t *cells, const uint8_t *tape, size_t tape_length, size_t at, uint8_t *disk,
+                                 size_t disk_length, uint8_t *memory, size_t memory_length);
+
+/* Every command of a tape, refused ones too. */
+struct rev_d_stop rev_d_tape(uint64_t *cells, const uint8_t *tape, size_t tape_length, uint8_t *disk, size_t disk_length,
+                             uint8_t *memory, size_t memory_length);
+
+/* Reading a block of a card that is up, three ways: the number alone; where its 128 bytes stand, without copying; copied to `out`,
+ * which a refusal leaves as it was. Reading answers 0, 1, 6, 20 or 22. */
+uint8_t rev_d_read_number(const uint64_t *cells, uint16_t block, const uint8_t *disk, size_t disk_length, const uint8_t *memory,
+                          size_t memory_length);
+
+struct rev_d_part rev_d_read_part(const uint64_t *cells, uint16_t block, const uint8_t *disk, size_t disk_length,
+                                  const uint8_t *memory, size_t memory_length);
+
+uint8_t rev_d_read_block(const uint64_t *cells, uint16_t block, const uint8_t *disk, size_t disk_length, const uint8_t *memory,
+                         size_t memory_length, uint8_t *out);
+
+#ifdef __cplusplus
+}
+#endif
+
+#endif
