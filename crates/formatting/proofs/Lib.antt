@@ -1,0 +1,2 @@
+-- Laws that the proofs of FORMAT cite.
+pub mod FormatLaws
