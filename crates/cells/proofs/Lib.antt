@@ -4,4 +4,5 @@ pub mod RefusalLaws
 pub mod EntryLaws
 pub mod FitsLaws
 pub mod CellLaws
+pub mod CoreLaws
 pub mod MeetLaws

@@ -2,10 +2,13 @@
 // block's holders, the refusals that come first. Its functions are no public entries: each asks for the length of the cells, which
 // the type fixes at the library's entries.
 mod fields; // the header, and where each part stands
+mod cores; // a core's numbers
 mod lists; // a transaction's blocks and names
 mod holders; // the transaction that holds a block
 mod refusals; // what commands meet first
 
+pub use cores::put_numbers;
+pub use fields::CLOSES;
 pub use fields::CORE_SIZE;
 pub use fields::CORES;
 pub use fields::HOLDERS;
