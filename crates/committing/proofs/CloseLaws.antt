@@ -11,14 +11,15 @@ use borrow.Author.Tests.{not-true, not-false}
 use Rattle.model.specs.Bytes.{Bytes, blockAt, store}
 use Rattle.model.specs.Card.{taken, coreOf}
 use Rattle.model.specs.Command.{refusal}
-use Rattle.model.specs.Commit.{copyBlock, copied, closeConditions}
+use Rattle.model.specs.Commit.{copyBlock, copied, closeConditions, closedCard, closed, close}
 use Rattle.model.specs.declared.Transaction.{Transaction}
 use Rattle.model.specs.declared.Card.{Card}
 use Rattle.layout.proofs.Blocks.{block-lent}
-use Rattle.cells.specs.Cells.{byteIn, transactionIn, cardIn, runningPlace, closedPlace}
-use Rattle.cells.specs.Answer.{worldIn}
+use Rattle.cells.specs.Cells.{byteIn, transactionIn, cardIn, runningPlace, closedPlace, Frame}
+use Rattle.cells.specs.Answer.{worldIn, newAnswer, Meets}
 use Rattle.cells.proofs.CellLaws.{block-read}
 use Rattle.cells.proofs.EntryLaws.{entry, entry-hit, entry-pass, Entered, entered}
+use Rattle.cells.proofs.MeetLaws.{meets-refused, meets-done}
 use Rattle.committing.proofs.ReadLaws.{running-there, closed-there}
 
 -- ---- refusals
@@ -93,3 +94,30 @@ module _ (w : List ℕ) (a c i count : ℕ) (m₀ m : Bytes) (e : copied c i (dr
   copied-all h =
       let l : length (taken (transactionIn w a)) ≤ i = omega arith in
       sym (ap (λ (bs : List ℕ). copied c i bs m) (drop-of-length-le (taken (transactionIn w a)) l)) ∙ e
+
+-- ---- the command
+module _ (v : List ℕ) (size : length v ≡ 512) (c : ℕ) (d m : Bytes) (n : ℕ) (e : n ≡ refusal (closeConditions c (worldIn v d m))) where
+  pub close-refused : (n ≡ 0 → ⊥) → Meets (close c (worldIn v d m)) v v d m (newAnswer n 0)
+  unfolding close
+  close-refused h = meets-refused (closeConditions c (worldIn v d m)) v d m (closed c (worldIn v d m)) size n e h
+
+  module _ (h : n ≡ 0) where
+    pub close-entered : Entered (cardIn v) c d m
+    unfolding closeConditions
+    close-entered = entered (cardIn v) c d m (ofRunning (cardIn v) c) (omega arith, (omega arith, tt)) (sym e ∙ h)
+
+    pub close-memory : length m ≡ 16384
+    close-memory = close-entered .memory
+
+    pub close-core : c < 8
+    close-core = close-entered .few
+
+    module _ (a : ℕ) (q : a ≡ runningPlace c) where
+      pub close-place : a + 24 ≤ 512
+      close-place = omega (arith, close-core)
+
+      pub close-done : (z : Bytes) → z ≡ copied c 0 (taken (transactionIn v a)) m → (w : List ℕ) → cardIn w ≡ closedCard (cardIn v) c → Frame v w 0 512 → Meets (close c (worldIn v d m)) v w d z (newAnswer 0 0)
+      unfolding close closed
+      close-done z r w s f =
+          meets-done (closeConditions c (worldIn v d m)) v d m (closed c (worldIn v d m)) size n e h w d z 0
+          (rw (r, s, running-there v c close-core a q)) 0 512 f

@@ -8,19 +8,25 @@ use lib.ListN.{length, take, drop, getD, length-take}
 use borrow.Author.Tests.{le-leb, lt-leb, ne-eqb, not-true, not-false}
 use Rattle.model.specs.Lists.{below}
 use Rattle.model.specs.Bytes.{Bytes, blockAt}
-use Rattle.model.specs.Card.{taken, listed, tailOf, coreOf}
+use Rattle.model.specs.Shape.{clamped, journalBlock}
+use Rattle.model.specs.Card.{taken, listed, shapeOf, tailOf, coreOf, withCore}
 use Rattle.model.specs.Layout.{newHeld, descriptorBlock, commitBlock, flagOf, escaped}
 use Rattle.model.specs.Command.{refusal}
-use Rattle.model.specs.Commit.{copyBlock, heldCopies, closedNumber, nextStored, nextPosition, storeConditions}
+use Rattle.model.specs.Commit.{copyBlock, heldCopies, closedNumber, nextStored, nextPosition, coreStored, storeConditions, stored, storeNext}
+use Rattle.model.specs.declared.Shape.{Shape}
 use Rattle.model.specs.declared.Name.{Name}
 use Rattle.model.specs.declared.Transaction.{Transaction}
 use Rattle.model.specs.declared.Core.{Core}
 use Rattle.model.specs.declared.Card.{Card}
 use Rattle.model.proofs.Lists.{getD-map-below, map-below}
-use Rattle.cells.specs.Cells.{byteIn, numberIn, nameIn, transactionIn, cardIn, tailPlace, corePlace, closedPlace}
-use Rattle.cells.specs.Answer.{worldIn}
+use Rattle.model.proofs.Limits.{clamped-same}
+use Rattle.model.proofs.OneStore.{shape-limits, stored-low, position}
+use Rattle.layout.proofs.Blocks.{block-lent}
+use Rattle.cells.specs.Cells.{byteIn, numberIn, nameIn, transactionIn, cardIn, tailPlace, corePlace, closedPlace, Frame}
+use Rattle.cells.specs.Answer.{worldIn, newAnswer, Meets}
 use Rattle.cells.proofs.CellLaws.{blocks-long}
 use Rattle.cells.proofs.EntryLaws.{entry, entry-hit, entry-pass, Entered, entered}
+use Rattle.cells.proofs.MeetLaws.{meets-refused, meets-done}
 use Rattle.committing.proofs.ReadLaws.{position-there, next-there, used-there, stored-there, closed-there}
 use Rattle.committing.proofs.CloseLaws.{taken-at}
 
@@ -149,3 +155,39 @@ pub position-is : (v : List ℕ) (c : ℕ) → c < 8 → (a : ℕ) → a ≡ cor
     → p + u + s ≡ nextPosition (cardIn v) c
 unfolding nextPosition
 position-is v c h a e p i u j s k = rw (position-there v c h p i, used-there v c h a e u j, stored-there v c h a e s k)
+
+-- ---- the command
+module _ (v : List ℕ) (size : length v ≡ 512) (c : ℕ) (d m : Bytes) (n : ℕ) (e : n ≡ refusal (storeConditions c (worldIn v d m))) where
+  pub store-refused : (n ≡ 0 → ⊥) → Meets (storeNext c (worldIn v d m)) v v d m (newAnswer n 0)
+  unfolding storeNext
+  store-refused h = meets-refused (storeConditions c (worldIn v d m)) v d m (stored c (worldIn v d m)) size n e h
+
+  module _ (h : n ≡ 0) where
+    store-entered : Entered (cardIn v) c d m
+    unfolding storeConditions
+    store-entered = entered (cardIn v) c d m (ofClosed (cardIn v) c) (omega arith, tt) (sym e ∙ h)
+
+    pub store-memory : length m ≡ 16384
+    store-memory = store-entered .memory
+
+    pub store-core : c < 8
+    store-core = store-entered .few
+
+    module _ (s : Shape) (q : s ≡ shapeOf (cardIn v)) (p j : ℕ) (r : j ≡ journalBlock (clamped s) c p) where
+      store-place : j ≡ journalBlock (shapeOf (cardIn v)) c p
+      store-place = r ∙ ap (λ (t : Shape). journalBlock t c p) (ap clamped q ∙ clamped-same (shapeOf (cardIn v)) (shape-limits (cardIn v)))
+
+      -- the block stands on the disk
+      pub store-low : j < 257
+      store-low = rw store-place (stored-low (shape-limits (cardIn v)) (position (store-entered .core) p))
+
+      pub store-end : 128 * j + 128 ≤ length d
+      store-end = omega (arith, store-low, store-entered .disk)
+
+      pub store-done : p ≡ nextPosition (cardIn v) c → (z : Bytes) → z ≡ nextStored c (coreOf (cardIn v) c) m
+          → (w : List ℕ) → cardIn w ≡ withCore (cardIn v) c (coreStored (coreOf (cardIn v) c)) → Frame v w (corePlace c) 52
+          → Meets (storeNext c (worldIn v d m)) v w (take (128 * j) d ++ (z ++ drop (128 * j + 128 - 128 * j) (drop (128 * j) d))) m (newAnswer 0 1)
+      unfolding storeNext stored
+      store-done i z k w l f =
+          meets-done (storeConditions c (worldIn v d m)) v d m (stored c (worldIn v d m)) size n e h w _ m 1
+          (rw (block-lent d j z (nextStored c (coreOf (cardIn v) c) m) k, l, store-place, i)) (corePlace c) 52 f
