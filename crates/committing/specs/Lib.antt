@@ -1,0 +1,2 @@
+-- The parts of CLOSE's change of a core.
+pub mod Frozen

@@ -1,0 +1,73 @@
+// The closed copies in memory: the 64 images are followed by eight copies to a core.
+ghost use mathlib.Core.Path.{_≡_};
+ghost use mathlib.Core.List.{map};
+ghost use Prim.Native.Nat.{ℕ, _+_, _≤_, _<_, _%_};
+ghost use lib.ListN.{length};
+ghost use Rattle.model.specs.Lists.{below};
+ghost use Rattle.model.specs.Bytes.{blockAt, store as storeBlock};
+ghost use Rattle.model.specs.Card.{taken};
+ghost use Rattle.model.specs.Layout.{flagOf};
+ghost use Rattle.model.specs.Commit.{copyBlock, copied};
+ghost use Rattle.cells.specs.Cells.{transactionIn};
+use cells::block_count;
+use cells::byte_in;
+
+// Where a transaction's blocks begin in its cells.
+const BLOCKS: usize = 4;
+
+// The memory block of a core's copy i.
+fn copy_place(c: u8, i: usize) -> usize
+    requires { ⌜ i < 8 ⌝ }
+    ensures { λ r. ⌜ r ≡ copyBlock c i ⌝ }
+{
+    64 + 8 * c as usize + i
+}
+
+// The image of a block copied to copy i of a core, through a value: two parts of memory cannot be lent at once. Only a
+// card that no run made has a block past the 64 images; its number counts round.
+fn copy_image(memory: &mut [u8], c: u8, i: usize, b: u8)
+    requires { ⌜ (length (now memory) ≡ 16384) × (c < 8) × (i < 8) ⌝ }
+    ensures { λ _. ⌜ now (memory .exit) ≡ storeBlock (now (memory .entry)) (copyBlock c i) (blockAt (now (memory .entry)) (b % 64)) ⌝ }
+{
+    let image = layout::load_block(memory, b as usize % 64);
+    let start = 128 * copy_place(c, i);
+    let end = start + 128;
+    layout::write_image(&mut memory[start..end], image);
+}
+
+// The images of the blocks of the transaction at a place, in the order taken, to the first of its core's copies onward.
+pub fn copy_images(w: &[u64], at: usize, c: u8, memory: &mut [u8])
+    requires { ⌜ (length (now w) ≡ 512) × (at + 24 ≤ 512) × (length (now memory) ≡ 16384) × (c < 8) ⌝ }
+    ensures { λ _. ⌜ now (memory .exit) ≡ copied c 0 (taken (transactionIn (now (w .entry)) at)) (now (memory .entry)) ⌝ }
+{
+    let count = block_count(w, at);
+    let mut i: usize = 0;
+    while i < count {
+        let b = byte_in(w, at + BLOCKS + i);
+        copy_image(memory, c, i, b);
+        i += 1;
+    }
+}
+
+// Copy i of a core, as a value.
+pub fn copy_at(memory: &[u8], c: u8, i: usize) -> [u8; 128]
+    requires { ⌜ (length (now memory) ≡ 16384) × (c < 8) × (i < 8) ⌝ }
+    ensures { λ r. ⌜ r ≡ blockAt (now (memory .entry)) (copyBlock c i) ⌝ }
+{
+    layout::load_block(memory, copy_place(c, i))
+}
+
+// The escape flags of a core's copies: of all eight, since the descriptor itself leaves out what was not taken.
+pub fn flags_of(memory: &[u8], c: u8) -> [u8; 8]
+    requires { ⌜ (length (now memory) ≡ 16384) × (c < 8) ⌝ }
+    ensures { λ r. ⌜ r ≡ map (λ (i : ℕ). flagOf (blockAt (now (memory .entry)) (copyBlock c i))) (below 8) ⌝ }
+{
+    let mut flags = [0u8; 8];
+    let mut i = 0;
+    while i < 8 {
+        let image = copy_at(memory, c, i);
+        flags[i] = layout::flag_of(image);
+        i += 1;
+    }
+    flags
+}

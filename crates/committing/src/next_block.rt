@@ -1,0 +1,137 @@
+// What is stored next of a closed transaction, and where: the descriptor, the copies, the commit.
+ghost use mathlib.Core.Path.{_≡_};
+ghost use Prim.Native.Nat.{ℕ, _+_, _≤_, _<_};
+ghost use lib.ListN.{length};
+ghost use Rattle.model.specs.Bytes.{blockAt};
+ghost use Rattle.model.specs.Card.{taken, listed, coreOf};
+ghost use Rattle.model.specs.Layout.{descriptorBlock, commitBlock, escaped};
+ghost use Rattle.model.specs.Commit.{copyBlock, heldCopies, closedNumber, nextStored, nextPosition};
+ghost use Rattle.cells.specs.Cells.{transactionIn, cardIn};
+use crate::copies::copy_at;
+use crate::copies::flags_of;
+use cells::TAILS;
+use cells::block_count;
+use cells::byte_in;
+use cells::closed_place;
+use cells::core_place;
+use cells::name_of;
+use cells::number_in;
+use model::Name;
+
+// The cells of a core's counts and of a transaction's parts.
+const USED: usize = 1;
+
+const STORED: usize = 2;
+
+const STAMP: usize = 1;
+
+const COUNT: usize = 2;
+
+const NAMED: usize = 3;
+
+const BLOCKS: usize = 4;
+
+const NAMES: usize = 12;
+
+// The number of core c's closed transaction: CLOSE moved the count on. Only a card that no run made has the count at 0.
+fn closed_number(w: &[u64], c: u8) -> u32
+    requires { ⌜ (length (now w) ≡ 512) × (c < 8) ⌝ }
+    ensures { λ r. ⌜ r ≡ closedNumber (coreOf (cardIn (now (w .entry))) c) ⌝ }
+{
+    let next = number_in(w, core_place(c));
+    if next == 0 {
+        return 0;
+    }
+    next - 1
+}
+
+// The blocks of the transaction at a place, as a value.
+fn blocks_of(w: &[u64], at: usize) -> [u8; 8]
+    requires { ⌜ (length (now w) ≡ 512) × (at + 24 ≤ 512) ⌝ }
+    ensures { λ r. ⌜ r ≡ (transactionIn (now (w .entry)) at) .blocks ⌝ }
+{
+    let mut blocks = [0u8; 8];
+    let mut i: usize = 0;
+    while i < 8 {
+        blocks[i] = byte_in(w, at + BLOCKS + i);
+        i += 1;
+    }
+    blocks
+}
+
+// Its names, as a value.
+fn names_of(w: &[u64], at: usize) -> [Name; 12]
+    requires { ⌜ (length (now w) ≡ 512) × (at + 24 ≤ 512) ⌝ }
+    ensures { λ r. ⌜ r ≡ (transactionIn (now (w .entry)) at) .names ⌝ }
+{
+    let mut names = [Name { core: 0, number: 0 }; 12];
+    let mut i: usize = 0;
+    while i < 12 {
+        names[i] = name_of(w[at + NAMES + i]);
+        i += 1;
+    }
+    names
+}
+
+// The descriptor of the closed transaction of core c, which stands at the place given.
+fn write_first(block: &mut [u8], w: &[u64], at: usize, number: u32, c: u8, memory: &[u8])
+    requires { ⌜ (length (now block) ≡ 128) × (length (now w) ≡ 512) × (at + 24 ≤ 512) × (length (now memory) ≡ 16384) × (c < 8) ⌝ }
+    ensures { λ _. ⌜ now (block .exit) ≡ descriptorBlock number (heldCopies c (taken (transactionIn (now (w .entry)) at)) (now (memory .entry))) ⌝ }
+{
+    let flags = flags_of(memory, c);
+    let blocks = blocks_of(w, at);
+    let count = byte_in(w, at + COUNT);
+    layout::write_descriptor(block, number, count, blocks, flags);
+}
+
+// A data block: copy i of the core, whatever the image is by now.
+fn write_copy(block: &mut [u8], c: u8, i: usize, memory: &[u8])
+    requires { ⌜ (length (now block) ≡ 128) × (length (now memory) ≡ 16384) × (c < 8) × (i < 8) ⌝ }
+    ensures { λ _. ⌜ now (block .exit) ≡ escaped (blockAt (now (memory .entry)) (copyBlock c i)) ⌝ }
+{
+    let image = copy_at(memory, c, i);
+    layout::write_data(block, image);
+}
+
+// The commit of the transaction at a place.
+fn write_last(block: &mut [u8], w: &[u64], at: usize, number: u32)
+    requires { ⌜ (length (now block) ≡ 128) × (length (now w) ≡ 512) × (at + 24 ≤ 512) ⌝ }
+    ensures { λ _. ⌜ now (block .exit) ≡ commitBlock number ((transactionIn (now (w .entry)) at) .stamp) (listed (transactionIn (now (w .entry)) at)) ⌝ }
+{
+    let names = names_of(w, at);
+    let named = byte_in(w, at + NAMED);
+    let stamp = w[at + STAMP];
+    layout::write_commit(block, number, stamp, named, names);
+}
+
+// What is stored next: the descriptor, then the copies in the order taken, then the commit.
+pub fn write_next(block: &mut [u8], w: &[u64], c: u8, memory: &[u8])
+    requires { ⌜ (length (now block) ≡ 128) × (length (now w) ≡ 512) × (length (now memory) ≡ 16384) × (c < 8) ⌝ }
+    ensures { λ _. ⌜ now (block .exit) ≡ nextStored c (coreOf (cardIn (now (w .entry))) c) (now (memory .entry)) ⌝ }
+{
+    let at = closed_place(c);
+    let number = closed_number(w, c);
+    let stored = byte_in(w, core_place(c) + STORED);
+    let done = stored as usize;
+    if done == 0 {
+        write_first(block, w, at, number, c, memory);
+        return;
+    }
+    if done <= block_count(w, at) {
+        write_copy(block, c, done - 1, memory);
+        return;
+    }
+    write_last(block, w, at, number);
+}
+
+// The position of what is stored next: records follow one another from the tail.
+pub fn next_position(w: &[u64], c: u8) -> usize
+    requires { ⌜ (length (now w) ≡ 512) × (c < 8) ⌝ }
+    ensures { λ r. ⌜ r ≡ nextPosition (cardIn (now (w .entry))) c ⌝ }
+{
+    let at = core_place(c);
+    let position = byte_in(w, TAILS + 2 * c as usize + 1);
+    let used = byte_in(w, at + USED);
+    let stored = byte_in(w, at + STORED);
+    position as usize + used as usize + stored as usize
+}
