@@ -1,0 +1,3 @@
+-- Laws that the proofs of CUT and RECOVER cite.
+pub mod MasterLaws
+pub mod JournalLaws
