@@ -1,9 +1,9 @@
--- `recovering::cut::cut_refusal` meets its contract: the length, then the phase.
+-- `recovering::cutting::cut_refusal` meets its contract: the length, then the phase.
 use borrow.Author.Needs.{needs}
 use mathlib.Core.Path.{_∙_}
 use Rattle.cells.proofs.RefusalLaws.{cut-numbers}
-use Rattle.recovering.proofs.cut.cut_refusal.Statement.{statement}
-use Rattle.recovering.proofs.cut.cut_refusal.Tie as tie
+use Rattle.recovering.proofs.cutting.cut_refusal.Statement.{statement}
+use Rattle.recovering.proofs.cutting.cut_refusal.Tie as tie
 
 returns : tie.Need-returns
 returns c = c .phase-refusal .ensures ∙ cut-numbers _

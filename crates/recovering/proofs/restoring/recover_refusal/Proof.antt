@@ -1,9 +1,9 @@
--- `recovering::recover::recover_refusal` meets its contract: the length, the phase, then the first block.
+-- `recovering::restoring::recover_refusal` meets its contract: the length, the phase, then the first block.
 use borrow.Author.Needs.{needs}
 use mathlib.Core.Path.{_∙_}
 use Rattle.cells.proofs.RefusalLaws.{first-hit, first-pass, recover-numbers, passed-lengths}
-use Rattle.recovering.proofs.recover.recover_refusal.Statement.{statement}
-use Rattle.recovering.proofs.recover.recover_refusal.Tie as tie
+use Rattle.recovering.proofs.restoring.recover_refusal.Statement.{statement}
+use Rattle.recovering.proofs.restoring.recover_refusal.Tie as tie
 
 returns : tie.Need-returns
 returns c = first-hit _ _ _ (c .before .phase-refusal .ensures) (c .if1 .taken) ∙ recover-numbers _
