@@ -7,3 +7,4 @@ pub mod CellLaws
 pub mod CoreLaws
 pub mod MeetLaws
 pub mod TailLaws
+pub mod PhaseLaws

@@ -218,3 +218,8 @@ withCloses x n =
 -- the card with core c's tail replaced
 abbrev pub withTail : Card → ℕ → Tail → Card
 withTail x c t = withLists x (set (x .tails) c t) (x .cores) (x .holders)
+
+-- the card up, with this shape
+abbrev pub upWith : Card → Shape → Card
+upWith x s =
+    record { phase = Up; shape = s; closes = x .closes; recovered = x .recovered; tails = x .tails; cores = x .cores; holders = x .holders }

@@ -6,6 +6,7 @@ mod cores; // a core's numbers
 mod lists; // a transaction's blocks and names
 mod holders; // the transaction that holds a block
 mod tails; // where each core's journal begins
+mod phases; // the card as each phase begins
 mod refusals; // what commands meet first
 
 pub use cores::put_numbers;
@@ -38,6 +39,9 @@ pub use lists::name_count;
 pub use lists::name_of;
 pub use lists::open_at;
 pub use lists::same_name;
+pub use phases::blank;
+pub use phases::come_up;
+pub use phases::go_down;
 pub use refusals::block_refusal;
 pub use refusals::core_refusal;
 pub use refusals::entry_refusal;
