@@ -21,6 +21,7 @@ use Rattle.model.specs.declared.Phase.the-variants.{Up}
 use Rattle.model.proofs.Lists.{getD-map-below}
 use Rattle.model.proofs.Limits.{InRange, clamped-same}
 use Rattle.model.proofs.OneStore.{right-lengths, left-below}
+use Rattle.model.proofs.Command.{Clear}
 use Rattle.model.proofs.Encoding.{master-same}
 use Rattle.journal.specs.Slots.{entries}
 use Rattle.journal.specs.Newest.{firstOr, heldFrom}
@@ -35,12 +36,19 @@ use Rattle.recovering.proofs.JournalLaws.{tails-after, left-first}
 
 -- ---- the command
 module _ (v : List ℕ) (d m : Bytes) (n : ℕ) (e : n ≡ refusal (recoverConditions (worldIn v d m))) where
-  -- with no refusal met the first block is a master
-  pub recover-clear : n ≡ 0 → (length d ≡ 32896) × (isMaster (blockAt d 0) ≡ true)
-  unfolding recoverConditions
-  recover-clear h =
-      let c = none-held (recoverConditions (worldIn v d m)) (worldIn v d m) (recovered (worldIn v d m)) n e h (omega arith, (omega arith, (omega arith, (omega arith, tt)))) in
-      (right-lengths (worldIn v d m) (c .0) .0, not-false (isMaster (blockAt d 0)) (c .1 .1 .1 .0))
+  -- no refusal met
+  module _ (h : n ≡ 0) where
+    none-met : Clear (recoverConditions (worldIn v d m))
+    unfolding recoverConditions
+    none-met = none-held (recoverConditions (worldIn v d m)) (worldIn v d m) (recovered (worldIn v d m)) n e h (omega arith, (omega arith, (omega arith, (omega arith, tt))))
+
+    pub disk-long : length d ≡ 32896
+    unfolding recoverConditions
+    disk-long = right-lengths (worldIn v d m) (none-met .0) .0
+
+    pub first-master : isMaster (blockAt d 0) ≡ true
+    unfolding recoverConditions
+    first-master = not-false (isMaster (blockAt d 0)) (none-met .1 .1 .1 .0)
 
   module _ (l : length v ≡ 512) where
     pub recover-refused : (n ≡ 0 → ⊥) → Meets (recover (worldIn v d m)) v v d m (newAnswer n 0)

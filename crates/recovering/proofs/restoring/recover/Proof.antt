@@ -1,6 +1,6 @@
 -- `recovering::restoring::recover` meets its contract: refused, or the next store of recovery.
 use borrow.Author.Needs.{needs}
-use Rattle.recovering.proofs.RecoverLaws.{recover-clear, recover-refused, recover-done}
+use Rattle.recovering.proofs.RecoverLaws.{disk-long, first-master, recover-refused, recover-done}
 use Rattle.recovering.proofs.restoring.recover.Statement.{statement}
 use Rattle.recovering.proofs.restoring.recover.Tie as tie
 
@@ -8,7 +8,7 @@ returns : tie.Need-returns
 returns c = search (needs, recover-refused)
 
 recovered-requires : tie.Need-recovered-requires
-recovered-requires c κs = (search needs, recover-clear _ _ _ _ (c .before .before .recover-refusal .ensures) (c .before .if1 .left))
+recovered-requires c κs = search (needs, disk-long, first-master)
 
 returns-2 : tie.Need-returns-2
 returns-2 c = search (needs, recover-done)
