@@ -27,7 +27,7 @@ use Rattle.journal.specs.Newest.{foundImage, firstOr, heldFrom}
 use Rattle.journal.proofs.Model.{found-bytes, image-numbers, held-numbers, read-count}
 use Rattle.journal.proofs.Commands.{core-journal, slots-valid}
 use Rattle.cells.specs.Answer.{world}
-use Rattle.recovering.specs.Recovering.{numbersOn, tailAfter, OnDisk}
+use Rattle.recovering.specs.Recovering.{numbersOn, tailAfter, Shaped, OnDisk, IsValid}
 
 -- ---- tails
 module _ (t : Tail) (n : ℕ) where
@@ -93,24 +93,23 @@ master-tails-read : (d : Bytes) (s : Shape) (ts : List Tail) (set : List ℕ) �
 unfolding blockAt part
 master-tails-read d s ts set r = r .tails
 
-module _ (d : Bytes) (s : Shape) (z : s ≡ shapeOn d) (l : InRange s) (ts : List Tail) (set : List ℕ) (r : OnDisk s d ts set) where
+module _ (d : Bytes) (s : Shape) (g : Shaped s d) (ts : List Tail) (set : List ℕ) (r : OnDisk s d ts set) where
   pub tails-after : (after : List Tail) → after ≡ map (tailAfter s ts set) (below 8) → after ≡ map (emptiedTail d) (below 8)
-  tails-after after q = tails-emptied d s z l ts (master-tails-read d s ts set r) set (r .slots) after q
+  tails-after after q = tails-emptied d s (g .shape) (g .range) ts (master-tails-read d s ts set r) set (r .slots) after q
 
-  pub all-valid : (v : List ℕ) → entries s d (numbersOf ts) v ≡ validSet s d (numbered (numbersOf ts)) (entries s d (numbersOf ts) set) → entries s d (numbersOn d) v ≡ validOn d
-  all-valid v q = valid-read d s z l ts (master-tails-read d s ts set r) set (r .slots) v q
+  pub all-valid : (v : List ℕ) → entries s d (numbersOf ts) v ≡ validSet s d (numbered (numbersOf ts)) (entries s d (numbersOf ts) set) → IsValid s d v
+  all-valid v q = record { valid = valid-read d s (g .shape) (g .range) ts (master-tails-read d s ts set r) set (r .slots) v q }
 
 -- ---- images
-module _ (d : Bytes) (s : Shape) (z : s ≡ shapeOn d) (set : List ℕ) (v : entries s d (numbersOn d) set ≡ validOn d) where
+module _ (d : Bytes) (s : Shape) (g : Shaped s d) (set : List ℕ) (v : IsValid s d set) where
   pub newest-bytes : (b : ℕ) (at : Image) → at ≡ foundImage s d b (newest s d b Miss (entries s d [] set))
       → (i : Bytes) → i ≡ blockAt d (at .block) → (r : Bytes) → r ≡ unescaped (at .flag) i → r ≡ newestImage d b
   unfolding newestImage
   newest-bytes b at q i p r h =
-      let g : at ≡ foundImage (shapeOn d) d b (newest (shapeOn d) d b Miss (validOn d)) = q ∙ image-numbers s d set [] (numbersOn d) b ∙ rw (v, z) in
-      h ∙ rw (p, g) (found-bytes d b (newest (shapeOn d) d b Miss (validOn d)))
+      let f : at ≡ foundImage (shapeOn d) d b (newest (shapeOn d) d b Miss (validOn d)) = q ∙ image-numbers s d set [] (numbersOn d) b ∙ rw (v .valid, g .shape) in
+      h ∙ rw (p, f) (found-bytes d b (newest (shapeOn d) d b Miss (validOn d)))
 
   -- the lowest block that the valid set holds from a place on
   pub left-first : (x : Card) (m : Bytes) (b : ℕ) → b ≡ heldFrom s d (entries s d [] set) (x .recovered) → b ≡ firstOr (s .blocks) (blocksLeft (world x d m))
   unfolding heldFrom blocksLeft
-  left-first x m b q = q ∙ held-numbers s d set [] (numbersOn d) (x .recovered) ∙ rw (v, z)
-
+  left-first x m b q = q ∙ held-numbers s d set [] (numbersOn d) (x .recovered) ∙ rw (v .valid, g .shape)

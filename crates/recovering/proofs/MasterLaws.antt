@@ -3,7 +3,7 @@ use Prim.Native.Nat.{ℕ}
 use native.Mathlib.Omega.{arith}
 use mathlib.Core.Path.{_≡_, sym, ap, _∙_, subst}
 use mathlib.Core.Bool.{Bool, true, false, cond, not, _&&_}
-use lib.ListN.{take}
+use lib.ListN.{length, take}
 use lib.Dec.{eqb}
 use Rattle.model.specs.Bytes.{Bytes, be4, part, blockAt}
 use Rattle.model.specs.Shape.{checked}
@@ -21,6 +21,7 @@ use Rattle.model.proofs.Lists.{and-left, and-right}
 use Rattle.model.proofs.Limits.{InRange}
 use Rattle.model.proofs.OneStore.{master-limits}
 use Rattle.cells.specs.Answer.{world}
+use Rattle.recovering.specs.Recovering.{Shaped}
 
 module _ (d : Bytes) (r : Bool) (e : r ≡ isMaster (take 128 d)) where
   first-block : r ≡ isMaster (blockAt d 0)
@@ -40,8 +41,8 @@ module _ (d : Bytes) (r : Bool) (e : r ≡ isMaster (take 128 d)) where
   pub count-unfit : r ≡ false → 0 ≡ cond (isMaster (blockAt d 0)) ((shapeOn d) .blocks) 0
   count-unfit h = rw (← first-block, h)
 
-  pub count-fit : r ≡ true → (s : Shape) → s ≡ shapeOn d → s .blocks ≡ cond (isMaster (blockAt d 0)) ((shapeOn d) .blocks) 0
-  count-fit h s f = ap (λ (s : Shape). s .blocks) f ∙ rw (is-fit h)
+  pub count-fit : r ≡ true → (s : Shape) → Shaped s d → s .blocks ≡ cond (isMaster (blockAt d 0)) ((shapeOn d) .blocks) 0
+  count-fit h s f = ap (λ (s : Shape). s .blocks) (f .shape) ∙ rw (is-fit h)
 
 module _ (d : Bytes) (h : isMaster (blockAt d 0) ≡ true) where
   pub master-part : isMaster (take 128 d) ≡ true
@@ -53,25 +54,22 @@ module _ (d : Bytes) (h : isMaster (blockAt d 0) ≡ true) where
   unfolding blockAt part isMaster checked shapeOn shapeIn
   shape-fits = rw (and-right (eqb (be4 (take 128 d) 0) mark && eqb (be4 (take 128 d) 4) 4) _ (and-left _ _ h))
 
-  pub disk-range : InRange (shapeOn d)
+  disk-range : InRange (shapeOn d)
   unfolding shapeOn
   disk-range = master-limits (blockAt d 0) h
 
-  module _ (made : Checked) (e : made ≡ checked (be4 (take 128 d) 12) (be4 (take 128 d) 16) (be4 (take 128 d) 20)) where
-    pub shape-made : (s : Shape) → made ≡ Fits s → s ≡ shapeOn d
-    shape-made s f = let q : Fits s ≡ Fits (shapeOn d) = sym f ∙ e ∙ shape-fits in cc
+  module _ (l : length d ≡ 32896) (made : Checked) (e : made ≡ checked (be4 (take 128 d) 12) (be4 (take 128 d) 16) (be4 (take 128 d) 20)) where
+    pub shape-made : (s : Shape) → made ≡ Fits s → Shaped s d
+    shape-made s f =
+        let q : Fits s ≡ Fits (shapeOn d) = sym f ∙ e ∙ shape-fits in
+        let z : s ≡ shapeOn d = cc in
+        record { long = l; master = h; shape = z; range = subst InRange (sym z) disk-range }
 
-    pub shape-range : (s : Shape) → made ≡ Fits s → InRange s
-    shape-range s f = subst InRange (sym (shape-made s f)) disk-range
-
-    no-shape : made ≡ OutOfRange → ⊥
-    no-shape f = let q : Fits (shapeOn d) ≡ OutOfRange = sym shape-fits ∙ sym e ∙ f in let z : _≡_ {A = ℕ} 0 1 = cc in absurd (omega arith)
-
-    pub shape-missed : made ≡ OutOfRange → (y : Shape) → y ≡ shapeOn d
-    shape-missed f y = absurd (no-shape f)
-
-    pub range-missed : made ≡ OutOfRange → (y : Shape) → InRange y
-    range-missed f y = absurd (no-shape f)
+    pub shape-missed : made ≡ OutOfRange → (y : Shape) → Shaped y d
+    shape-missed f y =
+        let q : Fits (shapeOn d) ≡ OutOfRange = sym shape-fits ∙ sym e ∙ f in
+        let z : _≡_ {A = ℕ} 0 1 = cc in
+        absurd (omega arith)
 
 -- ---- the home blocks of a card, by its phase
 module _ (x : Card) (d : Bytes) (p : Phase) (e : p ≡ x .phase) where

@@ -13,13 +13,13 @@ use Rattle.model.specs.Shape.{homeBlock, clamped}
 use Rattle.model.specs.Card.{newTail, freshCard}
 use Rattle.model.specs.Layout.{isMaster, masterBlock}
 use Rattle.model.specs.Command.{refusal}
-use Rattle.model.specs.Recovery.{shapeOn, validOn, blocksLeft, newestImage, recoveredTo, emptiedTail, broughtUp, recoverConditions, recoverStep, recovered, recover}
+use Rattle.model.specs.Recovery.{blocksLeft, newestImage, recoveredTo, emptiedTail, broughtUp, recoverConditions, recoverStep, recovered, recover}
 use Rattle.model.specs.declared.Card.{Card}
 use Rattle.model.specs.declared.Tail.{Tail}
 use Rattle.model.specs.declared.Shape.{Shape}
 use Rattle.model.specs.declared.Phase.the-variants.{Up}
 use Rattle.model.proofs.Lists.{getD-map-below}
-use Rattle.model.proofs.Limits.{InRange, clamped-same}
+use Rattle.model.proofs.Limits.{clamped-same}
 use Rattle.model.proofs.OneStore.{right-lengths, left-below}
 use Rattle.model.proofs.Command.{Clear}
 use Rattle.model.proofs.Encoding.{master-same}
@@ -31,7 +31,7 @@ use Rattle.cells.proofs.RefusalLaws.{none-held}
 use Rattle.cells.proofs.MeetLaws.{meets-refused, meets-done}
 use Rattle.cells.proofs.FitsLaws.{fits-field, frame-set, frame-wider}
 use Rattle.cells.proofs.CoreLaws.{recovered-put}
-use Rattle.recovering.specs.Recovering.{numbersOn, tailAfter, OnDisk, Stores}
+use Rattle.recovering.specs.Recovering.{tailAfter, Shaped, OnDisk, IsValid, Stores}
 use Rattle.recovering.proofs.JournalLaws.{tails-after, left-first}
 
 -- ---- the command
@@ -61,24 +61,24 @@ module _ (v : List ℕ) (d m : Bytes) (n : ℕ) (e : n ≡ refusal (recoverCondi
         meets-done (recoverConditions (worldIn v d m)) v d m (recovered (worldIn v d m)) l n e h w k m 1 (s .outcome m) 0 512 (s .frame)
 
 -- ---- the master store
-module _ (d : Bytes) (s : Shape) (z : s ≡ shapeOn d) (l : InRange s) (ts : List Tail) (e : ts ≡ map (emptiedTail d) (below 8)) where
+module _ (d : Bytes) (s : Shape) (g : Shaped s d) (ts : List Tail) (e : ts ≡ map (emptiedTail d) (below 8)) where
   emptied-master : masterBlock (clamped s) (λ (c : ℕ). getD ts c (newTail 0 0)) ≡ masterBlock s (emptiedTail d)
   emptied-master =
-      rw (clamped-same s l)
-      (master-same s _ (emptiedTail d) (λ c h. rw e (getD-map-below (emptiedTail d) 8 c (newTail 0 0) (omega (arith, l .few-cores)))))
+      rw (clamped-same s (g .range))
+      (master-same s _ (emptiedTail d) (λ c h. rw e (getD-map-below (emptiedTail d) 8 c (newTail 0 0) (omega (arith, g .range .few-cores)))))
 
   brought-up : (d′ : Bytes) → d′ ≡ store d 0 (masterBlock (clamped s) (λ (c : ℕ). getD ts c (newTail 0 0)))
       → (y : Card) → y ≡ freshCard Up s ts
       → (x : Card) (m : Bytes) → record { answer = 0; world = world y d′ m; stores = 1 } ≡ recoverStep [] (world x d m)
   unfolding recoverStep broughtUp
-  brought-up d′ q y p x m = rw (q, p, emptied-master, e, z)
+  brought-up d′ q y p x m = rw (q, p, emptied-master, e, g .shape)
 
-module _ (d : Bytes) (s : Shape) (z : s ≡ shapeOn d) (l : InRange s) (ts : List Tail) (set : List ℕ) (r : OnDisk s d ts set) where
+module _ (d : Bytes) (s : Shape) (g : Shaped s d) (ts : List Tail) (set : List ℕ) (r : OnDisk s d ts set) where
   pub all-emptied : (after : List Tail) → after ≡ map (tailAfter s ts set) (below 8)
       → (d′ : Bytes) → d′ ≡ store d 0 (masterBlock (clamped s) (λ (c : ℕ). getD after c (newTail 0 0)))
       → (v w : List ℕ) → cardIn w ≡ freshCard Up s after → Frame v w 0 512 → Stores (recoverStep []) v w d d′
   all-emptied after q d′ p v w y f =
-      record { outcome = λ m. brought-up d s z l after (tails-after d s z l ts set r after q) d′ p (cardIn w) y (cardIn v) m; frame = f }
+      record { outcome = λ m. brought-up d s g after (tails-after d s g ts set r after q) d′ p (cardIn w) y (cardIn v) m; frame = f }
 
 -- ---- a home store
 home-step : (x y : Card) (d : Bytes) (b : ℕ) → y ≡ recoveredTo x (b + 1) → (i : Bytes) → i ≡ newestImage d b
@@ -105,10 +105,10 @@ module _ (v : List ℕ) (long : length v ≡ 512) (b : ℕ) (few : b < 64) where
         frame = frame-wider v (set v 5 (b + 1)) 5 1 0 512 passed-frame (omega arith) (omega arith);
       }
 
-pub home-stored : (v : List ℕ) → length v ≡ 512 → (s : Shape) → InRange s → (b : ℕ) → b < s .blocks
-    → (d i : Bytes) → i ≡ newestImage d b → (d′ : Bytes) → d′ ≡ store d (homeBlock b) i
+pub home-stored : (v : List ℕ) → length v ≡ 512 → (s : Shape) (d : Bytes) → Shaped s d → (b : ℕ) → b < s .blocks
+    → (i : Bytes) → i ≡ newestImage d b → (d′ : Bytes) → d′ ≡ store d (homeBlock b) i
     → (bs : List ℕ) → Stores (recoverStep (b ∷ bs)) v (set v 5 (b + 1)) d d′
-home-stored v l s r b h = home-passed v l b (omega (arith, r .few-blocks))
+home-stored v l s d g b h = home-passed v l b (omega (arith, g .range .few-blocks)) d
 
 -- ---- which of the two comes next
 first-some : (n b : ℕ) (xs : List ℕ) → b ≡ firstOr n xs → b < n → (bs : List ℕ) × (xs ≡ b ∷ bs)
@@ -125,26 +125,26 @@ recovered-read : (v : List ℕ) → byteIn v 5 ≡ (cardIn v) .recovered
 unfolding cardIn
 recovered-read v = refl
 
-module _ (v : List ℕ) (d : Bytes) (s : Shape) (z : s ≡ shapeOn d) (set : List ℕ) (q : entries s d (numbersOn d) set ≡ validOn d) (from : ℕ) (g : from ≡ byteIn v 5) (b : ℕ) (e : b ≡ heldFrom s d (entries s d [] set) from) where
+module _ (v : List ℕ) (d : Bytes) (s : Shape) (g : Shaped s d) (set : List ℕ) (q : IsValid s d set) (from : ℕ) (f : from ≡ byteIn v 5) (b : ℕ) (e : b ≡ heldFrom s d (entries s d [] set) from) where
   next-left : (m : Bytes) → b ≡ firstOr (s .blocks) (blocksLeft (worldIn v d m))
-  next-left m = left-first d s z set q (cardIn v) m b (e ∙ ap (heldFrom s d (entries s d [] set)) (g ∙ recovered-read v))
+  next-left m = left-first d s g set q (cardIn v) m b (e ∙ ap (heldFrom s d (entries s d [] set)) (f ∙ recovered-read v))
 
   pub recovered-home : b < s .blocks → (w : List ℕ) (k : Bytes) → ((bs : List ℕ) → Stores (recoverStep (b ∷ bs)) v w d k) → Stores recovered v w d k
   unfolding recovered
-  recovered-home h w k f =
+  recovered-home h w k t =
       record {
         outcome = λ m.
             let r = first-some (s .blocks) b (blocksLeft (worldIn v d m)) (next-left m) h in
-            f (r .0) .outcome m ∙ ap (λ (bs : List ℕ). recoverStep bs (worldIn v d m)) (sym (r .1));
-        frame = f [] .frame;
+            t (r .0) .outcome m ∙ ap (λ (bs : List ℕ). recoverStep bs (worldIn v d m)) (sym (r .1));
+        frame = t [] .frame;
       }
 
   pub recovered-up : s .blocks ≤ b → (w : List ℕ) (k : Bytes) → Stores (recoverStep []) v w d k → Stores recovered v w d k
   unfolding recovered
-  recovered-up h w k f =
+  recovered-up h w k t =
       record {
         outcome = λ m.
-            let r = first-none (s .blocks) b (blocksLeft (worldIn v d m)) (next-left m) h (λ y k. rw z (left-below (worldIn v d m) k)) in
-            f .outcome m ∙ ap (λ (bs : List ℕ). recoverStep bs (worldIn v d m)) (sym r);
-        frame = f .frame;
+            let r = first-none (s .blocks) b (blocksLeft (worldIn v d m)) (next-left m) h (λ y k. rw (g .shape) (left-below (worldIn v d m) k)) in
+            t .outcome m ∙ ap (λ (bs : List ℕ). recoverStep bs (worldIn v d m)) (sym r);
+        frame = t .frame;
       }

@@ -1,16 +1,10 @@
 // All journals of a disk: the tails of its master, its committed transactions as slots, and what recovery makes of them.
 ghost use mathlib.Core.Path.{_≡_};
-ghost use mathlib.Core.Bool.{true};
 ghost use mathlib.Core.List.{map};
 ghost use Prim.Native.Nat.{_≤_, _<_};
-ghost use lib.ListN.{length};
 ghost use Rattle.model.specs.Lists.{below};
-ghost use Rattle.model.specs.Bytes.{blockAt};
-ghost use Rattle.model.specs.Layout.{isMaster};
-ghost use Rattle.model.specs.Recovery.{shapeOn, validOn, tailPast, newestImage};
-ghost use Rattle.model.proofs.Limits.{InRange};
-ghost use Rattle.journal.specs.Slots.{entries};
-ghost use Rattle.recovering.specs.Recovering.{numbersOn, tailAfter, OnDisk};
+ghost use Rattle.model.specs.Recovery.{tailPast, newestImage};
+ghost use Rattle.recovering.specs.Recovering.{tailAfter, Shaped, OnDisk, IsValid};
 use model::Shape;
 use model::Tail;
 
@@ -71,7 +65,7 @@ pub fn emptied_tails(s: Shape, tails: [Tail; 8], slots: &[u16; 96]) -> [Tail; 8]
 }
 
 pub fn read_disk(s: Shape, disk: &[u8]) -> Journals
-    requires { ⌜ (length (now disk) ≡ 32896) × (isMaster (blockAt (now disk) 0) ≡ true) × (s ≡ shapeOn (now disk)) × InRange s ⌝ }
+    requires { ⌜ Shaped s (now disk) ⌝ }
     ensures { λ r. ⌜ OnDisk s (now (disk .entry)) (r .tails) (r .committed) ⌝ }
 {
     let tails = layout::read_tails(&disk[0..128]);
@@ -81,8 +75,8 @@ pub fn read_disk(s: Shape, disk: &[u8]) -> Journals
 
 // The slots of the valid set of a disk.
 pub fn valid_set(s: Shape, disk: &[u8], all: Journals) -> [u16; 96]
-    requires { ⌜ (length (now disk) ≡ 32896) × (s ≡ shapeOn (now disk)) × InRange s × OnDisk s (now disk) (all .tails) (all .committed) ⌝ }
-    ensures { λ r. ⌜ entries s (now (disk .entry)) (numbersOn (now (disk .entry))) r ≡ validOn (now (disk .entry)) ⌝ }
+    requires { ⌜ Shaped s (now disk) × OnDisk s (now disk) (all .tails) (all .committed) ⌝ }
+    ensures { λ r. ⌜ IsValid s (now (disk .entry)) r ⌝ }
 {
     let tails = all.tails;
     let committed = all.committed;
@@ -91,7 +85,7 @@ pub fn valid_set(s: Shape, disk: &[u8], all: Journals) -> [u16; 96]
 
 // The newest image of block b in the valid set.
 pub fn newest_block(s: Shape, disk: &[u8], valid: &[u16; 96], b: u8) -> [u8; 128]
-    requires { ⌜ (length (now disk) ≡ 32896) × (s ≡ shapeOn (now disk)) × InRange s × (entries s (now disk) (numbersOn (now disk)) (now valid) ≡ validOn (now disk)) ⌝ }
+    requires { ⌜ Shaped s (now disk) × IsValid s (now disk) (now valid) ⌝ }
     ensures { λ r. ⌜ r ≡ newestImage (now (disk .entry)) b ⌝ }
 {
     let at = journal::newest_image(s, disk, valid, b);

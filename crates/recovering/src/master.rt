@@ -4,8 +4,7 @@ ghost use mathlib.Core.Bool.{true, cond, not};
 ghost use lib.ListN.{length};
 ghost use Rattle.model.specs.Bytes.{blockAt};
 ghost use Rattle.model.specs.Layout.{isMaster};
-ghost use Rattle.model.specs.Recovery.{shapeOn};
-ghost use Rattle.model.proofs.Limits.{InRange};
+ghost use Rattle.recovering.specs.Recovering.{Shaped};
 use model::Checked;
 use model::Shape;
 
@@ -23,7 +22,7 @@ pub fn master_refusal(disk: &[u8]) -> u8
 // The shape that the disk's master gives: one that was taken for a master has it within the limits.
 pub fn disk_shape(disk: &[u8]) -> Shape
     requires { ⌜ (length (now disk) ≡ 32896) × (isMaster (blockAt (now disk) 0) ≡ true) ⌝ }
-    ensures { λ r. ⌜ (r ≡ shapeOn (now (disk .entry))) × InRange r ⌝ }
+    ensures { λ r. ⌜ Shaped r (now (disk .entry)) ⌝ }
 {
     let made = layout::read_shape(&disk[0..128]);
     let Checked::Fits(s) = made else {

@@ -8,11 +8,9 @@ ghost use lib.ListN.{length};
 ghost use Rattle.model.specs.Bytes.{blockAt};
 ghost use Rattle.model.specs.Layout.{isMaster};
 ghost use Rattle.model.specs.Command.{refusal};
-ghost use Rattle.model.specs.Recovery.{shapeOn, validOn, recoverConditions, recoverStep, recovered, recover};
-ghost use Rattle.model.proofs.Limits.{InRange};
-ghost use Rattle.journal.specs.Slots.{entries};
+ghost use Rattle.model.specs.Recovery.{recoverConditions, recoverStep, recovered, recover};
 ghost use Rattle.cells.specs.Answer.{worldIn, Meets};
-ghost use Rattle.recovering.specs.Recovering.{numbersOn, OnDisk, Stores};
+ghost use Rattle.recovering.specs.Recovering.{Shaped, OnDisk, IsValid, Stores};
 use crate::journals::Journals;
 use crate::journals::emptied_tails;
 use crate::journals::newest_block;
@@ -43,7 +41,7 @@ fn recover_refusal(w: &[u64], disk: &[u8], memory: &[u8]) -> u8
 
 // The last store of recovery: one master with all journals empty. The card is up.
 fn bring_up(w: &mut [u64], s: Shape, all: Journals, disk: &mut [u8])
-    requires { ⌜ (length (now w) ≡ 512) × (length (now disk) ≡ 32896) × (s ≡ shapeOn (now disk)) × InRange s × OnDisk s (now disk) (all .tails) (all .committed) ⌝ }
+    requires { ⌜ (length (now w) ≡ 512) × Shaped s (now disk) × OnDisk s (now disk) (all .tails) (all .committed) ⌝ }
     ensures { λ _. ⌜ Stores (recoverStep []) (now (w .entry)) (now (w .exit)) (now (disk .entry)) (now (disk .exit)) ⌝ }
 {
     let before = all.tails;
@@ -55,7 +53,7 @@ fn bring_up(w: &mut [u64], s: Shape, all: Journals, disk: &mut [u8])
 
 // A home store of recovery, of the lowest block left; recovery has then passed it.
 fn restore_block(w: &mut [u64], s: Shape, disk: &mut [u8], valid: &[u16; 96], b: u8)
-    requires { ⌜ (length (now w) ≡ 512) × (length (now disk) ≡ 32896) × (s ≡ shapeOn (now disk)) × InRange s × (entries s (now disk) (numbersOn (now disk)) (now valid) ≡ validOn (now disk)) × (b < s .blocks) ⌝ }
+    requires { ⌜ (length (now w) ≡ 512) × Shaped s (now disk) × IsValid s (now disk) (now valid) × (b < s .blocks) ⌝ }
     ensures { λ _. ⌜ ((bs : List ℕ) → Stores (recoverStep (b ∷ bs)) (now (w .entry)) (now (w .exit)) (now (disk .entry)) (now (disk .exit))) ⌝ }
 {
     let image = newest_block(s, disk, valid, b);
@@ -83,7 +81,8 @@ fn recovered(w: &mut [u64], disk: &mut [u8])
 // RECOVER. Memory takes no part: only its length is asked for.
 pub fn recover(w: &mut [u64], disk: &mut [u8], memory: &[u8]) -> Answer
     requires { ⌜ length (now w) ≡ 512 ⌝ }
-    ensures { λ r. ⌜ Meets (recover (worldIn (now (w .entry)) (now (disk .entry)) (now (memory .entry)))) (now (w .entry)) (now (w .exit)) (now (disk .exit)) (now (memory .entry)) r ⌝ }
+    ensures { λ r. ⌜ Meets (recover (worldIn (now (w .entry)) (now (disk .entry)) (now (memory .entry))))
+        (now (w .entry)) (now (w .exit)) (now (disk .exit)) (now (memory .entry)) r ⌝ }
 {
     let n = recover_refusal(w, disk, memory);
     if n != 0 {
