@@ -1,0 +1,25 @@
+-- `recovering::cutting::cut` meets its contract: refused, or memory zeroed and the card down.
+use borrow.Author.Needs.{needs}
+use Rattle.recovering.proofs.CutLaws.{cut-refused, cut-done}
+use Rattle.recovering.proofs.cutting.cut.Statement.{statement}
+use Rattle.recovering.proofs.cutting.cut.Tie as tie
+
+returns : tie.Need-returns
+returns c = search (needs, cut-refused)
+
+returns-2 : tie.Need-returns-2
+returns-2 c = search (needs, cut-done)
+
+pub cut-spec : {M : Type 1} → statement M
+cut-spec =
+    tie.close
+    (tie.spec
+    (λ c κs. search needs)
+    (λ c. search needs)
+    (λ c. search needs)
+    returns
+    (λ c κs. search needs)
+    (λ c κs. search needs)
+    (λ c. search needs)
+    (λ c. search needs)
+    returns-2)

@@ -1,0 +1,27 @@
+-- `recovering::restoring::recover` meets its contract: refused, or the next store of recovery.
+use borrow.Author.Needs.{needs}
+use Rattle.recovering.proofs.RecoverLaws.{disk-long, first-master, recover-refused, recover-done}
+use Rattle.recovering.proofs.restoring.recover.Statement.{statement}
+use Rattle.recovering.proofs.restoring.recover.Tie as tie
+
+returns : tie.Need-returns
+returns c = search (needs, recover-refused)
+
+recovered-requires : tie.Need-recovered-requires
+recovered-requires c κs = search (needs, disk-long, first-master)
+
+returns-2 : tie.Need-returns-2
+returns-2 c = search (needs, recover-done)
+
+pub recover-spec : {M : Type 1} → statement M
+recover-spec =
+    tie.close
+    (tie.spec
+    (λ c κs. search needs)
+    (λ c. search needs)
+    (λ c. search needs)
+    returns
+    recovered-requires
+    (λ c. search needs)
+    (λ c. search needs)
+    returns-2)

@@ -1,0 +1,39 @@
+// How many home blocks a card counts.
+ghost use mathlib.Core.Path.{_≡_};
+ghost use mathlib.Core.Bool.{cond};
+ghost use lib.ListN.{length};
+ghost use Rattle.model.specs.Bytes.{Bytes, blockAt};
+ghost use Rattle.model.specs.Layout.{isMaster};
+ghost use Rattle.model.specs.Recovery.{shapeOn};
+ghost use Rattle.model.specs.Tape.{homeCount};
+ghost use Rattle.cells.specs.Answer.{worldIn};
+use crate::master::disk_shape;
+use model::Phase;
+
+// The home blocks that the disk's master counts, none where it is unfit.
+fn master_count(disk: &[u8]) -> u8
+    requires { ⌜ length (now disk) ≡ 32896 ⌝ }
+    ensures { λ r. ⌜ r ≡ cond (isMaster (blockAt (now (disk .entry)) 0)) ((shapeOn (now (disk .entry))) .blocks) 0 ⌝ }
+{
+    if !layout::is_master(&disk[0..128]) {
+        return 0;
+    }
+    let s = disk_shape(disk);
+    s.blocks
+}
+
+// A blank card has none, one that is down as many as its disk says.
+pub fn home_count(w: &[u64], disk: &[u8]) -> u8
+    requires { ⌜ (length (now w) ≡ 512) × (length (now disk) ≡ 32896) ⌝ }
+    ensures { λ r. ⌜ ((m : Bytes) → r ≡ homeCount (worldIn (now (w .entry)) (now (disk .entry)) m)) ⌝ }
+{
+    let p = cells::phase_of(w);
+    match p {
+        Phase::Blank => 0,
+        Phase::Up => {
+            let s = cells::shape_of(w);
+            s.blocks
+        }
+        Phase::Down => master_count(disk),
+    }
+}
