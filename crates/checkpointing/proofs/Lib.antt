@@ -1,0 +1,3 @@
+-- Laws that the proofs of CHECKPOINT cite.
+pub mod RetireLaws
+pub mod SharedLaws
