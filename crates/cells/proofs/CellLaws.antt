@@ -282,7 +282,7 @@ unfolding openedOr
 open-new s t e h = e ∙ rw h
 
 -- ---- the card where some cells changed
-same-tail : (a b c d : ℕ) → a ≡ b → c ≡ d → newTail a c ≡ newTail b d
+pub same-tail : (a b c d : ℕ) → a ≡ b → c ≡ d → newTail a c ≡ newTail b d
 same-tail a b c d p q = rw (p, q)
 
 pub tail-same : (v w : List ℕ) (b : ℕ) → ((i : ℕ) → b ≤ i → i < b + 2 → getD w i 0 ≡ getD v i 0) → tailFrom w b ≡ tailFrom v b
@@ -292,7 +292,7 @@ tail-same v w b e =
     (ap (λ (n : ℕ). n % 4294967296) (e b (omega arith) (omega arith)))
     (ap (λ (n : ℕ). n % 256) (e (b + 1) (omega arith) (omega arith)))
 
-same-core : (a b c d e f g h : ℕ) (r s t u : Transaction) → a ≡ b → c ≡ d → e ≡ f → g ≡ h → r ≡ s → t ≡ u
+pub same-core : (a b c d e f g h : ℕ) (r s t u : Transaction) → a ≡ b → c ≡ d → e ≡ f → g ≡ h → r ≡ s → t ≡ u
     → _≡_ {A = Core} (record { next = a; used = c; stored = e; homed = g; running = r; closed = t }) (record { next = b; used = d; stored = f; homed = h; running = s; closed = u })
 same-core a b c d e f g h r s t u i j k l m n = rw (i, j, k, l, m, n)
 
@@ -311,11 +311,11 @@ pub core-at : (w : List ℕ) (c : ℕ) → c < 8 → coreOf (cardIn w) c ≡ cor
 unfolding coreOf cardIn
 core-at w c h = getD-map-below _ 8 c (freshCore 0) h
 
-same-card : (p q : Phase) (s t : Shape) (a b c d : ℕ) (ts us : List Tail) (ks ls : List Core) (hs is : List Holder) → p ≡ q → s ≡ t → a ≡ b → c ≡ d → ts ≡ us → ks ≡ ls → hs ≡ is
+pub same-card : (p q : Phase) (s t : Shape) (a b c d : ℕ) (ts us : List Tail) (ks ls : List Core) (hs is : List Holder) → p ≡ q → s ≡ t → a ≡ b → c ≡ d → ts ≡ us → ks ≡ ls → hs ≡ is
     → _≡_ {A = Card} (record { phase = p; shape = s; closes = a; recovered = c; tails = ts; cores = ks; holders = hs }) (record { phase = q; shape = t; closes = b; recovered = d; tails = us; cores = ls; holders = is })
 same-card p q s t a b c d ts us ks ls hs is e f g h i j k = rw (e, f, g, h, i, j, k)
 
-same-shape : (a b c d e f : ℕ) → a ≡ b → c ≡ d → e ≡ f → _≡_ {A = Shape} (record { cores = a; blocks = c; journal = e }) (record { cores = b; blocks = d; journal = f })
+pub same-shape : (a b c d e f : ℕ) → a ≡ b → c ≡ d → e ≡ f → _≡_ {A = Shape} (record { cores = a; blocks = c; journal = e }) (record { cores = b; blocks = d; journal = f })
 same-shape a b c d e f p q r = rw (p, q, r)
 
 -- cells of one core

@@ -4,4 +4,6 @@ pub mod RefusalLaws
 pub mod EntryLaws
 pub mod FitsLaws
 pub mod CellLaws
+pub mod CoreLaws
 pub mod MeetLaws
+pub mod TailLaws

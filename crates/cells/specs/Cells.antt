@@ -6,9 +6,9 @@ use mathlib.Core.Path.{_≡_}
 use mathlib.Core.List.{List, map}
 use mathlib.Core.Bool.{Bool, true, cond, not}
 use lib.Dec.{eqb, ltb, leb}
-use lib.ListN.{length, getD}
+use lib.ListN.{length, getD, set}
 use Rattle.model.specs.Lists.{below}
-use Rattle.model.specs.Card.{newTail, newName, noHolder, newHolder, opened, tailOf, coreOf, holderOf}
+use Rattle.model.specs.Card.{newTail, newName, noHolder, newHolder, opened, tailOf, coreOf, holderOf, withLists}
 use Rattle.model.specs.declared.Phase.{Phase}
 use Rattle.model.specs.declared.Phase.the-variants.{Blank, Up, Down}
 use Rattle.model.specs.declared.Shape.{Shape}
@@ -201,3 +201,20 @@ pub record Frame (v w : List ℕ) (a n : ℕ) : Type 0 where
 -- the transaction, or one that opens
 unfoldable pub openedOr : Transaction → Transaction
 openedOr t = cond (t .live) t opened
+
+-- a core with these numbers, and with this closed transaction
+abbrev pub withNumbers : Core → ℕ → ℕ → ℕ → ℕ → Core
+withNumbers k next used stored homed =
+    record { next = next; used = used; stored = stored; homed = homed; running = k .running; closed = k .closed }
+
+abbrev pub withClosed : Core → Transaction → Core
+withClosed k t = record { next = k .next; used = k .used; stored = k .stored; homed = k .homed; running = k .running; closed = t }
+
+-- a card with this count of closes
+abbrev pub withCloses : Card → ℕ → Card
+withCloses x n =
+    record { phase = x .phase; shape = x .shape; closes = n; recovered = x .recovered; tails = x .tails; cores = x .cores; holders = x .holders }
+
+-- the card with core c's tail replaced
+abbrev pub withTail : Card → ℕ → Tail → Card
+withTail x c t = withLists x (set (x .tails) c t) (x .cores) (x .holders)

@@ -2,10 +2,14 @@
 // block's holders, the refusals that come first. Its functions are no public entries: each asks for the length of the cells, which
 // the type fixes at the library's entries.
 mod fields; // the header, and where each part stands
+mod cores; // a core's numbers
 mod lists; // a transaction's blocks and names
 mod holders; // the transaction that holds a block
+mod tails; // where each core's journal begins
 mod refusals; // what commands meet first
 
+pub use cores::put_numbers;
+pub use fields::CLOSES;
 pub use fields::CORE_SIZE;
 pub use fields::CORES;
 pub use fields::HOLDERS;
@@ -40,6 +44,9 @@ pub use refusals::entry_refusal;
 pub use refusals::phase_refusal;
 pub use refusals::state_refusal;
 pub use refusals::wrong_length;
+pub use tails::put_tail;
+pub use tails::tail_at;
+pub use tails::tails_of;
 
 // What a command answers: the number of its refusal, 0 if it is done, and the stores that it did.
 pub struct Answer {

@@ -1,0 +1,19 @@
+// A core's numbers: next, used, stored, homed.
+ghost use mathlib.Core.Path.{_≡_};
+ghost use Prim.Native.Nat.{_<_};
+ghost use lib.ListN.{length};
+ghost use Rattle.model.specs.Card.{coreOf, withCore};
+ghost use Rattle.cells.specs.Cells.{cardIn, corePlace, withNumbers, Frame};
+use crate::fields::core_place;
+
+// Core c with these numbers.
+pub fn put_numbers(w: &mut [u64], c: u8, next: u32, used: u8, stored: u8, homed: u8)
+    requires { ⌜ (length (now w) ≡ 512) × (c < 8) ⌝ }
+    ensures { λ _. ⌜ (cardIn (now (w .exit)) ≡ withCore (cardIn (now (w .entry))) c (withNumbers (coreOf (cardIn (now (w .entry))) c) next used stored homed)) × Frame (now (w .entry)) (now (w .exit)) (corePlace c) 4 ⌝ }
+{
+    let at = core_place(c);
+    w[at] = next as u64;
+    w[at + 1] = used as u64;
+    w[at + 2] = stored as u64;
+    w[at + 3] = homed as u64;
+}
