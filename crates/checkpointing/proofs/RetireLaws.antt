@@ -3,17 +3,20 @@ use Prim.Native.Nat.{ℕ, _+_, _-_, _≤_, _<_}
 use native.Mathlib.Omega.{arith}
 use mathlib.Core.Path.{_≡_, refl, sym, ap, _∙_}
 use mathlib.Core.Bool.{Bool, true, false, cond}
-use mathlib.Core.List.{List}
+use mathlib.Core.List.{List, map-map}
 use lib.Dec.{eqb}
 use lib.ListN.{length, getD, set, length-set}
 use lib.Seq.{getD-set-same, getD-set-other}
 use borrow.Author.Tests.{eqb-true, eqb-false, ne-eqb}
-use Rattle.model.specs.Card.{sameName, noHolder, newHolder}
-use Rattle.model.specs.Checkpoint.{freed}
+use Rattle.model.specs.Lists.{below}
+use Rattle.model.specs.Card.{sameName, noHolder, newHolder, withLists}
+use Rattle.model.specs.Checkpoint.{freed, released}
 use Rattle.model.specs.declared.Name.{Name}
-use Rattle.model.proofs.Lists.{cases}
-use Rattle.cells.specs.Cells.{nameIn, holderIn, holderPlace, fitsAt, Fits, Frame}
+use Rattle.model.specs.declared.Holder.{Holder}
+use Rattle.model.proofs.Lists.{cases, map-below}
+use Rattle.cells.specs.Cells.{nameIn, holderIn, cardIn, holderPlace, fitsAt, Fits, Frame}
 use Rattle.cells.proofs.FitsLaws.{fits-zero, fits-set, frame-then, frame-same}
+use Rattle.cells.proofs.CoreLaws.{holders-put}
 use Rattle.checkpointing.specs.Oldest.{Freed}
 
 -- ---- a holder's cell
@@ -53,6 +56,13 @@ frame-kept v a n j x p q h e =
       kept = λ f. fits-set v j x (e (f j h)) f;
     }
 
+holders-freed : (n : Name) (v w : List ℕ) → ((b : ℕ) → b < 64 → holderIn (getD w (holderPlace b) 0) ≡ freed n (holderIn (getD v (holderPlace b) 0)))
+    → (cardIn w) .holders ≡ released n ((cardIn v) .holders)
+unfolding cardIn released
+holders-freed n v w e =
+    map-below (λ (b : ℕ). holderIn (getD w (holderPlace b) 0)) (λ (b : ℕ). freed n (holderIn (getD v (holderPlace b) 0))) 64 e
+    ∙ sym (map-map (freed n) (λ (b : ℕ). holderIn (getD v (holderPlace b) 0)) (below 64))
+
 module _ (n : Name) (v : List ℕ) (size : length v ≡ 512) where
   pub release-start : Releasing n v v 0
   release-start = record { most = omega arith; frame = frame-same v 32 64; made = λ b h. absurd (omega arith); left = λ b h. refl }
@@ -73,3 +83,11 @@ module _ (n : Name) (v : List ℕ) (size : length v ≡ 512) where
               ap holderIn (getD-set-other w (holderPlace i) (holderPlace b) r 0 (omega arith)) ∙ s .made b (omega arith));
           left = λ b l. getD-set-other w (holderPlace i) (holderPlace b) r 0 (omega arith) ∙ s .left b (omega arith);
         }
+
+  pub release-end : (w : List ℕ) (i : ℕ) → Releasing n v w i → 64 ≤ i → cardIn w ≡ withLists (cardIn v) ((cardIn v) .tails) ((cardIn v) .cores) (released n ((cardIn v) .holders))
+  release-end w i s h =
+      holders-put v w (s .frame)
+      ∙ ap (withLists (cardIn v) ((cardIn v) .tails) ((cardIn v) .cores)) holders-done
+    where
+      holders-done : (cardIn w) .holders ≡ released n ((cardIn v) .holders)
+      holders-done = holders-freed n v w (λ b l. s .made b (omega (arith, s .most)))

@@ -2,10 +2,10 @@
 use Prim.Native.Nat.{ℕ, _-_, _<_, min}
 use mathlib.Core.Path.{_≡_}
 use mathlib.Core.List.{List, [], _∷_, map}
-use mathlib.Core.Bool.{Bool, true, cond, not, _&&_}
+use mathlib.Core.Bool.{Bool, true, cond, not, _&&_, _||_}
 use lib.ListN.{getD}
 use lib.Dec.{ltb, eqb}
-use Rattle.model.specs.Lists.{below}
+use Rattle.model.specs.Lists.{below, any}
 use Rattle.model.specs.Bytes.{Bytes}
 use Rattle.model.specs.Card.{taken, shapeOf, tailOf, coreOf, committedCount}
 use Rattle.model.specs.Journal.{recordAt, nameOf, blocksOf}
@@ -20,6 +20,9 @@ use Rattle.model.specs.declared.Committed.{Committed}
 use Rattle.model.specs.declared.Found.{Found}
 use Rattle.model.specs.declared.Found.the-variants.{Whole, Miss}
 use Rattle.model.proofs.Journal.{Known}
+use Rattle.layout.specs.Loops.{some}
+use Rattle.journal.specs.Slots.{entries}
+use Rattle.journal.specs.Newest.{sharesBelow}
 use Rattle.cells.specs.Answer.{world, worldIn, outcomeIn, newAnswer}
 use Rattle.cells.specs.Cells.{holderIn, fitsAt, Frame}
 
@@ -53,9 +56,9 @@ lowerClosed s d e t = t .live && ltb (t .stamp) (e .stamp) && share (blocksOf s 
 unfoldable pub closedLower : Card → Shape → Bytes → Committed → ℕ → Bool
 closedLower x s d e i = lowerClosed s d e ((coreOf x i) .closed)
 
--- the code's answer: core c's oldest transaction, if there is one, is in the valid set
-unfoldable pub TellsValid : Card → Bytes → ℕ → Bool → Type 0
-TellsValid x d c r = (e : Committed) → oldestAt x d c ≡ Whole e → (m : Bytes) → r ≡ isIn (validNow (world x d m)) (nameOf e)
+-- one of those, or a committed one, as the slots have them
+unfoldable pub lowerShares : Card → Shape → Bytes → List ℕ → Committed → Bool
+lowerShares x s d slots e = any (sharesBelow s d e) (entries s d [] slots) || some (s .cores) (closedLower x s d e)
 
 -- ---- the command
 -- what refuses the checkpoint of core c's oldest transaction

@@ -10,7 +10,7 @@ ghost use Rattle.model.specs.Checkpoint.{share};
 ghost use Rattle.model.proofs.Limits.{InRange};
 ghost use Rattle.layout.specs.Loops.{some};
 ghost use Rattle.cells.specs.Cells.{cardIn, transactionIn};
-ghost use Rattle.checkpointing.specs.Oldest.{IsRead, lowerClosed, closedLower};
+ghost use Rattle.checkpointing.specs.Oldest.{IsRead, lowerClosed, closedLower, lowerShares};
 use cells::block_count;
 use cells::byte_in;
 use cells::closed_place;
@@ -80,7 +80,7 @@ fn lower_closed(w: &[u64], at: usize, s: Shape, disk: &[u8], e: Committed) -> bo
 }
 
 // Whether any closed one does.
-pub fn any_closed(w: &[u64], s: Shape, disk: &[u8], e: Committed) -> bool
+fn any_closed(w: &[u64], s: Shape, disk: &[u8], e: Committed) -> bool
     requires { ⌜ (length (now w) ≡ 512) × InRange s × (length (now disk) ≡ 32896) × IsRead s (now disk) e ⌝ }
     ensures { λ r. ⌜ r ≡ some (s .cores) (closedLower (cardIn (now (w .entry))) s (now (disk .entry)) e) ⌝ }
 {
@@ -93,4 +93,15 @@ pub fn any_closed(w: &[u64], s: Shape, disk: &[u8], e: Committed) -> bool
         c += 1;
     }
     false
+}
+
+// Whether an unretired transaction of lower stamp, committed or closed, shares a block. The slots are the committed ones.
+pub fn shares_lower(w: &[u64], s: Shape, e: Committed, disk: &[u8], slots: &[u16; 96]) -> bool
+    requires { ⌜ (length (now w) ≡ 512) × InRange s × (length (now disk) ≡ 32896) × IsRead s (now disk) e ⌝ }
+    ensures { λ r. ⌜ r ≡ lowerShares (cardIn (now (w .entry))) s (now (disk .entry)) (now (slots .entry)) e ⌝ }
+{
+    if journal::shares_lower(s, disk, slots, e) {
+        return true;
+    }
+    any_closed(w, s, disk, e)
 }
