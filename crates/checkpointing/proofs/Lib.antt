@@ -1,3 +1,5 @@
 -- Laws that the proofs of CHECKPOINT cite.
 pub mod RetireLaws
 pub mod SharedLaws
+pub mod CountLaws
+pub mod StoreLaws

@@ -3,7 +3,7 @@ use Prim.Native.Nat.{ℕ, _+_, _-_, _≤_, _<_, min}
 use native.Mathlib.Omega.{arith}
 use mathlib.Core.Path.{_≡_, refl, sym, ap, _∙_, subst}
 use mathlib.Core.Bool.{Bool, true, false, not}
-use mathlib.Core.List.{List, map}
+use mathlib.Core.List.{List, [], map}
 use lib.ListN.{length, getD, take, length-take, List·getD-map}
 use lib.Dec.{eqb}
 use borrow.Author.Tests.{not-true, not-false, lt-ltb, le-ltb, eq-eqb, ne-eqb}
@@ -23,11 +23,12 @@ use Rattle.model.proofs.Limits.{InRange}
 use Rattle.model.proofs.Records.{length-blocksOf, known-below}
 use Rattle.layout.specs.Loops.{some}
 use Rattle.layout.proofs.Loops.{some-none, some-no, some-in, some-out}
-use Rattle.journal.specs.Slots.{Sized}
+use Rattle.journal.specs.Slots.{entries, Sized}
+use Rattle.journal.specs.Newest.{sharesBelow}
 use Rattle.cells.specs.Cells.{byteIn, transactionIn, cardIn, closedPlace}
 use Rattle.cells.proofs.Parts.{any-hit, any-more, any-none, any-all}
 use Rattle.cells.proofs.CellLaws.{block-read, closed-read}
-use Rattle.checkpointing.specs.Oldest.{IsRead, lowerClosed, closedLower}
+use Rattle.checkpointing.specs.Oldest.{IsRead, lowerClosed, closedLower, lowerShares}
 
 -- the shape as it is read is within its limits
 pub shape-range : (x : Card) (s : Shape) → s ≡ shapeOf x → InRange s
@@ -147,10 +148,20 @@ module _ (s : Shape) (d : Bytes) (e : Committed) (w : List ℕ) (a : ℕ) (g : B
     unfolding lowerClosed
     closed-earlier l r z = z ∙ rw (← q, not-false g h, ← stamp-read w a, lt-ltb (getD w (a + 1) 0) (e .stamp) l)
 
-module _ (w : List ℕ) (s : Shape) (d : Bytes) (e : Committed) (c : ℕ) (l : InRange s) (h : c < s .cores) where
-  pub closed-in : closedPlace c + 24 ≤ 512
+module _ (s : Shape) (c at : ℕ) (p : at ≡ closedPlace c) (l : InRange s) (h : c < s .cores) where
+  pub closed-in : at + 24 ≤ 512
   closed-in = omega (arith, l .few-cores)
 
-  pub is-lower : (r : Bool) → r ≡ lowerClosed s d e (transactionIn w (closedPlace c)) → r ≡ closedLower (cardIn w) s d e c
+  pub is-lower : (w : List ℕ) (d : Bytes) (e : Committed) (r : Bool) → r ≡ lowerClosed s d e (transactionIn w at) → r ≡ closedLower (cardIn w) s d e c
   unfolding closedLower
-  is-lower r q = q ∙ rw (closed-read w c (omega (arith, l .few-cores)))
+  is-lower w d e r q = q ∙ rw p (rw (closed-read w c (omega (arith, l .few-cores))))
+
+-- a committed one, then a closed one
+module _ (x : Card) (s : Shape) (d : Bytes) (slots : List ℕ) (e : Committed) (g : Bool) (q : g ≡ any (sharesBelow s d e) (entries s d [] slots)) where
+  pub lower-committed : g ≡ true → true ≡ lowerShares x s d slots e
+  unfolding lowerShares
+  lower-committed t = rw (← q, t)
+
+  pub lower-closed : g ≡ false → (r : Bool) → r ≡ some (s .cores) (closedLower x s d e) → r ≡ lowerShares x s d slots e
+  unfolding lowerShares
+  lower-closed t r z = z ∙ rw (← q, t)
