@@ -3,3 +3,4 @@ pub mod RetireLaws
 pub mod SharedLaws
 pub mod CountLaws
 pub mod StoreLaws
+pub mod OldestLaws

@@ -1,7 +1,7 @@
 -- CHECKPOINT: a block stored home, and the master.
 use Prim.Native.Nat.{ℕ, _+_, _≤_, _<_}
 use native.Mathlib.Omega.{arith}
-use mathlib.Core.Path.{_≡_, sym, ap, _∙_}
+use mathlib.Core.Path.{_≡_, refl, _∙_}
 use mathlib.Core.List.{List}
 use lib.ListN.{getD, set}
 use borrow.Author.Tests.{lt-ltb, le-ltb}
@@ -49,11 +49,16 @@ module _ (v w : List ℕ) (c : ℕ) (e : Committed) (d k : Bytes) where
       }
 
 -- ---- the master
+retired-master : (x : Card) (c : ℕ) (e : Committed)
+    → masterBlock (shapeOf x) (λ (i : ℕ). getD (set (x .tails) c (movedTail (shapeOf x) e)) i (newTail 0 0)) ≡ masterBlock (shapeOf (retiredCard c e x)) (tailOf (retiredCard c e x))
+unfolding shapeOf tailOf retiredCard
+retired-master x c e = refl
+
 master-outcome : (x : Card) (c : ℕ) (e : Committed) (s : Shape) → s ≡ shapeOf x → (t : Tail) → t ≡ movedTail s e → (ts : List Tail) → ts ≡ x .tails
     → (d k : Bytes) → k ≡ store d 0 (masterBlock (clamped s) (λ (i : ℕ). getD (set ts c t) i (newTail 0 0))) → (y : Card) → y ≡ retiredCard c e x
     → (m : Bytes) → record { answer = 0; world = world y k m; stores = 1 } ≡ storedMaster c e (world x d m)
-unfolding storedMaster retiredCard tailOf
-master-outcome x c e s p t q ts o d k r y z m = rw (r, z, clamped-same s (shape-range x s p), q, o, p)
+unfolding storedMaster
+master-outcome x c e s p t q ts o d k r y z m = rw (r, z, clamped-same s (shape-range x s p), q, o, p, retired-master x c e)
 
 module _ (v w : List ℕ) (c : ℕ) (e : Committed) (d k : Bytes) where
   pub master-stored : (s : Shape) → s ≡ shapeOf (cardIn v) → (t : Tail) → t ≡ movedTail s e → (ts : List Tail) → ts ≡ (cardIn v) .tails
