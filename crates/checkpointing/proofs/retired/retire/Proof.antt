@@ -1,0 +1,10 @@
+-- `checkpointing::retired::retire` meets its contract: the tail, the core, the holders.
+use Rattle.checkpointing.proofs.RetireLaws.{retired-card, retired-frame, size-kept}
+use borrow.Author.Needs.{needs}
+use Rattle.checkpointing.proofs.retired.retire.Statement.{statement}
+use Rattle.checkpointing.proofs.retired.retire.Tie as tie
+
+pub retire-spec : {M : Type 1} → statement M
+retire-spec =
+    tie.close
+    (tie.spec (λ c κs. search needs) (λ c κs. search (needs, size-kept)) (λ c κs. search (needs, size-kept)) (λ c. search needs) (λ c. (search (needs, retired-card), search (needs, retired-frame))))

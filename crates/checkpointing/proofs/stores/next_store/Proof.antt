@@ -1,0 +1,11 @@
+-- `checkpointing::stores::next_store` meets its contract: a home store, or the master.
+use Rattle.checkpointing.proofs.RetireLaws.{homed-is}
+use Rattle.checkpointing.proofs.StoreLaws.{next-home, next-master}
+use borrow.Author.Needs.{needs}
+use Rattle.checkpointing.proofs.stores.next_store.Statement.{statement}
+use Rattle.checkpointing.proofs.stores.next_store.Tie as tie
+
+pub next-store-spec : {M : Type 1} → statement M
+next-store-spec =
+    tie.close
+    (tie.spec (λ c κs. search needs) (λ c. search needs) (λ c κs. search needs) (λ c κs. search (needs, homed-is)) (λ c. search needs) (λ c. search needs) (λ c. search (needs, next-home)) (λ c κs. search needs) (λ c. search needs) (λ c. search needs) (λ c. search (needs, next-master)))

@@ -1,0 +1,2 @@
+-- What the contracts of CHECKPOINT say beyond crate `model`.
+pub mod Oldest
