@@ -29,12 +29,31 @@ pub const HOLDERS: usize = 32;
 
 pub const CORES: usize = 96;
 
-// A core: next, used, stored, homed, then its two transactions.
+// A core: its next number, then blocks used, stores and home stores done, then its two transactions.
 pub const CORE_SIZE: usize = 52;
+
+pub const USED: usize = 1;
+
+pub const STORED: usize = 2;
+
+pub const HOMED: usize = 3;
 
 pub const RUNNING: usize = 4;
 
 pub const CLOSED: usize = 28;
+
+// A transaction: whether there is one, then its stamp, the counts of its blocks and names, the blocks, the names.
+pub const TRANSACTION_SIZE: usize = 24;
+
+pub const STAMP: usize = 1;
+
+pub const COUNT: usize = 2;
+
+pub const NAMED: usize = 3;
+
+pub const BLOCKS: usize = 4;
+
+pub const NAMES: usize = 12;
 
 // The lowest byte of cell i.
 pub fn byte_in(w: &[u64], i: usize) -> u8

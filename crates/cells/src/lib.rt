@@ -11,14 +11,23 @@ mod phases; // the card as each phase begins
 mod refusals; // what commands meet first
 
 pub use cores::put_numbers;
+pub use fields::BLOCKS;
 pub use fields::CLOSES;
 pub use fields::CORE_SIZE;
 pub use fields::CORES;
+pub use fields::COUNT;
 pub use fields::HOLDERS;
+pub use fields::HOMED;
+pub use fields::NAMED;
+pub use fields::NAMES;
 pub use fields::PHASE;
 pub use fields::RECOVERED;
+pub use fields::STAMP;
+pub use fields::STORED;
 pub use fields::STORES;
 pub use fields::TAILS;
+pub use fields::TRANSACTION_SIZE;
+pub use fields::USED;
 pub use fields::byte_in;
 pub use fields::closed_place;
 pub use fields::core_place;

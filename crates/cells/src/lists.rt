@@ -6,19 +6,13 @@ ghost use lib.ListN.{length};
 ghost use Rattle.model.specs.Card.{noTransaction, sameName, taken, listed, lists, withName, withBlock};
 ghost use Rattle.model.specs.Write.{passesTwelve};
 ghost use Rattle.cells.specs.Cells.{nameIn, nameCell, transactionIn, openedOr, IsPlace, Frame};
+use crate::fields::BLOCKS;
+use crate::fields::COUNT;
+use crate::fields::NAMED;
+use crate::fields::NAMES;
+use crate::fields::TRANSACTION_SIZE;
 use crate::fields::byte_in;
 use model::Name;
-
-// The cells of a transaction: live, stamp, count of its blocks, count of its names, the blocks, the names.
-const COUNT: usize = 2;
-
-const NAMED: usize = 3;
-
-const BLOCKS: usize = 4;
-
-const NAMES: usize = 12;
-
-const SIZE: usize = 24;
 
 // Whether there is a transaction at a place.
 pub fn is_live(w: &[u64], at: usize) -> bool
@@ -127,7 +121,7 @@ pub fn clear(w: &mut [u64], at: usize)
     ensures { λ _. ⌜ (transactionIn (now (w .exit)) at ≡ noTransaction) × Frame (now (w .entry)) (now (w .exit)) at 24 ⌝ }
 {
     let mut i: usize = 0;
-    while i < SIZE {
+    while i < TRANSACTION_SIZE {
         w[at + i] = 0;
         i += 1;
     }

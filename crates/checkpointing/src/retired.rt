@@ -9,6 +9,8 @@ ghost use Rattle.model.proofs.Limits.{InRange};
 ghost use Rattle.cells.specs.Cells.{cardIn, corePlace, Frame};
 ghost use Rattle.checkpointing.specs.Oldest.{Freed};
 use cells::HOLDERS;
+use cells::STORED;
+use cells::USED;
 use cells::byte_in;
 use cells::core_place;
 use cells::name_of;
@@ -20,13 +22,6 @@ use model::Committed;
 use model::Name;
 use model::Shape;
 use model::Tail;
-
-// The cells of a core's numbers after the first.
-pub const USED: usize = 1;
-
-pub const STORED: usize = 2;
-
-pub const HOMED: usize = 3;
 
 // A holder's cell after the transaction of this name is retired.
 fn freed_cell(x: u64, n: Name) -> u64

@@ -11,17 +11,14 @@ ghost use Rattle.model.proofs.Limits.{InRange};
 ghost use Rattle.layout.specs.Loops.{some};
 ghost use Rattle.cells.specs.Cells.{cardIn, transactionIn};
 ghost use Rattle.checkpointing.specs.Oldest.{IsRead, lowerClosed, closedLower, lowerShares};
+use cells::BLOCKS;
+use cells::STAMP;
 use cells::block_count;
 use cells::byte_in;
 use cells::closed_place;
 use cells::is_live;
 use model::Committed;
 use model::Shape;
-
-// The cells of a transaction: its stamp, and where its blocks begin.
-const STAMP: usize = 1;
-
-const BLOCKS: usize = 4;
 
 // The block that a transaction took as its i-th. It was read from a record, so the number fits.
 pub fn block_at(s: Shape, disk: &[u8], e: Committed, i: usize) -> u8

@@ -119,7 +119,7 @@ fn perform_write(w: &mut [u64], operands: &[u8], disk: &[u8], memory: &mut [u8])
         (let a = now (operands .entry) in
         Meets (write (getD a 0 0) (number 0 (part 1 2 a)) (getD a 3 0) (part 4 4 a) (worldIn (now (w .entry)) (now (disk .entry)) (now (memory .entry))))
         (now (w .entry)) (now (w .exit)) (now (disk .entry)) (now (memory .exit)) r)
-    ⌝ }
+        ⌝ }
 {
     let high = byte_at(operands, 1);
     let low = byte_at(operands, 2);
@@ -134,7 +134,7 @@ fn perform(w: &mut [u64], k: u8, operands: &[u8], disk: &mut [u8], memory: &mut 
     ensures { λ r. ⌜
         Meets (step k (now (operands .entry)) (worldIn (now (w .entry)) (now (disk .entry)) (now (memory .entry))))
         (now (w .entry)) (now (w .exit)) (now (disk .exit)) (now (memory .exit)) r
-    ⌝ }
+        ⌝ }
 {
     let c = byte_at(operands, 0);
     match k {
@@ -163,7 +163,7 @@ fn command(w: &mut [u64], tape: &[u8], at: usize, disk: &mut [u8], memory: &mut 
         (now (w .entry)) (now (w .exit)) (now (disk .exit)) (now (memory .exit)) (r .answer)
         × (r .byte ≡ commandByte (now (tape .entry)) at)
         × (r .next ≡ nextOffset (now (tape .entry)) at)
-    ⌝ }
+        ⌝ }
 {
     let byte = byte_at(tape, at);
     let next = next_offset(tape, at);
@@ -217,7 +217,7 @@ pub fn counted_command(
         (now (w .entry)) (now (w .exit)) (now (disk .exit)) (now (memory .exit)) (r .answer .number)
         × (r .byte ≡ commandByte (now (tape .entry)) at)
         × (r .next ≡ nextOffset (now (tape .entry)) at)
-    ⌝ }
+        ⌝ }
 {
     let before = cells::stores_of(w);
     let done = command(w, tape, at, disk, memory);

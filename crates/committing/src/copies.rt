@@ -9,11 +9,9 @@ ghost use Rattle.model.specs.Card.{taken};
 ghost use Rattle.model.specs.Layout.{flagOf};
 ghost use Rattle.model.specs.Commit.{copyBlock, copied};
 ghost use Rattle.cells.specs.Cells.{transactionIn};
+use cells::BLOCKS;
 use cells::block_count;
 use cells::byte_in;
-
-// Where a transaction's blocks begin in its cells.
-const BLOCKS: usize = 4;
 
 // The memory block of a core's copy i.
 fn copy_place(c: u8, i: usize) -> usize

@@ -7,6 +7,11 @@ ghost use Rattle.model.specs.Commit.{closedCard, coreStored};
 ghost use Rattle.cells.specs.Cells.{transactionIn, cardIn, corePlace, runningPlace, closedPlace, Frame};
 ghost use Rattle.committing.specs.Frozen.{frozen, countedClose};
 use cells::CLOSES;
+use cells::HOMED;
+use cells::STAMP;
+use cells::STORED;
+use cells::TRANSACTION_SIZE;
+use cells::USED;
 use cells::block_count;
 use cells::byte_in;
 use cells::clear;
@@ -16,17 +21,6 @@ use cells::number_in;
 use cells::put_numbers;
 use cells::running_place;
 
-// The cells of a core's numbers; a transaction's size, and its stamp.
-const USED: usize = 1;
-
-const STORED: usize = 2;
-
-const HOMED: usize = 3;
-
-const SIZE: usize = 24;
-
-const STAMP: usize = 1;
-
 // The cells of core c's running transaction copied to those of its closed one.
 fn copy_running(w: &mut [u64], c: u8)
     requires { ⌜ (length (now w) ≡ 512) × (c < 8) ⌝ }
@@ -35,7 +29,7 @@ fn copy_running(w: &mut [u64], c: u8)
     let from = running_place(c);
     let to = closed_place(c);
     let mut i: usize = 0;
-    while i < SIZE {
+    while i < TRANSACTION_SIZE {
         w[to + i] = w[from + i];
         i += 1;
     }

@@ -9,7 +9,14 @@ ghost use Rattle.model.specs.Commit.{copyBlock, heldCopies, closedNumber, nextS
 ghost use Rattle.cells.specs.Cells.{transactionIn, cardIn};
 use crate::copies::copy_at;
 use crate::copies::flags_of;
+use cells::BLOCKS;
+use cells::COUNT;
+use cells::NAMED;
+use cells::NAMES;
+use cells::STAMP;
+use cells::STORED;
 use cells::TAILS;
+use cells::USED;
 use cells::block_count;
 use cells::byte_in;
 use cells::closed_place;
@@ -17,21 +24,6 @@ use cells::core_place;
 use cells::name_of;
 use cells::number_in;
 use model::Name;
-
-// The cells of a core's counts and of a transaction's parts.
-const USED: usize = 1;
-
-const STORED: usize = 2;
-
-const STAMP: usize = 1;
-
-const COUNT: usize = 2;
-
-const NAMED: usize = 3;
-
-const BLOCKS: usize = 4;
-
-const NAMES: usize = 12;
 
 // The number of core c's closed transaction: CLOSE moved the count on. Only a card that no run made has the count at 0.
 fn closed_number(w: &[u64], c: u8) -> u32

@@ -38,7 +38,7 @@ pub extern "C" fn rev_d_command(
     ensures { λ r. ⌜
         RunsCommand (now (tape .entry)) at (now (w .entry)) (now (disk .entry)) (now (memory .entry))
         (now (w .exit)) (now (disk .exit)) (now (memory .exit)) r
-    ⌝ }
+        ⌝ }
 {
     crate::session::command(w, tape, at, disk, memory)
 }
@@ -54,7 +54,7 @@ pub extern "C" fn rev_d_tape(
     ensures { λ r. ⌜
         RunsTape (now (tape .entry)) (now (w .entry)) (now (disk .entry)) (now (memory .entry))
         (now (w .exit)) (now (disk .exit)) (now (memory .exit)) r
-    ⌝ }
+        ⌝ }
 {
     crate::session::run(w, tape, disk, memory)
 }
@@ -87,7 +87,7 @@ pub extern "C" fn rev_d_read_block<'a>(
     ensures { λ r. ⌜
         (r ≡ readNumber b (worldIn (now (w .entry)) (now (disk .entry)) (now (memory .entry))))
         × (now (out .exit) ≡ readInto r b (worldIn (now (w .entry)) (now (disk .entry)) (now (memory .entry))) (now (out .entry)))
-    ⌝ }
+        ⌝ }
 {
     crate::session::copy_block(w, b, disk, memory, out)
 }

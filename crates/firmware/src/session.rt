@@ -65,7 +65,7 @@ pub fn command(
     ensures { λ r. ⌜
         RunsCommand (now (tape .entry)) at (now (w .entry)) (now (disk .entry)) (now (memory .entry))
         (now (w .exit)) (now (disk .exit)) (now (memory .exit)) r
-    ⌝ }
+        ⌝ }
 {
     let done = command::counted_command(w, tape, at, disk, memory);
     let answer = done.answer;
@@ -114,7 +114,7 @@ pub fn copy_block<'a>(
     ensures { λ r. ⌜
         (r ≡ readNumber b (worldIn (now (w .entry)) (now (disk .entry)) (now (memory .entry))))
         × (now (out .exit) ≡ readInto r b (worldIn (now (w .entry)) (now (disk .entry)) (now (memory .entry))) (now (out .entry)))
-    ⌝ }
+        ⌝ }
 {
     let n = read_number(w, b, disk, memory);
     if n != 0 {
@@ -130,7 +130,7 @@ pub fn run(w: &mut [u64; 512], tape: &[u8], disk: &mut [u8], memory: &mut [u8]) 
     ensures { λ r. ⌜
         RunsTape (now (tape .entry)) (now (w .entry)) (now (disk .entry)) (now (memory .entry))
         (now (w .exit)) (now (disk .exit)) (now (memory .exit)) r
-    ⌝ }
+        ⌝ }
 {
     let mut last = Stop {
         at: 0,
