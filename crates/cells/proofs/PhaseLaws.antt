@@ -1,19 +1,18 @@
 -- The card as each phase begins: every cell zeroed, then the phase put, or shape and tails.
-use Prim.Native.Nat.{ℕ, zero, suc, _+_, _*_, _%_, _≤_, _<_}
+use Prim.Native.Nat.{ℕ, zero, suc, _+_, _%_, _≤_, _<_}
 use native.Mathlib.Omega.{arith}
 use mathlib.Core.Path.{_≡_, refl, sym, ap, _∙_, subst}
-use mathlib.Core.Bool.{cond}
 use mathlib.Core.List.{List, [], _∷_, map, map-id}
 use lib.ListN.{length, getD, set, replicate, length-set, length-replicate, getD-replicate, List·getD-eq-default}
 use lib.Seq.{getD-set-same, getD-set-other}
-use Rattle.model.specs.Card.{newTail, freshCore, freshCard, emptyCard, blankCard, downCard, coreOf, withLists, withCore}
+use Rattle.model.specs.Card.{freshCore, freshCard, emptyCard, blankCard, downCard, coreOf, withLists, withCore}
 use Rattle.model.specs.declared.Phase.the-variants.{Up}
 use Rattle.model.specs.declared.Shape.{Shape}
 use Rattle.model.specs.declared.Tail.{Tail}
 use Rattle.model.specs.declared.Core.{Core}
 use Rattle.model.specs.declared.Card.{Card}
 use Rattle.layout.proofs.DiskLaws.{Zeroed, zeroed-all}
-use Rattle.cells.specs.Cells.{byteIn, phaseIn, cardIn, cellsOf, corePlace, tailPlace, withNumbers, withTail, upWith, fitsAt, Fits, Frame}
+use Rattle.cells.specs.Cells.{phaseIn, cardIn, cellsOf, corePlace, tailPlace, withNumbers, withTail, upWith, fitsAt, Fits, Frame}
 use Rattle.cells.proofs.Parts.{filled, filled-none, filled-more, filled-all}
 use Rattle.cells.proofs.FitsLaws.{fits-zero, fits-phase, fits-field, frame-same, frame-set, frame-then, frame-wider}
 use Rattle.cells.proofs.CellLaws.{length-tabled, same-card, same-shape}

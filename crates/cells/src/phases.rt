@@ -17,7 +17,11 @@ use model::Tail;
 // Every cell zeroed: the card is blank.
 pub fn blank(w: &mut [u64])
     requires { ⌜ length (now w) ≡ 512 ⌝ }
-    ensures { λ _. ⌜ (now (w .exit) ≡ cellsOf blankCard 0) × (cardIn (now (w .exit)) ≡ blankCard) × Frame (now (w .entry)) (now (w .exit)) 0 512 ⌝ }
+    ensures { λ _. ⌜
+        (now (w .exit) ≡ cellsOf blankCard 0)
+        × (cardIn (now (w .exit)) ≡ blankCard)
+        × Frame (now (w .entry)) (now (w .exit)) 0 512
+        ⌝ }
 {
     let mut i: usize = 0;
     while i < w.len() {
@@ -29,7 +33,11 @@ pub fn blank(w: &mut [u64])
 // The card down: it keeps nothing else.
 pub fn go_down(w: &mut [u64])
     requires { ⌜ length (now w) ≡ 512 ⌝ }
-    ensures { λ _. ⌜ (now (w .exit) ≡ cellsOf downCard 0) × (cardIn (now (w .exit)) ≡ downCard) × Frame (now (w .entry)) (now (w .exit)) 0 512 ⌝ }
+    ensures { λ _. ⌜
+        (now (w .exit) ≡ cellsOf downCard 0)
+        × (cardIn (now (w .exit)) ≡ downCard)
+        × Frame (now (w .entry)) (now (w .exit)) 0 512
+        ⌝ }
 {
     blank(w);
     w[PHASE] = 2;
@@ -38,7 +46,10 @@ pub fn go_down(w: &mut [u64])
 // The card up, with this shape.
 fn put_shape(w: &mut [u64], s: Shape)
     requires { ⌜ length (now w) ≡ 512 ⌝ }
-    ensures { λ _. ⌜ (cardIn (now (w .exit)) ≡ upWith (cardIn (now (w .entry))) s) × Frame (now (w .entry)) (now (w .exit)) 0 4 ⌝ }
+    ensures { λ _. ⌜
+        (cardIn (now (w .exit)) ≡ upWith (cardIn (now (w .entry))) s)
+        × Frame (now (w .entry)) (now (w .exit)) 0 4
+        ⌝ }
 {
     w[PHASE] = 1;
     w[SHAPE_CORES] = s.cores as u64;
@@ -49,7 +60,11 @@ fn put_shape(w: &mut [u64], s: Shape)
 // Each core that has nothing yet begins at its tail.
 fn begin_all(w: &mut [u64], tails: [Tail; 8])
     requires { ⌜ (length (now w) ≡ 512) × ((cardIn (now w)) .cores ≡ replicate 8 (freshCore 0)) ⌝ }
-    ensures { λ _. ⌜ (cardIn (now (w .exit)) ≡ withLists (cardIn (now (w .entry))) tails (map (λ (t : Tail). freshCore (t .number)) tails) ((cardIn (now (w .entry))) .holders)) × Frame (now (w .entry)) (now (w .exit)) 0 512 ⌝ }
+    ensures { λ _. ⌜
+        (cardIn (now (w .exit))
+        ≡ withLists (cardIn (now (w .entry))) tails (map (λ (t : Tail). freshCore (t .number)) tails) ((cardIn (now (w .entry))) .holders))
+        × Frame (now (w .entry)) (now (w .exit)) 0 512
+        ⌝ }
 {
     let mut c: u8 = 0;
     while c < 8 {
@@ -63,7 +78,10 @@ fn begin_all(w: &mut [u64], tails: [Tail; 8])
 // The card up: empty journals that begin at these tails, no holder, no close counted.
 pub fn come_up(w: &mut [u64], s: Shape, tails: [Tail; 8])
     requires { ⌜ length (now w) ≡ 512 ⌝ }
-    ensures { λ _. ⌜ (cardIn (now (w .exit)) ≡ freshCard Up s tails) × Frame (now (w .entry)) (now (w .exit)) 0 512 ⌝ }
+    ensures { λ _. ⌜
+        (cardIn (now (w .exit)) ≡ freshCard Up s tails)
+        × Frame (now (w .entry)) (now (w .exit)) 0 512
+        ⌝ }
 {
     blank(w);
     put_shape(w, s);

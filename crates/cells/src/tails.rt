@@ -41,7 +41,10 @@ pub fn tails_of(w: &[u64]) -> [Tail; 8]
 // Core c's tail replaced.
 pub fn put_tail(w: &mut [u64], c: u8, t: Tail)
     requires { ⌜ (length (now w) ≡ 512) × (c < 8) ⌝ }
-    ensures { λ _. ⌜ (cardIn (now (w .exit)) ≡ withTail (cardIn (now (w .entry))) c t) × Frame (now (w .entry)) (now (w .exit)) (tailPlace c) 2 ⌝ }
+    ensures { λ _. ⌜
+        (cardIn (now (w .exit)) ≡ withTail (cardIn (now (w .entry))) c t)
+        × Frame (now (w .entry)) (now (w .exit)) (tailPlace c) 2
+        ⌝ }
 {
     let at = TAILS + 2 * c as usize;
     w[at] = t.number as u64;

@@ -1,0 +1,2 @@
+-- Where the bytes of a block stand that a reader asks for.
+pub mod Part

@@ -1,0 +1,25 @@
+-- Where the bytes of a block stand that a reader asks for.
+use Prim.Native.Nat.{ℕ, _*_}
+use mathlib.Core.List.{[]}
+use mathlib.Core.Bool.{cond}
+use lib.Dec.{eqb}
+use Rattle.model.specs.Bytes.{Bytes}
+use Rattle.model.specs.Shape.{homeBlock}
+use Rattle.model.specs.Card.{holderOf}
+use Rattle.model.specs.Command.{World}
+use Rattle.model.specs.Reading.{readNumber}
+use Rattle.reading.specs.declared.Part.{Part}
+
+abbrev pub newPart : ℕ → ℕ → ℕ → ℕ → Part
+newPart n s a l = record { number = n; slice = s; from = a; length = l }
+
+-- in memory while a transaction holds the block, otherwise on the disk; nowhere where reading is refused
+unfoldable pub partOf : ℕ → World → Part
+partOf b w =
+    cond (eqb (readNumber b w) 0)
+    (cond ((holderOf (w .card) b) .held) (newPart 0 2 (128 * b) 128) (newPart 0 1 (128 * homeBlock b) 128))
+    (newPart (readNumber b w) 0 0 0)
+
+-- the slice of a number: 1 the disk, 2 memory, any other none
+unfoldable pub sliceOf : ℕ → World → Bytes
+sliceOf n w = cond (eqb n 1) (w .disk) (cond (eqb n 2) (w .memory) [])
