@@ -1,18 +1,16 @@
 -- Arrays of known length, the tests of a list's first elements, arrays filled in a loop, a transaction's blocks and names.
-use Prim.Native.Nat.{ℕ, zero, suc, _+_, _-_, _*_, _≤_, _<_, min}
+use Prim.Native.Nat.{ℕ, zero, suc, _+_, _≤_, _<_, min}
 use native.Mathlib.Omega.{arith}
 use native.Mathlib.Numerals.{add-one}
 use mathlib.Core.Path.{_≡_, refl, sym, ap, _∙_}
 use mathlib.Core.Bool.{Bool, true, false}
 use mathlib.Core.List.{List, [], _∷_, _++_, map, append-nil}
 use lib.Dec.{leb}
-use lib.ListN.{length, take, drop, replicate, getD, set, length-map, length-take, List·getD-eq-default, drop-of-length-le}
-use lib.Seq.{drop-length, set-out, take-all, take-suc, getD-take}
-use borrow.Author.Fill.{fill-none, fill-more}
+use lib.ListN.{length, take, drop, getD, set, length-map, length-take, List·getD-eq-default, drop-of-length-le}
+use lib.Seq.{set-out, take-all, take-suc, getD-take}
 use borrow.Author.Needs.{needs}
 use borrow.Author.Tests.{le-leb, lt-leb, lt-ltb, le-ltb, eq-eqb, ne-eqb, not-true, not-false, leb-false}
 use Rattle.model.specs.Lists.{any}
-use Rattle.model.specs.Bytes.{zeroMemory}
 use Rattle.model.specs.Card.{sameName, taken, listed, lists, withName}
 use Rattle.model.specs.Write.{passesTwelve}
 use Rattle.model.specs.declared.Name.{Name}
@@ -69,28 +67,6 @@ module _ {A : Type 0} where
 
   pub any-all : (p : A → Bool) (l : List A) (i : ℕ) → any p (take i l) ≡ false → length l ≤ i → any p l ≡ false
   any-all p l i h e = ap (any p) (sym (take-all i l e)) ∙ h
-
--- ---- bytes zeroed from the front
--- the first i bytes zero, the others as they were
-unfoldable pub zeroed : ℕ → List ℕ → List ℕ
-zeroed i d = replicate i 0 ++ drop i d
-
-pub zeroed-none : (d : List ℕ) → d ≡ zeroed 0 d
-unfolding zeroed
-zeroed-none d = fill-none d 0
-
-pub zeroed-more : (i : ℕ) (d : List ℕ) → i < length d → set (zeroed i d) i 0 ≡ zeroed (i + 1) d
-unfolding zeroed
-zeroed-more i d h = fill-more i 0 d h
-
-pub zeroed-all : (s : List ℕ) (i : ℕ) (d : List ℕ) → s ≡ zeroed i d → i ≤ length d → length d ≤ i → s ≡ replicate (length d) 0
-unfolding zeroed
-zeroed-all s i d e h k = let q : i ≡ length d = omega arith in e ∙ rw (q, drop-length, append-nil)
-
--- memory of its length, zeroed
-pub zero-memory : (m : List ℕ) → length m ≡ 16384 → replicate (length m) 0 ≡ zeroMemory
-unfolding zeroMemory
-zero-memory m h = ap (λ (n : ℕ). replicate n 0) h
 
 -- ---- an array filled from another, element by element
 module _ {A B : Type 0} (f : A → B) where

@@ -5,6 +5,8 @@ mod fields; // the header, and where each part stands
 mod cores; // a core's numbers
 mod lists; // a transaction's blocks and names
 mod holders; // the transaction that holds a block
+mod tails; // where each core's journal begins
+mod phases; // the card as each phase begins
 mod refusals; // what commands meet first
 
 pub use cores::put_numbers;
@@ -37,12 +39,18 @@ pub use lists::name_count;
 pub use lists::name_of;
 pub use lists::open_at;
 pub use lists::same_name;
+pub use phases::blank;
+pub use phases::come_up;
+pub use phases::go_down;
 pub use refusals::block_refusal;
 pub use refusals::core_refusal;
 pub use refusals::entry_refusal;
 pub use refusals::phase_refusal;
 pub use refusals::state_refusal;
 pub use refusals::wrong_length;
+pub use tails::put_tail;
+pub use tails::tail_at;
+pub use tails::tails_of;
 
 // What a command answers: the number of its refusal, 0 if it is done, and the stores that it did.
 pub struct Answer {

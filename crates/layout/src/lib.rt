@@ -3,6 +3,7 @@
 mod commit_block;
 mod data;
 mod descriptor_block;
+mod disk;
 mod master_block;
 mod words;
 
@@ -23,6 +24,9 @@ pub use descriptor_block::held_block;
 pub use descriptor_block::held_flag;
 pub use descriptor_block::is_descriptor;
 pub use descriptor_block::write_descriptor;
+pub use disk::store_home;
+pub use disk::store_master;
+pub use disk::zero_all;
 pub use master_block::is_master;
 pub use master_block::read_shape;
 pub use master_block::read_tails;
