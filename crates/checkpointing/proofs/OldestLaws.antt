@@ -40,11 +40,11 @@ use Rattle.cells.specs.Answer.{world, worldIn, newAnswer, firstOf, Meets}
 use Rattle.cells.specs.declared.Answer.{Answer}
 use Rattle.cells.specs.Cells.{cardIn}
 use Rattle.cells.proofs.RefusalLaws.{first-hit, first-pass, refusal-joined, refusal-next}
-use Rattle.cells.proofs.EntryLaws.{entry, entry-hit, Entered, entered}
+use Rattle.cells.proofs.EntryLaws.{entry, Entered, entered}
 use Rattle.cells.proofs.MeetLaws.{meets-refused, meets-done}
-use Rattle.checkpointing.specs.Oldest.{countAt, counts, Counts, oldestAt, IsRead, lowerClosed, closedLower, lowerShares, oldestConditions, nextStore, oldestOutcome, Stored}
+use Rattle.checkpointing.specs.Oldest.{countAt, counts, Counts, oldestAt, IsRead, lowerClosed, closedLower, lowerShares, oldestConditions, nextStore, oldestOutcome, Stores, IsOldest}
 use Rattle.checkpointing.proofs.SharedLaws.{core-low}
-use Rattle.checkpointing.proofs.CountLaws.{count-in, reads-card}
+use Rattle.checkpointing.proofs.CountLaws.{count-in, reads-card, core-below}
 
 -- ---- the oldest transaction
 whole-known : (t : Bool) (f : Found) (e : Committed) → cond t Miss f ≡ Whole e → (t ≡ false) × (f ≡ Whole e)
@@ -70,17 +70,19 @@ module _ (x : Card) (d : Bytes) (c : ℕ) where
     tail-known : Known (shapeOf x) d c ((tailOf x c) .number) e
     tail-known = record-known (shapeOf x) d c ((tailOf x c) .number) ((tailOf x c) .position) ((shapeOf x) .journal) e at-tail .0
 
-    pub oldest-was-read : c < (shapeOf x) .cores → IsRead (shapeOf x) d e
-    oldest-was-read l =
+    was-read : length d ≡ 32896 → c < (shapeOf x) .cores → IsRead (shapeOf x) d e
+    was-read n l =
         let k = tail-known in
         record {
+          long = n;
+          range = shape-limits x;
           core = omega (arith, k .core);
           known = subst (λ (n : ℕ). Known (shapeOf x) d (e .core) n e) (sym (k .number)) (subst (λ (i : ℕ). Known (shapeOf x) d i ((tailOf x c) .number) e) (sym (k .core)) k);
         }
 
-    pub number-low : e .number ≤ maxNumber
+    low-number : e .number ≤ maxNumber
     unfolding isDescriptor
-    number-low =
+    low-number =
         let k = tail-known in
         let l : (tailOf x c) .number ≤ maxNumber =
         leb-true ((tailOf x c) .number) maxNumber (and-right (hasHead 1 ((tailOf x c) .number) _) _ (and-left _ _ (and-left _ _ (and-left _ _ (k .descriptor))))) in
@@ -115,8 +117,18 @@ module _ (x : Card) (d : Bytes) (c : ℕ) where
       rw (z, recordsFrom))
       (λ t. records-miss (shapeOf x) d c ((tailOf x c) .number) ((tailOf x c) .position) ((shapeOf x) .journal) (committedCount x c) (rw t at h))
 
-pub oldest-whole : (x : Card) (d : Bytes) (c : ℕ) (f : Found) → f ≡ oldestAt x d c → (e : Committed) → f ≡ Whole e → oldestAt x d c ≡ Whole e
-oldest-whole x d c f q e z = sym q ∙ z
+module _ (x : Card) (d : Bytes) (c : ℕ) (most : List ℕ) (e : Committed) (h : IsOldest x d c most e) where
+  pub oldest-was-read : IsRead (shapeOf x) d e
+  oldest-was-read = was-read x d c e (h .first) (h .long) (h .core)
+
+  pub number-low : e .number ≤ maxNumber
+  number-low = low-number x d c e (h .first)
+
+  pub oldest-core : c < 8
+  oldest-core = core-low x c (h .core)
+
+  pub core-here : (s : Shape) → s ≡ shapeOf x → c < s .cores
+  core-here s p = core-below x s c p (h .core)
 
 -- ---- the slots are the card's committed transactions
 journal-capped : (s : Shape) (d : Bytes) (c : ℕ) (t : Tail) (n : ℕ) → InRange s → journal s d c t (min n 12) ≡ journal s d c t n
@@ -178,18 +190,17 @@ lower-parts x d m e slots r =
     (shares-committed x d m slots r e)
 
 -- ---- the number from the journals
-module _ (x : Card) (d : Bytes) (c : ℕ) (l : c < (shapeOf x) .cores) (most : List ℕ) (o : Counts x most) (e : Committed) (h : oldestAt x d c ≡ Whole e)
-    (s : Shape) (p : s ≡ shapeOf x) (ts : List Tail) (y : ts ≡ x .tails) (slots : List ℕ) (r : Reads s d ts most slots)
-    (valid : List ℕ) (v : entries s d (numbersOf ts) valid ≡ validSet s d (numbered (numbersOf ts)) (entries s d (numbersOf ts) slots))
+module _ (x : Card) (d : Bytes) (c : ℕ) (most : List ℕ) (e : Committed) (h : IsOldest x d c most e) (s : Shape) (p : s ≡ shapeOf x) (ts : List Tail) (y : ts ≡ x .tails)
+    (slots : List ℕ) (r : Reads s d ts most slots) (valid : List ℕ) (v : entries s d (numbersOf ts) valid ≡ validSet s d (numbered (numbersOf ts)) (entries s d (numbersOf ts) slots))
     (b : Bool) (q : b ≡ isFilled s valid (12 * c)) where
   all-read : Reads (shapeOf x) d (x .tails) (counts x) slots
-  all-read = reads-card x d s p ts y most slots o r
+  all-read = reads-card x d s p ts y most slots (h .counted) r
 
   told : (m : Bytes) → b ≡ isIn (validNow (world x d m)) (nameOf e)
   told m =
       sym
       (ap (λ (es : List Committed). isIn es (nameOf e)) (sym (valid-committed x d m slots all-read valid (rw (p, y) at v)))
-      ∙ oldest-slot x d c e h l valid ∙ sym (rw p at q))
+      ∙ oldest-slot x d c e (h .first) (h .core) valid ∙ sym (rw p at q))
 
   pub not-valid : not b ≡ true → (m : Bytes) → 32 ≡ refusal (oldestConditions e (world x d m))
   unfolding oldestConditions refusal
@@ -213,12 +224,16 @@ module _ (v : List ℕ) (size : length v ≡ 512) (c : ℕ) (e : Committed) (d :
   unfolding oldestOutcome
   oldest-refused h m = meets-refused (oldestConditions e (worldIn v d m)) v d m (nextStore c e (worldIn v d m)) size k (y m) h
 
-  pub oldest-done : k ≡ 0 → (w : List ℕ) (d₂ : Bytes) → Stored (nextStore c e) v w d d₂ → (m : Bytes) → Meets (oldestOutcome c e (worldIn v d m)) v w d₂ m (newAnswer 0 1)
+  pub oldest-done : k ≡ 0 → (w : List ℕ) (d₂ : Bytes) → Stores (nextStore c e) v w d d₂ → (m : Bytes) → Meets (oldestOutcome c e (worldIn v d m)) v w d₂ m (newAnswer 0 1)
   unfolding oldestOutcome
   oldest-done h w d₂ s m =
-      meets-done (oldestConditions e (worldIn v d m)) v d m (nextStore c e (worldIn v d m)) size k (y m) h w d₂ m 1 (s .done m) 0 512 (s .frame)
+      meets-done (oldestConditions e (worldIn v d m)) v d m (nextStore c e (worldIn v d m)) size k (y m) h w d₂ m 1 (s .outcome m) 0 512 (s .frame)
 
 -- ---- the command
+pub oldest-found : (x : Card) (c : ℕ) (d m : Bytes) → Entered x c d m → (f : Found) → f ≡ oldestAt x d c → (e : Committed) → f ≡ Whole e
+    → (most : List ℕ) → Counts x most → IsOldest x d c most e
+oldest-found x c d m p f q e z most o = record { long = p .disk; core = p .core; counted = o; first = sym q ∙ z }
+
 stages : (c : ℕ) (w : World)
     → refusal (checkpointConditions c w)
     ≡ firstOf (refusal (entry c w)) (firstOf (cond (eqb (length (committedOf w c)) 0) 31 0) (refusal (oldestConditions (oldest (committedOf w c)) w)))
@@ -236,14 +251,8 @@ module _ (v : List ℕ) (c : ℕ) (d m : Bytes) (n : ℕ) (e : n ≡ refusal (en
       meets-refused (checkpointConditions c (worldIn v d m)) v d m (checkpointed c (worldIn v d m)) size n (first-hit n _ _ e h ∙ sym (stages c (worldIn v d m))) h
 
   module _ (h : n ≡ 0) where
-    passed : Entered (cardIn v) c d m
-    passed = entered (cardIn v) c d m [] tt (sym e ∙ h)
-
-    pub first-disk : length d ≡ 32896
-    first-disk = passed .disk
-
-    pub first-core : c < (shapeOf (cardIn v)) .cores
-    first-core = passed .core
+    pub first-passed : Entered (cardIn v) c d m
+    first-passed = entered (cardIn v) c d m [] tt (sym e ∙ h)
 
     module _ (f : Found) (q : f ≡ oldestAt (cardIn v) d c) where
       pub none-committed : length v ≡ 512 → f ≡ Miss → Meets (checkpoint c (worldIn v d m)) v v d m (newAnswer 31 0)
@@ -254,16 +263,19 @@ module _ (v : List ℕ) (c : ℕ) (d m : Bytes) (n : ℕ) (e : n ≡ refusal (en
           (first-pass n 31 _ _ e h (first-hit 31 (cond (eqb (length (committedOf (worldIn v d m) c)) 0) 31 0) _ k (omega arith)) ∙ sym (stages c (worldIn v d m))) (omega arith)
 
       module _ (t : Committed) (z : f ≡ Whole t) where
+        first-whole : oldestAt (cardIn v) d c ≡ Whole t
+        first-whole = sym q ∙ z
+
         last-stages : refusal (checkpointConditions c (worldIn v d m)) ≡ refusal (oldestConditions t (worldIn v d m))
         last-stages =
-            let u : _≡_ {A = ℕ} 0 (cond (eqb (length (committedOf (worldIn v d m) c)) 0) 31 0) = rw (is-committed (cardIn v) d c t (oldest-whole (cardIn v) d c f q t z) m) in
+            let u : _≡_ {A = ℕ} 0 (cond (eqb (length (committedOf (worldIn v d m) c)) 0) 31 0) = rw (is-committed (cardIn v) d c t first-whole m) in
             let a : refusal (oldestConditions t (worldIn v d m)) ≡ refusal (oldestConditions (oldest (committedOf (worldIn v d m) c)) (worldIn v d m)) =
-            rw (is-oldest (cardIn v) d c t (oldest-whole (cardIn v) d c f q t z) m) in
+            rw (is-oldest (cardIn v) d c t first-whole m) in
             stages c (worldIn v d m) ∙ sym (first-pass n _ _ _ e h (first-pass 0 _ (cond (eqb (length (committedOf (worldIn v d m) c)) 0) 31 0) _ u refl a))
 
         store-same : nextStore c t (worldIn v d m) ≡ checkpointed c (worldIn v d m)
         unfolding checkpointed nextStore
-        store-same = sym (ap (λ (y : Committed). nextStore c y (worldIn v d m)) (is-oldest (cardIn v) d c t (oldest-whole (cardIn v) d c f q t z) m))
+        store-same = sym (ap (λ (y : Committed). nextStore c y (worldIn v d m)) (is-oldest (cardIn v) d c t first-whole m))
 
         same-outcome : oldestOutcome c t (worldIn v d m) ≡ checkpoint c (worldIn v d m)
         unfolding checkpoint oldestOutcome

@@ -2,14 +2,14 @@
 use Prim.Native.Nat.{ℕ, _+_, _-_, _≤_, _<_}
 use native.Mathlib.Omega.{arith}
 use mathlib.Core.Path.{_≡_, refl, sym, ap, _∙_}
-use mathlib.Core.Bool.{Bool, true, false, cond}
+use mathlib.Core.Bool.{Bool, true, false}
 use mathlib.Core.List.{List, map-map}
 use lib.Dec.{eqb}
 use lib.ListN.{length, getD, set, length-set}
 use lib.Seq.{getD-set-same, getD-set-other}
 use borrow.Author.Tests.{eqb-true, eqb-false, ne-eqb}
 use Rattle.model.specs.Lists.{below}
-use Rattle.model.specs.Card.{newName, sameName, noHolder, newHolder, shapeOf, coreOf, withLists, withCore}
+use Rattle.model.specs.Card.{newName, sameName, newHolder, shapeOf, coreOf, withLists, withCore}
 use Rattle.model.specs.Checkpoint.{homedCore, freed, released, movedTail, retiredCore, retiredCard}
 use Rattle.model.specs.declared.Name.{Name}
 use Rattle.model.specs.declared.Tail.{Tail}
@@ -21,7 +21,7 @@ use Rattle.cells.specs.Cells.{byteIn, numberIn, nameIn, holderIn, coreIn, cardI
 use Rattle.cells.proofs.FitsLaws.{fits-zero, fits-set, frame-then, frame-same, frame-wider}
 use Rattle.cells.proofs.CellLaws.{core-at, next-read, used-read}
 use Rattle.cells.proofs.CoreLaws.{holders-put}
-use Rattle.checkpointing.specs.Oldest.{Freed}
+use Rattle.checkpointing.specs.Oldest.{withReleased, Freed}
 
 -- ---- a holder's cell
 module _ (n : Name) (x : ℕ) where
@@ -72,7 +72,7 @@ module _ (n : Name) (v : List ℕ) where
   release-start = record { most = omega arith; frame = frame-same v 32 64; made = λ b h. absurd (omega arith); left = λ b h. refl }
 
   module _ (w : List ℕ) (i : ℕ) (s : Releasing n v w i) where
-    pub release-end : 64 ≤ i → cardIn w ≡ withLists (cardIn v) ((cardIn v) .tails) ((cardIn v) .cores) (released n ((cardIn v) .holders))
+    pub release-end : 64 ≤ i → cardIn w ≡ withReleased (cardIn v) n
     release-end h =
         holders-put v w (s .frame)
         ∙ ap (withLists (cardIn v) ((cardIn v) .tails) ((cardIn v) .cores)) (holders-freed n v w (λ b l. s .made b (omega (arith, s .most))))
@@ -131,13 +131,13 @@ module _ (v : List ℕ) (c : ℕ) (h : c < 8) (p : ℕ) (q : p ≡ corePlace c) 
 -- ---- the card
 made-retired : (c : ℕ) (e : Committed) (x : Card) (t : Tail) → t ≡ movedTail (shapeOf x) e
     → (u : Card) → u ≡ withTail x c t → (y : Card) → y ≡ withCore u c (retiredCore (coreOf u c) e)
-    → (z : Card) → z ≡ withLists y (y .tails) (y .cores) (released (newName (e .core) (e .number)) (y .holders)) → z ≡ retiredCard c e x
+    → (z : Card) → z ≡ withReleased y (newName (e .core) (e .number)) → z ≡ retiredCard c e x
 unfolding retiredCard coreOf
 made-retired c e x t q u a y b z d = d ∙ rw (b, a, q)
 
 module _ (v u y z : List ℕ) (c : ℕ) (h : c < 8) (e : Committed) (t : Tail) (q : t ≡ movedTail (shapeOf (cardIn v)) e) where
   pub retired-card : cardIn u ≡ withTail (cardIn v) c t → cardIn y ≡ withCore (cardIn u) c (retiredCore (coreOf (cardIn u) c) e)
-      → cardIn z ≡ withLists (cardIn y) ((cardIn y) .tails) ((cardIn y) .cores) (released (newName (e .core) (e .number)) ((cardIn y) .holders)) → cardIn z ≡ retiredCard c e (cardIn v)
+      → cardIn z ≡ withReleased (cardIn y) (newName (e .core) (e .number)) → cardIn z ≡ retiredCard c e (cardIn v)
   retired-card a b d = made-retired c e (cardIn v) t q (cardIn u) a (cardIn y) b (cardIn z) d
 
 pub retired-frame : (v u y z : List ℕ) (c : ℕ) → c < 8 → Frame v u (tailPlace c) 2 → Frame u y (corePlace c) 4 → Frame y z 32 64 → Frame v z 0 512

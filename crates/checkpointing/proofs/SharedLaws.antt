@@ -1,20 +1,19 @@
 -- CHECKPOINT: a transaction read from its record, and others that share a block with it.
-use Prim.Native.Nat.{ℕ, _+_, _-_, _≤_, _<_, min}
+use Prim.Native.Nat.{ℕ, _+_, _-_, _≤_, _<_}
 use native.Mathlib.Omega.{arith}
 use mathlib.Core.Path.{_≡_, refl, sym, ap, _∙_, subst}
 use mathlib.Core.Bool.{Bool, true, false, not}
 use mathlib.Core.List.{List, [], map}
-use lib.ListN.{length, getD, take, length-take, List·getD-map}
+use lib.ListN.{length, getD, take, List·getD-map}
 use lib.Dec.{eqb}
 use borrow.Author.Tests.{not-true, not-false, lt-ltb, le-ltb, eq-eqb, ne-eqb}
 use Rattle.model.specs.Lists.{below, any}
 use Rattle.model.specs.Bytes.{Bytes}
-use Rattle.model.specs.Card.{taken, shapeOf, coreOf}
+use Rattle.model.specs.Card.{taken, shapeOf}
 use Rattle.model.specs.Layout.{Held, newHeld, pairAt, pairsIn, heldIn}
 use Rattle.model.specs.Journal.{journalAt, heldBy, blocksOf}
 use Rattle.model.specs.Checkpoint.{share}
 use Rattle.model.specs.declared.Shape.{Shape}
-use Rattle.model.specs.declared.Transaction.{Transaction}
 use Rattle.model.specs.declared.Card.{Card}
 use Rattle.model.specs.declared.Committed.{Committed}
 use Rattle.model.proofs.Lists.{any-mem, mem-any, getD-mem, mem-getD, mem-below, below-mem, getD-map-below, both-ways}
@@ -49,11 +48,11 @@ module _ (s : Shape) (d : Bytes) (e : Committed) (r : IsRead s d e) (i : ℕ) (b
   unfolding blocksOf heldBy
   block-is = q ∙ rw p (sym (block-there (journalAt s d (e .core) (e .position)) (e .count) i h))
 
-  pub block-low : InRange s → v < 64
-  block-low l = omega (arith, block-is, known-below s d (e .core) (e .number) e (r .known) i h, l .few-blocks)
+  pub block-low : v < 64
+  block-low = omega (arith, block-is, known-below s d (e .core) (e .number) e (r .known) i h, r .range .few-blocks)
 
-  pub block-fits : InRange s → v < 256
-  block-fits l = omega (arith, block-low l)
+  pub block-fits : v < 256
+  block-fits = omega (arith, block-low)
 
 pub is-sized : (s : Shape) (d : Bytes) (e : Committed) → IsRead s d e → Sized s e
 is-sized s d e r = record { core = r .core; few = r .known .few; short = r .known .short }

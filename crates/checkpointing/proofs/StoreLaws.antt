@@ -22,7 +22,7 @@ use Rattle.journal.proofs.Model.{image-bytes}
 use Rattle.cells.specs.Answer.{world}
 use Rattle.cells.specs.Cells.{byteIn, cardIn, corePlace, Frame}
 use Rattle.cells.proofs.FitsLaws.{frame-wider}
-use Rattle.checkpointing.specs.Oldest.{nextStore, Stored}
+use Rattle.checkpointing.specs.Oldest.{nextStore, Stores}
 use Rattle.checkpointing.proofs.RetireLaws.{homed-is}
 use Rattle.checkpointing.proofs.SharedLaws.{shape-range}
 
@@ -41,10 +41,10 @@ home-outcome x c e s p n q d k r y z m = rw (r, z, q, p)
 module _ (v w : List ℕ) (c : ℕ) (e : Committed) (d k : Bytes) where
   pub home-stored : c < 8 → (n : ℕ) → n ≡ (coreOf (cardIn v) c) .homed → (s : Shape) → s ≡ shapeOf (cardIn v)
       → k ≡ store d (homeBlock (getD (blocksOf s d e) n 0)) (imageOf s d e n) → cardIn w ≡ withCore (cardIn v) c (homedCore (coreOf (cardIn v) c)) → Frame v w (corePlace c) 4
-      → Stored (storedHome c e) v w d k
+      → Stores (storedHome c e) v w d k
   home-stored h n q s p r z f =
       record {
-        done = home-outcome (cardIn v) c e s p n q d k r (cardIn w) z;
+        outcome = home-outcome (cardIn v) c e s p n q d k r (cardIn w) z;
         frame = frame-wider v w (corePlace c) 4 0 512 f (omega arith) (omega arith);
       }
 
@@ -63,8 +63,8 @@ master-outcome x c e s p t q ts o d k r y z m = rw (r, z, clamped-same s (shape-
 module _ (v w : List ℕ) (c : ℕ) (e : Committed) (d k : Bytes) where
   pub master-stored : (s : Shape) → s ≡ shapeOf (cardIn v) → (t : Tail) → t ≡ movedTail s e → (ts : List Tail) → ts ≡ (cardIn v) .tails
       → k ≡ store d 0 (masterBlock (clamped s) (λ (i : ℕ). getD (set ts c t) i (newTail 0 0))) → cardIn w ≡ retiredCard c e (cardIn v) → Frame v w 0 512
-      → Stored (storedMaster c e) v w d k
-  master-stored s p t q ts o r z f = record { done = master-outcome (cardIn v) c e s p t q ts o d k r (cardIn w) z; frame = f }
+      → Stores (storedMaster c e) v w d k
+  master-stored s p t q ts o r z f = record { outcome = master-outcome (cardIn v) c e s p t q ts o d k r (cardIn w) z; frame = f }
 
 pub moved-past : (x : Card) (e : Committed) (s : Shape) → s ≡ shapeOf x → (t : Tail) → t ≡ movedTail s e → t ≡ movedTail (shapeOf x) e
 moved-past x e s p t q = q ∙ rw p
@@ -74,10 +74,10 @@ module _ (v : List ℕ) (c : ℕ) (h : c < 8) (p : ℕ) (i : p ≡ corePlace c) 
   homed-here : n ≡ (coreOf (cardIn v) c) .homed
   homed-here = homed-is v c h p i n q
 
-  pub next-home : n < e .count → Stored (storedHome c e) v w d k → Stored (nextStore c e) v w d k
+  pub next-home : n < e .count → Stores (storedHome c e) v w d k → Stores (nextStore c e) v w d k
   unfolding nextStore
-  next-home l s = record { done = λ m. s .done m ∙ rw (lt-ltb ((coreOf (cardIn v) c) .homed) (e .count) (omega (arith, homed-here))); frame = s .frame }
+  next-home l s = record { outcome = λ m. s .outcome m ∙ rw (lt-ltb ((coreOf (cardIn v) c) .homed) (e .count) (omega (arith, homed-here))); frame = s .frame }
 
-  pub next-master : e .count ≤ n → Stored (storedMaster c e) v w d k → Stored (nextStore c e) v w d k
+  pub next-master : e .count ≤ n → Stores (storedMaster c e) v w d k → Stores (nextStore c e) v w d k
   unfolding nextStore
-  next-master l s = record { done = λ m. s .done m ∙ rw (le-ltb ((coreOf (cardIn v) c) .homed) (e .count) (omega (arith, homed-here))); frame = s .frame }
+  next-master l s = record { outcome = λ m. s .outcome m ∙ rw (le-ltb ((coreOf (cardIn v) c) .homed) (e .count) (omega (arith, homed-here))); frame = s .frame }

@@ -6,16 +6,13 @@ mod retired; // the cells after it is retired
 mod stores; // its next store
 
 ghost use mathlib.Core.Path.{_≡_};
-ghost use Prim.Native.Nat.{_<_};
 ghost use lib.ListN.{length};
 ghost use Rattle.model.specs.Bytes.{Bytes};
-ghost use Rattle.model.specs.Card.{shapeOf};
 ghost use Rattle.model.specs.Checkpoint.{checkpoint};
 ghost use Rattle.model.specs.Command.{refusal};
-ghost use Rattle.model.specs.declared.Found.the-variants.{Whole};
 ghost use Rattle.cells.specs.Answer.{worldIn, Meets};
 ghost use Rattle.cells.specs.Cells.{cardIn};
-ghost use Rattle.checkpointing.specs.Oldest.{Counts, oldestAt, oldestConditions, oldestOutcome};
+ghost use Rattle.checkpointing.specs.Oldest.{IsOldest, oldestConditions, oldestOutcome};
 use crate::oldest::counts;
 use crate::oldest::oldest_of;
 use crate::shared::shares_lower;
@@ -29,7 +26,7 @@ use model::Found;
 
 // 32, the oldest is not in the valid set; 33, one of lower stamp shares a block.
 fn oldest_refusal(w: &[u64], c: u8, most: [u8; 8], e: Committed, disk: &[u8]) -> u8
-    requires { ⌜ (length (now w) ≡ 512) × (length (now disk) ≡ 32896) × (c < (shapeOf (cardIn (now w))) .cores) × Counts (cardIn (now w)) most × (oldestAt (cardIn (now w)) (now disk) c ≡ Whole e) ⌝ }
+    requires { ⌜ (length (now w) ≡ 512) × IsOldest (cardIn (now w)) (now disk) c most e ⌝ }
     ensures { λ r. ⌜ ((m : Bytes) → r ≡ refusal (oldestConditions e (worldIn (now (w .entry)) (now (disk .entry)) m))) ⌝ }
 {
     let s = shape_of(w);
@@ -47,8 +44,9 @@ fn oldest_refusal(w: &[u64], c: u8, most: [u8; 8], e: Committed, disk: &[u8]) ->
 
 // The checkpoint of core c's oldest transaction: refused, or its next store.
 fn checkpoint_oldest(w: &mut [u64], c: u8, most: [u8; 8], e: Committed, disk: &mut [u8]) -> Answer
-    requires { ⌜ (length (now w) ≡ 512) × (length (now disk) ≡ 32896) × (c < (shapeOf (cardIn (now w))) .cores) × Counts (cardIn (now w)) most × (oldestAt (cardIn (now w)) (now disk) c ≡ Whole e) ⌝ }
-    ensures { λ r. ⌜ ((m : Bytes) → Meets (oldestOutcome c e (worldIn (now (w .entry)) (now (disk .entry)) m)) (now (w .entry)) (now (w .exit)) (now (disk .exit)) m r) ⌝ }
+    requires { ⌜ (length (now w) ≡ 512) × IsOldest (cardIn (now w)) (now disk) c most e ⌝ }
+    ensures { λ r. ⌜ ((m : Bytes) → Meets (oldestOutcome c e (worldIn (now (w .entry)) (now (disk .entry)) m))
+        (now (w .entry)) (now (w .exit)) (now (disk .exit)) m r) ⌝ }
 {
     let n = oldest_refusal(w, c, most, e, disk);
     if n != 0 {
@@ -67,7 +65,8 @@ fn checkpoint_oldest(w: &mut [u64], c: u8, most: [u8; 8], e: Committed, disk: &m
 // CHECKPOINT.
 pub fn checkpoint(w: &mut [u64], c: u8, disk: &mut [u8], memory: &[u8]) -> Answer
     requires { ⌜ length (now w) ≡ 512 ⌝ }
-    ensures { λ r. ⌜ Meets (checkpoint c (worldIn (now (w .entry)) (now (disk .entry)) (now (memory .entry)))) (now (w .entry)) (now (w .exit)) (now (disk .exit)) (now (memory .entry)) r ⌝ }
+    ensures { λ r. ⌜ Meets (checkpoint c (worldIn (now (w .entry)) (now (disk .entry)) (now (memory .entry))))
+        (now (w .entry)) (now (w .exit)) (now (disk .exit)) (now (memory .entry)) r ⌝ }
 {
     let n = entry_refusal(w, c, disk, memory);
     if n != 0 {

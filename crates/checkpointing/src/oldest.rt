@@ -57,7 +57,8 @@ pub fn counts(w: &[u64]) -> [u8; 8]
 
 // Core c's oldest committed transaction.
 pub fn oldest_of(w: &[u64], c: u8, most: [u8; 8], disk: &[u8]) -> Found
-    requires { ⌜ (length (now w) ≡ 512) × (length (now disk) ≡ 32896) × (c < (shapeOf (cardIn (now w))) .cores) × Counts (cardIn (now w)) most ⌝ }
+    requires { ⌜ (length (now w) ≡ 512) × (length (now disk) ≡ 32896)
+        × (c < (shapeOf (cardIn (now w))) .cores) × Counts (cardIn (now w)) most ⌝ }
     ensures { λ r. ⌜ r ≡ oldestAt (cardIn (now (w .entry))) (now (disk .entry)) c ⌝ }
 {
     if most[c as usize] == 0 {

@@ -2,12 +2,12 @@
 ghost use mathlib.Core.Path.{_≡_};
 ghost use Prim.Native.Nat.{_-_, _≤_, _<_};
 ghost use lib.ListN.{length};
-ghost use Rattle.model.specs.Card.{shapeOf, coreOf, withLists, withCore};
+ghost use Rattle.model.specs.Card.{shapeOf, coreOf, withCore};
 ghost use Rattle.model.specs.Layout.{maxNumber};
-ghost use Rattle.model.specs.Checkpoint.{released, movedTail, retiredCore, retiredCard};
+ghost use Rattle.model.specs.Checkpoint.{movedTail, retiredCore, retiredCard};
 ghost use Rattle.model.proofs.Limits.{InRange};
 ghost use Rattle.cells.specs.Cells.{cardIn, corePlace, Frame};
-ghost use Rattle.checkpointing.specs.Oldest.{Freed};
+ghost use Rattle.checkpointing.specs.Oldest.{withReleased, Freed};
 use cells::HOLDERS;
 use cells::STORED;
 use cells::USED;
@@ -39,7 +39,8 @@ fn freed_cell(x: u64, n: Name) -> u64
 // No block held by the transaction of this name any more.
 fn release(w: &mut [u64], n: Name)
     requires { ⌜ length (now w) ≡ 512 ⌝ }
-    ensures { λ _. ⌜ (cardIn (now (w .exit)) ≡ withLists (cardIn (now (w .entry))) ((cardIn (now (w .entry))) .tails) ((cardIn (now (w .entry))) .cores) (released n ((cardIn (now (w .entry))) .holders))) × Frame (now (w .entry)) (now (w .exit)) 32 64 ⌝ }
+    ensures { λ _. ⌜ (cardIn (now (w .exit)) ≡ withReleased (cardIn (now (w .entry))) n)
+        × Frame (now (w .entry)) (now (w .exit)) 32 64 ⌝ }
 {
     let mut b: usize = 0;
     while b < 64 {
@@ -76,7 +77,8 @@ fn blocks_left(used: u8, n: usize) -> u8
 // Core c's numbers after its oldest transaction is retired.
 fn retire_core(w: &mut [u64], c: u8, e: Committed)
     requires { ⌜ (length (now w) ≡ 512) × (c < 8) ⌝ }
-    ensures { λ _. ⌜ (cardIn (now (w .exit)) ≡ withCore (cardIn (now (w .entry))) c (retiredCore (coreOf (cardIn (now (w .entry))) c) e)) × Frame (now (w .entry)) (now (w .exit)) (corePlace c) 4 ⌝ }
+    ensures { λ _. ⌜ (cardIn (now (w .exit)) ≡ withCore (cardIn (now (w .entry))) c (retiredCore (coreOf (cardIn (now (w .entry))) c) e))
+        × Frame (now (w .entry)) (now (w .exit)) (corePlace c) 4 ⌝ }
 {
     let at = core_place(c);
     let next = number_in(w, at);
@@ -88,7 +90,8 @@ fn retire_core(w: &mut [u64], c: u8, e: Committed)
 // The card after core c's oldest transaction is retired, with the tail moved past it.
 pub fn retire(w: &mut [u64], c: u8, t: Tail, e: Committed)
     requires { ⌜ (length (now w) ≡ 512) × (c < 8) × (t ≡ movedTail (shapeOf (cardIn (now w))) e) ⌝ }
-    ensures { λ _. ⌜ (cardIn (now (w .exit)) ≡ retiredCard c e (cardIn (now (w .entry)))) × Frame (now (w .entry)) (now (w .exit)) 0 512 ⌝ }
+    ensures { λ _. ⌜ (cardIn (now (w .exit)) ≡ retiredCard c e (cardIn (now (w .entry))))
+        × Frame (now (w .entry)) (now (w .exit)) 0 512 ⌝ }
 {
     let n = Name {
         core: e.core,

@@ -7,7 +7,6 @@ ghost use Rattle.model.specs.Lists.{any};
 ghost use Rattle.model.specs.Card.{taken};
 ghost use Rattle.model.specs.Journal.{blocksOf};
 ghost use Rattle.model.specs.Checkpoint.{share};
-ghost use Rattle.model.proofs.Limits.{InRange};
 ghost use Rattle.layout.specs.Loops.{some};
 ghost use Rattle.cells.specs.Cells.{cardIn, transactionIn};
 ghost use Rattle.checkpointing.specs.Oldest.{IsRead, lowerClosed, closedLower, lowerShares};
@@ -22,7 +21,7 @@ use model::Shape;
 
 // The block that a transaction took as its i-th. It was read from a record, so the number fits.
 pub fn block_at(s: Shape, disk: &[u8], e: Committed, i: usize) -> u8
-    requires { ⌜ InRange s × (length (now disk) ≡ 32896) × IsRead s (now disk) e × (i < e .count) ⌝ }
+    requires { ⌜ IsRead s (now disk) e × (i < e .count) ⌝ }
     ensures { λ r. ⌜ (r ≡ getD (blocksOf s (now (disk .entry)) e) i 0) × (r < 64) ⌝ }
 {
     let block = journal::journal_part(s, disk, e.core, e.position as usize);
@@ -47,7 +46,7 @@ fn takes_block(w: &[u64], at: usize, b: u8) -> bool
 
 // Whether it took a block that e took.
 fn shares_closed(w: &[u64], at: usize, s: Shape, disk: &[u8], e: Committed) -> bool
-    requires { ⌜ (length (now w) ≡ 512) × (at + 24 ≤ 512) × InRange s × (length (now disk) ≡ 32896) × IsRead s (now disk) e ⌝ }
+    requires { ⌜ (length (now w) ≡ 512) × (at + 24 ≤ 512) × IsRead s (now disk) e ⌝ }
     ensures { λ r. ⌜ r ≡ share (blocksOf s (now (disk .entry)) e) (taken (transactionIn (now (w .entry)) at)) ⌝ }
 {
     let n = e.count as usize;
@@ -64,7 +63,7 @@ fn shares_closed(w: &[u64], at: usize, s: Shape, disk: &[u8], e: Committed) -> b
 
 // Whether the closed transaction at a place has a lower stamp and shares a block.
 fn lower_closed(w: &[u64], at: usize, s: Shape, disk: &[u8], e: Committed) -> bool
-    requires { ⌜ (length (now w) ≡ 512) × (at + 24 ≤ 512) × InRange s × (length (now disk) ≡ 32896) × IsRead s (now disk) e ⌝ }
+    requires { ⌜ (length (now w) ≡ 512) × (at + 24 ≤ 512) × IsRead s (now disk) e ⌝ }
     ensures { λ r. ⌜ r ≡ lowerClosed s (now (disk .entry)) e (transactionIn (now (w .entry)) at) ⌝ }
 {
     if !is_live(w, at) {
@@ -78,7 +77,7 @@ fn lower_closed(w: &[u64], at: usize, s: Shape, disk: &[u8], e: Committed) -> bo
 
 // Whether any closed one does.
 fn any_closed(w: &[u64], s: Shape, disk: &[u8], e: Committed) -> bool
-    requires { ⌜ (length (now w) ≡ 512) × InRange s × (length (now disk) ≡ 32896) × IsRead s (now disk) e ⌝ }
+    requires { ⌜ (length (now w) ≡ 512) × IsRead s (now disk) e ⌝ }
     ensures { λ r. ⌜ r ≡ some (s .cores) (closedLower (cardIn (now (w .entry))) s (now (disk .entry)) e) ⌝ }
 {
     let mut c: u8 = 0;
@@ -94,7 +93,7 @@ fn any_closed(w: &[u64], s: Shape, disk: &[u8], e: Committed) -> bool
 
 // Whether an unretired transaction of lower stamp, committed or closed, shares a block. The slots are the committed ones.
 pub fn shares_lower(w: &[u64], s: Shape, e: Committed, disk: &[u8], slots: &[u16; 96]) -> bool
-    requires { ⌜ (length (now w) ≡ 512) × InRange s × (length (now disk) ≡ 32896) × IsRead s (now disk) e ⌝ }
+    requires { ⌜ (length (now w) ≡ 512) × IsRead s (now disk) e ⌝ }
     ensures { λ r. ⌜ r ≡ lowerShares (cardIn (now (w .entry))) s (now (disk .entry)) (now (slots .entry)) e ⌝ }
 {
     if journal::shares_lower(s, disk, slots, e) {

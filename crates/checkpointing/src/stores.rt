@@ -8,9 +8,8 @@ ghost use Rattle.model.specs.Card.{shapeOf, coreOf, withCore};
 ghost use Rattle.model.specs.Layout.{maxNumber};
 ghost use Rattle.model.specs.Journal.{blocksOf, imageOf};
 ghost use Rattle.model.specs.Checkpoint.{homedCore, storedHome, storedMaster};
-ghost use Rattle.model.proofs.Limits.{InRange};
 ghost use Rattle.cells.specs.Cells.{cardIn, corePlace, Frame};
-ghost use Rattle.checkpointing.specs.Oldest.{IsRead, nextStore, Stored};
+ghost use Rattle.checkpointing.specs.Oldest.{IsRead, nextStore, Stores};
 use crate::retired::moved_tail;
 use crate::retired::retire;
 use crate::shared::block_at;
@@ -28,8 +27,9 @@ use model::Shape;
 
 // The i-th block of a transaction stored home, with its image out of the journal.
 fn put_home(s: Shape, e: Committed, i: usize, disk: &mut [u8])
-    requires { ⌜ IsRead s (now disk) e × (i < e .count) × InRange s × (length (now disk) ≡ 32896) ⌝ }
-    ensures { λ _. ⌜ now (disk .exit) ≡ store (now (disk .entry)) (homeBlock (getD (blocksOf s (now (disk .entry)) e) i 0)) (imageOf s (now (disk .entry)) e i) ⌝ }
+    requires { ⌜ IsRead s (now disk) e × (i < e .count) ⌝ }
+    ensures { λ _. ⌜ now (disk .exit)
+        ≡ store (now (disk .entry)) (homeBlock (getD (blocksOf s (now (disk .entry)) e) i 0)) (imageOf s (now (disk .entry)) e i) ⌝ }
 {
     let b = block_at(s, disk, e, i) as usize;
     let at = journal::image_at(s, disk, e, i);
@@ -40,7 +40,8 @@ fn put_home(s: Shape, e: Committed, i: usize, disk: &mut [u8])
 // Core c after one more home store.
 fn count_home(w: &mut [u64], c: u8, homed: u8)
     requires { ⌜ (length (now w) ≡ 512) × (c < 8) × (homed < 255) × (homed ≡ (coreOf (cardIn (now w)) c) .homed) ⌝ }
-    ensures { λ _. ⌜ (cardIn (now (w .exit)) ≡ withCore (cardIn (now (w .entry))) c (homedCore (coreOf (cardIn (now (w .entry))) c))) × Frame (now (w .entry)) (now (w .exit)) (corePlace c) 4 ⌝ }
+    ensures { λ _. ⌜ (cardIn (now (w .exit)) ≡ withCore (cardIn (now (w .entry))) c (homedCore (coreOf (cardIn (now (w .entry))) c)))
+        × Frame (now (w .entry)) (now (w .exit)) (corePlace c) 4 ⌝ }
 {
     let at = core_place(c);
     let next = number_in(w, at);
@@ -51,8 +52,9 @@ fn count_home(w: &mut [u64], c: u8, homed: u8)
 
 // A home store: the image of the next block of the transaction.
 fn stored_home(w: &mut [u64], c: u8, homed: u8, e: Committed, disk: &mut [u8])
-    requires { ⌜ (length (now w) ≡ 512) × (length (now disk) ≡ 32896) × IsRead (shapeOf (cardIn (now w))) (now disk) e × (c < 8) × (homed ≡ (coreOf (cardIn (now w)) c) .homed) × (homed < e .count) ⌝ }
-    ensures { λ _. ⌜ Stored (storedHome c e) (now (w .entry)) (now (w .exit)) (now (disk .entry)) (now (disk .exit)) ⌝ }
+    requires { ⌜ (length (now w) ≡ 512) × (c < 8) × IsRead (shapeOf (cardIn (now w))) (now disk) e
+        × (homed ≡ (coreOf (cardIn (now w)) c) .homed) × (homed < e .count) ⌝ }
+    ensures { λ _. ⌜ Stores (storedHome c e) (now (w .entry)) (now (w .exit)) (now (disk .entry)) (now (disk .exit)) ⌝ }
 {
     let s = shape_of(w);
     put_home(s, e, homed as usize, disk);
@@ -62,7 +64,7 @@ fn stored_home(w: &mut [u64], c: u8, homed: u8, e: Committed, disk: &mut [u8])
 // The last store of a checkpoint: the master with the tail moved past the transaction.
 fn stored_master(w: &mut [u64], c: u8, e: Committed, disk: &mut [u8])
     requires { ⌜ (length (now w) ≡ 512) × (length (now disk) ≡ 32896) × (c < 8) × (e .number ≤ maxNumber) ⌝ }
-    ensures { λ _. ⌜ Stored (storedMaster c e) (now (w .entry)) (now (w .exit)) (now (disk .entry)) (now (disk .exit)) ⌝ }
+    ensures { λ _. ⌜ Stores (storedMaster c e) (now (w .entry)) (now (w .exit)) (now (disk .entry)) (now (disk .exit)) ⌝ }
 {
     let s = shape_of(w);
     let t = moved_tail(s, e);
@@ -74,8 +76,8 @@ fn stored_master(w: &mut [u64], c: u8, e: Committed, disk: &mut [u8])
 
 // The next store of the checkpoint of core c's oldest transaction.
 pub fn next_store(w: &mut [u64], c: u8, e: Committed, disk: &mut [u8])
-    requires { ⌜ (length (now w) ≡ 512) × (length (now disk) ≡ 32896) × IsRead (shapeOf (cardIn (now w))) (now disk) e × (c < 8) × (e .number ≤ maxNumber) ⌝ }
-    ensures { λ _. ⌜ Stored (nextStore c e) (now (w .entry)) (now (w .exit)) (now (disk .entry)) (now (disk .exit)) ⌝ }
+    requires { ⌜ (length (now w) ≡ 512) × (c < 8) × IsRead (shapeOf (cardIn (now w))) (now disk) e × (e .number ≤ maxNumber) ⌝ }
+    ensures { λ _. ⌜ Stores (nextStore c e) (now (w .entry)) (now (w .exit)) (now (disk .entry)) (now (disk .exit)) ⌝ }
 {
     let homed = byte_in(w, core_place(c) + HOMED);
     if homed < e.count {

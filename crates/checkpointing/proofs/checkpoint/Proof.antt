@@ -1,20 +1,18 @@
 -- `checkpointing::checkpoint` meets its contract: refused at one of the first stages, none committed, or what its oldest transaction meets.
-use Rattle.checkpointing.proofs.OldestLaws.{first-disk, first-core, first-refused, none-committed, oldest-whole, oldest-settled}
+use Rattle.checkpointing.proofs.OldestLaws.{first-refused, first-passed, none-committed, oldest-found, oldest-settled}
 use borrow.Author.Needs.{needs}
 use Rattle.checkpointing.proofs.checkpoint.Statement.{statement}
 use Rattle.checkpointing.proofs.checkpoint.Tie as tie
 
 oldest-of-requires : tie.Need-oldest-of-requires
 oldest-of-requires c κs =
-    let e = c .before .before .before .before .before .entry-refusal .ensures in
-    let h = c .before .before .before .before .if1 .left in
-    (search needs, first-disk _ _ _ _ _ e h, first-core _ _ _ _ _ e h, search needs)
+    let p = first-passed _ _ _ _ _ (c .before .before .before .before .before .entry-refusal .ensures) (c .before .before .before .before .if1 .left) in
+    search (needs, p)
 
 checkpoint-oldest-requires : tie.Need-checkpoint-oldest-requires
 checkpoint-oldest-requires c κs =
-    let e = c .before .before .before .before .before .before .before .before .before .before .before .entry-refusal .ensures in
-    let h = c .before .before .before .before .before .before .before .before .before .before .if1 .left in
-    (search needs, first-disk _ _ _ _ _ e h, first-core _ _ _ _ _ e h, search needs, oldest-whole _ _ _ _ (c .before .before .before .before .before .oldest-of .ensures) _ (c .before .before .before .found .given .1))
+    let p = first-passed _ _ _ _ _ (c .before .before .before .before .before .before .before .before .before .before .before .entry-refusal .ensures) (c .before .before .before .before .before .before .before .before .before .before .if1 .left) in
+    search (needs, p, oldest-found)
 
 pub checkpoint-spec : {M : Type 1} → statement M
 checkpoint-spec =

@@ -1,6 +1,5 @@
 -- `checkpointing::checkpoint_oldest` meets its contract: refused, or the next store.
-use Rattle.checkpointing.proofs.SharedLaws.{core-low}
-use Rattle.checkpointing.proofs.OldestLaws.{oldest-was-read, number-low, oldest-refused, oldest-done}
+use Rattle.checkpointing.proofs.OldestLaws.{oldest-was-read, number-low, oldest-core, oldest-refused, oldest-done}
 use borrow.Author.Needs.{needs}
 use Rattle.checkpointing.proofs.checkpoint_oldest.Statement.{statement}
 use Rattle.checkpointing.proofs.checkpoint_oldest.Tie as tie
@@ -8,4 +7,4 @@ use Rattle.checkpointing.proofs.checkpoint_oldest.Tie as tie
 pub checkpoint-oldest-spec : {M : Type 1} → statement M
 checkpoint-oldest-spec =
     tie.close
-    (tie.spec (λ c κs. search needs) (λ c. search needs) (λ c. search needs) (λ c. search (needs, oldest-refused)) (λ c κs. search (needs, oldest-was-read, core-low, number-low)) (λ c. search needs) (λ c. search needs) (λ c. search (needs, oldest-done)))
+    (tie.spec (λ c κs. search needs) (λ c. search needs) (λ c. search needs) (λ c. search (needs, oldest-refused)) (λ c κs. search (needs, oldest-was-read, oldest-core, number-low)) (λ c. search needs) (λ c. search needs) (λ c. search (needs, oldest-done)))

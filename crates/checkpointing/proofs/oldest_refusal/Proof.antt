@@ -1,7 +1,6 @@
 -- `checkpointing::oldest_refusal` meets its contract: 32, 33, or none.
 use Rattle.checkpointing.proofs.SharedLaws.{shape-range, read-shape}
-use Rattle.checkpointing.proofs.CountLaws.{core-below}
-use Rattle.checkpointing.proofs.OldestLaws.{oldest-was-read, not-valid, shared-lower, unshared-lower}
+use Rattle.checkpointing.proofs.OldestLaws.{oldest-was-read, core-here, not-valid, shared-lower, unshared-lower}
 use borrow.Author.Needs.{needs}
 use Rattle.checkpointing.proofs.oldest_refusal.Statement.{statement}
 use Rattle.checkpointing.proofs.oldest_refusal.Tie as tie
@@ -9,4 +8,4 @@ use Rattle.checkpointing.proofs.oldest_refusal.Tie as tie
 pub oldest-refusal-spec : {M : Type 1} → statement M
 oldest-refusal-spec =
     tie.close
-    (tie.spec (λ c κs. search needs) (λ c κs. search needs) (λ c κs. search (needs, shape-range)) (λ c κs. search (needs, shape-range)) (λ c κs. search (needs, shape-range, core-below)) (λ c. search (needs, not-valid)) (λ c κs. search (needs, shape-range, read-shape, oldest-was-read)) (λ c. search (needs, shared-lower)) (λ c. search (needs, unshared-lower)))
+    (tie.spec (λ c κs. search needs) (λ c κs. search needs) (λ c κs. search (needs, shape-range)) (λ c κs. search (needs, shape-range)) (λ c κs. search (needs, shape-range, core-here)) (λ c. search (needs, not-valid)) (λ c κs. search (needs, read-shape, oldest-was-read)) (λ c. search (needs, shared-lower)) (λ c. search (needs, unshared-lower)))

@@ -1,5 +1,5 @@
 -- `checkpointing::stores::stored_home` meets its contract.
-use Rattle.checkpointing.proofs.SharedLaws.{shape-range, read-shape}
+use Rattle.checkpointing.proofs.SharedLaws.{read-shape}
 use Rattle.checkpointing.proofs.StoreLaws.{home-stored}
 use borrow.Author.Needs.{needs}
 use Rattle.checkpointing.proofs.stores.stored_home.Statement.{statement}
@@ -8,4 +8,4 @@ use Rattle.checkpointing.proofs.stores.stored_home.Tie as tie
 pub stored-home-spec : {M : Type 1} → statement M
 stored-home-spec =
     tie.close
-    (tie.spec (λ c κs. search needs) (λ c κs. search (needs, shape-range, read-shape)) (λ c κs. search needs) (λ c. search needs) (λ c. search needs) (λ c. search (needs, home-stored)))
+    (tie.spec (λ c κs. search needs) (λ c κs. search (needs, read-shape)) (λ c κs. search needs) (λ c. search needs) (λ c. search needs) (λ c. search (needs, home-stored)))
