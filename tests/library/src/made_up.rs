@@ -129,9 +129,9 @@ impl MadeUp {
         difference(&meaning(after.card.cells()), plain.card.cells()).map_or(Ok(()), Err)?;
         let block = self.random.pick(&[0, 1, 2, 3, 7, 63, 64, 255, 256, u16::MAX]);
         check_reading(&after, block)?;
-        if plain.card.locate(block, &plain.disk, &plain.memory) != after.card.locate(block, &after.disk, &after.memory)
-        {
-            return Err(format!("what has no meaning changed where block {block} is read"));
+        let [one, other] = [&after, &plain].map(|stage| stage.card.locate(block, &stage.disk, &stage.memory));
+        if one != other {
+            return Err(format!("what has no meaning changed where block {block} is read: {one:?}, {other:?}"));
         }
         if self.random.chance(250) {
             check_tape(before, &tape)
