@@ -1,15 +1,11 @@
 // build.rs: links the static library that `rt staticlib firmware` writes. In `stack` every call of an entry goes through a
 // jump of its own, which notes the stack pointer.
 
-const ENTRIES: [&str; 7] = [
-    "rev_d_blank",
-    "rev_d_down",
-    "rev_d_command",
-    "rev_d_tape",
-    "rev_d_read_number",
-    "rev_d_read_part",
-    "rev_d_read_block",
-];
+macro_rules! entries {
+    ($($entry:literal),*) => { const ENTRIES: &[&str] = &[$($entry),*]; };
+}
+
+include!("entries.rs");
 
 fn main() {
     let root = std::path::Path::new(env!("CARGO_MANIFEST_DIR")).join("../../target/staticlib");

@@ -34,7 +34,7 @@ impl Subject {
         })
     }
 
-    /// The most stack that the tape touches, with the caller's copies of the session.
+    /// The most stack that the tape touches, its caller's with it.
     pub fn stack(self, workload: &Workload) -> usize {
         self.with(workload, |run| {
             let Touched { lowest, top } = touched(run);

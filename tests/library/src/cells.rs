@@ -89,7 +89,7 @@ impl Field {
             PHASE => Field::Phase,
             CLOSES | STORES => Field::Bits(64),
             UNUSED..TAIL => Field::Bits(0),
-            TAIL..HOLDER => Field::Bits(if cell % 2 == 0 { 32 } else { 8 }),
+            TAIL..HOLDER => Field::Bits([32, 8][cell % 2]),
             HOLDER..CORE => Field::Holder,
             CORE.. => Field::of_core((cell - CORE) % CORE_SIZE),
             _ => Field::Bits(8),

@@ -7,41 +7,12 @@ use crate::stage::Stage;
 use card_tests::checks::{Seen, Watcher};
 use card_tests::command::{self, Command};
 use card_tests::foreign;
-use card_tests::layout::{BLOCK, DISK, LAST_NUMBER, LAST_TAIL, MEMORY};
+use card_tests::layout::{BLOCK, DISK, LAST_NUMBER, MEMORY};
 use card_tests::random::Random;
 use card_tests::shrink::tape_of;
 
-/// Values at which something ends.
-const EDGES: [u64; 28] = [
-    0,
-    1,
-    2,
-    3,
-    4,
-    7,
-    8,
-    9,
-    11,
-    12,
-    13,
-    23,
-    24,
-    25,
-    63,
-    64,
-    65,
-    255,
-    256,
-    LAST_NUMBER as u64,
-    LAST_TAIL as u64,
-    u32::MAX as u64,
-    1 << 32,
-    (1 << 35) - 1,
-    1 << 35,
-    1 << 63,
-    u64::MAX - 1,
-    u64::MAX,
-];
+/// Values at which something ends: counts, sizes, widths.
+const ENDS: [u64; 11] = [0, 2, 8, 12, 24, 64, 256, LAST_NUMBER as u64, 1 << 32, 1 << 35, 1 << 63];
 
 /// The answers of each command to slices of their lengths, where its operands are there.
 fn answers(command: Command) -> &'static [u8] {
@@ -158,6 +129,10 @@ impl MadeUp {
         difference(&meaning(after.card.cells()), plain.card.cells()).map_or(Ok(()), Err)?;
         let block = self.random.pick(&[0, 1, 2, 3, 7, 63, 64, 255, 256, u16::MAX]);
         check_reading(&after, block)?;
+        let [one, other] = [&after, &plain].map(|stage| stage.card.locate(block, &stage.disk, &stage.memory));
+        if one != other {
+            return Err(format!("what has no meaning changed where block {block} is read: {one:?}, {other:?}"));
+        }
         if self.random.chance(250) {
             check_tape(before, &tape)
         } else {
@@ -166,14 +141,13 @@ impl MadeUp {
     }
 }
 
-/// A value of another cell or of none.
 fn any_value(random: &mut Random) -> u64 {
     match random.below(5) {
         0 => random.draw(),
         1 => random.below(26) as u64,
         2 => 0,
         3 => random.draw() >> random.below(64),
-        _ => random.pick(&EDGES),
+        _ => random.pick(&ENDS).wrapping_add(random.below(3) as u64).wrapping_sub(1),
     }
 }
 

@@ -64,7 +64,7 @@ fn speeds() {
         [vec![workload.name.clone()], bytes.to_vec()].concat()
     };
     let rows: Vec<_> = tapes(LENGTH).iter().chain(&worst()).map(stack).collect();
-    print_table("Most stack in bytes, with the caller's copies", &["tape", "library", "whole tape", "plain"], &rows);
+    print_table("Most stack in bytes, the caller's with it", &["tape", "library", "whole tape", "plain"], &rows);
 }
 
 fn limits() {

@@ -15,8 +15,8 @@ use std::sync::atomic::{AtomicUsize, Ordering};
 /// The stack pointer as the entry called last found it.
 static ENTERED: AtomicUsize = AtomicUsize::new(0);
 
-/// The linker sends each call of an entry to its jump here (`build.rs`).
-macro_rules! noting_jumps {
+/// The linker sends each call of an entry to its jump here (`build.rs`), which notes the stack pointer.
+macro_rules! entries {
     ($($entry:literal),*) => {
         $(std::arch::global_asm!(
             concat!(".globl __wrap_", $entry),
@@ -28,15 +28,7 @@ macro_rules! noting_jumps {
     };
 }
 
-noting_jumps!(
-    "rev_d_blank",
-    "rev_d_down",
-    "rev_d_command",
-    "rev_d_tape",
-    "rev_d_read_number",
-    "rev_d_read_part",
-    "rev_d_read_block"
-);
+include!("../../entries.rs");
 
 /// What an entry may use; more ends with a status other than 0.
 const LIMIT: usize = 12 * 1024;
