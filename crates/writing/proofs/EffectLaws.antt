@@ -19,7 +19,8 @@ use Rattle.model.proofs.Lists.{cases, and-right}
 use Rattle.cells.specs.Cells.{transactionIn, cardIn, holderPlace, runningPlace, openedOr, Frame}
 use Rattle.cells.proofs.CellLaws.{running-put}
 use Rattle.cells.proofs.FitsLaws.{frame-then, frame-wider}
-use Rattle.writing.specs.Writing.{Met, Room, ownFull, backFull, ninth, namedBy, takenBy, afterBy, namedBack, heldBy}
+use Rattle.writing.specs.Writing.{foundAt, Room, ownFull, backFull, ninth, namedBy, takenBy, afterBy, namedBack, heldBy}
+use Rattle.writing.specs.declared.Found.{Found}
 use Rattle.writing.proofs.RuleLaws.{running-at, cond-done}
 use Rattle.writing.proofs.RoomLaws.{named-count}
 
@@ -63,27 +64,29 @@ pub block-room : (r : Rule) (t : Transaction) (g : Bool) → g ≡ takesBlock r 
 unfolding ninth
 block-room r t g q m z = leb-false 8 (t .count) (room-left g _ _ q m z)
 
-module _ (v : List ℕ) (c : ℕ) (h : c < 8) (p : ℕ) (e : p ≡ runningPlace c) (u : List ℕ) (i : transactionIn u p ≡ openedOr (transactionIn v p)) (r : Rule) (n : Name) where
-  writer-open : transactionIn u p ≡ writer (cardIn v) c
+module _ (v : List ℕ) (f : Found) (h : f .core < 8) (p : ℕ) (e : p ≡ runningPlace (f .core)) (u : List ℕ) (i : transactionIn u p ≡ openedOr (transactionIn v p)) where
+  writer-open : transactionIn u p ≡ writer (cardIn v) (f .core)
   unfolding openedOr writer
-  writer-open = i ∙ rw (running-at v c h p e)
+  writer-open = i ∙ rw (running-at v (f .core) h p e)
 
-  pub list-room : ownFull r (writer (cardIn v) c) n ≡ false → ownFull r (transactionIn u p) n ≡ false
+  pub list-room : ownFull (f .rule) (writer (cardIn v) (f .core)) (f .holder) ≡ false → ownFull (f .rule) (transactionIn u p) (f .holder) ≡ false
   list-room m = rw writer-open m
 
-  module _ (w : List ℕ) (j : transactionIn w p ≡ namedBy r (transactionIn u p) n) where
-    pub count-room : ninth r (writer (cardIn v) c) ≡ false → ninth r (transactionIn w p) ≡ false
+  module _ (w : List ℕ) (j : transactionIn w p ≡ namedBy (f .rule) (transactionIn u p) (f .holder)) where
+    pub count-room : ninth (f .rule) (writer (cardIn v) (f .core)) ≡ false → ninth (f .rule) (transactionIn w p) ≡ false
     unfolding ninth
     count-room m =
-        let k : (transactionIn w p) .count ≡ (writer (cardIn v) c) .count = ap (λ (t : Transaction). t .count) j ∙ named-count r (transactionIn u p) n ∙ ap (λ (t : Transaction). t .count) writer-open in
+        let k : (transactionIn w p) .count ≡ (writer (cardIn v) (f .core)) .count =
+        ap (λ (t : Transaction). t .count) j ∙ named-count (f .rule) (transactionIn u p) (f .holder) ∙ ap (λ (t : Transaction). t .count) writer-open in
         rw k m
 
-    pub own-written : (b : ℕ) (z : List ℕ) → transactionIn z p ≡ takenBy r (transactionIn w p) b → Frame v u p 24 → Frame u w p 24 → Frame w z p 24
-        → (cardIn z ≡ withCore (cardIn v) c (withRunning (coreOf (cardIn v) c) (afterBy r (writer (cardIn v) c) n b))) × Frame v z 0 512
-    own-written b z l f k m =
-        let d : Frame v z p 24 = frame-then w z v p 24 (frame-then u w v p 24 f k) m in
-        (running-after c h p e v z d _ (l ∙ ap (λ (t : Transaction). takenBy r t b) (j ∙ ap (λ (t : Transaction). namedBy r t n) writer-open)),
-        frame-all c h p e v z d)
+    pub own-written : (z : List ℕ) → transactionIn z p ≡ takenBy (f .rule) (transactionIn w p) (f .block) → Frame v u p 24 → Frame u w p 24 → Frame w z p 24
+        → (cardIn z ≡ withCore (cardIn v) (f .core) (withRunning (coreOf (cardIn v) (f .core)) (afterBy (cardIn v) f))) × Frame v z 0 512
+    own-written z l g k m =
+        let d : Frame v z p 24 = frame-then w z v p 24 (frame-then u w v p 24 g k) m in (
+          running-after (f .core) h p e v z d _ (l ∙ ap (λ (t : Transaction). takenBy (f .rule) t (f .block)) (j ∙ ap (λ (t : Transaction). namedBy (f .rule) t (f .holder)) writer-open)),
+          frame-all (f .core) h p e v z d,
+        )
 
 -- ---- the block's holder
 pub holder-all : (v w : List ℕ) (b : ℕ) → b < 64 → Frame v w (holderPlace b) 1 → Frame v w 0 512
@@ -110,32 +113,42 @@ other-core x c b h e =
     (λ i. false≢true (sym s ∙ same-parts ((holderOf x b) .name) c ((coreOf x c) .next) e (runs-number x ((holderOf x b) .name) c e i)))
     (λ i. false≢true (rw (t, s, i) at h))))
 
-module _ (x : Card) (c b : ℕ) (r : Rule) (n own : Name) (m : Met x c b r n own) where
-  core-beside : coreOf (namedBack r x (n .core) own) c ≡ coreOf x c
+module _ (x : Card) (f : Found) (e : f ≡ foundAt x (f .core) (f .block)) where
+  rule-is : f .rule ≡ ruleFor x (f .core) (f .block)
+  rule-is = ap (λ (a : Found). a .rule) e
+
+  holder-is : f .holder ≡ (holderOf x (f .block)) .name
+  holder-is = ap (λ (a : Found). a .holder) e
+
+  own-is : f .own ≡ writerName x (f .core)
+  own-is = ap (λ (a : Found). a .own) e
+
+  core-beside : coreOf (namedBack (f .rule) x (f .holder .core) (f .own)) (f .core) ≡ coreOf x (f .core)
   unfolding namedBack coreOf
   core-beside =
-      cases (isNamedBack r)
-      (λ t. rw t (getD-set-other (x .cores) (n .core) c _ (freshCore 0) (λ k. other-core x c b (ap isNamedBack (sym (m .rule)) ∙ t) (ap (λ (a : Name). a .core) (sym (m .holder)) ∙ sym k))))
+      cases (isNamedBack (f .rule))
+      (λ t. rw t (getD-set-other (x .cores) (f .holder .core) (f .core) _ (freshCore 0)
+      (λ k. other-core x (f .core) (f .block) (ap isNamedBack (sym rule-is) ∙ t) (ap (λ (a : Name). a .core) (sym holder-is) ∙ sym k))))
       (λ t. rw t)
 
-  module _ (y : Card) (i : y ≡ namedBack r x (n .core) own) where
-    same-core : coreOf y c ≡ coreOf x c
-    same-core = ap (λ (k : Card). coreOf k c) i ∙ core-beside
+  module _ (y : Card) (i : y ≡ namedBack (f .rule) x (f .holder .core) (f .own)) where
+    same-core : coreOf y (f .core) ≡ coreOf x (f .core)
+    same-core = ap (λ (k : Card). coreOf k (f .core)) i ∙ core-beside
 
-    same-writer : writer y c ≡ writer x c
+    same-writer : writer y (f .core) ≡ writer x (f .core)
     unfolding writer
     same-writer = rw same-core
 
-    pub list-fits : Room x c r n own → ownFull r (writer y c) n ≡ false
-    list-fits f = rw same-writer (f .list)
+    pub list-fits : Room x f → ownFull (f .rule) (writer y (f .core)) (f .holder) ≡ false
+    list-fits m = rw same-writer (m .list)
 
-    pub block-fits : Room x c r n own → ninth r (writer y c) ≡ false
-    block-fits f = rw same-writer (f .blocks)
+    pub block-fits : Room x f → ninth (f .rule) (writer y (f .core)) ≡ false
+    block-fits m = rw same-writer (m .blocks)
 
-    writer-made : afterBy r (writer y c) n b ≡ writerAfter x c b
+    writer-made : afterBy y f ≡ writerAfter x (f .core) (f .block)
     unfolding takenBy namedBy writerAfter
-    writer-made = rw (same-writer, m .holder, m .rule)
+    writer-made = rw (same-writer, holder-is, rule-is)
 
-    pub state-written : (z : Card) → z ≡ withCore y c (withRunning (coreOf y c) (afterBy r (writer y c) n b)) → (t : Card) → t ≡ heldBy r z b own → t ≡ writtenCard x c b
+    pub state-written : (z : Card) → z ≡ withCore y (f .core) (withRunning (coreOf y (f .core)) (afterBy y f)) → (t : Card) → t ≡ heldBy (f .rule) z (f .block) (f .own) → t ≡ writtenCard x (f .core) (f .block)
     unfolding writtenCard namedBack heldBy
-    state-written z j t k = k ∙ rw (j, writer-made, i, m .writer, m .holder, m .rule)
+    state-written z j t k = k ∙ rw (j, writer-made, i, own-is, holder-is, rule-is)

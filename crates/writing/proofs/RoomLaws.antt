@@ -22,6 +22,7 @@ use Rattle.model.proofs.Lists.{cases}
 use Rattle.cells.specs.Cells.{byteIn, transactionIn, cardIn, corePlace, runningPlace, closedPlace, openedOr}
 use Rattle.cells.proofs.CellLaws.{used-read, running-read, closed-read, blocks-long, names-long, open-live}
 use Rattle.writing.specs.Writing.{ownFull, backFull, ninth, sizeAfter, namedBy, takenBy, afterBy, foundConditions}
+use Rattle.writing.specs.declared.Found.{Found}
 use Rattle.writing.proofs.RuleLaws.{running-at}
 
 -- ---- 24, the list of a transaction
@@ -141,14 +142,14 @@ module _ (r : Rule) (t : Transaction) (l : length (t .blocks) ≡ 8) (k : ℕ) (
   unfolding ninth
   ninth-is g q = q ∙ rw ninth-count
 
-  pub size-is : (n : Name) (b : ℕ) → (g : Bool) → g ≡ (takesBlock r && leb 8 k) → g ≡ false → sizeAfter r k ≡ recordSize (afterBy r t n b)
+  pub size-is : (n : Name) (b : ℕ) → (g : Bool) → g ≡ (takesBlock r && leb 8 k) → g ≡ false → sizeAfter r k ≡ recordSize (takenBy r (namedBy r t n) b)
   unfolding sizeAfter recordSize takenBy taken
   size-is n b g q z =
       cases (takesBlock r)
       (λ h.
       let y : leb 8 k ≡ false = rw h at (sym q ∙ z) in
       let u : length (take ((namedBy r t n) .count + 1) (set ((namedBy r t n) .blocks) ((namedBy r t n) .count) b)) ≡ min (t .count + 1) 8 =
-          length-take ((namedBy r t n) .count + 1) _ ∙ rw (length-set, named-count r t n, named-blocks r t n, l) in
+      length-take ((namedBy r t n) .count + 1) _ ∙ rw (length-set, named-count r t n, named-blocks r t n, l) in
       rw (h, u) (omega (arith, taken-count, leb-false 8 k y)))
       (λ h. rw (h, named-count r t n, named-blocks r t n, e))
 
@@ -157,40 +158,42 @@ pub number-opens : (l p : Bool) → l ≡ false → p ≡ (not l && p)
 number-opens l p h = rw h
 
 -- ---- the refusals in turn
-module _ (w : List ℕ) (c : ℕ) (r : Rule) (n own : Name) (f : Bool) (p : f ≡ ownFull r (writer (cardIn w) c) n) where
-  pub refused-own : f ≡ true → (b : ℕ) → 24 ≡ refusal (foundConditions (cardIn w) c b r n own)
+module _ (w : List ℕ) (f : Found) (p : Bool) (own : p ≡ ownFull (f .rule) (writer (cardIn w) (f .core)) (f .holder)) where
+  pub refused-own : p ≡ true → 24 ≡ refusal (foundConditions (cardIn w) f)
   unfolding refusal
-  refused-own h b = rw (← p, h)
+  refused-own h = rw (← own, h)
 
-  module _ (z : f ≡ false) (g : Bool) (q : g ≡ backFull r ((coreOf (cardIn w) (n .core)) .running) own) where
-    pub refused-back : g ≡ true → (b : ℕ) → 24 ≡ refusal (foundConditions (cardIn w) c b r n own)
+  module _ (p' : p ≡ false) (q : Bool) (back : q ≡ backFull (f .rule) ((coreOf (cardIn w) (f .holder .core)) .running) (f .own)) where
+    pub refused-back : q ≡ true → 24 ≡ refusal (foundConditions (cardIn w) f)
     unfolding refusal
-    refused-back h b = rw (← p, z, ← q, h)
+    refused-back h = rw (← own, p', ← back, h)
 
-    module _ (y : g ≡ false) (o : c < 8) (k : ℕ) (e : k ≡ length (taken (writer (cardIn w) c))) (i : Bool) (s : i ≡ (takesBlock r && leb 8 k)) where
-      ninth-met : i ≡ ninth r (writer (cardIn w) c)
-      ninth-met = ninth-is r (writer (cardIn w) c) (writer-long w c o) k e i s
+    module _ (q' : q ≡ false) (core : f .core < 8) (k : ℕ) (count : k ≡ length (taken (writer (cardIn w) (f .core)))) (r : Bool) (more : r ≡ (takesBlock (f .rule) && leb 8 k)) where
+      ninth-met : r ≡ ninth (f .rule) (writer (cardIn w) (f .core))
+      ninth-met = ninth-is (f .rule) (writer (cardIn w) (f .core)) (writer-long w (f .core) core) k count r more
 
-      pub refused-ninth : i ≡ true → (b : ℕ) → 25 ≡ refusal (foundConditions (cardIn w) c b r n own)
+      pub refused-ninth : r ≡ true → 25 ≡ refusal (foundConditions (cardIn w) f)
       unfolding refusal
-      refused-ninth h b = rw (← p, z, ← q, y, ← ninth-met, h)
+      refused-ninth h = rw (← own, p', ← back, q', ← ninth-met, h)
 
-      module _ (x : i ≡ false) (v : Shape) (d : v ≡ shapeOf (cardIn w)) (j : Bool) (t : j ≡ ltb (v .journal) (closedBlocks (coreOf (cardIn w) c) + sizeAfter r k)) where
-        journal-met : (b : ℕ) → j ≡ ltb ((shapeOf (cardIn w)) .journal) (closedBlocks (coreOf (cardIn w) c) + recordSize (afterBy r (writer (cardIn w) c) n b))
-        journal-met b = t ∙ rw (d, size-is r (writer (cardIn w) c) (writer-long w c o) k e n b i s x)
+      module _ (r' : r ≡ false) (s : Shape) (shape : s ≡ shapeOf (cardIn w)) (t : Bool) (full : t ≡ ltb (s .journal) (closedBlocks (coreOf (cardIn w) (f .core)) + sizeAfter (f .rule) k)) where
+        journal-met : t ≡ ltb ((shapeOf (cardIn w)) .journal) (closedBlocks (coreOf (cardIn w) (f .core)) + recordSize (afterBy (cardIn w) f))
+        journal-met = full ∙ rw (shape, size-is (f .rule) (writer (cardIn w) (f .core)) (writer-long w (f .core) core) k count (f .holder) (f .block) r more r')
 
-        pub refused-journal : j ≡ true → (b : ℕ) → 26 ≡ refusal (foundConditions (cardIn w) c b r n own)
+        pub refused-journal : t ≡ true → 26 ≡ refusal (foundConditions (cardIn w) f)
         unfolding refusal
-        refused-journal h b = rw (← p, z, ← q, y, ← ninth-met, x, ← journal-met b, h)
+        refused-journal h = rw (← own, p', ← back, q', ← ninth-met, r', ← journal-met, h)
 
-        module _ (u : j ≡ false) (l : Bool) (a : l ≡ (coreOf (cardIn w) c) .running .live) (m : Bool) (k' : m ≡ (not l && ltb maxNumber (own .number))) where
-          numbers-met : m ≡ (not ((coreOf (cardIn w) c) .running .live) && ltb maxNumber (own .number))
-          numbers-met = k' ∙ rw a
+        module _ (t' : t ≡ false) (l : Bool) (live : l ≡ (coreOf (cardIn w) (f .core)) .running .live) (u : Bool) (last : u ≡ (not l && ltb maxNumber (f .own .number))) where
+          numbers-met : u ≡ (not ((coreOf (cardIn w) (f .core)) .running .live) && ltb maxNumber (f .own .number))
+          numbers-met = last ∙ rw live
 
-          pub refused-numbers : m ≡ true → (b : ℕ) → 27 ≡ refusal (foundConditions (cardIn w) c b r n own)
+          refused-last : refusal (foundConditions (cardIn w) f) ≡ cond u 27 0
           unfolding refusal
-          refused-numbers h b = rw (← p, z, ← q, y, ← ninth-met, x, ← journal-met b, u, ← numbers-met, h)
+          refused-last = rw (← own, p', ← back, q', ← ninth-met, r', ← journal-met, t', ← numbers-met)
 
-          pub refused-not : m ≡ false → (b : ℕ) → 0 ≡ refusal (foundConditions (cardIn w) c b r n own)
-          unfolding refusal
-          refused-not h b = rw (← p, z, ← q, y, ← ninth-met, x, ← journal-met b, u, ← numbers-met, h)
+          pub refused-numbers : u ≡ true → 27 ≡ refusal (foundConditions (cardIn w) f)
+          refused-numbers h = rw (refused-last, h)
+
+          pub refused-not : u ≡ false → 0 ≡ refusal (foundConditions (cardIn w) f)
+          refused-not h = rw (refused-last, h)

@@ -18,6 +18,7 @@ use Rattle.model.specs.declared.Card.{Card}
 use Rattle.model.specs.declared.Rule.{Rule}
 use Rattle.model.specs.declared.Rule.the-variants.{Free, Own, Running, Closed}
 use Rattle.cells.specs.Answer.{world}
+use Rattle.writing.specs.declared.Found.{Found}
 
 -- ---- before the rule: 1, 20, 22, 5 to 7
 abbrev pub firstConditions : ℕ → ℕ → ℕ → World → List (Bool × ℕ)
@@ -36,24 +37,37 @@ pub record Passed (x : Card) (c b o : ℕ) (d m : Bytes) : Type 0 where
   pub core : c < 8
   pub within : Within d m b o
 
--- ---- what a WRITE of core c to block b finds: the rule r, the holder's name n and the writer's own
--- the rule at a block whose holder is h
+-- ---- what a WRITE finds
+-- the rule that the writer of the name own meets at a block whose holder is h
 unfoldable pub ruleAt : Card → Holder → Name → Rule
 ruleAt x h own =
     cond (not (h .held)) Free
     (cond (sameName (h .name) own) Own
     (cond (isRunning x (h .name)) Running Closed))
 
-pub record Met (x : Card) (c b : ℕ) (r : Rule) (n own : Name) : Type 0 where
-  pub core : c < 8
-  pub block : b < 64
-  pub rule : r ≡ ruleFor x c b
-  pub holder : n ≡ (holderOf x b) .name
-  pub holder-core : n .core < 8
-  pub writer : own ≡ writerName x c
-  pub writer-core : own .core < 8
+-- core c's WRITE to block b
+abbrev pub foundAt : Card → ℕ → ℕ → Found
+foundAt x c b = record { core = c; block = b; rule = ruleFor x c b; holder = (holderOf x b) .name; own = writerName x c }
 
--- ---- room, by what was found
+pub record Bounded (f : Found) : Type 0 where
+  pub core : f .core < 8
+  pub block : f .block < 64
+  pub holder : f .holder .core < 8
+  pub own : f .own .core < 8
+
+-- ---- what a rule makes of the writer t
+-- its list names n where the rule has it name the holder
+unfoldable pub namedBy : Rule → Transaction → Name → Transaction
+namedBy r t n = cond (namesHolder r) (withName t n) t
+
+-- it takes the block where the rule asks for it
+unfoldable pub takenBy : Rule → Transaction → ℕ → Transaction
+takenBy r t b = cond (takesBlock r) (withBlock t b) t
+
+abbrev pub afterBy : Card → Found → Transaction
+afterBy x f = takenBy (f .rule) (namedBy (f .rule) (writer x (f .core)) (f .holder)) (f .block)
+
+-- ---- room
 -- 24 for the writer t, and for the transaction t that holds the block
 unfoldable pub ownFull : Rule → Transaction → Name → Bool
 ownFull r t n = namesHolder r && passesTwelve t n
@@ -69,41 +83,30 @@ ninth r t = takesBlock r && leb 8 (t .count)
 unfoldable pub sizeAfter : Rule → ℕ → ℕ
 sizeAfter r n = cond (takesBlock r) (n + 3) (n + 2)
 
--- a transaction, its list naming n where the rule has the writer name the holder
-unfoldable pub namedBy : Rule → Transaction → Name → Transaction
-namedBy r t n = cond (namesHolder r) (withName t n) t
-
--- and the block taken where the rule asks for it
-unfoldable pub takenBy : Rule → Transaction → ℕ → Transaction
-takenBy r t b = cond (takesBlock r) (withBlock t b) t
-
-abbrev pub afterBy : Rule → Transaction → Name → ℕ → Transaction
-afterBy r t n b = takenBy r (namedBy r t n) b
-
 -- 24 to 27
-abbrev pub foundConditions : Card → ℕ → ℕ → Rule → Name → Name → List (Bool × ℕ)
-foundConditions x c b r n own =
-    (ownFull r (writer x c) n || backFull r ((coreOf x (n .core)) .running) own, 24)
-    ∷ (ninth r (writer x c), 25)
-    ∷ (ltb ((shapeOf x) .journal) (closedBlocks (coreOf x c) + recordSize (afterBy r (writer x c) n b)), 26)
-    ∷ (not ((coreOf x c) .running .live) && ltb maxNumber (own .number), 27)
+abbrev pub foundConditions : Card → Found → List (Bool × ℕ)
+foundConditions x f =
+    (ownFull (f .rule) (writer x (f .core)) (f .holder) || backFull (f .rule) ((coreOf x (f .holder .core)) .running) (f .own), 24)
+    ∷ (ninth (f .rule) (writer x (f .core)), 25)
+    ∷ (ltb ((shapeOf x) .journal) (closedBlocks (coreOf x (f .core)) + recordSize (afterBy x f)), 26)
+    ∷ (not ((coreOf x (f .core)) .running .live) && ltb maxNumber (f .own .number), 27)
     ∷ []
 
 -- what 24 and 25 leave: room for the names and the block
-pub record Room (x : Card) (c : ℕ) (r : Rule) (n own : Name) : Type 0 where
-  pub list : ownFull r (writer x c) n ≡ false
-  pub back : backFull r ((coreOf x (n .core)) .running) own ≡ false
-  pub blocks : ninth r (writer x c) ≡ false
+pub record Room (x : Card) (f : Found) : Type 0 where
+  pub list : ownFull (f .rule) (writer x (f .core)) (f .holder) ≡ false
+  pub back : backFull (f .rule) ((coreOf x (f .holder .core)) .running) (f .own) ≡ false
+  pub blocks : ninth (f .rule) (writer x (f .core)) ≡ false
 
--- ---- afterwards, by what was found
--- the card, the list of core u's running transaction naming the writer where the rule asks for it
+-- ---- card and memory afterwards
+-- the list of core u's running transaction names the writer where the rule asks for it
 unfoldable pub namedBack : Rule → Card → ℕ → Name → Card
 namedBack r x u own = cond (isNamedBack r) (withCore x u (withRunning (coreOf x u) (withName ((coreOf x u) .running) own))) x
 
--- the card, the writer holding the block where it takes it
+-- the writer holds the block where it takes it
 unfoldable pub heldBy : Rule → Card → ℕ → Name → Card
 heldBy r x b own = cond (takesBlock r) (withHolder x b (newHolder own)) x
 
--- memory m, the block's image loaded from disk d where the rule asks for it
+-- the block's image is loaded from disk d where the rule asks for it
 unfoldable pub loadedBy : Rule → Bytes → Bytes → ℕ → Bytes
 loadedBy r d m b = cond (loadsImage r) (store m b (blockAt d (homeBlock b))) m

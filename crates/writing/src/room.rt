@@ -1,15 +1,16 @@
 // Whether there is room for a WRITE: the refusals 24 to 27.
 ghost use mathlib.Core.Path.{_≡_};
 ghost use mathlib.Core.Bool.{not, _&&_};
-ghost use Prim.Native.Nat.{ℕ, _+_, _<_, _≤_};
+ghost use Prim.Native.Nat.{_+_, _<_, _≤_};
 ghost use lib.Dec.{ltb, leb};
 ghost use lib.ListN.{length};
 ghost use Rattle.model.specs.Card.{taken, coreOf, shapeOf};
 ghost use Rattle.model.specs.Command.{refusal};
 ghost use Rattle.model.specs.Layout.{maxNumber};
-ghost use Rattle.model.specs.Write.{writer, writerName, takesBlock, passesTwelve, closedBlocks};
+ghost use Rattle.model.specs.Write.{writer, takesBlock, passesTwelve, closedBlocks};
 ghost use Rattle.cells.specs.Cells.{transactionIn, cardIn};
-ghost use Rattle.writing.specs.Writing.{ownFull, backFull, sizeAfter, foundConditions};
+ghost use Rattle.writing.specs.Writing.{Bounded, ownFull, backFull, sizeAfter, foundConditions};
+use crate::Found;
 use crate::rules::has_running;
 use crate::rules::is_named_back;
 use crate::rules::names_holder;
@@ -38,32 +39,34 @@ fn passes_twelve(w: &[u64], at: usize, n: Name) -> bool
 }
 
 // Refusal 24 for the writer's list; one that opens has no names. live: whether its core has a running transaction.
-fn own_full(w: &[u64], live: bool, c: u8, rule: Rule, n: Name) -> bool
-    requires { ⌜ (length (now w) ≡ 512) × (c < 8) × (live ≡ (coreOf (cardIn (now w)) c) .running .live) ⌝ }
-    ensures { λ r. ⌜ r ≡ ownFull rule (writer (cardIn (now (w .entry))) c) n ⌝ }
+fn own_full(w: &[u64], f: Found, live: bool) -> bool
+    requires { ⌜ (length (now w) ≡ 512) × (f .core < 8) × (live ≡ (coreOf (cardIn (now w)) (f .core)) .running .live) ⌝ }
+    ensures { λ r. ⌜ r ≡ ownFull (f .rule) (writer (cardIn (now (w .entry))) (f .core)) (f .holder) ⌝ }
 {
+    let rule = f.rule;
     if !names_holder(rule) {
         return false;
     }
     if !live {
         return false;
     }
-    passes_twelve(w, running_place(c), n)
+    passes_twelve(w, running_place(f.core), f.holder)
 }
 
 // Refusal 24 for the holder's list.
-fn back_full(w: &[u64], rule: Rule, n: Name, own: Name) -> bool
-    requires { ⌜ (length (now w) ≡ 512) × (n .core < 8) ⌝ }
-    ensures { λ r. ⌜ r ≡ backFull rule ((coreOf (cardIn (now (w .entry))) (n .core)) .running) own ⌝ }
+fn back_full(w: &[u64], f: Found) -> bool
+    requires { ⌜ (length (now w) ≡ 512) × (f .holder .core < 8) ⌝ }
+    ensures { λ r. ⌜ r ≡ backFull (f .rule) ((coreOf (cardIn (now (w .entry))) (f .holder .core)) .running) (f .own) ⌝ }
 {
+    let rule = f.rule;
     if !is_named_back(rule) {
         return false;
     }
-    passes_twelve(w, running_place(n.core), own)
+    passes_twelve(w, running_place(f.holder.core), f.own)
 }
 
-// How many blocks the writer has; one that opens has none.
-fn writer_count(w: &[u64], live: bool, c: u8) -> usize
+// How many blocks the writer of core c has; one that opens has none.
+fn writer_count(w: &[u64], c: u8, live: bool) -> usize
     requires { ⌜ (length (now w) ≡ 512) × (c < 8) × (live ≡ (coreOf (cardIn (now w)) c) .running .live) ⌝ }
     ensures { λ r. ⌜ (r ≡ length (taken (writer (cardIn (now (w .entry))) c))) × (r ≤ 8) ⌝ }
 {
@@ -108,18 +111,19 @@ fn size_after(rule: Rule, count: usize) -> usize
 }
 
 // Refusal 26.
-fn journal_full(w: &[u64], s: Shape, c: u8, rule: Rule, count: usize) -> bool
-    requires { ⌜ (length (now w) ≡ 512) × (c < 8) × (count ≤ 8) ⌝ }
-    ensures { λ r. ⌜ r ≡ ltb (s .journal) (closedBlocks (coreOf (cardIn (now (w .entry))) c) + sizeAfter rule count) ⌝ }
+fn journal_full(w: &[u64], s: Shape, f: Found, count: usize) -> bool
+    requires { ⌜ (length (now w) ≡ 512) × (f .core < 8) × (count ≤ 8) ⌝ }
+    ensures { λ r. ⌜ r ≡ ltb (s .journal) (closedBlocks (coreOf (cardIn (now (w .entry))) (f .core)) + sizeAfter (f .rule) count) ⌝ }
 {
-    let used = closed_blocks(w, c);
+    let used = closed_blocks(w, f.core);
+    let rule = f.rule;
     let size = size_after(rule, count);
     let j = s.journal as usize;
     j < used + size
 }
 
 // Refusal 27.
-fn numbers_end(live: bool, own: Name) -> bool
+fn numbers_end(own: Name, live: bool) -> bool
     ensures { λ r. ⌜ r ≡ (not live && ltb maxNumber (own .number)) ⌝ }
 {
     if live {
@@ -128,26 +132,27 @@ fn numbers_end(live: bool, own: Name) -> bool
     4000000000 < own.number
 }
 
-// The number of the refusal, 0 for none, of a WRITE by the transaction own of core c at a block that n holds.
-pub fn room_refusal(w: &[u64], s: Shape, c: u8, rule: Rule, n: Name, own: Name) -> u8
-    requires { ⌜ (length (now w) ≡ 512) × (s ≡ shapeOf (cardIn (now w))) × (c < 8) × (n .core < 8) ⌝ }
-    ensures { λ r. ⌜ ((b : ℕ) → r ≡ refusal (foundConditions (cardIn (now (w .entry))) c b rule n own)) ⌝ }
+// The number of the refusal, 0 for none.
+pub fn room_refusal(w: &[u64], s: Shape, f: Found) -> u8
+    requires { ⌜ (length (now w) ≡ 512) × (s ≡ shapeOf (cardIn (now w))) × Bounded f ⌝ }
+    ensures { λ r. ⌜ r ≡ refusal (foundConditions (cardIn (now (w .entry))) f) ⌝ }
 {
-    let live = has_running(w, c);
-    if own_full(w, live, c, rule, n) {
+    let rule = f.rule;
+    let live = has_running(w, f.core);
+    if own_full(w, f, live) {
         return 24;
     }
-    if back_full(w, rule, n, own) {
+    if back_full(w, f) {
         return 24;
     }
-    let count = writer_count(w, live, c);
+    let count = writer_count(w, f.core, live);
     if ninth_block(rule, count) {
         return 25;
     }
-    if journal_full(w, s, c, rule, count) {
+    if journal_full(w, s, f, count) {
         return 26;
     }
-    if numbers_end(live, own) {
+    if numbers_end(f.own, live) {
         return 27;
     }
     0
