@@ -1,0 +1,2 @@
+-- WRITE in stages.
+pub mod Writing
