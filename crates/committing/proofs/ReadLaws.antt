@@ -1,23 +1,13 @@
 -- What is read of a core and its two transactions, at the places that the code computes.
-use Prim.Native.Nat.{ℕ, _+_, _%_, _≤_, _<_}
-use native.Mathlib.Omega.{arith}
-use mathlib.Core.Path.{_≡_, refl, sym, ap, _∙_}
-use mathlib.Core.Bool.{Bool}
+use Prim.Native.Nat.{ℕ, _+_, _<_}
+use mathlib.Core.Path.{_≡_, sym, ap, _∙_}
 use mathlib.Core.List.{List}
-use lib.ListN.{getD}
-use Rattle.model.specs.Card.{newTail, tailOf, coreOf}
-use Rattle.model.specs.declared.Tail.{Tail}
-use Rattle.model.specs.declared.Transaction.{Transaction}
+use Rattle.model.specs.Card.{coreOf}
 use Rattle.model.specs.declared.Core.{Core}
-use Rattle.model.proofs.Lists.{getD-map-below}
-use Rattle.cells.specs.Cells.{byteIn, numberIn, tailFrom, transactionIn, coreIn, cardIn, tailPlace, corePlace, runningPlace, closedPlace}
+use Rattle.cells.specs.Cells.{byteIn, numberIn, transactionIn, coreIn, cardIn, corePlace, runningPlace, closedPlace}
 use Rattle.cells.proofs.CellLaws.{core-at, next-read, used-read, running-read, closed-read}
 
 module _ (w : List ℕ) (c : ℕ) (h : c < 8) where
-  position-read : byteIn w (tailPlace c + 1) ≡ (tailOf (cardIn w) c) .position
-  unfolding tailOf cardIn tailFrom
-  position-read = sym (ap (λ (t : Tail). t .position) (getD-map-below (λ (d : ℕ). tailFrom w (tailPlace d)) 8 c (newTail 0 0) h))
-
   stored-read : byteIn w (corePlace c + 2) ≡ (coreOf (cardIn w) c) .stored
   unfolding coreIn
   stored-read = sym (ap (λ (k : Core). k .stored) (core-at w c h))
@@ -25,9 +15,6 @@ module _ (w : List ℕ) (c : ℕ) (h : c < 8) where
   homed-read : byteIn w (corePlace c + 3) ≡ (coreOf (cardIn w) c) .homed
   unfolding coreIn
   homed-read = sym (ap (λ (k : Core). k .homed) (core-at w c h))
-
-  pub position-there : (n : ℕ) → n ≡ byteIn w (tailPlace c + 1) → n ≡ (tailOf (cardIn w) c) .position
-  position-there n e = e ∙ position-read
 
   -- at the place of a core's cells
   module _ (a : ℕ) (e : a ≡ corePlace c) (n : ℕ) where

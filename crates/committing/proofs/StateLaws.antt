@@ -1,32 +1,25 @@
 -- A core's cells where its running transaction is frozen, and where a store is counted.
-use Prim.Native.Nat.{ℕ, _+_, _*_, _-_, _%_, _^_, _≤_, _<_}
+use Prim.Native.Nat.{ℕ, _+_, _-_, _%_, _^_, _≤_, _<_}
 use native.Mathlib.Omega.{arith}
 use mathlib.Core.Path.{_≡_, refl, sym, ap, _∙_}
-use mathlib.Core.Bool.{Bool, true, not}
+use mathlib.Core.Bool.{true, not}
 use mathlib.Core.List.{List}
-use lib.Dec.{eqb, leb}
+use lib.Dec.{eqb}
 use lib.ListN.{length, getD, set, length-set}
 use lib.Seq.{getD-set-same, getD-set-other}
 use borrow.Author.Tests.{le-leb, lt-leb, eqb-true, eqb-false}
-use Rattle.model.specs.Card.{noTransaction, taken, stamped, recordSize, withRunning, coreOf, withCore}
+use Rattle.model.specs.Card.{noTransaction, taken, stamped, recordSize, coreOf, withCore}
 use Rattle.model.specs.Commit.{closedCard, coreStored}
-use Rattle.model.specs.declared.Name.{Name}
 use Rattle.model.specs.declared.Transaction.{Transaction}
-use Rattle.model.specs.declared.Core.{Core}
-use Rattle.model.specs.declared.Card.{Card}
 use Rattle.model.proofs.Lists.{cases, map-below}
-use Rattle.cells.specs.Cells.{byteIn, numberIn, nameIn, transactionIn, cardIn, corePlace, runningPlace, closedPlace, withNumbers, withClosed, withCloses, fitsAt, Fits, Frame}
+use Rattle.cells.specs.Cells.{byteIn, numberIn, nameIn, transactionIn, cardIn, corePlace, runningPlace, closedPlace, withNumbers, withClosed, fitsAt, Fits, Frame}
 use Rattle.cells.proofs.FitsLaws.{running-place, closed-place, fits-at, fits-stamp, fits-closes, fits-set, frame-same, frame-set, frame-then, frame-wider}
-use Rattle.cells.proofs.CellLaws.{running-put}
+use Rattle.cells.proofs.CellLaws.{same-transaction, running-put}
 use Rattle.cells.proofs.CoreLaws.{core-of-with, with-core-twice, closed-put, closes-put}
 use Rattle.committing.specs.Frozen.{frozen, countedClose}
 use Rattle.committing.proofs.ReadLaws.{next-there, used-there, stored-there, homed-there, running-there, closed-there}
 
 -- ---- a transaction copied, cell by cell
-same-transaction : (l m : Bool) (s t c d : ℕ) (bs es : List ℕ) (n o : ℕ) (ns os : List Name) → l ≡ m → s ≡ t → c ≡ d → bs ≡ es → n ≡ o → ns ≡ os
-    → _≡_ {A = Transaction} (record { live = l; stamp = s; count = c; blocks = bs; named = n; names = ns }) (record { live = m; stamp = t; count = d; blocks = es; named = o; names = os })
-same-transaction l m s t c d bs es n o ns os p q r u x y = rw (p, q, r, u, x, y)
-
 transaction-moved : (v w : List ℕ) (a b : ℕ) → ((k : ℕ) → k < 24 → getD w (b + k) 0 ≡ getD v (a + k) 0) → transactionIn w b ≡ transactionIn v a
 unfolding transactionIn
 transaction-moved v w a b e =

@@ -1,5 +1,5 @@
 -- STORE: its refusals, what is stored next, and what the code leaves where it is carried out.
-use Prim.Native.Nat.{ℕ, _+_, _*_, _-_, _%_, _≤_, _<_, min}
+use Prim.Native.Nat.{ℕ, _+_, _*_, _-_, _≤_, _<_, min}
 use native.Mathlib.Omega.{arith}
 use mathlib.Core.Path.{_≡_, refl, sym, ap, _∙_}
 use mathlib.Core.Bool.{Bool, true, false, not}
@@ -14,20 +14,20 @@ use Rattle.model.specs.Layout.{newHeld, descriptorBlock, commitBlock, flagOf, e
 use Rattle.model.specs.Command.{refusal}
 use Rattle.model.specs.Commit.{copyBlock, heldCopies, closedNumber, nextStored, nextPosition, coreStored, storeConditions, stored, storeNext}
 use Rattle.model.specs.declared.Shape.{Shape}
+use Rattle.model.specs.declared.Tail.{Tail}
 use Rattle.model.specs.declared.Name.{Name}
 use Rattle.model.specs.declared.Transaction.{Transaction}
-use Rattle.model.specs.declared.Core.{Core}
 use Rattle.model.specs.declared.Card.{Card}
 use Rattle.model.proofs.Lists.{getD-map-below, map-below}
 use Rattle.model.proofs.Limits.{clamped-same}
 use Rattle.model.proofs.OneStore.{shape-limits, stored-low, position}
 use Rattle.layout.proofs.Blocks.{block-lent}
-use Rattle.cells.specs.Cells.{byteIn, numberIn, nameIn, transactionIn, cardIn, tailPlace, corePlace, closedPlace, Frame}
+use Rattle.cells.specs.Cells.{byteIn, numberIn, nameIn, transactionIn, cardIn, corePlace, closedPlace, Frame}
 use Rattle.cells.specs.Answer.{worldIn, newAnswer, Meets}
 use Rattle.cells.proofs.CellLaws.{blocks-long}
 use Rattle.cells.proofs.EntryLaws.{entry, entry-hit, entry-pass, Entered, entered}
 use Rattle.cells.proofs.MeetLaws.{meets-refused, meets-done}
-use Rattle.committing.proofs.ReadLaws.{position-there, next-there, used-there, stored-there, closed-there}
+use Rattle.committing.proofs.ReadLaws.{next-there, used-there, stored-there, closed-there}
 use Rattle.committing.proofs.CloseLaws.{taken-at}
 
 -- ---- refusals
@@ -151,10 +151,10 @@ module _ (v : List ℕ) (c : ℕ) (h : c < 8) (m : Bytes) (p : ℕ) (i : p ≡ c
   next-commit r n l z f = r ∙ rw (← at-stored, ← at-closed, ne-eqb done 0 z, lt-leb done (length (taken (transactionIn v p))) (omega arith), q)
 
 -- ---- the position
-pub position-is : (v : List ℕ) (c : ℕ) → c < 8 → (a : ℕ) → a ≡ corePlace c → (p : ℕ) → p ≡ byteIn v (tailPlace c + 1) → (u : ℕ) → u ≡ byteIn v (a + 1) → (s : ℕ) → s ≡ byteIn v (a + 2)
-    → p + u + s ≡ nextPosition (cardIn v) c
+pub position-is : (v : List ℕ) (c : ℕ) → c < 8 → (t : Tail) → t ≡ tailOf (cardIn v) c → (a : ℕ) → a ≡ corePlace c → (u : ℕ) → u ≡ byteIn v (a + 1) → (s : ℕ) → s ≡ byteIn v (a + 2)
+    → t .position + u + s ≡ nextPosition (cardIn v) c
 unfolding nextPosition
-position-is v c h a e p i u j s k = rw (position-there v c h p i, used-there v c h a e u j, stored-there v c h a e s k)
+position-is v c h t i a e u j s k = rw (i, used-there v c h a e u j, stored-there v c h a e s k)
 
 -- ---- the command
 module _ (v : List ℕ) (size : length v ≡ 512) (c : ℕ) (d m : Bytes) (n : ℕ) (e : n ≡ refusal (storeConditions c (worldIn v d m))) where

@@ -25,7 +25,9 @@ fn copy_place(c: u8, i: usize) -> usize
 // card that no run made has a block past the 64 images; its number counts round.
 fn copy_image(memory: &mut [u8], c: u8, i: usize, b: u8)
     requires { ⌜ (length (now memory) ≡ 16384) × (c < 8) × (i < 8) ⌝ }
-    ensures { λ _. ⌜ now (memory .exit) ≡ storeBlock (now (memory .entry)) (copyBlock c i) (blockAt (now (memory .entry)) (b % 64)) ⌝ }
+    ensures { λ _. ⌜
+        now (memory .exit) ≡ storeBlock (now (memory .entry)) (copyBlock c i) (blockAt (now (memory .entry)) (b % 64))
+        ⌝ }
 {
     let image = layout::load_block(memory, b as usize % 64);
     let start = 128 * copy_place(c, i);
@@ -36,7 +38,9 @@ fn copy_image(memory: &mut [u8], c: u8, i: usize, b: u8)
 // The images of the blocks of the transaction at a place, in the order taken, to the first of its core's copies onward.
 pub fn copy_images(w: &[u64], at: usize, c: u8, memory: &mut [u8])
     requires { ⌜ (length (now w) ≡ 512) × (at + 24 ≤ 512) × (length (now memory) ≡ 16384) × (c < 8) ⌝ }
-    ensures { λ _. ⌜ now (memory .exit) ≡ copied c 0 (taken (transactionIn (now (w .entry)) at)) (now (memory .entry)) ⌝ }
+    ensures { λ _. ⌜
+        now (memory .exit) ≡ copied c 0 (taken (transactionIn (now (w .entry)) at)) (now (memory .entry))
+        ⌝ }
 {
     let count = block_count(w, at);
     let mut i: usize = 0;

@@ -24,7 +24,10 @@ use cells::running_place;
 // The cells of core c's running transaction copied to those of its closed one.
 fn copy_running(w: &mut [u64], c: u8)
     requires { ⌜ (length (now w) ≡ 512) × (c < 8) ⌝ }
-    ensures { λ _. ⌜ (transactionIn (now (w .exit)) (closedPlace c) ≡ transactionIn (now (w .entry)) (runningPlace c)) × Frame (now (w .entry)) (now (w .exit)) (closedPlace c) 24 ⌝ }
+    ensures { λ _. ⌜
+        (transactionIn (now (w .exit)) (closedPlace c) ≡ transactionIn (now (w .entry)) (runningPlace c))
+        × Frame (now (w .entry)) (now (w .exit)) (closedPlace c) 24
+        ⌝ }
 {
     let from = running_place(c);
     let to = closed_place(c);
@@ -38,7 +41,10 @@ fn copy_running(w: &mut [u64], c: u8)
 // The running transaction of core c frozen: it is the closed one under this stamp, and none is running.
 fn freeze(w: &mut [u64], c: u8, stamp: u64)
     requires { ⌜ (length (now w) ≡ 512) × (c < 8) ⌝ }
-    ensures { λ _. ⌜ (cardIn (now (w .exit)) ≡ withCore (cardIn (now (w .entry))) c (frozen (coreOf (cardIn (now (w .entry))) c) stamp)) × Frame (now (w .entry)) (now (w .exit)) (corePlace c) 52 ⌝ }
+    ensures { λ _. ⌜
+        (cardIn (now (w .exit)) ≡ withCore (cardIn (now (w .entry))) c (frozen (coreOf (cardIn (now (w .entry))) c) stamp))
+        × Frame (now (w .entry)) (now (w .exit)) (corePlace c) 52
+        ⌝ }
 {
     let from = running_place(c);
     let to = closed_place(c);
@@ -50,7 +56,10 @@ fn freeze(w: &mut [u64], c: u8, stamp: u64)
 // The numbers of core c after a CLOSE. The next one counts round only on a card that no run made.
 fn count_close(w: &mut [u64], c: u8)
     requires { ⌜ (length (now w) ≡ 512) × (c < 8) ⌝ }
-    ensures { λ _. ⌜ (cardIn (now (w .exit)) ≡ withCore (cardIn (now (w .entry))) c (countedClose (coreOf (cardIn (now (w .entry))) c))) × Frame (now (w .entry)) (now (w .exit)) (corePlace c) 4 ⌝ }
+    ensures { λ _. ⌜
+        (cardIn (now (w .exit)) ≡ withCore (cardIn (now (w .entry))) c (countedClose (coreOf (cardIn (now (w .entry))) c)))
+        × Frame (now (w .entry)) (now (w .exit)) (corePlace c) 4
+        ⌝ }
 {
     let at = core_place(c);
     let next = std::num::wrapping_add_u32(number_in(w, at), 1);
@@ -62,7 +71,10 @@ fn count_close(w: &mut [u64], c: u8)
 // The running transaction of core c closed. Its stamp is the count of closes, which goes round only on a card that no run made.
 pub fn close_running(w: &mut [u64], c: u8)
     requires { ⌜ (length (now w) ≡ 512) × (c < 8) ⌝ }
-    ensures { λ _. ⌜ (cardIn (now (w .exit)) ≡ closedCard (cardIn (now (w .entry))) c) × Frame (now (w .entry)) (now (w .exit)) 0 512 ⌝ }
+    ensures { λ _. ⌜
+        (cardIn (now (w .exit)) ≡ closedCard (cardIn (now (w .entry))) c)
+        × Frame (now (w .entry)) (now (w .exit)) 0 512
+        ⌝ }
 {
     let stamp = std::num::wrapping_add_u64(w[CLOSES], 1);
     freeze(w, c, stamp);
@@ -73,7 +85,10 @@ pub fn close_running(w: &mut [u64], c: u8)
 // One more store of core c done; with the commit stored its transaction is committed, and its record counts as used.
 pub fn count_store(w: &mut [u64], c: u8)
     requires { ⌜ (length (now w) ≡ 512) × (c < 8) ⌝ }
-    ensures { λ _. ⌜ (cardIn (now (w .exit)) ≡ withCore (cardIn (now (w .entry))) c (coreStored (coreOf (cardIn (now (w .entry))) c))) × Frame (now (w .entry)) (now (w .exit)) (corePlace c) 52 ⌝ }
+    ensures { λ _. ⌜
+        (cardIn (now (w .exit)) ≡ withCore (cardIn (now (w .entry))) c (coreStored (coreOf (cardIn (now (w .entry))) c)))
+        × Frame (now (w .entry)) (now (w .exit)) (corePlace c) 52
+        ⌝ }
 {
     let at = core_place(c);
     let next = number_in(w, at);

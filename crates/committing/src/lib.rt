@@ -23,7 +23,9 @@ use cells::shape_of;
 // A core without a running transaction has none to close, and one is closed only when the one before is stored.
 fn close_refusal(w: &[u64], c: u8, disk: &[u8], memory: &[u8]) -> u8
     requires { ⌜ length (now w) ≡ 512 ⌝ }
-    ensures { λ r. ⌜ r ≡ refusal (closeConditions c (worldIn (now (w .entry)) (now (disk .entry)) (now (memory .entry)))) ⌝ }
+    ensures { λ r. ⌜
+        r ≡ refusal (closeConditions c (worldIn (now (w .entry)) (now (disk .entry)) (now (memory .entry))))
+        ⌝ }
 {
     let n = entry_refusal(w, c, disk, memory);
     if n != 0 {
@@ -41,7 +43,10 @@ fn close_refusal(w: &[u64], c: u8, disk: &[u8], memory: &[u8]) -> u8
 // CLOSE: the core's running transaction is frozen, with copies of its images as they are now.
 pub fn close(w: &mut [u64], core: u8, disk: &[u8], memory: &mut [u8]) -> Answer
     requires { ⌜ length (now w) ≡ 512 ⌝ }
-    ensures { λ r. ⌜ Meets (close core (worldIn (now (w .entry)) (now (disk .entry)) (now (memory .entry)))) (now (w .entry)) (now (w .exit)) (now (disk .entry)) (now (memory .exit)) r ⌝ }
+    ensures { λ r. ⌜
+        Meets (close core (worldIn (now (w .entry)) (now (disk .entry)) (now (memory .entry))))
+        (now (w .entry)) (now (w .exit)) (now (disk .entry)) (now (memory .exit)) r
+        ⌝ }
 {
     let n = close_refusal(w, core, disk, memory);
     if n != 0 {
@@ -61,7 +66,9 @@ pub fn close(w: &mut [u64], core: u8, disk: &[u8], memory: &mut [u8]) -> Answer
 // Only a core with a closed transaction that is not committed yet has something to store.
 fn store_refusal(w: &[u64], c: u8, disk: &[u8], memory: &[u8]) -> u8
     requires { ⌜ length (now w) ≡ 512 ⌝ }
-    ensures { λ r. ⌜ r ≡ refusal (storeConditions c (worldIn (now (w .entry)) (now (disk .entry)) (now (memory .entry)))) ⌝ }
+    ensures { λ r. ⌜
+        r ≡ refusal (storeConditions c (worldIn (now (w .entry)) (now (disk .entry)) (now (memory .entry))))
+        ⌝ }
 {
     let n = entry_refusal(w, c, disk, memory);
     if n != 0 {
@@ -76,7 +83,10 @@ fn store_refusal(w: &[u64], c: u8, disk: &[u8], memory: &[u8]) -> u8
 // STORE: the next block of the core's closed transaction goes to its journal.
 pub fn store(w: &mut [u64], core: u8, disk: &mut [u8], memory: &[u8]) -> Answer
     requires { ⌜ length (now w) ≡ 512 ⌝ }
-    ensures { λ r. ⌜ Meets (storeNext core (worldIn (now (w .entry)) (now (disk .entry)) (now (memory .entry)))) (now (w .entry)) (now (w .exit)) (now (disk .exit)) (now (memory .entry)) r ⌝ }
+    ensures { λ r. ⌜
+        Meets (storeNext core (worldIn (now (w .entry)) (now (disk .entry)) (now (memory .entry))))
+        (now (w .entry)) (now (w .exit)) (now (disk .exit)) (now (memory .entry)) r
+        ⌝ }
 {
     let n = store_refusal(w, core, disk, memory);
     if n != 0 {

@@ -1,6 +1,6 @@
 // What is stored next of a closed transaction, and where: the descriptor, the copies, the commit.
 ghost use mathlib.Core.Path.{_≡_};
-ghost use Prim.Native.Nat.{ℕ, _+_, _≤_, _<_};
+ghost use Prim.Native.Nat.{_+_, _≤_, _<_};
 ghost use lib.ListN.{length};
 ghost use Rattle.model.specs.Bytes.{blockAt};
 ghost use Rattle.model.specs.Card.{taken, listed, coreOf};
@@ -15,7 +15,6 @@ use cells::NAMED;
 use cells::NAMES;
 use cells::STAMP;
 use cells::STORED;
-use cells::TAILS;
 use cells::USED;
 use cells::block_count;
 use cells::byte_in;
@@ -23,6 +22,7 @@ use cells::closed_place;
 use cells::core_place;
 use cells::name_of;
 use cells::number_in;
+use cells::tail_at;
 use model::Name;
 
 // The number of core c's closed transaction: CLOSE moved the count on. Only a card that no run made has the count at 0.
@@ -67,8 +67,12 @@ fn names_of(w: &[u64], at: usize) -> [Name; 12]
 
 // The descriptor of the closed transaction of core c, which stands at the place given.
 fn write_first(block: &mut [u8], w: &[u64], at: usize, number: u32, c: u8, memory: &[u8])
-    requires { ⌜ (length (now block) ≡ 128) × (length (now w) ≡ 512) × (at + 24 ≤ 512) × (length (now memory) ≡ 16384) × (c < 8) ⌝ }
-    ensures { λ _. ⌜ now (block .exit) ≡ descriptorBlock number (heldCopies c (taken (transactionIn (now (w .entry)) at)) (now (memory .entry))) ⌝ }
+    requires { ⌜
+        (length (now block) ≡ 128) × (length (now w) ≡ 512) × (at + 24 ≤ 512) × (length (now memory) ≡ 16384) × (c < 8)
+        ⌝ }
+    ensures { λ _. ⌜
+        now (block .exit) ≡ descriptorBlock number (heldCopies c (taken (transactionIn (now (w .entry)) at)) (now (memory .entry)))
+        ⌝ }
 {
     let flags = flags_of(memory, c);
     let blocks = blocks_of(w, at);
@@ -88,7 +92,10 @@ fn write_copy(block: &mut [u8], c: u8, i: usize, memory: &[u8])
 // The commit of the transaction at a place.
 fn write_last(block: &mut [u8], w: &[u64], at: usize, number: u32)
     requires { ⌜ (length (now block) ≡ 128) × (length (now w) ≡ 512) × (at + 24 ≤ 512) ⌝ }
-    ensures { λ _. ⌜ now (block .exit) ≡ commitBlock number ((transactionIn (now (w .entry)) at) .stamp) (listed (transactionIn (now (w .entry)) at)) ⌝ }
+    ensures { λ _. ⌜
+        (let t = transactionIn (now (w .entry)) at in
+        now (block .exit) ≡ commitBlock number (t .stamp) (listed t))
+        ⌝ }
 {
     let names = names_of(w, at);
     let named = byte_in(w, at + NAMED);
@@ -99,12 +106,13 @@ fn write_last(block: &mut [u8], w: &[u64], at: usize, number: u32)
 // What is stored next: the descriptor, then the copies in the order taken, then the commit.
 pub fn write_next(block: &mut [u8], w: &[u64], c: u8, memory: &[u8])
     requires { ⌜ (length (now block) ≡ 128) × (length (now w) ≡ 512) × (length (now memory) ≡ 16384) × (c < 8) ⌝ }
-    ensures { λ _. ⌜ now (block .exit) ≡ nextStored c (coreOf (cardIn (now (w .entry))) c) (now (memory .entry)) ⌝ }
+    ensures { λ _. ⌜
+        now (block .exit) ≡ nextStored c (coreOf (cardIn (now (w .entry))) c) (now (memory .entry))
+        ⌝ }
 {
     let at = closed_place(c);
     let number = closed_number(w, c);
-    let stored = byte_in(w, core_place(c) + STORED);
-    let done = stored as usize;
+    let done = byte_in(w, core_place(c) + STORED) as usize;
     if done == 0 {
         write_first(block, w, at, number, c, memory);
         return;
@@ -121,9 +129,9 @@ pub fn next_position(w: &[u64], c: u8) -> usize
     requires { ⌜ (length (now w) ≡ 512) × (c < 8) ⌝ }
     ensures { λ r. ⌜ r ≡ nextPosition (cardIn (now (w .entry))) c ⌝ }
 {
+    let t = tail_at(w, c);
     let at = core_place(c);
-    let position = byte_in(w, TAILS + 2 * c as usize + 1);
     let used = byte_in(w, at + USED);
     let stored = byte_in(w, at + STORED);
-    position as usize + used as usize + stored as usize
+    t.position as usize + used as usize + stored as usize
 }

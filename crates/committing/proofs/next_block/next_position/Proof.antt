@@ -4,12 +4,9 @@ use borrow.Author.Needs.{needs}
 use Rattle.committing.proofs.next_block.next_position.Statement.{statement}
 use Rattle.committing.proofs.next_block.next_position.Tie as tie
 
-returns : tie.Need-returns
-returns c = search (needs, position-is)
-
 pub next-position-spec : {M : Type 1} → statement M
 next-position-spec =
     tie.close
-    (tie.spec (λ c κs. search needs) (λ c. search needs) (λ c. search needs) (λ c. search needs)
-    (λ c κs. search needs) (λ c. search needs) (λ c κs. search needs) (λ c. search needs) (λ c κs. search needs)
-    (λ c. search needs) (λ c. search needs) (λ c. search needs) (λ c. search needs) (λ c. search needs) returns)
+    (tie.spec (λ c κs. search needs) (λ c κs. search needs) (λ c. search needs) (λ c κs. search needs)
+    (λ c. search needs) (λ c κs. search needs) (λ c. search needs) (λ c. search needs) (λ c. search needs)
+    (λ c. search needs) (λ c. search needs) (λ c. search (needs, position-is)))
