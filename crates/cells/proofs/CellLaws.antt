@@ -119,7 +119,7 @@ unfolding nameIn
 name-put c k p q = same-name _ _ _ _ (omega arith) (omega arith)
 
 module _ (w : List ℕ) (b : ℕ) (h : b < 64) where
-  holder-read : holderOf (cardIn w) b ≡ holderIn (getD w (holderPlace b) 0)
+  pub holder-read : holderOf (cardIn w) b ≡ holderIn (getD w (holderPlace b) 0)
   unfolding holderOf cardIn
   holder-read = getD-map-below _ 64 b noHolder h
 
@@ -136,7 +136,7 @@ unfolding nameIn
 low-core k n e = omega (arith, ap (λ (m : Name). m .core) e)
 
 -- ---- a transaction by its cells
-same-transaction : (l m : Bool) (s t c d : ℕ) (bs es : List ℕ) (n o : ℕ) (ns os : List Name) → l ≡ m → s ≡ t → c ≡ d → bs ≡ es → n ≡ o → ns ≡ os
+pub same-transaction : (l m : Bool) (s t c d : ℕ) (bs es : List ℕ) (n o : ℕ) (ns os : List Name) → l ≡ m → s ≡ t → c ≡ d → bs ≡ es → n ≡ o → ns ≡ os
     → _≡_ {A = Transaction} (record { live = l; stamp = s; count = c; blocks = bs; named = n; names = ns }) (record { live = m; stamp = t; count = d; blocks = es; named = o; names = os })
 same-transaction l m s t c d bs es n o ns os p q r u x y = rw (p, q, r, u, x, y)
 
@@ -357,7 +357,7 @@ module _ (v w : List ℕ) (c : ℕ) (h : c < 8) (e : Frame v w (corePlace c + 4)
 back-one : (x : ℕ) → x + 1 - 1 ≡ x
 back-one x = omega arith
 
-holder-cell : (x : ℕ) (n : Name) → nameIn x ≡ n → holderIn (x + 1) ≡ newHolder n
+pub holder-cell : (x : ℕ) (n : Name) → nameIn x ≡ n → holderIn (x + 1) ≡ newHolder n
 unfolding holderIn
 holder-cell x n e = rw (ne-eqb (x + 1) 0 (omega arith), back-one x, e)
 

@@ -49,23 +49,29 @@ unfolding fitsAt fitsHeader
 fits-stores x = refl
 
 -- ---- tails and holders
-pub fits-number : (c x : ℕ) → c < 8 → x < 4294967296 → fitsAt (tailPlace c) x ≡ true
+pub fits-in-number : (c x : ℕ) → c < 8 → fitsAt (tailPlace c) x ≡ ltb x 4294967296
 unfolding fitsAt
-fits-number c x p h =
-    rw (le-ltb (16 + 2 * c) 16 (omega arith), lt-ltb (16 + 2 * c) 32 (omega arith), eq-eqb ((16 + 2 * c) % 2) 0 (omega arith), lt-ltb x 4294967296 h)
+fits-in-number c x p = rw (le-ltb (16 + 2 * c) 16 (omega arith), lt-ltb (16 + 2 * c) 32 (omega arith), eq-eqb ((16 + 2 * c) % 2) 0 (omega arith))
+
+pub fits-in-position : (c x : ℕ) → c < 8 → fitsAt (tailPlace c + 1) x ≡ ltb x 256
+unfolding fitsAt
+fits-in-position c x p = rw (le-ltb (16 + 2 * c + 1) 16 (omega arith), lt-ltb (16 + 2 * c + 1) 32 (omega arith), ne-eqb ((16 + 2 * c + 1) % 2) 0 (omega arith))
+
+pub fits-in-holder : (b x : ℕ) → b < 64 → fitsAt (holderPlace b) x ≡ leb x 34359738368
+unfolding fitsAt
+fits-in-holder b x p = rw (le-ltb (32 + b) 16 (omega arith), le-ltb (32 + b) 32 (omega arith), lt-ltb (32 + b) 96 (omega arith))
+
+pub fits-number : (c x : ℕ) → c < 8 → x < 4294967296 → fitsAt (tailPlace c) x ≡ true
+fits-number c x p h = fits-in-number c x p ∙ lt-ltb x 4294967296 h
 
 pub fits-position : (c x : ℕ) → c < 8 → x < 256 → fitsAt (tailPlace c + 1) x ≡ true
-unfolding fitsAt
-fits-position c x p h =
-    rw (le-ltb (16 + 2 * c + 1) 16 (omega arith), lt-ltb (16 + 2 * c + 1) 32 (omega arith), ne-eqb ((16 + 2 * c + 1) % 2) 0 (omega arith), lt-ltb x 256 h)
+fits-position c x p h = fits-in-position c x p ∙ lt-ltb x 256 h
 
 pub fits-holder : (b x : ℕ) → b < 64 → x ≤ 34359738368 → fitsAt (holderPlace b) x ≡ true
-unfolding fitsAt
-fits-holder b x p h =
-    rw (le-ltb (32 + b) 16 (omega arith), le-ltb (32 + b) 32 (omega arith), lt-ltb (32 + b) 96 (omega arith), le-leb x 34359738368 h)
+fits-holder b x p h = fits-in-holder b x p ∙ le-leb x 34359738368 h
 
 -- ---- cores and transactions
-fits-in-core : (c j x : ℕ) → c < 8 → j < 52 → fitsAt (corePlace c + j) x ≡ fitsCore j x
+pub fits-in-core : (c j x : ℕ) → c < 8 → j < 52 → fitsAt (corePlace c + j) x ≡ fitsCore j x
 unfolding fitsAt
 fits-in-core c j x p q =
     let e : (96 + 52 * c + j - 96) % 52 ≡ j = omega arith in
@@ -92,7 +98,7 @@ closed-place c h = (omega arith, omega arith, let e : (96 + 52 * c + 28 - 96) % 
 low-place : (m : ℕ) → m < 52 → m % 24 ≡ 4 → (4 ≤ m) × (m ≤ 28)
 low-place m h r = (omega arith, omega arith)
 
-in-place : (m k : ℕ) → m % 24 ≡ 4 → k < 24 → (m + k - 4) % 24 ≡ k
+pub in-place : (m k : ℕ) → m % 24 ≡ 4 → k < 24 → (m + k - 4) % 24 ≡ k
 in-place m k r h = omega arith
 
 module _ (a : ℕ) (p : 96 ≤ a) (q : a + 24 ≤ 512) (r : (a - 96) % 52 % 24 ≡ 4) where

@@ -5,6 +5,7 @@ pub mod EntryLaws
 pub mod FitsLaws
 pub mod CellLaws
 pub mod CoreLaws
+pub mod ExactLaws
 pub mod MeetLaws
 pub mod TailLaws
 pub mod PhaseLaws

@@ -6,39 +6,23 @@ use mathlib.Core.Bool.{cond}
 use mathlib.Core.List.{List, [], _∷_, map, map-id}
 use lib.ListN.{length, getD, set, replicate, length-set, length-replicate, getD-replicate, List·getD-eq-default}
 use lib.Seq.{getD-set-same, getD-set-other}
-use Rattle.model.specs.Lists.{below}
-use Rattle.model.specs.Card.{newTail, freshCore, freshCard, emptyCard, blankCard, downCard, coreOf, tailOf, holderOf, withLists, withCore}
+use Rattle.model.specs.Card.{newTail, freshCore, freshCard, emptyCard, blankCard, downCard, coreOf, withLists, withCore}
 use Rattle.model.specs.declared.Phase.the-variants.{Up}
 use Rattle.model.specs.declared.Shape.{Shape}
 use Rattle.model.specs.declared.Tail.{Tail}
 use Rattle.model.specs.declared.Core.{Core}
 use Rattle.model.specs.declared.Card.{Card}
 use Rattle.layout.proofs.DiskLaws.{Zeroed, zeroed-all}
-use Rattle.cells.specs.Cells.{byteIn, phaseIn, nameIn, holderIn, tailFrom, transactionIn, coreIn, cardIn, phaseCell, nameCell, holderCell, headerCell, transactionCell, coreCell, tailCell, cellOf, cellsOf, corePlace, tailPlace, withNumbers, withTail, upWith, fitsAt, Fits, Frame}
+use Rattle.cells.specs.Cells.{byteIn, phaseIn, cardIn, cellsOf, corePlace, tailPlace, withNumbers, withTail, upWith, fitsAt, Fits, Frame}
 use Rattle.cells.proofs.Parts.{filled, filled-none, filled-more, filled-all}
 use Rattle.cells.proofs.FitsLaws.{fits-zero, fits-phase, fits-field, frame-same, frame-set, frame-then, frame-wider}
 use Rattle.cells.proofs.CellLaws.{length-tabled, same-card, same-shape}
+use Rattle.cells.proofs.ExactLaws.{blank-read, blank-cells, down-first-read, down-first}
 use Rattle.cells.proofs.CoreLaws.{tails-kept, cores-kept, holders-kept}
 
 -- ---- zeros
 abbrev zeros : List ℕ
 zeros = replicate 512 0
-
-blank-read : cardIn zeros ≡ blankCard
-unfolding cardIn coreIn transactionIn tailFrom nameIn holderIn phaseIn below blankCard emptyCard freshCard
-blank-read = refl
-
-blank-cells : zeros ≡ cellsOf blankCard 0
-unfolding cellsOf cellOf headerCell tailCell holderCell coreCell transactionCell nameCell phaseCell tailOf holderOf coreOf below blankCard emptyCard freshCard
-blank-cells = refl
-
-down-read : cardIn (set zeros 0 2) ≡ downCard
-unfolding cardIn coreIn transactionIn tailFrom nameIn holderIn phaseIn below downCard emptyCard freshCard
-down-read = refl
-
-down-cells : set zeros 0 2 ≡ cellsOf downCard 0
-unfolding cellsOf cellOf headerCell tailCell holderCell coreCell transactionCell nameCell phaseCell tailOf holderOf coreOf below downCard emptyCard freshCard
-down-cells = refl
 
 module _ (v : List ℕ) (size : length v ≡ 512) where
   zeros-frame : Frame v zeros 0 512
@@ -56,7 +40,7 @@ module _ (v : List ℕ) (size : length v ≡ 512) where
     all-zero = zeroed-all v w i z h ∙ ap (λ (n : ℕ). replicate n 0) size
 
     pub blank-left : w ≡ cellsOf blankCard 0
-    blank-left = all-zero ∙ blank-cells
+    blank-left = all-zero ∙ sym blank-cells
 
     pub blank-seen : cardIn w ≡ blankCard
     blank-seen = ap cardIn all-zero ∙ blank-read
@@ -67,10 +51,10 @@ module _ (v : List ℕ) (size : length v ≡ 512) where
 -- ---- down
 module _ (v w : List ℕ) (e : w ≡ cellsOf blankCard 0) where
   pub down-left : set w 0 2 ≡ cellsOf downCard 0
-  down-left = ap (λ (u : List ℕ). set u 0 2) (e ∙ sym blank-cells) ∙ down-cells
+  down-left = ap (λ (u : List ℕ). set u 0 2) (e ∙ blank-cells) ∙ sym down-first
 
   pub down-seen : cardIn (set w 0 2) ≡ downCard
-  down-seen = ap (λ (u : List ℕ). cardIn (set u 0 2)) (e ∙ sym blank-cells) ∙ down-read
+  down-seen = ap (λ (u : List ℕ). cardIn (set u 0 2)) (e ∙ blank-cells) ∙ down-first-read
 
 pub down-frame : (v w : List ℕ) → Frame v w 0 512 → Frame v (set w 0 2) 0 512
 down-frame v w f = frame-then w (set w 0 2) v 0 512 f (frame-set w 0 512 0 2 (omega arith) (omega arith) (fits-phase 2 (omega arith)))

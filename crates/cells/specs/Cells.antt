@@ -3,8 +3,8 @@
 -- A field narrower than its cell is the cell modulo its width, so every value of a cell has a meaning.
 use Prim.Native.Nat.{ℕ, _+_, _-_, _*_, _/_, _%_, _≤_, _<_}
 use mathlib.Core.Path.{_≡_}
-use mathlib.Core.List.{List, map}
-use mathlib.Core.Bool.{Bool, true, cond, not}
+use mathlib.Core.List.{List, [], _∷_, map}
+use mathlib.Core.Bool.{Bool, true, false, cond, not}
 use lib.Dec.{eqb, ltb, leb}
 use lib.ListN.{length, getD, set}
 use Rattle.model.specs.Lists.{below}
@@ -119,29 +119,17 @@ holderCell h = cond (h .held) (nameCell (h .name) + 1) 0
 -- cell i of a header, of a transaction, of a core
 unfoldable pub headerCell : Card → ℕ → ℕ → ℕ
 headerCell x n i =
-    cond (eqb i 0) (phaseCell (x .phase))
-    (cond (eqb i 1) (x .shape .cores)
-    (cond (eqb i 2) (x .shape .blocks)
-    (cond (eqb i 3) (x .shape .journal)
-    (cond (eqb i 4) (x .closes)
-    (cond (eqb i 5) (x .recovered)
-    (cond (eqb i 6) n 0))))))
+    getD (phaseCell (x .phase) ∷ x .shape .cores ∷ x .shape .blocks ∷ x .shape .journal ∷ x .closes ∷ x .recovered ∷ n ∷ []) i 0
 
 unfoldable pub transactionCell : Transaction → ℕ → ℕ
 transactionCell t i =
-    cond (eqb i 0) (cond (t .live) 1 0)
-    (cond (eqb i 1) (t .stamp)
-    (cond (eqb i 2) (t .count)
-    (cond (eqb i 3) (t .named)
-    (cond (ltb i 12) (getD (t .blocks) (i - 4) 0) (nameCell (getD (t .names) (i - 12) (newName 0 0)))))))
+    cond (ltb i 4) (getD (cond (t .live) 1 0 ∷ t .stamp ∷ t .count ∷ t .named ∷ []) i 0)
+    (cond (ltb i 12) (getD (t .blocks) (i - 4) 0) (nameCell (getD (t .names) (i - 12) (newName 0 0))))
 
 unfoldable pub coreCell : Core → ℕ → ℕ
 coreCell k i =
-    cond (eqb i 0) (k .next)
-    (cond (eqb i 1) (k .used)
-    (cond (eqb i 2) (k .stored)
-    (cond (eqb i 3) (k .homed)
-    (cond (ltb i 28) (transactionCell (k .running) (i - 4)) (transactionCell (k .closed) (i - 28))))))
+    cond (ltb i 4) (getD (k .next ∷ k .used ∷ k .stored ∷ k .homed ∷ []) i 0)
+    (cond (ltb i 28) (transactionCell (k .running) (i - 4)) (transactionCell (k .closed) (i - 28)))
 
 unfoldable pub tailCell : Tail → ℕ → ℕ
 tailCell t i = cond (eqb i 0) (t .number) (t .position)
@@ -189,6 +177,44 @@ fitsAt i x =
 
 unfoldable pub Fits : List ℕ → Type 0
 Fits w = (i : ℕ) → i < 512 → fitsAt i (getD w i 0) ≡ true
+
+-- ---- cards that are the card of their cells: each array has its length, each field is within its width
+-- A field of eight bytes has no bound here.
+pub record SizedName (n : Name) : Type 0 where
+  pub core : n .core < 8
+  pub number : n .number < 4294967296
+
+pub record SizedTransaction (t : Transaction) : Type 0 where
+  pub count : t .count < 256
+  pub named : t .named < 256
+  pub lengths : (length (t .blocks) ≡ 8) × (length (t .names) ≡ 12)
+  pub block : (i : ℕ) → i < 8 → getD (t .blocks) i 0 < 256
+  pub name : (i : ℕ) → i < 12 → SizedName (getD (t .names) i (newName 0 0))
+
+pub record SizedCore (k : Core) : Type 0 where
+  pub next : k .next < 4294967296
+  pub used : k .used < 256
+  pub stored : k .stored < 256
+  pub homed : k .homed < 256
+  pub running : SizedTransaction (k .running)
+  pub closed : SizedTransaction (k .closed)
+
+pub record SizedTail (t : Tail) : Type 0 where
+  pub number : t .number < 4294967296
+  pub position : t .position < 256
+
+-- a block without a holder has no name
+pub record SizedHolder (h : Holder) : Type 0 where
+  pub name : SizedName (h .name)
+  pub free : h .held ≡ false → h ≡ noHolder
+
+pub record Sized (x : Card) : Type 0 where
+  pub shape : (x .shape .cores < 256) × (x .shape .blocks < 256) × (x .shape .journal < 256)
+  pub recovered : x .recovered < 256
+  pub lengths : (length (x .tails) ≡ 8) × (length (x .cores) ≡ 8) × (length (x .holders) ≡ 64)
+  pub tail : (c : ℕ) → c < 8 → SizedTail (tailOf x c)
+  pub core : (c : ℕ) → c < 8 → SizedCore (coreOf x c)
+  pub holder : (b : ℕ) → b < 64 → SizedHolder (holderOf x b)
 
 -- ---- a change of some cells
 -- w is v but for the n cells from a on, and what is put there fits
