@@ -1,19 +1,22 @@
 -- CUT: refused, or carried out.
 use Prim.Native.Nat.{ℕ}
 use native.Mathlib.Omega.{arith}
-use mathlib.Core.Path.{_≡_}
+use mathlib.Core.Path.{_≡_, _∙_}
 use mathlib.Core.List.{List}
 use lib.ListN.{length, replicate}
 use Rattle.model.specs.Bytes.{Bytes, zeroMemory}
 use Rattle.model.specs.Card.{downCard}
-use Rattle.model.specs.Command.{unstored, refusal}
+use Rattle.model.specs.Command.{World, unstored, refusal}
 use Rattle.model.specs.Recovery.{cutConditions, cut}
 use Rattle.model.proofs.OneStore.{right-lengths}
 use Rattle.cells.specs.Cells.{cardIn, Frame}
-use Rattle.cells.specs.Answer.{worldIn, newAnswer, Meets}
+use Rattle.cells.specs.Answer.{phaseRefusal, worldIn, newAnswer, Meets}
 use Rattle.layout.proofs.DiskLaws.{zero-memory}
-use Rattle.cells.proofs.RefusalLaws.{none-held}
+use Rattle.cells.proofs.RefusalLaws.{cut-numbers, none-held}
 use Rattle.cells.proofs.MeetLaws.{meets-refused, meets-done}
+
+pub cut-first : (w : World) (n : ℕ) → n ≡ phaseRefusal w 20 0 0 → n ≡ refusal (cutConditions w)
+cut-first w n e = e ∙ cut-numbers w
 
 module _ (v : List ℕ) (d m : Bytes) (l : length v ≡ 512) (n : ℕ) (e : n ≡ refusal (cutConditions (worldIn v d m))) where
   pub cut-refused : (n ≡ 0 → ⊥) → Meets (cut (worldIn v d m)) v v d m (newAnswer n 0)

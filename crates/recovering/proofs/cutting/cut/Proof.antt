@@ -4,22 +4,5 @@ use Rattle.recovering.proofs.CutLaws.{cut-refused, cut-done}
 use Rattle.recovering.proofs.cutting.cut.Statement.{statement}
 use Rattle.recovering.proofs.cutting.cut.Tie as tie
 
-returns : tie.Need-returns
-returns c = search (needs, cut-refused)
-
-returns-2 : tie.Need-returns-2
-returns-2 c = search (needs, cut-done)
-
 pub cut-spec : {M : Type 1} → statement M
-cut-spec =
-    tie.close
-    (tie.spec
-    (λ c κs. search needs)
-    (λ c. search needs)
-    (λ c. search needs)
-    returns
-    (λ c κs. search needs)
-    (λ c κs. search needs)
-    (λ c. search needs)
-    (λ c. search needs)
-    returns-2)
+cut-spec = tie.close (tie.spec (λ c κs. search needs) (λ c. search needs) (λ c. search needs) (λ c. search (needs, cut-refused)) (λ c κs. search needs) (λ c κs. search needs) (λ c. search needs) (λ c. search needs) (λ c. search (needs, cut-done)))

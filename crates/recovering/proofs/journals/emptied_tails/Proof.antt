@@ -13,41 +13,5 @@ Inv-loop s tails slots out₀ c₀ out c = Filled (tailAfter s tails slots) 8 ou
 abbrev μ-loop : tie.MeasureT-loop
 μ-loop s tails slots out₀ c₀ out c = 8 - c
 
-loop-holds : tie.Need-loop-holds Inv-loop μ-loop
-loop-holds c = search (facts, filled-none)
-
-emptied-tail-requires : tie.Need-emptied-tail-requires Inv-loop μ-loop
-emptied-tail-requires c κs = search needs
-
-mul-out : tie.Need-mul-out Inv-loop μ-loop
-mul-out c = search needs
-
-array-set-from-out : tie.Need-array-set-from-out Inv-loop μ-loop
-array-set-from-out c = search needs
-
-add-c : tie.Need-add-c Inv-loop μ-loop
-add-c c = search needs
-
-loop-less : tie.Need-loop-less Inv-loop μ-loop
-loop-less c = search needs
-
-loop-again : tie.Need-loop-again Inv-loop μ-loop
-loop-again c = search (needs, filled-more)
-
-returns : tie.Need-returns Inv-loop μ-loop
-returns c = search (needs, filled-all)
-
 pub emptied-tails-spec : {M : Type 1} → statement M
-emptied-tails-spec =
-    tie.close
-    (tie.spec
-    Inv-loop
-    μ-loop
-    loop-holds
-    emptied-tail-requires
-    mul-out
-    array-set-from-out
-    add-c
-    loop-less
-    loop-again
-    returns)
+emptied-tails-spec = tie.close (tie.spec Inv-loop μ-loop (λ c. search (facts, filled-none)) (λ c κs. search needs) (λ c. search needs) (λ c. search needs) (λ c. search needs) (λ c. search needs) (λ c. search (needs, filled-more)) (λ c. search (needs, filled-all)))

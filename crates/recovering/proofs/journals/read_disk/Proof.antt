@@ -5,31 +5,5 @@ use Rattle.recovering.proofs.MasterLaws.{master-part}
 use Rattle.recovering.proofs.journals.read_disk.Statement.{statement}
 use Rattle.recovering.proofs.journals.read_disk.Tie as tie
 
-sub-read-tails : tie.Need-sub-read-tails
-sub-read-tails c = search needs
-
-part-read-tails-start : tie.Need-part-read-tails-start
-part-read-tails-start c = search needs
-
-part-read-tails-end : tie.Need-part-read-tails-end
-part-read-tails-end c = search needs
-
-read-tails-requires : tie.Need-read-tails-requires
-read-tails-requires c κs = (search needs, search (needs, master-part))
-
-read-journals-requires : tie.Need-read-journals-requires
-read-journals-requires c κs = search needs
-
-returns : tie.Need-returns
-returns c = search (needs, all-read)
-
 pub read-disk-spec : {M : Type 1} → statement M
-read-disk-spec =
-    tie.close
-    (tie.spec
-    sub-read-tails
-    part-read-tails-start
-    part-read-tails-end
-    read-tails-requires
-    read-journals-requires
-    returns)
+read-disk-spec = tie.close (tie.spec (λ c. search needs) (λ c. search needs) (λ c. search needs) (λ c κs. (search needs, search (needs, master-part))) (λ c κs. search needs) (λ c. search (needs, all-read)))

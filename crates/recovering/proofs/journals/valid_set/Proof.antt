@@ -4,11 +4,5 @@ use Rattle.recovering.proofs.JournalLaws.{all-valid}
 use Rattle.recovering.proofs.journals.valid_set.Statement.{statement}
 use Rattle.recovering.proofs.journals.valid_set.Tie as tie
 
-valid-slots-requires : tie.Need-valid-slots-requires
-valid-slots-requires c κs = search needs
-
-returns : tie.Need-returns
-returns c = search (needs, all-valid)
-
 pub valid-set-spec : {M : Type 1} → statement M
-valid-set-spec = tie.close (tie.spec valid-slots-requires returns)
+valid-set-spec = tie.close (tie.spec (λ c κs. search needs) (λ c. search (needs, all-valid)))

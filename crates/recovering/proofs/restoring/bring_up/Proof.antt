@@ -4,16 +4,5 @@ use Rattle.recovering.proofs.RecoverLaws.{all-emptied}
 use Rattle.recovering.proofs.restoring.bring_up.Statement.{statement}
 use Rattle.recovering.proofs.restoring.bring_up.Tie as tie
 
-returns : tie.Need-returns
-returns c = search (needs, all-emptied)
-
 pub bring-up-spec : {M : Type 1} → statement M
-bring-up-spec =
-    tie.close
-    (tie.spec
-    (λ c κs. search needs)
-    (λ c κs. search needs)
-    (λ c κs. search needs)
-    (λ c. search needs)
-    (λ c. search needs)
-    returns)
+bring-up-spec = tie.close (tie.spec (λ c κs. search needs) (λ c κs. search needs) (λ c κs. search needs) (λ c. search needs) (λ c. search needs) (λ c. search (needs, all-emptied)))

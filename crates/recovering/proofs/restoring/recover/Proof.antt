@@ -4,24 +4,5 @@ use Rattle.recovering.proofs.RecoverLaws.{disk-long, first-master, reco
 use Rattle.recovering.proofs.restoring.recover.Statement.{statement}
 use Rattle.recovering.proofs.restoring.recover.Tie as tie
 
-returns : tie.Need-returns
-returns c = search (needs, recover-refused)
-
-recovered-requires : tie.Need-recovered-requires
-recovered-requires c κs = search (needs, disk-long, first-master)
-
-returns-2 : tie.Need-returns-2
-returns-2 c = search (needs, recover-done)
-
 pub recover-spec : {M : Type 1} → statement M
-recover-spec =
-    tie.close
-    (tie.spec
-    (λ c κs. search needs)
-    (λ c. search needs)
-    (λ c. search needs)
-    returns
-    recovered-requires
-    (λ c. search needs)
-    (λ c. search needs)
-    returns-2)
+recover-spec = tie.close (tie.spec (λ c κs. search needs) (λ c. search needs) (λ c. search needs) (λ c. search (needs, recover-refused)) (λ c κs. search (needs, disk-long, first-master)) (λ c. search needs) (λ c. search needs) (λ c. search (needs, recover-done)))

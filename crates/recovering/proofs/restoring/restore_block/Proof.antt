@@ -4,17 +4,5 @@ use Rattle.recovering.proofs.RecoverLaws.{home-stored}
 use Rattle.recovering.proofs.restoring.restore_block.Statement.{statement}
 use Rattle.recovering.proofs.restoring.restore_block.Tie as tie
 
-returns : tie.Need-returns
-returns c = λ bs. search (needs, home-stored)
-
 pub restore-block-spec : {M : Type 1} → statement M
-restore-block-spec =
-    tie.close
-    (tie.spec
-    (λ c κs. search needs)
-    (λ c κs. search needs)
-    (λ c. search needs)
-    (λ c. search needs)
-    (λ c. search needs)
-    (λ c. search needs)
-    returns)
+restore-block-spec = tie.close (tie.spec (λ c κs. search needs) (λ c κs. search needs) (λ c. search needs) (λ c. search needs) (λ c. search needs) (λ c. search needs) (λ c bs. search (needs, home-stored)))
