@@ -1,3 +1,0 @@
--- Laws that the proofs of CHECKPOINT cite.
-pub mod CheckpointLaws
-pub mod OldestLaws

@@ -1,2 +1,0 @@
--- What the contracts of CHECKPOINT say beyond crate `model`.
-pub mod Oldest

@@ -1,3 +1,0 @@
--- Laws that the proofs of CLOSE and STORE cite.
-pub mod CloseLaws
-pub mod StoreLaws

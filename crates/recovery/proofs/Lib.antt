@@ -1,2 +1,0 @@
--- Laws that the proofs of RECOVER cite.
-pub mod RecoverLaws

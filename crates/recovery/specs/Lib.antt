@@ -1,2 +1,0 @@
--- What the contracts of RECOVER say beyond crate `model`.
-pub mod Recovering

@@ -1,2 +1,0 @@
--- The answer of a command as the model's outcome.
-pub mod Answer

@@ -1,2 +1,0 @@
--- WRITE's conditions in stages, over the card and over the parts that a WRITE reads.
-pub mod Writing
