@@ -102,7 +102,7 @@ module _ (v : List ℕ) (size : length v ≡ 512) (c : ℕ) (d m : Bytes) (n : �
   close-refused h = meets-refused (closeConditions c (worldIn v d m)) v d m (closed c (worldIn v d m)) size n e h
 
   module _ (h : n ≡ 0) where
-    pub close-entered : Entered (cardIn v) c d m
+    close-entered : Entered (cardIn v) c d m
     unfolding closeConditions
     close-entered = entered (cardIn v) c d m (ofRunning (cardIn v) c) (omega arith, (omega arith, tt)) (sym e ∙ h)
 

@@ -24,7 +24,7 @@ use Rattle.model.proofs.OneStore.{shape-limits, stored-low, position}
 use Rattle.layout.proofs.Blocks.{block-lent}
 use Rattle.cells.specs.Cells.{byteIn, numberIn, nameIn, transactionIn, cardIn, corePlace, closedPlace, Frame}
 use Rattle.cells.specs.Answer.{worldIn, newAnswer, Meets}
-use Rattle.cells.proofs.CellLaws.{blocks-long}
+use Rattle.cells.proofs.CellLaws.{count-read, named-read, blocks-long}
 use Rattle.cells.proofs.EntryLaws.{entry, entry-hit, entry-pass, Entered, entered}
 use Rattle.cells.proofs.MeetLaws.{meets-refused, meets-done}
 use Rattle.committing.proofs.ReadLaws.{next-there, used-there, stored-there, closed-there}
@@ -83,14 +83,6 @@ module _ (w : List ℕ) (a : ℕ) where
   unfolding transactionIn
   stamp-read = refl
 
-  count-is : byteIn w (a + 2) ≡ (transactionIn w a) .count
-  unfolding transactionIn
-  count-is = refl
-
-  named-is : byteIn w (a + 3) ≡ (transactionIn w a) .named
-  unfolding transactionIn
-  named-is = refl
-
 -- ---- what is stored next
 took : (t : Transaction) → length (t .blocks) ≡ 8 → length (taken t) ≡ min (t .count) 8
 unfolding taken
@@ -113,12 +105,12 @@ module _ (w : List ℕ) (a num : ℕ) where
   pub first-written : (c : ℕ) (m : Bytes) (fs : List ℕ) → fs ≡ map (copyFlag c m) (below 8) → (bs : List ℕ) → bs ≡ (transactionIn w a) .blocks → (n : ℕ) → n ≡ byteIn w (a + 2)
       → (b : Bytes) → b ≡ descriptorBlock num (map (λ (i : ℕ). newHeld (getD bs i 0) (getD fs i 0)) (below (min n 8)))
       → b ≡ descriptorBlock num (heldCopies c (taken (transactionIn w a)) m)
-  first-written c m fs e bs p n q b r = r ∙ rw (p, q, count-is w a) (ap (descriptorBlock num) (same-held (transactionIn w a) c m fs e (blocks-long w a)))
+  first-written c m fs e bs p n q b r = r ∙ rw (p, q, count-read w a) (ap (descriptorBlock num) (same-held (transactionIn w a) c m fs e (blocks-long w a)))
 
   pub last-written : (ns : List Name) → ns ≡ (transactionIn w a) .names → (n : ℕ) → n ≡ byteIn w (a + 3)
       → (b : Bytes) → b ≡ commitBlock num (getD w (a + 1) 0) (take n ns) → b ≡ commitBlock num ((transactionIn w a) .stamp) (listed (transactionIn w a))
   unfolding listed
-  last-written ns p n q b r = r ∙ rw (p, q, named-is w a, stamp-read w a)
+  last-written ns p n q b r = r ∙ rw (p, q, named-read w a, stamp-read w a)
 
 pub copy-written : (m : Bytes) (k : ℕ) (image : Bytes) → image ≡ blockAt m k → (b : Bytes) → b ≡ escaped image → b ≡ escaped (blockAt m k)
 copy-written m k image e b q = q ∙ ap escaped e
