@@ -20,8 +20,10 @@ fn cut_refusal(w: &[u64], disk: &[u8], memory: &[u8]) -> u8
 // CUT.
 pub fn cut(w: &mut [u64], disk: &[u8], memory: &mut [u8]) -> Answer
     requires { ⌜ length (now w) ≡ 512 ⌝ }
-    ensures { λ r. ⌜ Meets (cut (worldIn (now (w .entry)) (now (disk .entry)) (now (memory .entry))))
-        (now (w .entry)) (now (w .exit)) (now (disk .entry)) (now (memory .exit)) r ⌝ }
+    ensures { λ r. ⌜
+        Meets (cut (worldIn (now (w .entry)) (now (disk .entry)) (now (memory .entry))))
+        (now (w .entry)) (now (w .exit)) (now (disk .entry)) (now (memory .exit)) r
+        ⌝ }
 {
     let n = cut_refusal(w, disk, memory);
     if n != 0 {

@@ -54,7 +54,9 @@ fn bring_up(w: &mut [u64], s: Shape, all: Journals, disk: &mut [u8])
 // A home store of recovery, of the lowest block left; recovery has then passed it.
 fn restore_block(w: &mut [u64], s: Shape, disk: &mut [u8], valid: &[u16; 96], b: u8)
     requires { ⌜ (length (now w) ≡ 512) × Shaped s (now disk) × IsValid s (now disk) (now valid) × (b < s .blocks) ⌝ }
-    ensures { λ _. ⌜ ((bs : List ℕ) → Stores (recoverStep (b ∷ bs)) (now (w .entry)) (now (w .exit)) (now (disk .entry)) (now (disk .exit))) ⌝ }
+    ensures { λ _. ⌜
+        ((bs : List ℕ) → Stores (recoverStep (b ∷ bs)) (now (w .entry)) (now (w .exit)) (now (disk .entry)) (now (disk .exit)))
+        ⌝ }
 {
     let image = newest_block(s, disk, valid, b);
     store_home(s, b as usize, image, disk);
@@ -81,8 +83,10 @@ fn recovered(w: &mut [u64], disk: &mut [u8])
 // RECOVER. Memory takes no part: only its length is asked for.
 pub fn recover(w: &mut [u64], disk: &mut [u8], memory: &[u8]) -> Answer
     requires { ⌜ length (now w) ≡ 512 ⌝ }
-    ensures { λ r. ⌜ Meets (recover (worldIn (now (w .entry)) (now (disk .entry)) (now (memory .entry))))
-        (now (w .entry)) (now (w .exit)) (now (disk .exit)) (now (memory .entry)) r ⌝ }
+    ensures { λ r. ⌜
+        Meets (recover (worldIn (now (w .entry)) (now (disk .entry)) (now (memory .entry))))
+        (now (w .entry)) (now (w .exit)) (now (disk .exit)) (now (memory .entry)) r
+        ⌝ }
 {
     let n = recover_refusal(w, disk, memory);
     if n != 0 {
