@@ -145,7 +145,3 @@ retired-frame v u y z c h a b d =
     frame-then y z v 0 512
     (frame-then u y v 0 512 (frame-wider v u (tailPlace c) 2 0 512 a (omega arith) (omega arith)) (frame-wider u y (corePlace c) 4 0 512 b (omega arith) (omega arith)))
     (frame-wider y z 32 64 0 512 d (omega arith) (omega arith))
-
--- the length stays
-pub size-kept : (v w : List ℕ) (a n : ℕ) → length v ≡ 512 → Frame v w a n → length w ≡ 512
-size-kept v w a n l e = e .size ∙ l

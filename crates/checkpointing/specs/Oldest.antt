@@ -1,5 +1,5 @@
 -- CHECKPOINT: a core's oldest transaction as the code finds it, and the tests of those that share a block with it.
-use Prim.Native.Nat.{ℕ, _-_, _<_, min}
+use Prim.Native.Nat.{ℕ, _<_, min}
 use mathlib.Core.Path.{_≡_}
 use mathlib.Core.List.{List, [], _∷_, map}
 use mathlib.Core.Bool.{Bool, true, cond, not, _&&_, _||_}

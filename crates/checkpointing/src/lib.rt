@@ -44,7 +44,8 @@ fn oldest_refusal(w: &[u64], c: u8, most: [u8; 8], e: Committed, disk: &[u8]) ->
 
 // The checkpoint of core c's oldest transaction: refused, or its next store.
 fn checkpoint_oldest(w: &mut [u64], c: u8, most: [u8; 8], e: Committed, disk: &mut [u8]) -> Answer
-    requires { ⌜ (length (now w) ≡ 512) × IsOldest (cardIn (now w)) (now disk) c most e ⌝ }
+    requires { ⌜ (length (now w) ≡ 512)
+        × IsOldest (cardIn (now w)) (now disk) c most e ⌝ }
     ensures { λ r. ⌜ ((m : Bytes) → Meets (oldestOutcome c e (worldIn (now (w .entry)) (now (disk .entry)) m))
         (now (w .entry)) (now (w .exit)) (now (disk .exit)) m r) ⌝ }
 {

@@ -1,7 +1,6 @@
 -- The count of stores after a command, and what a counted command leaves.
 use Prim.Native.Nat.{ℕ, _+_, _-_, _≤_, _<_}
 use native.Mathlib.Omega.{arith}
-use native.Mathlib.Nat.{min-eq-left, min-eq-right}
 use mathlib.Core.Path.{_≡_, sym, ap, _∙_, subst}
 use mathlib.Core.Bool.{cond}
 use mathlib.Core.List.{List}
@@ -26,14 +25,15 @@ use Rattle.command.specs.Counting.{counted, countedIn, Performs}
 -- ---- the count
 pub counted-most : (n k : ℕ) → 18446744073709551615 - n < k → n < 18446744073709551616 → 18446744073709551615 ≡ counted n k
 unfolding counted
-counted-most n k h l = sym (min-eq-right (omega arith))
+counted-most n k h l = omega arith
 
 pub counted-sum : (n k : ℕ) → k ≤ 18446744073709551615 - n → n < 18446744073709551616 → n + k ≡ counted n k
 unfolding counted
-counted-sum n k h l = sym (min-eq-left (omega arith))
+counted-sum n k h l = omega arith
 
-pub counted-none : (n : ℕ) → n < 18446744073709551616 → n ≡ counted n 0
-counted-none n h = let e : n ≡ n + 0 = omega arith in e ∙ counted-sum n 0 (omega arith) h
+pub counted-none : (n : ℕ) → n ≡ counted n 0
+unfolding counted
+counted-none n = omega arith
 
 pub counted-more : (n a b : ℕ) → counted (counted n a) b ≡ counted n (a + b)
 unfolding counted
@@ -56,7 +56,7 @@ none-stored t at w h =
     let p : 0 < (commandAt step t at w) .answer = omega (arith, h) in
     ap (λ (o : Outcome). o .stores) (decided-refused (command-decided t at w) (row-answer (commandByte t at) (operandsAt t at) w) p .1)
 
-module _ (t : Bytes) (at : ℕ) (v : List ℕ) (l : length v ≡ 512) (d₀ m₀ : Bytes) (n : ℕ) (e : n ≡ storesIn v) (s : n < 18446744073709551616) (u : List ℕ) (d m : Bytes) (a : Answer)
+module _ (t : Bytes) (at : ℕ) (v : List ℕ) (l : length v ≡ 512) (d₀ m₀ : Bytes) (n : ℕ) (e : n ≡ storesIn v) (u : List ℕ) (d m : Bytes) (a : Answer)
     (f : Meets (commandAt step t at (worldIn v d₀ m₀)) v u d m a) (w : List ℕ) (q : w ≡ countedIn u n a) where
   abbrev o : Outcome
   o = commandAt step t at (worldIn v d₀ m₀)
@@ -81,7 +81,7 @@ module _ (t : Bytes) (at : ℕ) (v : List ℕ) (l : length v ≡ 512) (d₀ m₀
           answer = number-same;
           world = ap (λ (c : List ℕ). worldIn c d m) (same-cells ∙ sym (f .refused h)) ∙ world-same;
           stores =
-              ap storesIn same-cells ∙ sym e ∙ counted-none n s ∙ ap (counted n) (sym (none-stored t at (worldIn v d₀ m₀) (λ z. h (number-same ∙ z)))) ∙ ap (λ (k : ℕ). counted k (o .stores)) e;
+              ap storesIn same-cells ∙ sym e ∙ counted-none n ∙ ap (counted n) (sym (none-stored t at (worldIn v d₀ m₀) (λ z. h (number-same ∙ z)))) ∙ ap (λ (k : ℕ). counted k (o .stores)) e;
           exact = λ x. rw same-cells x;
           refused = λ z. same-cells;
         }

@@ -1,5 +1,5 @@
 -- The count of stores in the cells, and what a counted command leaves.
-use Prim.Native.Nat.{ℕ, _+_, min}
+use Prim.Native.Nat.{ℕ, _+_, min, max}
 use mathlib.Core.Path.{_≡_}
 use mathlib.Core.List.{List}
 use mathlib.Core.Bool.{cond}
@@ -11,9 +11,9 @@ use Rattle.cells.specs.Cells.{storesIn, Exact}
 use Rattle.cells.specs.Answer.{worldIn}
 use Rattle.cells.specs.declared.Answer.{Answer}
 
--- a count of stores grown by k, which stays at the largest number of eight bytes
+-- a count of stores grown by k, up to the largest number of eight bytes
 unfoldable pub counted : ℕ → ℕ → ℕ
-counted n k = min (n + k) 18446744073709551615
+counted n k = max n (min (n + k) 18446744073709551615)
 
 -- the cells with the count after a command; n before it. A refusal puts nothing.
 unfoldable pub countedIn : List ℕ → ℕ → Answer → List ℕ

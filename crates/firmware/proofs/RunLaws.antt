@@ -29,12 +29,15 @@ use Rattle.crash.specs.Claims.{IsBytes, AreaKept, LedgerKept, downLedger}
 use Rattle.crash.proofs.Theorem.{claim, demands}
 use Rattle.cells.specs.Cells.{storesIn, Exact}
 use Rattle.cells.specs.Answer.{world, worldIn}
+use Rattle.reading.specs.declared.Part.{Part}
+use Rattle.reading.specs.Part.{partOf}
 use Rattle.reading.proofs.ReadLaws.{readable}
 use Rattle.command.specs.Counting.{counted, Performs}
 use Rattle.command.proofs.CountLaws.{counted-sum, counted-none, counted-more}
-use Rattle.firmware.specs.Session.{storesAfter, newStop, stopAfter, readInto, DemandsMet, RunsCommand, RunsTape}
+use Rattle.firmware.specs.Session.{storesAfter, newStop, stopAfter, readInto, partIn, DemandsMet, RunsCommand, RunsTape}
 use Rattle.firmware.specs.declared.session.Reply.{Reply}
 use Rattle.firmware.specs.declared.session.Stop.{Stop}
+use Rattle.firmware.specs.declared.session.Part as wide
 
 -- ---- a run from an offset on
 module _ (t : Bytes) where
@@ -111,15 +114,15 @@ pub record Left (t : Bytes) (v₀ : List ℕ) (d₀ m₀ : Bytes) (at : ℕ) (v 
   pub exact : Exact v₀ → Exact v
   pub stops : stopAfter s points ≡ stopAfter (newStop 0 0 0) (run step t (worldIn v₀ d₀ m₀))
 
-pub left-start : (t : Bytes) (v : List ℕ) (d m : Bytes) → storesIn v < 18446744073709551616 → Left t v d m 0 v d m (newStop 0 0 0)
-left-start t v d m h =
+pub left-start : (t : Bytes) (v : List ℕ) (d m : Bytes) → Left t v d m 0 v d m (newStop 0 0 0)
+left-start t v d m =
     record {
       count = 0;
       points = run step t (worldIn v d m);
       runs = run-runs step t (worldIn v d m);
       world-after = refl;
       total = refl;
-      capped = counted-none (storesIn v) h;
+      capped = counted-none (storesIn v);
       exact = λ x. x;
       stops = refl;
     }
@@ -144,13 +147,13 @@ module _ (t : Bytes) (v₀ : List ℕ) (d₀ m₀ : Bytes) (at : ℕ) (v : List 
   pub left-end : length t ≤ at → length t < 18446744073709551616 → DemandsMet t (worldIn v₀ d₀ m₀) → RunsTape t v₀ d₀ m₀ v d m s
   left-end h q x =
       let f = ended t (l .runs) h in
-      let n : storesIn v ≡ counted (storesIn v₀) (storesAfter 0 (run step t (worldIn v₀ d₀ m₀))) = l .capped ∙ ap (counted (storesIn v₀)) (sym (f .1 .0) ∙ l .total) in
+      let n : storesIn v ≡ counted (storesIn v₀) (storesAfter 0 (run step t (worldIn v₀ d₀ m₀))) = l .capped ∙ ap (counted (storesIn v₀)) (sym (f .1) ∙ l .total) in
       record {
         world = sym (f .0) ∙ l .world-after;
         stores = n;
         from-none = λ z. n ∙ ap (λ (k : ℕ). counted k (storesAfter 0 (run step t (worldIn v₀ d₀ m₀)))) z ∙ run-stores t (worldIn v₀ d₀ m₀) q;
         exact = l .exact;
-        stopped = sym (f .1 .1 s) ∙ l .stops;
+        stopped = sym (f .2 s) ∙ l .stops;
         demands = x;
       }
 
@@ -176,7 +179,7 @@ demands-met t x d m bt bd bm =
 
 -- ---- reading into a buffer
 module _ (x : Card) (b : ℕ) (d m : Bytes) where
-  pub length-read : readNumber b (world x d m) ≡ 0 → length (readBlock b (world x d m)) ≡ 128
+  length-read : readNumber b (world x d m) ≡ 0 → length (readBlock b (world x d m)) ≡ 128
   unfolding readBlock
   length-read h =
       let r = readable x b d m 0 (sym h) refl in
@@ -184,6 +187,9 @@ module _ (x : Card) (b : ℕ) (d m : Bytes) where
       (cases ((holderOf x b) .held)
       (λ q. rw q (length-blockAt 128 m (r .memory) b (omega (arith, r .below))))
       (λ q. rw q (length-blockAt 257 d (r .disk) (homeBlock b) (omega (arith, r .below)))))
+
+  pub copy-long : (n : ℕ) → n ≡ readNumber b (world x d m) → n ≡ 0 → (l : Bytes) → l ≡ readBlock b (world x d m) → length l ≡ 128
+  copy-long n e h l q = ap length q ∙ length-read (sym e ∙ h)
 
   module _ (out : Bytes) where
     pub into-none : (n : ℕ) → (n ≡ 0 → ⊥) → out ≡ readInto n b (world x d m) out
@@ -193,3 +199,8 @@ module _ (x : Card) (b : ℕ) (d m : Bytes) where
     pub into-block : (l : Bytes) → l ≡ readBlock b (world x d m) → l ≡ readInto 0 b (world x d m) out
     unfolding readInto
     into-block l e = e
+
+-- ---- where a block's bytes stand
+pub part-wide : (b : ℕ) (w : World) (p : Part) → p ≡ partOf b w → _≡_ {A = wide.Part} (record { number = p .number; slice = p .slice; from = p .from; length = p .length }) (partIn b w)
+unfolding partIn
+part-wide b w p e = rw e

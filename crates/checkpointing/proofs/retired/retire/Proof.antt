@@ -1,5 +1,6 @@
 -- `checkpointing::retired::retire` meets its contract: the tail, the core, the holders.
-use Rattle.checkpointing.proofs.RetireLaws.{retired-card, retired-frame, size-kept}
+use Rattle.checkpointing.proofs.RetireLaws.{retired-card, retired-frame}
+use Rattle.cells.proofs.MeetLaws.{same-long}
 use borrow.Author.Needs.{needs}
 use Rattle.checkpointing.proofs.retired.retire.Statement.{statement}
 use Rattle.checkpointing.proofs.retired.retire.Tie as tie
@@ -7,4 +8,4 @@ use Rattle.checkpointing.proofs.retired.retire.Tie as tie
 pub retire-spec : {M : Type 1} → statement M
 retire-spec =
     tie.close
-    (tie.spec (λ c κs. search needs) (λ c κs. search (needs, size-kept)) (λ c κs. search (needs, size-kept)) (λ c. search needs) (λ c. (search (needs, retired-card), search (needs, retired-frame))))
+    (tie.spec (λ c κs. search needs) (λ c κs. search (needs, same-long)) (λ c κs. search (needs, same-long)) (λ c. search needs) (λ c. (search (needs, retired-card), search (needs, retired-frame))))
