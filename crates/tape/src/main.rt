@@ -3,7 +3,9 @@
 ghost use mathlib.Core.Path.{_≡_};
 ghost use Prim.Native.Nat.{_≤_};
 ghost use lib.ListN.{length};
-ghost use Rattle.model.specs.Tape.{isZero};
+ghost use Rattle.model.specs.Bytes.{Bytes};
+ghost use Rattle.model.specs.Tape.{homeCount, isZero};
+ghost use Rattle.cells.specs.Answer.{worldIn};
 
 // Where the reading stands; `more` is false once the tape has ended.
 struct Course {
@@ -86,6 +88,14 @@ fn run_tape(w: &mut [u64; 512], disk: &mut [u8], memory: &mut [u8]) {
     }
 }
 
+// How many home blocks the card has.
+fn home_count(w: &[u64; 512], disk: &[u8]) -> u8
+    requires { ⌜ length (now disk) ≡ 32896 ⌝ }
+    ensures { λ r. ⌜ ((m : Bytes) → r ≡ homeCount (worldIn (now (w .entry)) (now (disk .entry)) m)) ⌝ }
+{
+    recovering::home_count(w, disk)
+}
+
 // Whether every byte is zero.
 fn is_zero(block: &[u8]) -> bool
     ensures { λ r. ⌜ r ≡ isZero (now (block .entry)) ⌝ }
@@ -145,6 +155,6 @@ fn main() {
     let mut memory = [0u8; 16384];
     firmware::session::blank(&mut state);
     run_tape(&mut state, &mut disk, &mut memory);
-    let n = recovering::home_count(&state, &disk);
+    let n = home_count(&state, &disk);
     print_blocks(n as usize, &disk);
 }
