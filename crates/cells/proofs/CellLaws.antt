@@ -260,17 +260,17 @@ module _ (v : List ℕ) (a : ℕ) where
         at : (k : ℕ) → k < 24 → getD w (a + k) 0 ≡ 0
         at k p = c .zero (a + k) (omega arith) (omega arith)
 
--- one that opens there
-pub opened-here : (w : List ℕ) (a : ℕ) → length w ≡ 512 → a + 24 ≤ 512 → transactionIn w a ≡ noTransaction → transactionIn (set w a 1) a ≡ opened
+-- one that opens there: any number but 0 says that there is one
+pub opened-here : (w : List ℕ) (a x : ℕ) → length w ≡ 512 → a + 24 ≤ 512 → eqb x 0 ≡ false → transactionIn w a ≡ noTransaction → transactionIn (set w a x) a ≡ opened
 unfolding transactionIn
-opened-here w a n f e =
+opened-here w a x n f l e =
     same-transaction _ _ _ _ _ _ _ _ _ _ _ _
-    (ap (λ (k : ℕ). not (eqb k 0)) (getD-set-same w a 1 0 (omega arith)))
-    (getD-set-other w a (a + 1) 1 0 (omega arith))
-    (ap (λ (k : ℕ). k % 256) (getD-set-other w a (a + 2) 1 0 (omega arith)))
-    (map-below _ _ 8 (λ k p. ap (λ (k : ℕ). k % 256) (getD-set-other w a (a + 4 + k) 1 0 (omega arith))))
-    (ap (λ (k : ℕ). k % 256) (getD-set-other w a (a + 3) 1 0 (omega arith)))
-    (map-below _ _ 12 (λ k p. ap nameIn (getD-set-other w a (a + 12 + k) 1 0 (omega arith))))
+    (ap (λ (k : ℕ). not (eqb k 0)) (getD-set-same w a x 0 (omega arith)) ∙ ap not l)
+    (getD-set-other w a (a + 1) x 0 (omega arith))
+    (ap (λ (k : ℕ). k % 256) (getD-set-other w a (a + 2) x 0 (omega arith)))
+    (map-below _ _ 8 (λ k p. ap (λ (k : ℕ). k % 256) (getD-set-other w a (a + 4 + k) x 0 (omega arith))))
+    (ap (λ (k : ℕ). k % 256) (getD-set-other w a (a + 3) x 0 (omega arith)))
+    (map-below _ _ 12 (λ k p. ap nameIn (getD-set-other w a (a + 12 + k) x 0 (omega arith))))
     ∙ ap (λ (t : Transaction). record { live = true; stamp = t .stamp; count = t .count; blocks = t .blocks; named = t .named; names = t .names }) e
 
 pub open-live : (t : Transaction) (g : Bool) → g ≡ t .live → g ≡ true → t ≡ openedOr t
@@ -444,11 +444,11 @@ module _ (v w : List ℕ) (a : ℕ) (size : length v ≡ 512) (from : 96 ≤ a) 
   pub still-in : a < length w
   still-in = omega (arith, b .size)
 
-  pub opened-frame : Frame v (set w a 1) a 24
-  opened-frame = frame-then w (set w a 1) v a 24 b (frame-set w a 24 a 1 (omega arith) (omega arith) (fits-live a from fits place 1 (omega arith)))
+  pub opened-frame : (x : ℕ) → ltb x 2 ≡ true → Frame v (set w a x) a 24
+  opened-frame x l = frame-then w (set w a x) v a 24 b (frame-set w a 24 a x (omega arith) (omega arith) (fits-live a from fits place x (ltb-true x 2 l)))
 
-  pub opened-there : transactionIn w a ≡ noTransaction → (g : Bool) → g ≡ (transactionIn v a) .live → g ≡ false → transactionIn (set w a 1) a ≡ openedOr (transactionIn v a)
-  opened-there e g q h = open-new _ (transactionIn v a) (opened-here w a (b .size ∙ size) fits e) (sym q ∙ h)
+  pub opened-there : (x : ℕ) → eqb x 0 ≡ false → transactionIn w a ≡ noTransaction → (g : Bool) → g ≡ (transactionIn v a) .live → g ≡ false → transactionIn (set w a x) a ≡ openedOr (transactionIn v a)
+  opened-there x l e g q h = open-new _ (transactionIn v a) (opened-here w a x (b .size ∙ size) fits l e) (sym q ∙ h)
 
 -- ---- a core read
 module _ (w : List ℕ) (c : ℕ) (h : c < 8) where

@@ -1,18 +1,16 @@
 -- WRITE: the cells afterwards, in their steps.
-use Prim.Native.Nat.{ℕ, _+_, _-_, _*_, _%_, _≤_, _<_}
+use Prim.Native.Nat.{ℕ, _-_, _%_, _<_}
 use native.Mathlib.Omega.{arith}
 use mathlib.Core.Path.{_≡_, refl, sym, ap, _∙_}
-use mathlib.Core.Bool.{Bool, true, false, cond, not, _&&_, false≢true}
+use mathlib.Core.Bool.{Bool, true, false, not, _&&_, false≢true}
 use mathlib.Core.List.{List}
-use lib.Dec.{leb, eqb}
-use lib.ListN.{length, set}
+use lib.Dec.{eqb}
 use lib.Seq.{getD-set-other}
 use borrow.Author.Tests.{leb-false, eq-eqb, eqb-true, not-false}
-use Rattle.model.specs.Card.{newName, sameName, newHolder, freshCore, withName, withRunning, withCore, withHolder, coreOf, holderOf}
+use Rattle.model.specs.Card.{newName, sameName, freshCore, withName, withRunning, withCore, coreOf, holderOf}
 use Rattle.model.specs.Write.{writer, writerName, isRunning, ruleFor, takesBlock, namesHolder, isNamedBack, passesTwelve, writerAfter, writtenCard}
 use Rattle.model.specs.declared.Name.{Name}
 use Rattle.model.specs.declared.Transaction.{Transaction}
-use Rattle.model.specs.declared.Core.{Core}
 use Rattle.model.specs.declared.Card.{Card}
 use Rattle.model.specs.declared.Rule.{Rule}
 use Rattle.model.proofs.Lists.{cases, and-right}

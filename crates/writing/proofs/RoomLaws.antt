@@ -2,12 +2,12 @@
 use Prim.Native.Nat.{ℕ, _+_, _≤_, _<_, min}
 use native.Mathlib.Omega.{arith}
 use mathlib.Core.Path.{_≡_, refl, sym, ap, _∙_}
-use mathlib.Core.Bool.{Bool, true, false, cond, not, _&&_, _||_}
+use mathlib.Core.Bool.{Bool, true, false, cond, not, _&&_, and-false, and-true}
 use mathlib.Core.List.{List}
 use lib.Dec.{ltb, leb}
 use lib.ListN.{length, take, set, length-take, length-set}
 use borrow.Author.Tests.{lt-leb, le-leb, leb-true, leb-false, not-true, not-false}
-use Rattle.model.specs.Card.{opened, taken, listed, lists, withBlock, withName, recordSize, shapeOf, coreOf}
+use Rattle.model.specs.Card.{opened, taken, listed, lists, withName, recordSize, shapeOf, coreOf}
 use Rattle.model.specs.Command.{refusal}
 use Rattle.model.specs.Layout.{maxNumber}
 use Rattle.model.specs.Lists.{any}
@@ -15,7 +15,6 @@ use Rattle.model.specs.Write.{writer, takesBlock, namesHolder, passesTwelve, cl
 use Rattle.model.specs.declared.Shape.{Shape}
 use Rattle.model.specs.declared.Name.{Name}
 use Rattle.model.specs.declared.Transaction.{Transaction}
-use Rattle.model.specs.declared.Core.{Core}
 use Rattle.model.specs.declared.Card.{Card}
 use Rattle.model.specs.declared.Rule.{Rule}
 use Rattle.model.proofs.Lists.{cases}
@@ -23,7 +22,7 @@ use Rattle.cells.specs.Cells.{byteIn, transactionIn, cardIn, corePlace, running
 use Rattle.cells.proofs.CellLaws.{used-read, running-read, closed-read, blocks-long, names-long, open-live}
 use Rattle.writing.specs.Writing.{ownFull, backFull, ninth, sizeAfter, namedBy, takenBy, afterBy, foundConditions}
 use Rattle.writing.specs.declared.Found.{Found}
-use Rattle.writing.proofs.RuleLaws.{running-at}
+use Rattle.writing.proofs.RuleLaws.{cond-not, cond-done, running-at}
 
 -- ---- 24, the list of a transaction
 module _ (w : List ℕ) (a : ℕ) (n : Name) (k : ℕ) (e : k ≡ length (listed (transactionIn w a))) where
@@ -33,19 +32,11 @@ module _ (w : List ℕ) (a : ℕ) (n : Name) (k : ℕ) (e : k ≡ length (listed
 
   pub twelve-not : k < 12 → false ≡ passesTwelve (transactionIn w a) n
   unfolding passesTwelve
-  twelve-not h = let z : leb 12 ((transactionIn w a) .named) ≡ false = lt-leb 12 ((transactionIn w a) .named) (omega (arith, listed-count)) in rw z (and-false (not (lists (transactionIn w a) n)))
-    where
-      and-false : (b : Bool) → false ≡ (b && false)
-      and-false true = refl
-      and-false false = refl
+  twelve-not h = let z : leb 12 ((transactionIn w a) .named) ≡ false = lt-leb 12 ((transactionIn w a) .named) (omega (arith, listed-count)) in rw (z, and-false)
 
   pub twelve-full : 12 ≤ k → (g : Bool) → g ≡ lists (transactionIn w a) n → not g ≡ passesTwelve (transactionIn w a) n
   unfolding passesTwelve
-  twelve-full h g q = let z : leb 12 ((transactionIn w a) .named) ≡ true = le-leb 12 ((transactionIn w a) .named) (omega (arith, listed-count)) in rw (z, ← q) (and-true (not g))
-    where
-      and-true : (b : Bool) → b ≡ (b && true)
-      and-true true = refl
-      and-true false = refl
+  twelve-full h g q = let z : leb 12 ((transactionIn w a) .named) ≡ true = le-leb 12 ((transactionIn w a) .named) (omega (arith, listed-count)) in rw (z, ← q, and-true)
 
 -- ---- the writer: one that opens has no names, no blocks
 opened-lists : (n : Name) → false ≡ passesTwelve opened n
@@ -88,9 +79,6 @@ writer-long w c h =
     cases ((coreOf (cardIn w) c) .running .live) (λ t. rw (t, ← running-read w c h) (blocks-long w (runningPlace c))) (λ t. rw t)
 
 -- ---- closed ones
-cond-true : (t : Bool) (a b : ℕ) → t ≡ true → cond t a b ≡ a
-cond-true t a b h = rw h
-
 module _ (w : List ℕ) (c : ℕ) (h : c < 8) (a : ℕ) (d : a ≡ corePlace c) (u : ℕ) (s : u ≡ byteIn w (a + 1)) (p : ℕ) (e : p ≡ closedPlace c) (g : Bool) (q : g ≡ (transactionIn w p) .live) where
   closed-used : u ≡ (coreOf (cardIn w) c) .used
   closed-used = s ∙ ap (λ (m : ℕ). byteIn w (m + 1)) d ∙ used-read w c h
@@ -98,20 +86,18 @@ module _ (w : List ℕ) (c : ℕ) (h : c < 8) (a : ℕ) (d : a ≡ corePlace c) 
   closed-at : transactionIn w p ≡ (coreOf (cardIn w) c) .closed
   closed-at = ap (transactionIn w) e ∙ closed-read w c h
 
-  closed-live : (f : Bool) → g ≡ f → (coreOf (cardIn w) c) .closed .live ≡ f
-  closed-live f z = sym (ap (λ (t : Transaction). t .live) closed-at) ∙ sym q ∙ z
+  closed-live : g ≡ (coreOf (cardIn w) c) .closed .live
+  closed-live = q ∙ ap (λ (t : Transaction). t .live) closed-at
 
   pub used-none : not g ≡ true → u ≡ closedBlocks (coreOf (cardIn w) c)
   unfolding closedBlocks
-  used-none z = closed-used ∙ rw (closed-live false (not-true g z)) (omega arith)
+  used-none z = omega (arith, closed-used, cond-not g _ closed-live (recordSize ((coreOf (cardIn w) c) .closed)) 0 z)
 
   pub used-some : not g ≡ false → (k : ℕ) → k ≡ length (taken (transactionIn w p)) → u + (k + 2) ≡ closedBlocks (coreOf (cardIn w) c)
   unfolding closedBlocks recordSize
   used-some z k r =
-      ap (λ (m : ℕ). m + (k + 2)) closed-used
-      ∙ ap (λ (m : ℕ). (coreOf (cardIn w) c) .used + m)
-      (ap (λ (m : ℕ). m + 2) (r ∙ ap (λ (t : Transaction). length (taken t)) closed-at)
-      ∙ sym (cond-true _ (length (taken ((coreOf (cardIn w) c) .closed)) + 2) 0 (closed-live true (not-false g z))))
+      let size : k + 2 ≡ recordSize ((coreOf (cardIn w) c) .closed) = ap (λ (m : ℕ). m + 2) (r ∙ ap (λ (t : Transaction). length (taken t)) closed-at) in
+      omega (arith, closed-used, cond-done g _ closed-live (recordSize ((coreOf (cardIn w) c) .closed)) 0 (k + 2) size z)
 
 -- ---- 26, the record afterwards
 pub journal-test : (j u m a b : ℕ) → u ≡ a → m ≡ b → ltb j (u + m) ≡ ltb j (a + b)

@@ -7,16 +7,14 @@ use lib.Dec.{ltb, leb}
 use lib.ListN.{length}
 use Rattle.model.specs.Bytes.{Bytes, blockAt, store}
 use Rattle.model.specs.Shape.{homeBlock}
-use Rattle.model.specs.Card.{sameName, recordSize, shapeOf, coreOf, holderOf, newHolder, withBlock, withName, withRunning, withCore, withHolder}
+use Rattle.model.specs.Card.{recordSize, shapeOf, coreOf, holderOf, newHolder, withBlock, withName, withRunning, withCore, withHolder}
 use Rattle.model.specs.Command.{World, refusal, notUp, noCore, noBlock}
 use Rattle.model.specs.Layout.{maxNumber}
-use Rattle.model.specs.Write.{writer, writerName, isRunning, ruleFor, takesBlock, namesHolder, isNamedBack, loadsImage, passesTwelve, closedBlocks}
+use Rattle.model.specs.Write.{writer, writerName, ruleFor, takesBlock, namesHolder, isNamedBack, loadsImage, passesTwelve, closedBlocks}
 use Rattle.model.specs.declared.Name.{Name}
 use Rattle.model.specs.declared.Transaction.{Transaction}
-use Rattle.model.specs.declared.Holder.{Holder}
 use Rattle.model.specs.declared.Card.{Card}
 use Rattle.model.specs.declared.Rule.{Rule}
-use Rattle.model.specs.declared.Rule.the-variants.{Free, Own, Running, Closed}
 use Rattle.cells.specs.Answer.{world}
 use Rattle.writing.specs.declared.Found.{Found}
 
@@ -38,14 +36,7 @@ pub record Passed (x : Card) (c b o : ℕ) (d m : Bytes) : Type 0 where
   pub within : Within d m b o
 
 -- ---- what a WRITE finds
--- the rule that the writer of the name own meets at a block whose holder is h
-unfoldable pub ruleAt : Card → Holder → Name → Rule
-ruleAt x h own =
-    cond (not (h .held)) Free
-    (cond (sameName (h .name) own) Own
-    (cond (isRunning x (h .name)) Running Closed))
-
--- core c's WRITE to block b
+-- that of core c to block b
 abbrev pub foundAt : Card → ℕ → ℕ → Found
 foundAt x c b = record { core = c; block = b; rule = ruleFor x c b; holder = (holderOf x b) .name; own = writerName x c }
 

@@ -21,7 +21,7 @@ use model::Rule;
 
 // The holder's list, naming the writer where the rule asks for it.
 fn name_back(w: &mut [u64], f: Found)
-    requires { ⌜ (length (now w) ≡ 512) × (f .holder .core < 8) × (f .own .core < 8)
+    requires { ⌜ (length (now w) ≡ 512) × Bounded f
         × (backFull (f .rule) ((coreOf (cardIn (now w)) (f .holder .core)) .running) (f .own) ≡ false) ⌝ }
     ensures { λ _. ⌜ (cardIn (now (w .exit)) ≡ namedBack (f .rule) (cardIn (now (w .entry))) (f .holder .core) (f .own))
         × Frame (now (w .entry)) (now (w .exit)) 0 512 ⌝ }
@@ -59,7 +59,7 @@ fn block_own(w: &mut [u64], at: usize, rule: Rule, b: u8)
 
 // The writer, opened if its core has none: its list and its blocks.
 fn write_own(w: &mut [u64], f: Found)
-    requires { ⌜ (length (now w) ≡ 512) × (f .core < 8) × (f .holder .core < 8)
+    requires { ⌜ (length (now w) ≡ 512) × Bounded f
         × (ownFull (f .rule) (writer (cardIn (now w)) (f .core)) (f .holder) ≡ false)
         × (ninth (f .rule) (writer (cardIn (now w)) (f .core)) ≡ false) ⌝ }
     ensures { λ _. ⌜ (cardIn (now (w .exit)) ≡ withCore (cardIn (now (w .entry))) (f .core) (withRunning (coreOf (cardIn (now (w .entry))) (f .core)) (afterBy (cardIn (now (w .entry))) f)))
@@ -74,7 +74,7 @@ fn write_own(w: &mut [u64], f: Found)
 
 // The block's holder: the writer where it takes the block.
 fn take_hold(w: &mut [u64], f: Found)
-    requires { ⌜ (length (now w) ≡ 512) × (f .block < 64) × (f .own .core < 8) ⌝ }
+    requires { ⌜ (length (now w) ≡ 512) × Bounded f ⌝ }
     ensures { λ _. ⌜ (cardIn (now (w .exit)) ≡ heldBy (f .rule) (cardIn (now (w .entry))) (f .block) (f .own))
         × Frame (now (w .entry)) (now (w .exit)) 0 512 ⌝ }
 {

@@ -24,7 +24,6 @@ use cells::lists_name;
 use cells::name_count;
 use cells::running_place;
 use model::Name;
-use model::Rule;
 use model::Shape;
 
 // Whether the list of the transaction at a place would pass 12 names with this one.
@@ -40,7 +39,7 @@ fn passes_twelve(w: &[u64], at: usize, n: Name) -> bool
 
 // Refusal 24 for the writer's list; one that opens has no names. live: whether its core has a running transaction.
 fn own_full(w: &[u64], f: Found, live: bool) -> bool
-    requires { ⌜ (length (now w) ≡ 512) × (f .core < 8) × (live ≡ (coreOf (cardIn (now w)) (f .core)) .running .live) ⌝ }
+    requires { ⌜ (length (now w) ≡ 512) × Bounded f × (live ≡ (coreOf (cardIn (now w)) (f .core)) .running .live) ⌝ }
     ensures { λ r. ⌜ r ≡ ownFull (f .rule) (writer (cardIn (now (w .entry))) (f .core)) (f .holder) ⌝ }
 {
     let rule = f.rule;
@@ -55,7 +54,7 @@ fn own_full(w: &[u64], f: Found, live: bool) -> bool
 
 // Refusal 24 for the holder's list.
 fn back_full(w: &[u64], f: Found) -> bool
-    requires { ⌜ (length (now w) ≡ 512) × (f .holder .core < 8) ⌝ }
+    requires { ⌜ (length (now w) ≡ 512) × Bounded f ⌝ }
     ensures { λ r. ⌜ r ≡ backFull (f .rule) ((coreOf (cardIn (now (w .entry))) (f .holder .core)) .running) (f .own) ⌝ }
 {
     let rule = f.rule;
@@ -77,9 +76,10 @@ fn writer_count(w: &[u64], c: u8, live: bool) -> usize
 }
 
 // Refusal 25, for a writer that has so many blocks.
-fn ninth_block(rule: Rule, count: usize) -> bool
-    ensures { λ r. ⌜ r ≡ (takesBlock rule && leb 8 count) ⌝ }
+fn ninth_block(f: Found, count: usize) -> bool
+    ensures { λ r. ⌜ r ≡ (takesBlock (f .rule) && leb 8 count) ⌝ }
 {
+    let rule = f.rule;
     if !takes_block(rule) {
         return false;
     }
@@ -100,10 +100,11 @@ fn closed_blocks(w: &[u64], c: u8) -> usize
 }
 
 // The blocks of the writer's record after this WRITE.
-fn size_after(rule: Rule, count: usize) -> usize
+fn size_after(f: Found, count: usize) -> usize
     requires { ⌜ count ≤ 8 ⌝ }
-    ensures { λ r. ⌜ (r ≡ sizeAfter rule count) × (r ≤ 11) ⌝ }
+    ensures { λ r. ⌜ (r ≡ sizeAfter (f .rule) count) × (r ≤ 11) ⌝ }
 {
+    let rule = f.rule;
     if !takes_block(rule) {
         return count + 2;
     }
@@ -112,12 +113,11 @@ fn size_after(rule: Rule, count: usize) -> usize
 
 // Refusal 26.
 fn journal_full(w: &[u64], s: Shape, f: Found, count: usize) -> bool
-    requires { ⌜ (length (now w) ≡ 512) × (f .core < 8) × (count ≤ 8) ⌝ }
+    requires { ⌜ (length (now w) ≡ 512) × Bounded f × (count ≤ 8) ⌝ }
     ensures { λ r. ⌜ r ≡ ltb (s .journal) (closedBlocks (coreOf (cardIn (now (w .entry))) (f .core)) + sizeAfter (f .rule) count) ⌝ }
 {
     let used = closed_blocks(w, f.core);
-    let rule = f.rule;
-    let size = size_after(rule, count);
+    let size = size_after(f, count);
     let j = s.journal as usize;
     j < used + size
 }
@@ -137,7 +137,6 @@ pub fn room_refusal(w: &[u64], s: Shape, f: Found) -> u8
     requires { ⌜ (length (now w) ≡ 512) × (s ≡ shapeOf (cardIn (now w))) × Bounded f ⌝ }
     ensures { λ r. ⌜ r ≡ refusal (foundConditions (cardIn (now (w .entry))) f) ⌝ }
 {
-    let rule = f.rule;
     let live = has_running(w, f.core);
     if own_full(w, f, live) {
         return 24;
@@ -146,7 +145,7 @@ pub fn room_refusal(w: &[u64], s: Shape, f: Found) -> u8
         return 24;
     }
     let count = writer_count(w, f.core, live);
-    if ninth_block(rule, count) {
+    if ninth_block(f, count) {
         return 25;
     }
     if journal_full(w, s, f, count) {

@@ -11,7 +11,7 @@ block-own-requires c κs =
     let opening = named .before .before .before .before in
     let place = opening .before .before in
     let start = place .before .before in
-    (search (needs, same-long), search (needs, place-of), count-room _ (start .args .f) (start .pre .1) _ (place .running-place .ensures) _ (opening .open-at .ensures .0) _ (named .name-own .ensures .0) (start .pre .4))
+    (search (needs, same-long), search (needs, place-of), count-room _ (start .args .f) (start .pre .1 .core) _ (place .running-place .ensures) _ (opening .open-at .ensures .0) _ (named .name-own .ensures .0) (start .pre .3))
 
 returns : tie.Need-returns
 returns c =
@@ -20,7 +20,7 @@ returns c =
     let opening = named .before .before .before .before in
     let place = opening .before .before in
     let start = place .before .before in
-    own-written _ (start .args .f) (start .pre .1) _ (place .running-place .ensures) _ (opening .open-at .ensures .0) _ (named .name-own .ensures .0) _ (taken .block-own .ensures .0) (opening .open-at .ensures .1) (named .name-own .ensures .1) (taken .block-own .ensures .1)
+    own-written _ (start .args .f) (start .pre .1 .core) _ (place .running-place .ensures) _ (opening .open-at .ensures .0) _ (named .name-own .ensures .0) _ (taken .block-own .ensures .0) (opening .open-at .ensures .1) (named .name-own .ensures .1) (taken .block-own .ensures .1)
 
 pub write-own-spec : {M : Type 1} → statement M
 write-own-spec = tie.close (tie.spec (λ c κs. search needs) (λ c κs. search (needs, place-of)) (λ c κs. search (needs, same-long, place-of, list-room)) block-own-requires (λ c. search needs) returns)
