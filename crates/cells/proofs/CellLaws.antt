@@ -24,7 +24,8 @@ use Rattle.model.proofs.Lists.{cases, length-below, map-below, getD-map-below}
 use Rattle.model.specs.Write.{passesTwelve}
 use Rattle.cells.proofs.Parts.{took-all, took-some, named-all, named-some, name-hit, name-missed, name-room}
 use Rattle.cells.proofs.FitsLaws.{fits-zero, fits-live, fits-byte, fits-name, fits-holder, frame-wider, frame-then, frame-same, frame-set}
-use Rattle.cells.specs.Cells.{byteIn, numberIn, phaseIn, nameIn, holderIn, tailFrom, transactionIn, coreIn, cardIn, tailPlace, holderPlace, corePlace, IsPlace, openedOr, fitsAt, Frame}
+use Rattle.cells.specs.Cells.{byteIn, numberIn, phaseIn, nameIn, holderIn, tailFrom, transactionIn, coreIn, cardIn, tailPlace, holderPlace, corePlace}
+use Rattle.cells.specs.Changes.{IsPlace, openedOr, fitsAt, Frame}
 
 -- ---- lists given by their index
 module _ {A : Type 0} where

@@ -13,7 +13,8 @@ use Rattle.model.specs.declared.Core.{Core}
 use Rattle.model.specs.declared.Holder.{Holder}
 use Rattle.model.specs.declared.Card.{Card}
 use Rattle.model.proofs.Lists.{map-below}
-use Rattle.cells.specs.Cells.{byteIn, numberIn, phaseIn, holderIn, transactionIn, coreIn, cardIn, tailPlace, holderPlace, corePlace, withNumbers, withClosed, withCloses, fitsAt, Frame}
+use Rattle.cells.specs.Cells.{byteIn, numberIn, phaseIn, holderIn, transactionIn, coreIn, cardIn, tailPlace, holderPlace, corePlace}
+use Rattle.cells.specs.Changes.{withNumbers, withClosed, withCloses, fitsAt, Frame}
 use Rattle.cells.proofs.FitsLaws.{fits-next, fits-count, frame-set, frame-then, frame-wider}
 use Rattle.cells.proofs.CellLaws.{length-tabled, same-card, same-shape, same-core, tail-same, core-same, core-at, core-put, transaction-low, transaction-high}
 

@@ -21,7 +21,8 @@ use Rattle.model.specs.declared.Card.{Card}
 use Rattle.model.proofs.Lists.{cases, both-ways, getD-map-below}
 use Rattle.cells.proofs.FitsLaws.{in-place, fits-zero, fits-phase, fits-stores, fits-in-number, fits-in-position, fits-in-holder, fits-in-core, fits-set}
 use Rattle.cells.proofs.CellLaws.{length-tabled, same-transaction, same-tail, same-core, same-card, same-shape, name-put, name-read, block-read, holder-cell, holder-read, core-at}
-use Rattle.cells.specs.Cells.{phaseIn, nameIn, holderIn, tailFrom, transactionIn, coreIn, cardIn, storesIn, corePlace, tailPlace, holderPlace, phaseCell, nameCell, holderCell, headerCell, tailCell, transactionCell, coreCell, cellOf, cellsOf, Exact, fitsHeader, fitsTransaction, fitsCore, fitsAt, Fits, SizedName, SizedTransaction, SizedCore, SizedTail, SizedHolder, Sized}
+use Rattle.cells.specs.Cells.{phaseIn, nameIn, holderIn, tailFrom, transactionIn, coreIn, cardIn, storesIn, corePlace, tailPlace, holderPlace, phaseCell, nameCell, holderCell, headerCell, tailCell, transactionCell, coreCell, cellOf, cellsOf, Exact, SizedName, SizedTransaction, SizedCore, SizedTail, SizedHolder, Sized}
+use Rattle.cells.specs.Changes.{fitsHeader, fitsTransaction, fitsCore, fitsAt, Fits}
 
 ruleset tests = (ltb-true, leb-true, eqb-true, lt-ltb, le-leb, eq-eqb)
 

@@ -9,7 +9,8 @@ use lib.ListN.{length, getD, set, length-set}
 use lib.Seq.{getD-set-same, getD-set-other, set-out}
 use borrow.Author.Tests.{lt-ltb, le-ltb, le-leb, eq-eqb, ne-eqb, eqb-true, eqb-false, ltb-true, ltb-false}
 use Rattle.model.proofs.Lists.{cases}
-use Rattle.cells.specs.Cells.{IsPlace, corePlace, tailPlace, holderPlace, runningPlace, closedPlace, fitsHeader, fitsTransaction, fitsCore, fitsAt, Fits, Frame}
+use Rattle.cells.specs.Cells.{corePlace, tailPlace, holderPlace, runningPlace, closedPlace}
+use Rattle.cells.specs.Changes.{IsPlace, fitsHeader, fitsTransaction, fitsCore, fitsAt, Fits, Frame}
 
 either : (t a b : Bool) → a ≡ true → b ≡ true → cond t a b ≡ true
 either true a b p q = p

@@ -12,7 +12,8 @@ use Rattle.model.specs.declared.Tail.{Tail}
 use Rattle.model.specs.declared.Core.{Core}
 use Rattle.model.specs.declared.Card.{Card}
 use Rattle.layout.proofs.DiskLaws.{Zeroed, zeroed-all}
-use Rattle.cells.specs.Cells.{phaseIn, cardIn, cellsOf, corePlace, tailPlace, withNumbers, withTail, upWith, fitsAt, Fits, Frame}
+use Rattle.cells.specs.Cells.{phaseIn, cardIn, cellsOf, corePlace, tailPlace}
+use Rattle.cells.specs.Changes.{withNumbers, withTail, upWith, fitsAt, Fits, Frame}
 use Rattle.cells.proofs.Parts.{filled, filled-none, filled-more, filled-all}
 use Rattle.cells.proofs.FitsLaws.{fits-zero, fits-phase, fits-field, frame-same, frame-set, frame-then, frame-wider}
 use Rattle.cells.proofs.CellLaws.{length-tabled, same-card, same-shape}

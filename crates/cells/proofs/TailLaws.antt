@@ -10,7 +10,8 @@ use Rattle.model.specs.Card.{newTail, tailOf}
 use Rattle.model.specs.declared.Tail.{Tail}
 use Rattle.model.proofs.Lists.{map-below, getD-map-below}
 use Rattle.layout.proofs.Loops.{Filled, filled-all}
-use Rattle.cells.specs.Cells.{byteIn, numberIn, phaseIn, holderIn, tailFrom, cardIn, tailPlace, holderPlace, corePlace, withTail, Frame}
+use Rattle.cells.specs.Cells.{byteIn, numberIn, phaseIn, holderIn, tailFrom, cardIn, tailPlace, holderPlace, corePlace}
+use Rattle.cells.specs.Changes.{withTail, Frame}
 use Rattle.cells.proofs.FitsLaws.{fits-number, fits-position, frame-then, frame-set}
 use Rattle.cells.proofs.CellLaws.{tabled-set, same-tail, tail-same, core-same, same-card, same-shape}
 

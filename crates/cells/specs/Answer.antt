@@ -11,7 +11,8 @@ use Rattle.model.specs.declared.Phase.{Phase}
 use Rattle.model.specs.declared.Phase.the-variants.{Blank, Up, Down}
 use Rattle.model.specs.declared.Card.{Card}
 use Rattle.cells.specs.declared.Answer.{Answer}
-use Rattle.cells.specs.Cells.{cardIn, Fits}
+use Rattle.cells.specs.Cells.{cardIn}
+use Rattle.cells.specs.Changes.{Fits}
 
 -- a card over its two slices
 abbrev pub world : Card → Bytes → Bytes → World

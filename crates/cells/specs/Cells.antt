@@ -1,14 +1,14 @@
--- The card's state in 512 cells of eight bytes that the caller lends: what each cell means (`cardIn`), the cells of a card and its
--- count of stores (`cellsOf`), and which values a cell has in a run (`fitsAt`).
+-- The card's state in 512 cells of eight bytes that the caller lends: what each cell means (`cardIn`), and the cells of a card and its
+-- count of stores (`cellsOf`).
 -- A field narrower than its cell is the cell modulo its width, so every value of a cell has a meaning.
-use Prim.Native.Nat.{ℕ, _+_, _-_, _*_, _/_, _%_, _≤_, _<_}
+use Prim.Native.Nat.{ℕ, _+_, _-_, _*_, _/_, _%_, _<_}
 use mathlib.Core.Path.{_≡_}
 use mathlib.Core.List.{List, [], _∷_, map}
-use mathlib.Core.Bool.{Bool, true, false, cond, not}
-use lib.Dec.{eqb, ltb, leb}
-use lib.ListN.{length, getD, set}
+use mathlib.Core.Bool.{false, cond, not}
+use lib.Dec.{eqb, ltb}
+use lib.ListN.{length, getD}
 use Rattle.model.specs.Lists.{below}
-use Rattle.model.specs.Card.{newTail, newName, noHolder, newHolder, opened, tailOf, coreOf, holderOf, withLists}
+use Rattle.model.specs.Card.{newTail, newName, noHolder, newHolder, tailOf, coreOf, holderOf}
 use Rattle.model.specs.declared.Phase.{Phase}
 use Rattle.model.specs.declared.Phase.the-variants.{Blank, Up, Down}
 use Rattle.model.specs.declared.Shape.{Shape}
@@ -20,7 +20,28 @@ use Rattle.model.specs.declared.Holder.{Holder}
 use Rattle.model.specs.declared.Card.{Card}
 
 -- ---- where each part stands
--- A header of 16 cells: 0 phase, 1 to 3 shape, 4 closes, 5 recovered, 6 count of stores; 7 to 15 are unused.
+-- A header of 16 cells; those from 7 on are unused.
+abbrev pub phasePlace : ℕ
+phasePlace = 0
+
+abbrev pub coresPlace : ℕ
+coresPlace = 1
+
+abbrev pub blocksPlace : ℕ
+blocksPlace = 2
+
+abbrev pub journalPlace : ℕ
+journalPlace = 3
+
+abbrev pub closesPlace : ℕ
+closesPlace = 4
+
+abbrev pub recoveredPlace : ℕ
+recoveredPlace = 5
+
+abbrev pub storesPlace : ℕ
+storesPlace = 6
+
 -- A tail has two cells: number, position.
 abbrev pub tailPlace : ℕ → ℕ
 tailPlace c = 16 + 2 * c
@@ -32,16 +53,13 @@ holderPlace b = 32 + b
 abbrev pub corePlace : ℕ → ℕ
 corePlace c = 96 + 52 * c
 
--- A transaction has 24 cells: live, stamp, count, named, from 4 on the blocks, from 12 on the names.
 abbrev pub runningPlace : ℕ → ℕ
 runningPlace c = corePlace c + 4
 
 abbrev pub closedPlace : ℕ → ℕ
 closedPlace c = corePlace c + 28
 
--- the place of a transaction: that of a core's running one, or of its closed one
-abbrev pub IsPlace : ℕ → Type 0
-IsPlace a = (96 ≤ a) × (a + 24 ≤ 512) × ((a - 96) % 52 % 24 ≡ 4)
+-- A transaction has 24 cells: live, stamp, count, named, from 4 on the blocks, from 12 on the names.
 
 -- ---- what the cells mean
 -- a field of one byte, and of four
@@ -91,10 +109,10 @@ coreIn w a =
 unfoldable pub cardIn : List ℕ → Card
 cardIn w =
     record {
-      phase = phaseIn (getD w 0 0);
-      shape = record { cores = byteIn w 1; blocks = byteIn w 2; journal = byteIn w 3 };
-      closes = getD w 4 0;
-      recovered = byteIn w 5;
+      phase = phaseIn (getD w phasePlace 0);
+      shape = record { cores = byteIn w coresPlace; blocks = byteIn w blocksPlace; journal = byteIn w journalPlace };
+      closes = getD w closesPlace 0;
+      recovered = byteIn w recoveredPlace;
       tails = map (λ (c : ℕ). tailFrom w (tailPlace c)) (below 8);
       cores = map (λ (c : ℕ). coreIn w (corePlace c)) (below 8);
       holders = map (λ (b : ℕ). holderIn (getD w (holderPlace b) 0)) (below 64);
@@ -102,7 +120,7 @@ cardIn w =
 
 -- the count of stores, which is no part of the card
 abbrev pub storesIn : List ℕ → ℕ
-storesIn w = getD w 6 0
+storesIn w = getD w storesPlace 0
 
 -- ---- the cells of a card
 unfoldable pub phaseCell : Phase → ℕ
@@ -148,36 +166,6 @@ cellsOf x n = map (cellOf x n) (below 512)
 unfoldable pub Exact : List ℕ → Type 0
 Exact w = w ≡ cellsOf (cardIn w) (storesIn w)
 
--- ---- the same, cell by cell
--- whether a value has no bit above its field's width: in a header, a transaction, a core
-unfoldable pub fitsHeader : ℕ → ℕ → Bool
-fitsHeader i x =
-    cond (eqb i 0) (ltb x 3)
-    (cond (eqb i 4) true
-    (cond (eqb i 6) true
-    (cond (ltb i 7) (ltb x 256) (eqb x 0))))
-
-unfoldable pub fitsTransaction : ℕ → ℕ → Bool
-fitsTransaction i x =
-    cond (eqb i 0) (ltb x 2)
-    (cond (eqb i 1) true
-    (cond (ltb i 12) (ltb x 256) (ltb x 34359738368)))
-
-unfoldable pub fitsCore : ℕ → ℕ → Bool
-fitsCore i x =
-    cond (eqb i 0) (ltb x 4294967296)
-    (cond (ltb i 4) (ltb x 256) (fitsTransaction ((i - 4) % 24) x))
-
--- in cell i
-unfoldable pub fitsAt : ℕ → ℕ → Bool
-fitsAt i x =
-    cond (ltb i 16) (fitsHeader i x)
-    (cond (ltb i 32) (cond (eqb (i % 2) 0) (ltb x 4294967296) (ltb x 256))
-    (cond (ltb i 96) (leb x 34359738368) (fitsCore ((i - 96) % 52) x)))
-
-unfoldable pub Fits : List ℕ → Type 0
-Fits w = (i : ℕ) → i < 512 → fitsAt i (getD w i 0) ≡ true
-
 -- ---- cards that are the card of their cells: each array has its length, each field is within its width
 -- A field of eight bytes has no bound here.
 pub record SizedName (n : Name) : Type 0 where
@@ -215,37 +203,3 @@ pub record Sized (x : Card) : Type 0 where
   pub tail : (c : ℕ) → c < 8 → SizedTail (tailOf x c)
   pub core : (c : ℕ) → c < 8 → SizedCore (coreOf x c)
   pub holder : (b : ℕ) → b < 64 → SizedHolder (holderOf x b)
-
--- ---- a change of some cells
--- w is v but for the n cells from a on, and what is put there fits
-pub record Frame (v w : List ℕ) (a n : ℕ) : Type 0 where
-  pub size : length w ≡ length v
-  pub low : (i : ℕ) → i < a → getD w i 0 ≡ getD v i 0
-  pub high : (i : ℕ) → a + n ≤ i → getD w i 0 ≡ getD v i 0
-  pub kept : Fits v → Fits w
-
--- the transaction, or one that opens
-unfoldable pub openedOr : Transaction → Transaction
-openedOr t = cond (t .live) t opened
-
--- a core with these numbers, and with this closed transaction
-abbrev pub withNumbers : Core → ℕ → ℕ → ℕ → ℕ → Core
-withNumbers k next used stored homed =
-    record { next = next; used = used; stored = stored; homed = homed; running = k .running; closed = k .closed }
-
-abbrev pub withClosed : Core → Transaction → Core
-withClosed k t = record { next = k .next; used = k .used; stored = k .stored; homed = k .homed; running = k .running; closed = t }
-
--- a card with this count of closes
-abbrev pub withCloses : Card → ℕ → Card
-withCloses x n =
-    record { phase = x .phase; shape = x .shape; closes = n; recovered = x .recovered; tails = x .tails; cores = x .cores; holders = x .holders }
-
--- the card with core c's tail replaced
-abbrev pub withTail : Card → ℕ → Tail → Card
-withTail x c t = withLists x (set (x .tails) c t) (x .cores) (x .holders)
-
--- the card up, with this shape
-abbrev pub upWith : Card → Shape → Card
-upWith x s =
-    record { phase = Up; shape = s; closes = x .closes; recovered = x .recovered; tails = x .tails; cores = x .cores; holders = x .holders }

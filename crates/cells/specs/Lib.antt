@@ -1,3 +1,4 @@
--- The card's state in lent cells, and what a command over them answers.
+-- The card's state in lent cells, changes of some cells, and what a command over them answers.
 pub mod Cells
+pub mod Changes
 pub mod Answer

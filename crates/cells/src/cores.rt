@@ -3,7 +3,8 @@ ghost use mathlib.Core.Path.{_≡_};
 ghost use Prim.Native.Nat.{_<_};
 ghost use lib.ListN.{length};
 ghost use Rattle.model.specs.Card.{coreOf, withCore};
-ghost use Rattle.cells.specs.Cells.{cardIn, corePlace, withNumbers, Frame};
+ghost use Rattle.cells.specs.Cells.{cardIn, corePlace};
+ghost use Rattle.cells.specs.Changes.{withNumbers, Frame};
 use crate::fields::core_place;
 
 // Core c with these numbers.

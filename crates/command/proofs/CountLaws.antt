@@ -14,7 +14,8 @@ use Rattle.model.specs.Tape.{step, commandByte, operandsAt, commandAt}
 use Rattle.model.specs.declared.Card.{Card}
 use Rattle.model.proofs.Command.{command-decided, decided-refused, row-answer}
 use Rattle.model.proofs.Lists.{cases}
-use Rattle.cells.specs.Cells.{cardIn, storesIn, Exact, Fits, Frame}
+use Rattle.cells.specs.Cells.{cardIn, storesIn, Exact}
+use Rattle.cells.specs.Changes.{Fits, Frame}
 use Rattle.cells.specs.Answer.{worldIn, world, newAnswer, Meets}
 use Rattle.cells.specs.declared.Answer.{Answer}
 use Rattle.cells.proofs.FitsLaws.{fits-set, fits-stores, frame-set}

@@ -13,14 +13,14 @@ ghost use Rattle.cells.specs.Answer.{world, worldIn, Meets};
 ghost use Rattle.command.specs.Counting.{counted, countedIn, Performs};
 use cells::Answer;
 use cells::wrong_length;
-use checkpointing::checkpoint;
-use committing::close;
-use committing::store;
-use formatting::format;
+use checkpoint::checkpoint;
+use commit::close;
+use commit::store;
+use format::format;
 use model::Card;
-use recovering::cut;
-use recovering::recover;
-use writing::write;
+use recovery::cut;
+use recovery::recover;
+use transaction::write;
 
 // The bytes of the operands of commands 1 to 7; there is no command 0.
 const OPERAND_LENGTHS: [u8; 8] = [0, 3, 8, 1, 1, 1, 0, 0];

@@ -93,7 +93,7 @@ fn home_count(w: &[u64; 512], disk: &[u8]) -> u8
     requires { ⌜ length (now disk) ≡ 32896 ⌝ }
     ensures { λ r. ⌜ ((m : Bytes) → r ≡ homeCount (worldIn (now (w .entry)) (now (disk .entry)) m)) ⌝ }
 {
-    recovering::home_count(w, disk)
+    recovery::home_count(w, disk)
 }
 
 // Whether every byte is zero.

@@ -1,0 +1,82 @@
+-- What the contracts over the cells say of a change: which values fit a cell, what stays, and parts of a card replaced.
+use Prim.Native.Nat.{ℕ, _+_, _-_, _%_, _≤_, _<_}
+use mathlib.Core.Path.{_≡_}
+use mathlib.Core.List.{List}
+use mathlib.Core.Bool.{Bool, true, cond}
+use lib.Dec.{eqb, ltb, leb}
+use lib.ListN.{length, getD, set}
+use Rattle.model.specs.Card.{opened, withLists}
+use Rattle.model.specs.declared.Phase.the-variants.{Up}
+use Rattle.model.specs.declared.Shape.{Shape}
+use Rattle.model.specs.declared.Tail.{Tail}
+use Rattle.model.specs.declared.Transaction.{Transaction}
+use Rattle.model.specs.declared.Core.{Core}
+use Rattle.model.specs.declared.Card.{Card}
+
+-- ---- cells that are those of their card, cell by cell
+-- whether a value has no bit above its field's width: in a header, a transaction, a core
+unfoldable pub fitsHeader : ℕ → ℕ → Bool
+fitsHeader i x =
+    cond (eqb i 0) (ltb x 3)
+    (cond (eqb i 4) true
+    (cond (eqb i 6) true
+    (cond (ltb i 7) (ltb x 256) (eqb x 0))))
+
+unfoldable pub fitsTransaction : ℕ → ℕ → Bool
+fitsTransaction i x =
+    cond (eqb i 0) (ltb x 2)
+    (cond (eqb i 1) true
+    (cond (ltb i 12) (ltb x 256) (ltb x 34359738368)))
+
+unfoldable pub fitsCore : ℕ → ℕ → Bool
+fitsCore i x =
+    cond (eqb i 0) (ltb x 4294967296)
+    (cond (ltb i 4) (ltb x 256) (fitsTransaction ((i - 4) % 24) x))
+
+-- in cell i
+unfoldable pub fitsAt : ℕ → ℕ → Bool
+fitsAt i x =
+    cond (ltb i 16) (fitsHeader i x)
+    (cond (ltb i 32) (cond (eqb (i % 2) 0) (ltb x 4294967296) (ltb x 256))
+    (cond (ltb i 96) (leb x 34359738368) (fitsCore ((i - 96) % 52) x)))
+
+unfoldable pub Fits : List ℕ → Type 0
+Fits w = (i : ℕ) → i < 512 → fitsAt i (getD w i 0) ≡ true
+
+-- the place of a transaction: that of a core's running one, or of its closed one
+abbrev pub IsPlace : ℕ → Type 0
+IsPlace a = (96 ≤ a) × (a + 24 ≤ 512) × ((a - 96) % 52 % 24 ≡ 4)
+
+-- ---- a change of some cells
+-- w is v but for the n cells from a on, and what is put there fits
+pub record Frame (v w : List ℕ) (a n : ℕ) : Type 0 where
+  pub size : length w ≡ length v
+  pub low : (i : ℕ) → i < a → getD w i 0 ≡ getD v i 0
+  pub high : (i : ℕ) → a + n ≤ i → getD w i 0 ≡ getD v i 0
+  pub kept : Fits v → Fits w
+
+-- the transaction, or one that opens
+unfoldable pub openedOr : Transaction → Transaction
+openedOr t = cond (t .live) t opened
+
+-- a core with these numbers, and with this closed transaction
+abbrev pub withNumbers : Core → ℕ → ℕ → ℕ → ℕ → Core
+withNumbers k next used stored homed =
+    record { next = next; used = used; stored = stored; homed = homed; running = k .running; closed = k .closed }
+
+abbrev pub withClosed : Core → Transaction → Core
+withClosed k t = record { next = k .next; used = k .used; stored = k .stored; homed = k .homed; running = k .running; closed = t }
+
+-- a card with this count of closes
+abbrev pub withCloses : Card → ℕ → Card
+withCloses x n =
+    record { phase = x .phase; shape = x .shape; closes = n; recovered = x .recovered; tails = x .tails; cores = x .cores; holders = x .holders }
+
+-- the card with core c's tail replaced
+abbrev pub withTail : Card → ℕ → Tail → Card
+withTail x c t = withLists x (set (x .tails) c t) (x .cores) (x .holders)
+
+-- the card up, with this shape
+abbrev pub upWith : Card → Shape → Card
+upWith x s =
+    record { phase = Up; shape = s; closes = x .closes; recovered = x .recovered; tails = x .tails; cores = x .cores; holders = x .holders }

@@ -1,0 +1,10 @@
+-- `checkpoint::checkpoint_oldest` meets its contract: refused, or the next store.
+use Rattle.checkpoint.proofs.OldestLaws.{oldest-was-read, number-low, oldest-core, oldest-refused, oldest-done}
+use borrow.Author.Needs.{needs}
+use Rattle.checkpoint.proofs.checkpoint_oldest.Statement.{statement}
+use Rattle.checkpoint.proofs.checkpoint_oldest.Tie as tie
+
+pub checkpoint-oldest-spec : {M : Type 1} → statement M
+checkpoint-oldest-spec =
+    tie.close
+    (tie.spec (λ c κs. search needs) (λ c. search needs) (λ c. search needs) (λ c. search (needs, oldest-refused)) (λ c κs. search (needs, oldest-was-read, oldest-core, number-low)) (λ c. search needs) (λ c. search needs) (λ c. search (needs, oldest-done)))

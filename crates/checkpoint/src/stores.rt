@@ -1,0 +1,89 @@
+// The next store of a checkpoint: a block home, or the master.
+ghost use mathlib.Core.Path.{_≡_};
+ghost use Prim.Native.Nat.{_≤_, _<_};
+ghost use lib.ListN.{length, getD};
+ghost use Rattle.model.specs.Bytes.{store};
+ghost use Rattle.model.specs.Shape.{homeBlock};
+ghost use Rattle.model.specs.Card.{shapeOf, coreOf, withCore};
+ghost use Rattle.model.specs.Layout.{maxNumber};
+ghost use Rattle.model.specs.Journal.{blocksOf, imageOf};
+ghost use Rattle.model.specs.Checkpoint.{homedCore, storedHome, storedMaster};
+ghost use Rattle.cells.specs.Cells.{cardIn, corePlace};
+ghost use Rattle.cells.specs.Changes.{Frame};
+ghost use Rattle.checkpoint.specs.Oldest.{IsRead, nextStore, Stores};
+use crate::retired::moved_tail;
+use crate::retired::retire;
+use crate::shared::block_at;
+use cells::HOMED;
+use cells::STORED;
+use cells::USED;
+use cells::byte_in;
+use cells::core_place;
+use cells::number_in;
+use cells::put_numbers;
+use cells::shape_of;
+use cells::tails_of;
+use model::Committed;
+use model::Shape;
+
+// The i-th block of a transaction stored home, with its image out of the journal.
+fn put_home(s: Shape, e: Committed, i: usize, disk: &mut [u8])
+    requires { ⌜ IsRead s (now disk) e × (i < e .count) ⌝ }
+    ensures { λ _. ⌜ now (disk .exit)
+        ≡ store (now (disk .entry)) (homeBlock (getD (blocksOf s (now (disk .entry)) e) i 0)) (imageOf s (now (disk .entry)) e i) ⌝ }
+{
+    let b = block_at(s, disk, e, i) as usize;
+    let at = journal::image_at(s, disk, e, i);
+    let image = layout::load_block(disk, at.block);
+    layout::store_home(s, b, layout::unescape(at.flag, image), disk);
+}
+
+// Core c after one more home store.
+fn count_home(w: &mut [u64], c: u8, homed: u8)
+    requires { ⌜ (length (now w) ≡ 512) × (c < 8) × (homed < 255) × (homed ≡ (coreOf (cardIn (now w)) c) .homed) ⌝ }
+    ensures { λ _. ⌜ (cardIn (now (w .exit)) ≡ withCore (cardIn (now (w .entry))) c (homedCore (coreOf (cardIn (now (w .entry))) c)))
+        × Frame (now (w .entry)) (now (w .exit)) (corePlace c) 4 ⌝ }
+{
+    let at = core_place(c);
+    let next = number_in(w, at);
+    let used = byte_in(w, at + USED);
+    let stored = byte_in(w, at + STORED);
+    put_numbers(w, c, next, used, stored, homed + 1);
+}
+
+// A home store: the image of the next block of the transaction.
+fn stored_home(w: &mut [u64], c: u8, homed: u8, e: Committed, disk: &mut [u8])
+    requires { ⌜ (length (now w) ≡ 512) × (c < 8) × IsRead (shapeOf (cardIn (now w))) (now disk) e
+        × (homed ≡ (coreOf (cardIn (now w)) c) .homed) × (homed < e .count) ⌝ }
+    ensures { λ _. ⌜ Stores (storedHome c e) (now (w .entry)) (now (w .exit)) (now (disk .entry)) (now (disk .exit)) ⌝ }
+{
+    let s = shape_of(w);
+    put_home(s, e, homed as usize, disk);
+    count_home(w, c, homed);
+}
+
+// The last store of a checkpoint: the master with the tail moved past the transaction.
+fn stored_master(w: &mut [u64], c: u8, e: Committed, disk: &mut [u8])
+    requires { ⌜ (length (now w) ≡ 512) × (length (now disk) ≡ 32896) × (c < 8) × (e .number ≤ maxNumber) ⌝ }
+    ensures { λ _. ⌜ Stores (storedMaster c e) (now (w .entry)) (now (w .exit)) (now (disk .entry)) (now (disk .exit)) ⌝ }
+{
+    let s = shape_of(w);
+    let t = moved_tail(s, e);
+    let mut tails = tails_of(w);
+    tails[c as usize] = t;
+    layout::store_master(s, tails, disk);
+    retire(w, c, t, e);
+}
+
+// The next store of the checkpoint of core c's oldest transaction.
+pub fn next_store(w: &mut [u64], c: u8, e: Committed, disk: &mut [u8])
+    requires { ⌜ (length (now w) ≡ 512) × (c < 8) × IsRead (shapeOf (cardIn (now w))) (now disk) e × (e .number ≤ maxNumber) ⌝ }
+    ensures { λ _. ⌜ Stores (nextStore c e) (now (w .entry)) (now (w .exit)) (now (disk .entry)) (now (disk .exit)) ⌝ }
+{
+    let homed = byte_in(w, core_place(c) + HOMED);
+    if homed < e.count {
+        stored_home(w, c, homed, e, disk);
+        return;
+    }
+    stored_master(w, c, e, disk);
+}

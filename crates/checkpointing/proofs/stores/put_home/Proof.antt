@@ -1,9 +1,0 @@
--- `checkpointing::stores::put_home` meets its contract.
-use Rattle.checkpointing.proofs.SharedLaws.{is-sized}
-use Rattle.checkpointing.proofs.StoreLaws.{home-put}
-use borrow.Author.Needs.{needs}
-use Rattle.checkpointing.proofs.stores.put_home.Statement.{statement}
-use Rattle.checkpointing.proofs.stores.put_home.Tie as tie
-
-pub put-home-spec : {M : Type 1} → statement M
-put-home-spec = tie.close (tie.spec (λ c κs. search needs) (λ c. search needs) (λ c κs. search (needs, is-sized)) (λ c κs. search needs) (λ c κs. search needs) (λ c κs. search needs) (λ c. search needs) (λ c. search (needs, home-put)))

@@ -1,0 +1,115 @@
+-- The journals of a disk: the tails after recovery, the valid set and the newest images from slots.
+use Prim.Native.Nat.{ℕ, suc, _+_, _*_, _≤_, _<_, min}
+use native.Mathlib.Omega.{arith}
+use mathlib.Core.Path.{_≡_, ap, _∙_, subst}
+use mathlib.Core.List.{List, [], map}
+use lib.ListN.{length, getD, take, replicate, getD-replicate}
+use lib.Dec.{ltb}
+use borrow.Author.Tests.{lt-ltb, le-ltb, ltb-true}
+use Rattle.model.specs.Lists.{below}
+use Rattle.model.specs.Bytes.{Bytes, part, blockAt}
+use Rattle.model.specs.Card.{newTail}
+use Rattle.model.specs.Layout.{maxNumber, shapeIn, tailIn, unescaped}
+use Rattle.model.specs.Journal.{journal}
+use Rattle.model.specs.Valid.{validSet, newest}
+use Rattle.model.specs.Recovery.{shapeOn, tailOn, committedOn, validOn, blocksLeft, newestImage, tailPast, emptiedTail}
+use Rattle.model.specs.declared.Card.{Card}
+use Rattle.model.specs.declared.Tail.{Tail}
+use Rattle.model.specs.declared.Shape.{Shape}
+use Rattle.model.specs.declared.Found.the-variants.{Miss}
+use Rattle.model.proofs.Lists.{cases, map-below, getD-map-below}
+use Rattle.model.proofs.Limits.{InRange}
+use Rattle.layout.specs.Tails.{tailOrNone}
+use Rattle.journal.specs.declared.newest.Image.{Image}
+use Rattle.journal.specs.Slots.{numbersOf, numbered, entries, filledFrom}
+use Rattle.journal.specs.Walk.{Reads}
+use Rattle.journal.specs.Newest.{foundImage, firstOr, heldFrom}
+use Rattle.journal.proofs.Model.{found-bytes, image-numbers, held-numbers, read-count}
+use Rattle.journal.proofs.Commands.{core-journal, slots-valid}
+use Rattle.cells.specs.Answer.{world}
+use Rattle.recovery.specs.Recovering.{numbersOn, tailAfter, Shaped, OnDisk, IsValid}
+
+-- ---- tails
+module _ (t : Tail) (n : ℕ) where
+  pub next-below : t .number + (n + 1) < 4000000001 → newTail (t .number + (n + 1)) 0 ≡ tailPast t n
+  next-below h = let q : min (t .number + (n + 1)) (suc maxNumber) ≡ t .number + (n + 1) = omega arith in rw q
+
+  pub next-last : 4000000001 ≤ t .number + (n + 1) → newTail 4000000001 0 ≡ tailPast t n
+  next-last h = let q : min (t .number + (n + 1)) (suc maxNumber) ≡ 4000000001 = omega arith in rw q
+
+module _ (s : Shape) (ts : List Tail) (set : List ℕ) (c : ℕ) where
+  pub after-none : s .cores ≤ c → newTail 0 0 ≡ tailAfter s ts set c
+  unfolding tailAfter
+  after-none h = rw (le-ltb c (s .cores) h)
+
+  pub after-some : c < s .cores → (n : ℕ) → n ≡ filledFrom s set (12 * c) 12
+      → (r : Tail) → r ≡ tailPast (getD ts c (newTail 0 0)) n → r ≡ tailAfter s ts set c
+  unfolding tailAfter
+  after-some h n q r z = z ∙ rw (lt-ltb c (s .cores) h, ← q)
+
+-- the tails of a master, and the slots read from them, are those of the disk
+module _ (d : Bytes) (s : Shape) (z : s ≡ shapeOn d) (l : InRange s) (ts : List Tail) (e : ts ≡ map (tailOrNone (take 128 d)) (below 8)) where
+  disk-tail : (c : ℕ) → c < s .cores → getD ts c (newTail 0 0) ≡ tailOn d c
+  unfolding tailOn tailOrNone blockAt part shapeOn
+  disk-tail c h =
+      let g : c < (shapeIn (take 128 d)) .cores = subst (λ (x : Shape). c < x .cores) z h in
+      let k : tailOrNone (take 128 d) c ≡ tailIn (take 128 d) c = rw (lt-ltb c ((shapeIn (take 128 d)) .cores) g) in
+      ap (λ (l : List Tail). getD l c (newTail 0 0)) e ∙ getD-map-below (tailOrNone (take 128 d)) 8 c (newTail 0 0) (omega (arith, l .few-cores)) ∙ k
+
+  whole-read : (c : ℕ) → c < s .cores → journal s d c (tailOn d c) (getD (replicate 8 (s .journal)) c 0) ≡ journal s d c (tailOn d c) (s .journal)
+  whole-read c h = rw (getD-replicate 8 c (s .journal) 0 (omega (arith, l .few-cores)))
+
+  module _ (set : List ℕ) (r : Reads s d ts (replicate 8 (s .journal)) set) where
+    -- they give the tails that recovery stores
+    tail-emptied : (c : ℕ) → c < 8 → tailAfter s ts set c ≡ emptiedTail d c
+    unfolding tailAfter emptiedTail
+    tail-emptied c h =
+        rw (← z)
+        (cases (ltb c (s .cores))
+        (λ t.
+        let g : c < s .cores = ltb-true c (s .cores) t in
+        let f : filledFrom s set (12 * c) 12 ≡ length (journal s d c (tailOn d c) (s .journal)) =
+        read-count l d ts (replicate 8 (s .journal)) set r c g
+        ∙ ap length (core-journal l d ts (replicate 8 (s .journal)) set r (tailOn d) (λ (c : ℕ). s .journal) disk-tail whole-read c g) in
+        rw (t, disk-tail c g, f))
+        (λ t. rw t))
+
+    tails-emptied : (out : List Tail) → out ≡ map (tailAfter s ts set) (below 8) → out ≡ map (emptiedTail d) (below 8)
+    tails-emptied out q = q ∙ map-below _ _ 8 tail-emptied
+
+    -- and of them the valid set
+    valid-read : (v : List ℕ) → entries s d (numbersOf ts) v ≡ validSet s d (numbered (numbersOf ts)) (entries s d (numbersOf ts) set) → entries s d (numbersOn d) v ≡ validOn d
+    unfolding numbersOn validOn committedOn blockAt part
+    valid-read v q =
+        let k : numbersOf ts ≡ numbersOf (map (tailOrNone (take 128 d)) (below 8)) = ap numbersOf e in
+        rw (← k, ← z) (slots-valid l d ts (replicate 8 (s .journal)) set r (tailOn d) (λ (c : ℕ). s .journal) disk-tail whole-read v q)
+
+pub all-read : (s : Shape) (d : Bytes) (ts : List Tail) → ts ≡ map (tailOrNone (take 128 d)) (below 8)
+    → (set : List ℕ) → Reads s d ts (replicate 8 (s .journal)) set → OnDisk s d ts set
+unfolding blockAt part
+all-read s d ts e set r = record { tails = e; slots = r }
+
+master-tails-read : (d : Bytes) (s : Shape) (ts : List Tail) (set : List ℕ) → OnDisk s d ts set → ts ≡ map (tailOrNone (take 128 d)) (below 8)
+unfolding blockAt part
+master-tails-read d s ts set r = r .tails
+
+module _ (d : Bytes) (s : Shape) (g : Shaped s d) (ts : List Tail) (set : List ℕ) (r : OnDisk s d ts set) where
+  pub tails-after : (after : List Tail) → after ≡ map (tailAfter s ts set) (below 8) → after ≡ map (emptiedTail d) (below 8)
+  tails-after after q = tails-emptied d s (g .shape) (g .range) ts (master-tails-read d s ts set r) set (r .slots) after q
+
+  pub all-valid : (v : List ℕ) → entries s d (numbersOf ts) v ≡ validSet s d (numbered (numbersOf ts)) (entries s d (numbersOf ts) set) → IsValid s d v
+  all-valid v q = record { valid = valid-read d s (g .shape) (g .range) ts (master-tails-read d s ts set r) set (r .slots) v q }
+
+-- ---- images
+module _ (d : Bytes) (s : Shape) (g : Shaped s d) (set : List ℕ) (v : IsValid s d set) where
+  pub newest-bytes : (b : ℕ) (at : Image) → at ≡ foundImage s d b (newest s d b Miss (entries s d [] set))
+      → (i : Bytes) → i ≡ blockAt d (at .block) → (r : Bytes) → r ≡ unescaped (at .flag) i → r ≡ newestImage d b
+  unfolding newestImage
+  newest-bytes b at q i p r h =
+      let f : at ≡ foundImage (shapeOn d) d b (newest (shapeOn d) d b Miss (validOn d)) = q ∙ image-numbers s d set [] (numbersOn d) b ∙ rw (v .valid, g .shape) in
+      h ∙ rw (p, f) (found-bytes d b (newest (shapeOn d) d b Miss (validOn d)))
+
+  -- the lowest block that the valid set holds from a place on
+  pub left-first : (x : Card) (m : Bytes) (b : ℕ) → b ≡ heldFrom s d (entries s d [] set) (x .recovered) → b ≡ firstOr (s .blocks) (blocksLeft (world x d m))
+  unfolding heldFrom blocksLeft
+  left-first x m b q = q ∙ held-numbers s d set [] (numbersOn d) (x .recovered) ∙ rw (v .valid, g .shape)

@@ -1,0 +1,8 @@
+-- `recovery::restoring::recovered` meets its contract: the lowest block left, or with none the master.
+use borrow.Author.Needs.{needs}
+use Rattle.recovery.proofs.RecoverLaws.{recovered-home, recovered-up}
+use Rattle.recovery.proofs.restoring.recovered.Statement.{statement}
+use Rattle.recovery.proofs.restoring.recovered.Tie as tie
+
+pub recovered-spec : {M : Type 1} → statement M
+recovered-spec = tie.close (tie.spec (λ c κs. search needs) (λ c κs. search needs) (λ c κs. search needs) (λ c κs. search needs) (λ c κs. search needs) (λ c κs. search needs) (λ c. search needs) (λ c. search needs) (λ c. search (needs, recovered-home)) (λ c κs. search needs) (λ c. search needs) (λ c. search needs) (λ c. search (needs, recovered-up)))

@@ -1,0 +1,51 @@
+-- RECOVER over slots: the tail numbers of a disk, a core's tail after recovery, and what one store of recovery leaves.
+use Prim.Native.Nat.{ℕ, _*_}
+use mathlib.Core.Path.{_≡_}
+use mathlib.Core.List.{List, map}
+use mathlib.Core.Bool.{true, cond}
+use lib.ListN.{length, getD, replicate}
+use lib.Dec.{ltb}
+use Rattle.model.specs.Lists.{below}
+use Rattle.model.specs.Bytes.{Bytes, blockAt}
+use Rattle.model.specs.Card.{newTail}
+use Rattle.model.specs.Layout.{isMaster}
+use Rattle.model.specs.Command.{World, Outcome}
+use Rattle.model.specs.Recovery.{shapeOn, validOn, tailPast}
+use Rattle.model.specs.declared.Shape.{Shape}
+use Rattle.model.specs.declared.Tail.{Tail}
+use Rattle.model.proofs.Limits.{InRange}
+use Rattle.layout.specs.Tails.{tailOrNone}
+use Rattle.journal.specs.Slots.{numbersOf, entries, filledFrom}
+use Rattle.journal.specs.Walk.{Reads}
+use Rattle.cells.specs.Changes.{Frame}
+use Rattle.cells.specs.Answer.{worldIn, outcomeIn, newAnswer}
+
+-- the tail numbers of a disk's master
+unfoldable pub numbersOn : Bytes → List ℕ
+numbersOn d = numbersOf (map (tailOrNone (blockAt d 0)) (below 8))
+
+-- two above the last committed number read, with none one above the old tail; the slots hold all journals, read whole
+unfoldable pub tailAfter : Shape → List Tail → List ℕ → ℕ → Tail
+tailAfter s ts set c =
+    cond (ltb c (s .cores)) (tailPast (getD ts c (newTail 0 0)) (filledFrom s set (12 * c) 12)) (newTail 0 0)
+
+-- a disk of its length, with a master that gives this shape
+pub record Shaped (s : Shape) (d : Bytes) : Type 0 where
+  pub long : length d ≡ 32896
+  pub master : isMaster (blockAt d 0) ≡ true
+  pub shape : s ≡ shapeOn d
+  pub range : InRange s
+
+-- the tails of a disk's master, and all its journals read whole
+pub record OnDisk (s : Shape) (d : Bytes) (ts : List Tail) (set : List ℕ) : Type 0 where
+  pub tails : ts ≡ map (tailOrNone (blockAt d 0)) (below 8)
+  pub slots : Reads s d ts (replicate 8 (s .journal)) set
+
+-- slots that are the valid set of a disk
+pub record IsValid (s : Shape) (d : Bytes) (set : List ℕ) : Type 0 where
+  pub valid : entries s d (numbersOn d) set ≡ validOn d
+
+-- One store of recovery, over the cells v and the disk d: it left w and e. With any memory that is the outcome given.
+pub record Stores (f : World → Outcome) (v w : List ℕ) (d e : Bytes) : Type 0 where
+  pub outcome : (m : Bytes) → outcomeIn (newAnswer 0 1) w e m ≡ f (worldIn v d m)
+  pub frame : Frame v w 0 512

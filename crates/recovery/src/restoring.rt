@@ -1,0 +1,103 @@
+// RECOVER: one store of recovery. A block held in the valid set gets its newest image, from the lowest block to the
+// highest; then one master store empties all journals, and the card is up.
+ghost use mathlib.Core.Path.{_≡_};
+ghost use mathlib.Core.Bool.{true};
+ghost use mathlib.Core.List.{List, [], _∷_};
+ghost use Prim.Native.Nat.{ℕ, _<_};
+ghost use lib.ListN.{length};
+ghost use Rattle.model.specs.Bytes.{blockAt};
+ghost use Rattle.model.specs.Layout.{isMaster};
+ghost use Rattle.model.specs.Command.{refusal};
+ghost use Rattle.model.specs.Recovery.{recoverConditions, recoverStep, recovered, recover};
+ghost use Rattle.cells.specs.Answer.{worldIn, Meets};
+ghost use Rattle.recovery.specs.Recovering.{Shaped, OnDisk, IsValid, Stores};
+use crate::journals::Journals;
+use crate::journals::emptied_tails;
+use crate::journals::newest_block;
+use crate::journals::read_disk;
+use crate::journals::valid_set;
+use crate::master::disk_shape;
+use crate::master::master_refusal;
+use cells::Answer;
+use cells::RECOVERED;
+use cells::byte_in;
+use cells::come_up;
+use cells::phase_refusal;
+use layout::store_home;
+use layout::store_master;
+use model::Shape;
+
+// The first block is looked at once the slices have their lengths and the card is down.
+fn recover_refusal(w: &[u64], disk: &[u8], memory: &[u8]) -> u8
+    requires { ⌜ length (now w) ≡ 512 ⌝ }
+    ensures { λ r. ⌜ r ≡ refusal (recoverConditions (worldIn (now (w .entry)) (now (disk .entry)) (now (memory .entry)))) ⌝ }
+{
+    let n = phase_refusal(w, disk, memory, 20, 23, 0);
+    if n != 0 {
+        return n;
+    }
+    master_refusal(disk)
+}
+
+// The last store of recovery: one master with all journals empty. The card is up.
+fn bring_up(w: &mut [u64], s: Shape, all: Journals, disk: &mut [u8])
+    requires { ⌜ (length (now w) ≡ 512) × Shaped s (now disk) × OnDisk s (now disk) (all .tails) (all .committed) ⌝ }
+    ensures { λ _. ⌜ Stores (recoverStep []) (now (w .entry)) (now (w .exit)) (now (disk .entry)) (now (disk .exit)) ⌝ }
+{
+    let before = all.tails;
+    let committed = all.committed;
+    let tails = emptied_tails(s, before, &committed);
+    store_master(s, tails, disk);
+    come_up(w, s, tails);
+}
+
+// A home store of recovery, of the lowest block left; recovery has then passed it.
+fn restore_block(w: &mut [u64], s: Shape, disk: &mut [u8], valid: &[u16; 96], b: u8)
+    requires { ⌜ (length (now w) ≡ 512) × Shaped s (now disk) × IsValid s (now disk) (now valid) × (b < s .blocks) ⌝ }
+    ensures { λ _. ⌜
+        ((bs : List ℕ) → Stores (recoverStep (b ∷ bs)) (now (w .entry)) (now (w .exit)) (now (disk .entry)) (now (disk .exit)))
+        ⌝ }
+{
+    let image = newest_block(s, disk, valid, b);
+    store_home(s, b as usize, image, disk);
+    w[RECOVERED] = b as u64 + 1;
+}
+
+// The next store of recovery over a disk whose first block is a master.
+fn recovered(w: &mut [u64], disk: &mut [u8])
+    requires { ⌜ (length (now w) ≡ 512) × (length (now disk) ≡ 32896) × (isMaster (blockAt (now disk) 0) ≡ true) ⌝ }
+    ensures { λ _. ⌜ Stores recovered (now (w .entry)) (now (w .exit)) (now (disk .entry)) (now (disk .exit)) ⌝ }
+{
+    let s = disk_shape(disk);
+    let all = read_disk(s, disk);
+    let valid = valid_set(s, disk, all);
+    let from = byte_in(w, RECOVERED);
+    let b = journal::next_held(s, disk, &valid, from);
+    if b < s.blocks {
+        restore_block(w, s, disk, &valid, b);
+        return;
+    }
+    bring_up(w, s, all, disk);
+}
+
+// RECOVER. Memory takes no part: only its length is asked for.
+pub fn recover(w: &mut [u64], disk: &mut [u8], memory: &[u8]) -> Answer
+    requires { ⌜ length (now w) ≡ 512 ⌝ }
+    ensures { λ r. ⌜
+        Meets (recover (worldIn (now (w .entry)) (now (disk .entry)) (now (memory .entry))))
+        (now (w .entry)) (now (w .exit)) (now (disk .exit)) (now (memory .entry)) r
+        ⌝ }
+{
+    let n = recover_refusal(w, disk, memory);
+    if n != 0 {
+        return Answer {
+            number: n,
+            stores: 0,
+        };
+    }
+    recovered(w, disk);
+    Answer {
+        number: 0,
+        stores: 1,
+    }
+}

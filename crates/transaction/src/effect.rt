@@ -1,0 +1,98 @@
+// The cells afterwards: the holder's list, the writer, the block's holder.
+ghost use mathlib.Core.Path.{_≡_};
+ghost use mathlib.Core.Bool.{false};
+ghost use Prim.Native.Nat.{_<_};
+ghost use lib.ListN.{length};
+ghost use Rattle.model.specs.Card.{withRunning, withCore, coreOf};
+ghost use Rattle.model.specs.Write.{writer, writtenCard};
+ghost use Rattle.cells.specs.Cells.{transactionIn, cardIn};
+ghost use Rattle.cells.specs.Changes.{IsPlace, Frame};
+ghost use Rattle.transaction.specs.Writing.{foundAt, Bounded, Room, ownFull, backFull, ninth, namedBack, namedBy, takenBy, afterBy, heldBy};
+use crate::Found;
+use crate::rules::is_named_back;
+use crate::rules::names_holder;
+use crate::rules::takes_block;
+use cells::add_block;
+use cells::add_name;
+use cells::hold;
+use cells::open_at;
+use cells::running_place;
+use model::Name;
+use model::Rule;
+
+// The holder's list, naming the writer where the rule asks for it.
+fn name_back(w: &mut [u64], f: Found)
+    requires { ⌜ (length (now w) ≡ 512) × Bounded f
+        × (backFull (f .rule) ((coreOf (cardIn (now w)) (f .holder .core)) .running) (f .own) ≡ false) ⌝ }
+    ensures { λ _. ⌜ (cardIn (now (w .exit)) ≡ namedBack (f .rule) (cardIn (now (w .entry))) (f .holder .core) (f .own))
+        × Frame (now (w .entry)) (now (w .exit)) 0 512 ⌝ }
+{
+    let rule = f.rule;
+    if !is_named_back(rule) {
+        return;
+    }
+    add_name(w, running_place(f.holder.core), f.own);
+}
+
+// The list of the transaction at a place, naming the holder where the rule asks for it.
+fn name_own(w: &mut [u64], at: usize, rule: Rule, n: Name)
+    requires { ⌜ (length (now w) ≡ 512) × IsPlace at × (n .core < 8) × (ownFull rule (transactionIn (now w) at) n ≡ false) ⌝ }
+    ensures { λ _. ⌜ (transactionIn (now (w .exit)) at ≡ namedBy rule (transactionIn (now (w .entry)) at) n)
+        × Frame (now (w .entry)) (now (w .exit)) at 24 ⌝ }
+{
+    if !names_holder(rule) {
+        return;
+    }
+    add_name(w, at, n);
+}
+
+// Its blocks, the block taken where the rule asks for it.
+fn block_own(w: &mut [u64], at: usize, rule: Rule, b: u8)
+    requires { ⌜ (length (now w) ≡ 512) × IsPlace at × (ninth rule (transactionIn (now w) at) ≡ false) ⌝ }
+    ensures { λ _. ⌜ (transactionIn (now (w .exit)) at ≡ takenBy rule (transactionIn (now (w .entry)) at) b)
+        × Frame (now (w .entry)) (now (w .exit)) at 24 ⌝ }
+{
+    if !takes_block(rule) {
+        return;
+    }
+    add_block(w, at, b);
+}
+
+// The writer, opened if its core has none: its list and its blocks.
+fn write_own(w: &mut [u64], f: Found)
+    requires { ⌜ (length (now w) ≡ 512) × Bounded f
+        × (ownFull (f .rule) (writer (cardIn (now w)) (f .core)) (f .holder) ≡ false)
+        × (ninth (f .rule) (writer (cardIn (now w)) (f .core)) ≡ false) ⌝ }
+    ensures { λ _. ⌜ (cardIn (now (w .exit)) ≡ withCore (cardIn (now (w .entry))) (f .core) (withRunning (coreOf (cardIn (now (w .entry))) (f .core)) (afterBy (cardIn (now (w .entry))) f)))
+        × Frame (now (w .entry)) (now (w .exit)) 0 512 ⌝ }
+{
+    let rule = f.rule;
+    let at = running_place(f.core);
+    open_at(w, at);
+    name_own(w, at, rule, f.holder);
+    block_own(w, at, rule, f.block);
+}
+
+// The block's holder: the writer where it takes the block.
+fn take_hold(w: &mut [u64], f: Found)
+    requires { ⌜ (length (now w) ≡ 512) × Bounded f ⌝ }
+    ensures { λ _. ⌜ (cardIn (now (w .exit)) ≡ heldBy (f .rule) (cardIn (now (w .entry))) (f .block) (f .own))
+        × Frame (now (w .entry)) (now (w .exit)) 0 512 ⌝ }
+{
+    let rule = f.rule;
+    if !takes_block(rule) {
+        return;
+    }
+    hold(w, f.block, f.own);
+}
+
+// All three.
+pub fn write_state(w: &mut [u64], f: Found)
+    requires { ⌜ (length (now w) ≡ 512) × Bounded f × (f ≡ foundAt (cardIn (now w)) (f .core) (f .block)) × Room (cardIn (now w)) f ⌝ }
+    ensures { λ _. ⌜ (cardIn (now (w .exit)) ≡ writtenCard (cardIn (now (w .entry))) (f .core) (f .block))
+        × Frame (now (w .entry)) (now (w .exit)) 0 512 ⌝ }
+{
+    name_back(w, f);
+    write_own(w, f);
+    take_hold(w, f);
+}

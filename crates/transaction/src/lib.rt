@@ -1,0 +1,111 @@
+// WRITE: four bytes replaced in a block's memory image, which is loaded from home where the block had no holder. What it meets
+// is found once and handed on.
+mod rules; // which rule it meets
+mod room; // whether there is room
+mod effect; // the cells afterwards
+mod image; // memory afterwards
+
+ghost use mathlib.Core.Path.{_≡_};
+ghost use Prim.Native.Nat.{_<_};
+ghost use lib.ListN.{length};
+ghost use Rattle.model.specs.Command.{refusal};
+ghost use Rattle.model.specs.Write.{write};
+ghost use Rattle.cells.specs.Answer.{worldIn, Meets};
+ghost use Rattle.cells.specs.Cells.{cardIn};
+ghost use Rattle.transaction.specs.Writing.{firstConditions, Passed};
+use crate::effect::write_state;
+use crate::image::write_memory;
+use crate::room::room_refusal;
+use crate::rules::find;
+use cells::Answer;
+use cells::block_refusal;
+use cells::entry_refusal;
+use cells::shape_of;
+use model::Name;
+use model::Rule;
+
+// A WRITE as its core, its block and what it meets there: the rule, the name of the block's holder, the writer's own name.
+struct Found {
+    core: u8,
+    block: u8,
+    rule: Rule,
+    holder: Name,
+    own: Name,
+}
+
+// What a WRITE meets before its rule.
+fn first_refusal(w: &[u64], c: u8, b: u16, o: u8, disk: &[u8], memory: &[u8]) -> u8
+    requires { ⌜ length (now w) ≡ 512 ⌝ }
+    ensures { λ r. ⌜ r ≡ refusal (firstConditions c b o (worldIn (now (w .entry)) (now (disk .entry)) (now (memory .entry)))) ⌝ }
+{
+    let n = entry_refusal(w, c, disk, memory);
+    if n != 0 {
+        return n;
+    }
+    let n = block_refusal(w, b);
+    if n != 0 {
+        return n;
+    }
+    if 124 < o {
+        return 7;
+    }
+    0
+}
+
+// A WRITE that has passed them: refused for want of room, or done.
+fn write_ruled(
+    w: &mut [u64],
+    c: u8,
+    b: u8,
+    o: u8,
+    bytes: [u8; 4],
+    disk: &[u8],
+    memory: &mut [u8],
+) -> Answer
+    requires { ⌜ (length (now w) ≡ 512) × Passed (cardIn (now w)) c b o (now disk) (now memory) ⌝ }
+    ensures { λ r. ⌜
+        Meets (write c b o bytes (worldIn (now (w .entry)) (now (disk .entry)) (now (memory .entry))))
+        (now (w .entry)) (now (w .exit)) (now (disk .entry)) (now (memory .exit)) r ⌝ }
+{
+    let s = shape_of(w);
+    let f = find(w, c, b);
+    let n = room_refusal(w, s, f);
+    if n != 0 {
+        return Answer {
+            number: n,
+            stores: 0,
+        };
+    }
+    let rule = f.rule;
+    write_memory(s, rule, b, o, bytes, disk, memory);
+    write_state(w, f);
+    Answer {
+        number: 0,
+        stores: 0,
+    }
+}
+
+// WRITE.
+pub fn write(
+    w: &mut [u64],
+    core: u8,
+    block: u16,
+    offset: u8,
+    bytes: [u8; 4],
+    disk: &[u8],
+    memory: &mut [u8],
+) -> Answer
+    requires { ⌜ length (now w) ≡ 512 ⌝ }
+    ensures { λ r. ⌜
+        Meets (write core block offset bytes (worldIn (now (w .entry)) (now (disk .entry)) (now (memory .entry))))
+        (now (w .entry)) (now (w .exit)) (now (disk .entry)) (now (memory .exit)) r ⌝ }
+{
+    let n = first_refusal(w, core, block, offset, disk, memory);
+    if n != 0 {
+        return Answer {
+            number: n,
+            stores: 0,
+        };
+    }
+    write_ruled(w, core, block as u8, offset, bytes, disk, memory)
+}

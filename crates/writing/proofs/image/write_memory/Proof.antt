@@ -1,8 +1,0 @@
--- `writing::image::write_memory` meets its contract.
-use Rattle.writing.proofs.CommandLaws.{bytes-put}
-use borrow.Author.Needs.{needs}
-use Rattle.writing.proofs.image.write_memory.Statement.{statement}
-use Rattle.writing.proofs.image.write_memory.Tie as tie
-
-pub write-memory-spec : {M : Type 1} → statement M
-write-memory-spec = tie.close (tie.spec (λ c κs. search needs) (λ c. search needs) (λ c. search needs) (λ c κs. search needs) (λ c. search needs) (λ c. search (needs, bytes-put)))

@@ -1,8 +1,0 @@
--- `writing::rules::find` meets its contract.
-use Rattle.writing.proofs.RuleLaws.{found}
-use borrow.Author.Needs.{needs}
-use Rattle.writing.proofs.rules.find.Statement.{statement}
-use Rattle.writing.proofs.rules.find.Tie as tie
-
-pub find-spec : {M : Type 1} → statement M
-find-spec = tie.close (tie.spec (λ c κs. search needs) (λ c κs. search needs) (λ c κs. search needs) (λ c. (search (needs, found), search needs)))

@@ -1,8 +1,0 @@
--- `writing::rules::has_running` meets its contract.
-use Rattle.writing.proofs.RuleLaws.{live-at}
-use borrow.Author.Needs.{needs}
-use Rattle.writing.proofs.rules.has_running.Statement.{statement}
-use Rattle.writing.proofs.rules.has_running.Tie as tie
-
-pub has-running-spec : {M : Type 1} → statement M
-has-running-spec = tie.close (tie.spec (λ c κs. search needs) (λ c κs. search needs) (λ c. search (needs, live-at)))
