@@ -1,7 +1,7 @@
-// The types of the revision D card, shared by definitions and code: the disk's shape, tails, transactions, the card itself.
+// The types of the revision D card: the disk's shape, tails, names, holders and records, shared by definitions and code; transactions,
+// cores and the card itself, of the definitions alone.
 ghost use mathlib.Core.Path.{_≡_};
 ghost use Rattle.model.specs.Shape.{checked, nearest, clamped, homeBlock, journalBlock};
-ghost use Rattle.model.specs.Card.{noTransaction, freshCore, emptyCard, blankCard, downCard};
 
 // Blank until FORMAT; up while it takes writes; down from a cut until recovery is done.
 pub enum Phase {
@@ -11,7 +11,6 @@ pub enum Phase {
 }
 
 // The disk's shape: C cores, B home blocks, J journal blocks for each core.
-#[repr(C)]
 pub struct Shape {
     pub cores: u8,
     pub blocks: u8,
@@ -25,14 +24,12 @@ pub enum Checked {
 }
 
 // Where a core's journal begins: the number and the position of its oldest unretired record, or of the next one.
-#[repr(C)]
 pub struct Tail {
     pub number: u32,
     pub position: u8,
 }
 
 // The name of a transaction: a core and a number.
-#[repr(C)]
 pub struct Name {
     pub core: u8,
     pub number: u32,
@@ -40,7 +37,6 @@ pub struct Name {
 
 // A transaction that is not committed: the blocks that it took, in order, and the names of those that it depends on.
 // Its stamp is given at CLOSE.
-#[repr(C)]
 pub struct Transaction {
     pub live: bool,
     pub stamp: u64,
@@ -52,7 +48,6 @@ pub struct Transaction {
 
 // A core: the number of its running transaction, or of the next one to open; the blocks of its committed unretired
 // records; the stores done of the closed transaction and of the checkpoint under way.
-#[repr(C)]
 pub struct Core {
     pub next: u32,
     pub used: u8,
@@ -63,7 +58,6 @@ pub struct Core {
 }
 
 // The transaction that holds a block, if one does.
-#[repr(C)]
 pub struct Holder {
     pub held: bool,
     pub name: Name,
@@ -77,8 +71,8 @@ pub enum Rule {
     Closed,
 }
 
-// The card's state: a few KB, by value. `closes` counts the closes since the card came up; recovery has passed the home
-// blocks below `recovered`. What is committed stands on the disk alone.
+// The card's state, as the definitions speak of it; the code has it in lent cells (crate `cells`). `closes` counts the closes since
+// the card came up; recovery has passed the home blocks below `recovered`. What is committed stands on the disk alone.
 pub struct Card {
     pub phase: Phase,
     pub shape: Shape,
@@ -191,75 +185,4 @@ fn within(low: u8, x: u8, high: u8) -> u8
         return high;
     }
     x
-}
-
-// No transaction.
-pub fn no_transaction() -> Transaction
-    ensures { λ r. ⌜ r ≡ noTransaction ⌝ }
-{
-    Transaction {
-        live: false,
-        stamp: 0,
-        count: 0,
-        blocks: [0; 8],
-        named: 0,
-        names: [Name { core: 0, number: 0 }; 12],
-    }
-}
-
-// A core with an empty journal, whose next transaction has the number given.
-pub fn fresh_core(next: u32) -> Core
-    ensures { λ r. ⌜ r ≡ freshCore next ⌝ }
-{
-    let none = no_transaction();
-    Core {
-        next,
-        used: 0,
-        stored: 0,
-        homed: 0,
-        running: none,
-        closed: none,
-    }
-}
-
-// A card with nothing in it.
-fn empty_card(phase: Phase) -> Card
-    ensures { λ r. ⌜ r ≡ emptyCard phase ⌝ }
-{
-    let core = fresh_core(0);
-    Card {
-        phase,
-        shape: Shape {
-            cores: 0,
-            blocks: 0,
-            journal: 0,
-        },
-        closes: 0,
-        recovered: 0,
-        tails: [Tail {
-            number: 0,
-            position: 0,
-        }; 8],
-        cores: [core; 8],
-        holders: [Holder {
-            held: false,
-            name: Name { core: 0, number: 0 },
-        }; 64],
-    }
-}
-
-impl Card {
-    // A card before its FORMAT.
-    pub fn blank() -> Card
-        ensures { λ r. ⌜ r ≡ blankCard ⌝ }
-    {
-        empty_card(Phase::Blank)
-    }
-
-    // A card that is down, over a disk written elsewhere or after a cut.
-    pub fn down() -> Card
-        ensures { λ r. ⌜ r ≡ downCard ⌝ }
-    {
-        empty_card(Phase::Down)
-    }
 }
