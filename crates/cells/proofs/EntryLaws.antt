@@ -13,7 +13,8 @@ use Rattle.model.specs.Command.{World, refusal, notUp, noCore}
 use Rattle.model.specs.declared.Card.{Card}
 use Rattle.model.proofs.Command.{Clear, Numbered, refusal-clear}
 use Rattle.model.proofs.OneStore.{shape-limits, right-lengths}
-use Rattle.cells.specs.Answer.{world, firstOf}
+use Rattle.cells.specs.Answer.{firstOf}
+use Rattle.cells.specs.Cells.{world}
 use Rattle.cells.proofs.RefusalLaws.{first-hit, first-pass, refusal-joined, refusal-up, refusal-one}
 
 -- lengths, phase and core

@@ -7,7 +7,8 @@ use lib.ListN.{length}
 use Rattle.model.specs.Bytes.{Bytes}
 use Rattle.model.specs.Command.{Outcome, refusal, unless}
 use Rattle.cells.specs.declared.Answer.{Answer}
-use Rattle.cells.specs.Answer.{worldIn, outcomeIn, newAnswer, Meets}
+use Rattle.cells.specs.Answer.{outcomeIn, newAnswer, Meets}
+use Rattle.cells.specs.Cells.{worldIn}
 use Rattle.cells.specs.Changes.{Frame}
 use Rattle.cells.proofs.RefusalLaws.{was-refused, was-done}
 

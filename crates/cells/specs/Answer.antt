@@ -9,18 +9,9 @@ use Rattle.model.specs.Bytes.{Bytes}
 use Rattle.model.specs.Command.{World, Outcome, wrongLength}
 use Rattle.model.specs.declared.Phase.{Phase}
 use Rattle.model.specs.declared.Phase.the-variants.{Blank, Up, Down}
-use Rattle.model.specs.declared.Card.{Card}
 use Rattle.cells.specs.declared.Answer.{Answer}
-use Rattle.cells.specs.Cells.{cardIn}
+use Rattle.cells.specs.Cells.{worldIn}
 use Rattle.cells.specs.Changes.{Fits}
-
--- a card over its two slices
-abbrev pub world : Card → Bytes → Bytes → World
-world x d m = record { card = x; disk = d; memory = m }
-
--- the card in its cells, over its two slices
-abbrev pub worldIn : List ℕ → Bytes → Bytes → World
-worldIn w d m = world (cardIn w) d m
 
 abbrev pub newAnswer : ℕ → ℕ → Answer
 newAnswer n s = record { number = n; stores = s }

@@ -8,6 +8,8 @@ use mathlib.Core.Bool.{false, cond, not}
 use lib.Dec.{eqb, ltb}
 use lib.ListN.{length, getD}
 use Rattle.model.specs.Lists.{below}
+use Rattle.model.specs.Bytes.{Bytes}
+use Rattle.model.specs.Command.{World}
 use Rattle.model.specs.Card.{newTail, newName, noHolder, newHolder, tailOf, coreOf, holderOf}
 use Rattle.model.specs.declared.Phase.{Phase}
 use Rattle.model.specs.declared.Phase.the-variants.{Blank, Up, Down}
@@ -117,6 +119,13 @@ cardIn w =
       cores = map (λ (c : ℕ). coreIn w (corePlace c)) (below 8);
       holders = map (λ (b : ℕ). holderIn (getD w (holderPlace b) 0)) (below 64);
     }
+
+-- a card over its two slices, and the card in its cells over them
+abbrev pub world : Card → Bytes → Bytes → World
+world x d m = record { card = x; disk = d; memory = m }
+
+abbrev pub worldIn : List ℕ → Bytes → Bytes → World
+worldIn w d m = world (cardIn w) d m
 
 -- the count of stores, which is no part of the card
 abbrev pub storesIn : List ℕ → ℕ

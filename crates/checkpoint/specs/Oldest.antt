@@ -24,7 +24,8 @@ use Rattle.model.proofs.Journal.{Known}
 use Rattle.layout.specs.Loops.{some}
 use Rattle.journal.specs.Slots.{entries}
 use Rattle.journal.specs.Newest.{sharesBelow}
-use Rattle.cells.specs.Answer.{worldIn, outcomeIn, newAnswer}
+use Rattle.cells.specs.Answer.{outcomeIn, newAnswer}
+use Rattle.cells.specs.Cells.{worldIn}
 use Rattle.cells.specs.Cells.{holderIn}
 use Rattle.cells.specs.Changes.{fitsAt, Frame}
 

@@ -14,9 +14,9 @@ use Rattle.model.specs.Tape.{step, commandByte, operandsAt, commandAt}
 use Rattle.model.specs.declared.Card.{Card}
 use Rattle.model.proofs.Command.{command-decided, decided-refused, row-answer}
 use Rattle.model.proofs.Lists.{cases}
-use Rattle.cells.specs.Cells.{cardIn, storesIn, Exact}
+use Rattle.cells.specs.Cells.{cardIn, storesIn, Exact, worldIn, world}
 use Rattle.cells.specs.Changes.{Fits, Frame}
-use Rattle.cells.specs.Answer.{worldIn, world, newAnswer, Meets}
+use Rattle.cells.specs.Answer.{newAnswer, Meets}
 use Rattle.cells.specs.declared.Answer.{Answer}
 use Rattle.cells.proofs.FitsLaws.{fits-set, fits-stores, frame-set}
 use Rattle.cells.proofs.CoreLaws.{stores-unseen}

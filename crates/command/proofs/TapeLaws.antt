@@ -23,7 +23,8 @@ use Rattle.model.specs.declared.Card.{Card}
 use Rattle.model.proofs.Lists.{cases, all-mem, getD-mem}
 use Rattle.model.proofs.Command.{tapeConditions, refusal-clear}
 use Rattle.cells.specs.declared.Answer.{Answer}
-use Rattle.cells.specs.Answer.{world, worldIn, newAnswer, Meets}
+use Rattle.cells.specs.Answer.{newAnswer, Meets}
+use Rattle.cells.specs.Cells.{world, worldIn}
 use Rattle.cells.proofs.MeetLaws.{meets-refused, meets-same}
 use Rattle.model.proofs.Command.{unless-done}
 

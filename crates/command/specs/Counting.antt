@@ -7,8 +7,7 @@ use lib.Dec.{eqb}
 use lib.ListN.{set}
 use Rattle.model.specs.Bytes.{Bytes}
 use Rattle.model.specs.Command.{Outcome}
-use Rattle.cells.specs.Cells.{storesIn, Exact}
-use Rattle.cells.specs.Answer.{worldIn}
+use Rattle.cells.specs.Cells.{storesIn, Exact, worldIn}
 use Rattle.cells.specs.declared.Answer.{Answer}
 
 -- a count of stores grown by k, up to the largest number of eight bytes

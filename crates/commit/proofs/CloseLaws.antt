@@ -15,9 +15,9 @@ use Rattle.model.specs.Commit.{copyBlock, copied, closeConditions, closedCard, 
 use Rattle.model.specs.declared.Transaction.{Transaction}
 use Rattle.model.specs.declared.Card.{Card}
 use Rattle.layout.proofs.Blocks.{block-lent}
-use Rattle.cells.specs.Cells.{byteIn, transactionIn, cardIn, runningPlace, closedPlace}
+use Rattle.cells.specs.Cells.{byteIn, transactionIn, cardIn, runningPlace, closedPlace, worldIn}
 use Rattle.cells.specs.Changes.{Frame}
-use Rattle.cells.specs.Answer.{worldIn, newAnswer, Meets}
+use Rattle.cells.specs.Answer.{newAnswer, Meets}
 use Rattle.cells.proofs.CellLaws.{block-read}
 use Rattle.cells.proofs.EntryLaws.{entry, entry-hit, entry-pass, Entered, entered}
 use Rattle.cells.proofs.MeetLaws.{meets-refused, meets-done}

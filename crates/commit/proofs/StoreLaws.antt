@@ -22,9 +22,9 @@ use Rattle.model.proofs.Lists.{getD-map-below, map-below}
 use Rattle.model.proofs.Limits.{clamped-same}
 use Rattle.model.proofs.OneStore.{shape-limits, stored-low, position}
 use Rattle.layout.proofs.Blocks.{block-lent}
-use Rattle.cells.specs.Cells.{byteIn, numberIn, nameIn, transactionIn, cardIn, corePlace, closedPlace}
+use Rattle.cells.specs.Cells.{byteIn, numberIn, nameIn, transactionIn, cardIn, corePlace, closedPlace, worldIn}
 use Rattle.cells.specs.Changes.{Frame}
-use Rattle.cells.specs.Answer.{worldIn, newAnswer, Meets}
+use Rattle.cells.specs.Answer.{newAnswer, Meets}
 use Rattle.cells.proofs.CellLaws.{count-read, named-read, blocks-long}
 use Rattle.cells.proofs.EntryLaws.{entry, entry-hit, entry-pass, Entered, entered}
 use Rattle.cells.proofs.MeetLaws.{meets-refused, meets-done}

@@ -27,8 +27,7 @@ use Rattle.crash.specs.Service.{emptyService}
 use Rattle.crash.specs.Ledger.{blankLedger}
 use Rattle.crash.specs.Claims.{IsBytes, AreaKept, LedgerKept, downLedger}
 use Rattle.crash.proofs.Theorem.{claim, demands}
-use Rattle.cells.specs.Cells.{storesIn, Exact}
-use Rattle.cells.specs.Answer.{world, worldIn}
+use Rattle.cells.specs.Cells.{storesIn, Exact, world, worldIn}
 use Rattle.reading.specs.declared.Part.{Part}
 use Rattle.reading.specs.Part.{partOf}
 use Rattle.reading.proofs.ReadLaws.{readable}

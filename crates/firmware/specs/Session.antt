@@ -17,8 +17,7 @@ use Rattle.model.specs.declared.Shape.{Shape}
 use Rattle.crash.specs.Service.{emptyService}
 use Rattle.crash.specs.Ledger.{blankLedger}
 use Rattle.crash.specs.Claims.{AreaKept, LedgerKept, downLedger}
-use Rattle.cells.specs.Cells.{storesIn, Exact}
-use Rattle.cells.specs.Answer.{worldIn}
+use Rattle.cells.specs.Cells.{storesIn, Exact, worldIn}
 use Rattle.reading.specs.Part.{partOf}
 use Rattle.command.specs.Counting.{counted, Performs}
 use Rattle.firmware.specs.declared.session.Reply.{Reply}

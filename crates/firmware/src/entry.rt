@@ -3,8 +3,7 @@
 ghost use mathlib.Core.Path.{_≡_};
 ghost use Rattle.model.specs.Card.{blankCard, downCard};
 ghost use Rattle.model.specs.Reading.{readNumber};
-ghost use Rattle.cells.specs.Cells.{cellsOf};
-ghost use Rattle.cells.specs.Answer.{worldIn};
+ghost use Rattle.cells.specs.Cells.{cellsOf, worldIn};
 ghost use Rattle.firmware.specs.Session.{readInto, RunsCommand, RunsTape, partIn};
 use crate::session::Part;
 use crate::session::Reply;

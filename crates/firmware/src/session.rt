@@ -3,8 +3,7 @@
 ghost use mathlib.Core.Path.{_≡_};
 ghost use Rattle.model.specs.Card.{blankCard, downCard};
 ghost use Rattle.model.specs.Reading.{readNumber, readBlock};
-ghost use Rattle.cells.specs.Cells.{cellsOf, storesIn};
-ghost use Rattle.cells.specs.Answer.{worldIn};
+ghost use Rattle.cells.specs.Cells.{cellsOf, storesIn, worldIn};
 ghost use Rattle.firmware.specs.Session.{readInto, RunsCommand, RunsTape, partIn};
 
 // What came of one command: the offset of the next one, the number answered (0 if done) and the command's byte.

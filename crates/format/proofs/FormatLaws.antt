@@ -22,9 +22,9 @@ use Rattle.model.proofs.Command.{refusal-clear}
 use Rattle.model.proofs.OneStore.{right-lengths}
 use Rattle.model.proofs.Encoding.{master-same}
 use Rattle.layout.proofs.DiskLaws.{zero-memory, zero-disk}
-use Rattle.cells.specs.Cells.{cardIn}
+use Rattle.cells.specs.Cells.{cardIn, worldIn}
 use Rattle.cells.specs.Changes.{Frame}
-use Rattle.cells.specs.Answer.{worldIn, newAnswer, outcomeIn, Meets, firstOf}
+use Rattle.cells.specs.Answer.{newAnswer, outcomeIn, Meets, firstOf}
 use Rattle.cells.proofs.RefusalLaws.{first-hit, first-pass, refusal-joined}
 use Rattle.cells.proofs.MeetLaws.{meets-refused, meets-done}
 

@@ -16,7 +16,8 @@ use Rattle.model.specs.declared.Card.{Card}
 use Rattle.model.proofs.Lists.{cases}
 use Rattle.model.proofs.Command.{Clear, refusal-clear}
 use Rattle.model.proofs.OneStore.{shape-limits, right-lengths}
-use Rattle.cells.specs.Answer.{world, firstOf}
+use Rattle.cells.specs.Answer.{firstOf}
+use Rattle.cells.specs.Cells.{world}
 use Rattle.cells.proofs.RefusalLaws.{refusal-up, refusal-one}
 use Rattle.reading.specs.Part.{newPart, partOf, sliceOf}
 use Rattle.reading.specs.declared.Part.{Part}

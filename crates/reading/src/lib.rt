@@ -2,7 +2,7 @@
 ghost use mathlib.Core.Path.{_≡_};
 ghost use lib.ListN.{length};
 ghost use Rattle.model.specs.Reading.{readNumber, readBlock};
-ghost use Rattle.cells.specs.Answer.{worldIn};
+ghost use Rattle.cells.specs.Cells.{worldIn};
 ghost use Rattle.reading.specs.Part.{partOf};
 use cells::block_refusal;
 use cells::is_held;

@@ -9,9 +9,9 @@ use Rattle.model.specs.Card.{downCard}
 use Rattle.model.specs.Command.{World, unstored, refusal}
 use Rattle.model.specs.Recovery.{cutConditions, cut}
 use Rattle.model.proofs.OneStore.{right-lengths}
-use Rattle.cells.specs.Cells.{cardIn}
+use Rattle.cells.specs.Cells.{cardIn, worldIn}
 use Rattle.cells.specs.Changes.{Frame}
-use Rattle.cells.specs.Answer.{phaseRefusal, worldIn, newAnswer, Meets}
+use Rattle.cells.specs.Answer.{phaseRefusal, newAnswer, Meets}
 use Rattle.layout.proofs.DiskLaws.{zero-memory}
 use Rattle.cells.proofs.RefusalLaws.{cut-numbers, none-held}
 use Rattle.cells.proofs.MeetLaws.{meets-refused, meets-done}

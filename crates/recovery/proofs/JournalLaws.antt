@@ -26,7 +26,7 @@ use Rattle.journal.specs.Walk.{Reads}
 use Rattle.journal.specs.Newest.{foundImage, firstOr, heldFrom}
 use Rattle.journal.proofs.Model.{found-bytes, image-numbers, held-numbers, read-count}
 use Rattle.journal.proofs.Commands.{core-journal, slots-valid}
-use Rattle.cells.specs.Answer.{world}
+use Rattle.cells.specs.Cells.{world}
 use Rattle.recovery.specs.Recovering.{numbersOn, tailAfter, Shaped, OnDisk, IsValid}
 
 -- ---- tails

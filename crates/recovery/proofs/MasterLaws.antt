@@ -20,7 +20,7 @@ use Rattle.model.specs.declared.Checked.the-variants.{Fits, OutOfRange}
 use Rattle.model.proofs.Lists.{and-left, and-right}
 use Rattle.model.proofs.Limits.{InRange}
 use Rattle.model.proofs.OneStore.{master-limits}
-use Rattle.cells.specs.Answer.{world}
+use Rattle.cells.specs.Cells.{world}
 use Rattle.recovery.specs.Recovering.{Shaped}
 
 module _ (d : Bytes) (r : Bool) (e : r ≡ isMaster (take 128 d)) where

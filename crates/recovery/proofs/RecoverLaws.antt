@@ -25,9 +25,9 @@ use Rattle.model.proofs.Command.{Clear}
 use Rattle.model.proofs.Encoding.{master-same}
 use Rattle.journal.specs.Slots.{entries}
 use Rattle.journal.specs.Newest.{firstOr, heldFrom}
-use Rattle.cells.specs.Cells.{byteIn, cardIn}
+use Rattle.cells.specs.Cells.{byteIn, cardIn, world, worldIn}
 use Rattle.cells.specs.Changes.{Frame}
-use Rattle.cells.specs.Answer.{world, worldIn, newAnswer, Meets}
+use Rattle.cells.specs.Answer.{newAnswer, Meets}
 use Rattle.cells.proofs.RefusalLaws.{none-held}
 use Rattle.cells.proofs.MeetLaws.{meets-refused, meets-done}
 use Rattle.cells.proofs.FitsLaws.{fits-field, frame-set, frame-wider}

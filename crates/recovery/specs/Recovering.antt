@@ -18,7 +18,8 @@ use Rattle.layout.specs.Tails.{tailOrNone}
 use Rattle.journal.specs.Slots.{numbersOf, entries, filledFrom}
 use Rattle.journal.specs.Walk.{Reads}
 use Rattle.cells.specs.Changes.{Frame}
-use Rattle.cells.specs.Answer.{worldIn, outcomeIn, newAnswer}
+use Rattle.cells.specs.Answer.{outcomeIn, newAnswer}
+use Rattle.cells.specs.Cells.{worldIn}
 
 -- the tail numbers of a disk's master
 unfoldable pub numbersOn : Bytes → List ℕ

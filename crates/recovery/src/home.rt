@@ -6,7 +6,7 @@ ghost use Rattle.model.specs.Bytes.{Bytes, blockAt};
 ghost use Rattle.model.specs.Layout.{isMaster};
 ghost use Rattle.model.specs.Recovery.{shapeOn};
 ghost use Rattle.model.specs.Tape.{homeCount};
-ghost use Rattle.cells.specs.Answer.{worldIn};
+ghost use Rattle.cells.specs.Cells.{worldIn};
 use crate::master::disk_shape;
 use model::Phase;
 

@@ -5,7 +5,7 @@ ghost use Prim.Native.Nat.{_≤_};
 ghost use lib.ListN.{length};
 ghost use Rattle.model.specs.Bytes.{Bytes};
 ghost use Rattle.model.specs.Tape.{homeCount, isZero};
-ghost use Rattle.cells.specs.Answer.{worldIn};
+ghost use Rattle.cells.specs.Cells.{worldIn};
 
 // Where the reading stands; `more` is false once the tape has ended.
 struct Course {

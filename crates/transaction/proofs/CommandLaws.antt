@@ -18,7 +18,8 @@ use Rattle.model.specs.declared.Rule.{Rule}
 use Rattle.model.proofs.Command.{Clear, Numbered, refusal-clear}
 use Rattle.model.proofs.OneStore.{shape-limits, right-lengths}
 use Rattle.layout.proofs.Blocks.{sets-replaced}
-use Rattle.cells.specs.Answer.{world, worldIn, newAnswer, firstOf, Meets}
+use Rattle.cells.specs.Answer.{newAnswer, firstOf, Meets}
+use Rattle.cells.specs.Cells.{world, worldIn}
 use Rattle.cells.specs.Cells.{cardIn}
 use Rattle.cells.specs.Changes.{Frame}
 use Rattle.cells.proofs.RefusalLaws.{first-hit, first-pass, refusal-joined, refusal-next, refusal-one}

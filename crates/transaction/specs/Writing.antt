@@ -15,7 +15,7 @@ use Rattle.model.specs.declared.Name.{Name}
 use Rattle.model.specs.declared.Transaction.{Transaction}
 use Rattle.model.specs.declared.Card.{Card}
 use Rattle.model.specs.declared.Rule.{Rule}
-use Rattle.cells.specs.Answer.{world}
+use Rattle.cells.specs.Cells.{world}
 use Rattle.transaction.specs.declared.Found.{Found}
 
 -- ---- before the rule: 1, 20, 22, 5 to 7
