@@ -1,16 +1,16 @@
 -- The card in cells: fields read, transactions changed in place, and what of the card a change of some cells leaves alone.
-use Prim.Native.Nat.{ℕ, zero, suc, _+_, _-_, _*_, _/_, _%_, _≤_, _<_, min}
+use Prim.Native.Nat.{ℕ, zero, _+_, _-_, _*_, _/_, _%_, _≤_, _<_}
 use native.Mathlib.Omega.{arith}
 use mathlib.Core.Path.{_≡_, refl, sym, ap, _∙_}
-use mathlib.Core.Bool.{Bool, true, false, cond, not}
-use mathlib.Core.List.{List, [], _∷_, map}
+use mathlib.Core.Bool.{Bool, true, false, not}
+use mathlib.Core.List.{List, map}
 use lib.Dec.{eqb, ltb}
-use lib.ListN.{length, take, getD, set, replicate, length-map, length-set}
+use lib.ListN.{length, take, getD, set, length-map, length-set}
 use lib.Seq.{getD-set-same, getD-set-other, ext-getD}
 use borrow.Author.Tests.{ne-eqb, eqb-true, eqb-false, ltb-true, ltb-false}
 use Rattle.model.specs.Lists.{below, any}
 use Rattle.model.specs.Shape.{clamped}
-use Rattle.model.specs.Card.{newTail, newName, noTransaction, opened, noHolder, newHolder, shapeOf, sameName, taken, listed, lists, withName, withBlock, withRunning, coreOf, tailOf, holderOf, freshCore, withCore, withHolder}
+use Rattle.model.specs.Card.{newTail, newName, noTransaction, opened, noHolder, newHolder, shapeOf, sameName, taken, listed, lists, withName, withBlock, withRunning, coreOf, holderOf, freshCore, withCore, withHolder}
 use Rattle.model.specs.declared.Phase.{Phase}
 use Rattle.model.specs.declared.Phase.the-variants.{Blank, Up, Down}
 use Rattle.model.specs.declared.Shape.{Shape}
@@ -25,7 +25,7 @@ use Rattle.model.specs.Write.{passesTwelve}
 use Rattle.cells.proofs.Parts.{took-all, took-some, named-all, named-some, name-hit, name-missed, name-room}
 use Rattle.cells.proofs.FitsLaws.{fits-zero, fits-live, fits-byte, fits-name, fits-holder, frame-wider, frame-then, frame-same, frame-set}
 use Rattle.cells.specs.Cells.{byteIn, numberIn, phaseIn, nameIn, holderIn, tailFrom, transactionIn, coreIn, cardIn, tailPlace, holderPlace, corePlace}
-use Rattle.cells.specs.Changes.{IsPlace, openedOr, fitsAt, Frame}
+use Rattle.cells.specs.Changes.{openedOr, fitsAt, Frame}
 
 -- ---- lists given by their index
 module _ {A : Type 0} where

@@ -1,5 +1,5 @@
 -- The card where the cells of one part changed: a core's numbers or its closed transaction, a field of the header, the holders.
-use Prim.Native.Nat.{ℕ, _+_, _*_, _%_, _≤_, _<_}
+use Prim.Native.Nat.{ℕ, _+_, _%_, _≤_, _<_}
 use native.Mathlib.Omega.{arith}
 use mathlib.Core.Path.{_≡_, refl, sym, ap, _∙_}
 use mathlib.Core.List.{List, map}
@@ -8,13 +8,11 @@ use lib.Seq.{getD-set-same, getD-set-other, set-set}
 use Rattle.model.specs.Lists.{below}
 use Rattle.model.specs.Card.{freshCore, coreOf, withCore, withLists}
 use Rattle.model.specs.Recovery.{recoveredTo}
-use Rattle.model.specs.declared.Transaction.{Transaction}
 use Rattle.model.specs.declared.Core.{Core}
-use Rattle.model.specs.declared.Holder.{Holder}
 use Rattle.model.specs.declared.Card.{Card}
 use Rattle.model.proofs.Lists.{map-below}
-use Rattle.cells.specs.Cells.{byteIn, numberIn, phaseIn, holderIn, transactionIn, coreIn, cardIn, tailPlace, holderPlace, corePlace}
-use Rattle.cells.specs.Changes.{withNumbers, withClosed, withCloses, fitsAt, Frame}
+use Rattle.cells.specs.Cells.{byteIn, phaseIn, holderIn, transactionIn, coreIn, cardIn, tailPlace, holderPlace, corePlace}
+use Rattle.cells.specs.Changes.{withNumbers, withClosed, withCloses, Frame}
 use Rattle.cells.proofs.FitsLaws.{fits-next, fits-count, frame-set, frame-then, frame-wider}
 use Rattle.cells.proofs.CellLaws.{length-tabled, same-card, same-shape, same-core, tail-same, core-same, core-at, core-put, transaction-low, transaction-high}
 

@@ -319,16 +319,9 @@ module _ (w : List ℕ) where
   unfolding Fits Exact
   exact-fits e i h = cell-fits i h ∙ eq-eqb _ _ (ap (λ (v : List ℕ). getD v i 0) e ∙ cell-at (cardIn w) (storesIn w) i h)
 
-  pub exact-long : Exact w → length w ≡ 512
-  unfolding Exact
-  exact-long e = ap length e ∙ cells-long (cardIn w) (storesIn w)
-
 pub sized-fits : (x : Card) (n : ℕ) → Sized x → Fits (cellsOf x n)
 unfolding Exact
 sized-fits x n s = exact-fits (cellsOf x n) (sym (ap₂ cellsOf (card-of-cells x n s) (stores-of-cells x n)))
-
-pub cells-fit : (w : List ℕ) (n : ℕ) → Fits (cellsOf (cardIn w) n)
-cells-fit w n = sized-fits (cardIn w) n (card-sized w)
 
 -- ---- the card blank, and down
 zero-fits : Fits (replicate 512 0)

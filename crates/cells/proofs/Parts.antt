@@ -6,8 +6,8 @@ use mathlib.Core.Path.{_≡_, refl, sym, ap, _∙_}
 use mathlib.Core.Bool.{Bool, true, false}
 use mathlib.Core.List.{List, [], _∷_, _++_, map, append-nil}
 use lib.Dec.{leb}
-use lib.ListN.{length, take, drop, getD, set, length-map, length-take, List·getD-eq-default, drop-of-length-le}
-use lib.Seq.{set-out, take-all, take-suc, getD-take}
+use lib.ListN.{length, take, drop, getD, set, length-map, length-take, drop-of-length-le}
+use lib.Seq.{take-all, take-suc, getD-take}
 use borrow.Author.Needs.{needs}
 use borrow.Author.Tests.{le-leb, lt-leb, lt-ltb, le-ltb, eq-eqb, ne-eqb, not-true, not-false, leb-false}
 use Rattle.model.specs.Lists.{any}
@@ -27,27 +27,6 @@ length-mapped A B f l n e = sym (length-map l f) ∙ e
 pub ruleset facts = (needs, length-mapped)
 
 module _ {A : Type 0} where
-  -- within the list, what is read past its end does not matter
-  pub getD-any : (l : List A) (i : ℕ) (d e : A) → i < length l → getD l i d ≡ getD l i e
-  getD-any [] i d e h = absurd (omega arith)
-  getD-any (x ∷ l) zero d e h = refl
-  getD-any (x ∷ l) (suc i) d e h = getD-any l i d e (omega arith)
-
-  pub pair-same : (a : A) (i : ℕ) (d : A) → i < 2 → getD (a ∷ a ∷ []) i d ≡ a
-  pair-same a zero d h = refl
-  pair-same a (suc zero) d h = refl
-  pair-same a (suc (suc i)) d h = absurd (omega arith)
-
-  module _ (l : List A) (n : ℕ) (size : length l ≡ n) (i : ℕ) where
-    pub element-in : (d e : A) → i < n → getD l i d ≡ getD l i e
-    element-in d e h = getD-any l i d e (omega arith)
-
-    pub element-past : (e a : A) → a ≡ e → n ≤ i → a ≡ getD l i e
-    element-past e a q h = q ∙ sym (List·getD-eq-default l e (let b : length l ≤ i = omega arith in b))
-
-    pub set-past : (a : A) → n ≤ i → set l i a ≡ l
-    set-past a h = set-out l i a (omega arith)
-
   -- a search through the first n elements
   module _ (p : A → Bool) (l : List A) (n i : ℕ) (h : i < length (take n l)) where
     below-length : (i < n) × (i < length l)
@@ -132,10 +111,6 @@ module _ (t : Transaction) where
 
 -- ---- names: 24
 module _ (t : Transaction) (n : Name) (g : Bool) (e : g ≡ lists t n) where
-  pub passes-not : g ≡ true → false ≡ passesTwelve t n
-  unfolding passesTwelve
-  passes-not h = rw (← e, h)
-
   pub passes-full : g ≡ false → leb 12 (t .named) ≡ passesTwelve t n
   unfolding passesTwelve
   passes-full h = rw (← e, h)

@@ -13,7 +13,6 @@ use Rattle.model.specs.Command.{World}
 use Rattle.model.specs.Card.{newTail, newName, noHolder, newHolder, tailOf, coreOf, holderOf}
 use Rattle.model.specs.declared.Phase.{Phase}
 use Rattle.model.specs.declared.Phase.the-variants.{Blank, Up, Down}
-use Rattle.model.specs.declared.Shape.{Shape}
 use Rattle.model.specs.declared.Tail.{Tail}
 use Rattle.model.specs.declared.Name.{Name}
 use Rattle.model.specs.declared.Transaction.{Transaction}

@@ -5,7 +5,7 @@ ghost use Prim.Native.Nat.{_+_, _<_, _≤_};
 ghost use lib.ListN.{length};
 ghost use Rattle.model.specs.Card.{noTransaction, sameName, taken, listed, lists, withName, withBlock};
 ghost use Rattle.model.specs.Write.{passesTwelve};
-ghost use Rattle.cells.specs.Cells.{nameIn, nameCell, transactionIn};
+ghost use Rattle.cells.specs.Cells.{nameIn, transactionIn};
 ghost use Rattle.cells.specs.Changes.{openedOr, IsPlace, Frame};
 use crate::fields::BLOCKS;
 use crate::fields::COUNT;

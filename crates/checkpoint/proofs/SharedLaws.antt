@@ -61,9 +61,6 @@ module _ (x : Card) (s : Shape) (q : s ≡ shapeOf x) where
   pub read-shape : (d : Bytes) (e : Committed) → IsRead (shapeOf x) d e → IsRead s d e
   read-shape d e r = subst (λ (s : Shape). IsRead s d e) (sym q) r
 
-  pub read-sized : (d : Bytes) (e : Committed) → IsRead (shapeOf x) d e → Sized s e
-  read-sized d e r = is-sized s d e (read-shape d e r)
-
 -- ---- block b among those that the transaction at a place took
 module _ (w : List ℕ) (a b : ℕ) where
   pub none-taken : any (eqb b) (take 0 (taken (transactionIn w a))) ≡ false

@@ -2,10 +2,9 @@
 use Prim.Native.Nat.{ℕ, _+_, _-_, _≤_, _<_}
 use native.Mathlib.Omega.{arith}
 use mathlib.Core.Path.{_≡_, sym, ap, _∙_, subst}
-use mathlib.Core.Bool.{cond}
 use mathlib.Core.List.{List}
 use lib.Dec.{eqb}
-use lib.ListN.{length, getD, set, length-set}
+use lib.ListN.{length, set, length-set}
 use lib.Seq.{getD-set-same}
 use borrow.Author.Tests.{ne-eqb, eqb-true, eqb-false}
 use Rattle.model.specs.Bytes.{Bytes}
@@ -15,8 +14,7 @@ use Rattle.model.specs.declared.Card.{Card}
 use Rattle.model.proofs.Command.{command-decided, decided-refused, row-answer}
 use Rattle.model.proofs.Lists.{cases}
 use Rattle.cells.specs.Cells.{cardIn, storesIn, Exact, worldIn, world}
-use Rattle.cells.specs.Changes.{Fits, Frame}
-use Rattle.cells.specs.Answer.{newAnswer, Meets}
+use Rattle.cells.specs.Answer.{Meets}
 use Rattle.cells.specs.declared.Answer.{Answer}
 use Rattle.cells.proofs.FitsLaws.{fits-set, fits-stores, frame-set}
 use Rattle.cells.proofs.CoreLaws.{stores-unseen}

@@ -12,7 +12,7 @@ use borrow.Author.Tests.{leb-true, leb-false, ltb-true, ltb-false, le-leb, lt-le
 use Rattle.model.specs.Lists.{all}
 use Rattle.model.specs.Bytes.{Bytes, number, part}
 use Rattle.model.specs.Shape.{between}
-use Rattle.model.specs.Command.{World, Outcome, refusal, wrongLength}
+use Rattle.model.specs.Command.{World, refusal, wrongLength}
 use Rattle.model.specs.Format.{format}
 use Rattle.model.specs.Write.{write}
 use Rattle.model.specs.Commit.{close, storeNext}

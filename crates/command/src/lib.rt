@@ -8,7 +8,7 @@ ghost use Rattle.model.specs.Bytes.{number, part};
 ghost use Rattle.model.specs.Command.{refusal, wrongLength};
 ghost use Rattle.model.specs.Write.{write};
 ghost use Rattle.model.specs.Tape.{operandLength, step, commandByte, isUnknown, endsEarly, commandAt, nextOffset};
-ghost use Rattle.cells.specs.Cells.{storesIn, world, worldIn};
+ghost use Rattle.cells.specs.Cells.{world, worldIn};
 ghost use Rattle.cells.specs.Answer.{Meets};
 ghost use Rattle.command.specs.Counting.{counted, countedIn, Performs};
 use cells::Answer;

@@ -31,7 +31,7 @@ use Rattle.cells.specs.Cells.{storesIn, Exact, world, worldIn}
 use Rattle.reading.specs.declared.Part.{Part}
 use Rattle.reading.specs.Part.{partOf}
 use Rattle.reading.proofs.ReadLaws.{readable}
-use Rattle.command.specs.Counting.{counted, Performs}
+use Rattle.command.specs.Counting.{counted}
 use Rattle.command.proofs.CountLaws.{counted-sum, counted-none, counted-more}
 use Rattle.firmware.specs.Session.{storesAfter, newStop, stopAfter, readInto, partIn, DemandsMet, RunsCommand, RunsTape}
 use Rattle.firmware.specs.declared.session.Reply.{Reply}

@@ -2,18 +2,14 @@
 use Prim.Native.Nat.{ℕ, _+_, _≤_, _<_}
 use native.Mathlib.Numerals.{add-one}
 use mathlib.Core.Path.{_≡_, refl, sym, ap, _∙_}
-use mathlib.Core.Bool.{Bool, true, false, cond}
-use mathlib.Core.List.{[]}
+use mathlib.Core.Bool.{true, false}
 use lib.ListN.{length, take, getD}
 use lib.Seq.{take-suc, take-all}
 use lib.Dec.{eqb}
 use borrow.Author.Tests.{eqb-true}
 use Rattle.model.specs.Lists.{all}
-use Rattle.model.specs.Bytes.{Bytes, part, blockAt}
-use Rattle.model.specs.Layout.{isMaster}
-use Rattle.model.specs.Recovery.{shapeOn}
+use Rattle.model.specs.Bytes.{Bytes}
 use Rattle.model.specs.Tape.{isZero}
-use Rattle.model.specs.declared.Shape.{Shape}
 use Rattle.model.proofs.Lists.{cases, all-append, all-mem, getD-mem}
 
 -- ---- all zero

@@ -1,7 +1,7 @@
 -- `firmware::session::run` meets its contract. Invariant: what is left of the run gives what holds at its end.
 use Prim.Native.Nat.{_-_}
 use native.Mathlib.Omega.{arith}
-use mathlib.Core.Path.{_≡_, _∙_}
+use mathlib.Core.Path.{_≡_}
 use lib.ListN.{length}
 use borrow.Author.Needs.{needs}
 use Rattle.model.proofs.Tape.{next-past}
