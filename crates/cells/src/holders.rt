@@ -6,8 +6,8 @@ ghost use Rattle.model.specs.Card.{newHolder, holderOf, withHolder};
 ghost use Rattle.cells.specs.Cells.{cardIn, holderPlace};
 ghost use Rattle.cells.specs.Changes.{Frame};
 use crate::fields::HOLDERS;
-use crate::lists::cell_of;
-use crate::lists::name_of;
+use crate::transactions::cell_of;
+use crate::transactions::name_of;
 use model::Holder;
 use model::Name;
 

@@ -3,7 +3,7 @@
 // the type fixes at the library's entries.
 mod fields; // the header, and where each part stands
 mod cores; // a core's numbers
-mod lists; // a transaction's blocks and names
+mod transactions; // a transaction at its place
 mod holders; // the transaction that holds a block
 mod stores; // the count of stores
 mod tails; // where each core's journal begins
@@ -38,17 +38,6 @@ pub use fields::shape_of;
 pub use holders::hold;
 pub use holders::holder_at;
 pub use holders::is_held;
-pub use lists::add_block;
-pub use lists::add_name;
-pub use lists::block_count;
-pub use lists::cell_of;
-pub use lists::clear;
-pub use lists::is_live;
-pub use lists::lists_name;
-pub use lists::name_count;
-pub use lists::name_of;
-pub use lists::open_at;
-pub use lists::same_name;
 pub use phases::blank;
 pub use phases::come_up;
 pub use phases::go_down;
@@ -63,6 +52,13 @@ pub use stores::stores_of;
 pub use tails::put_tail;
 pub use tails::tail_at;
 pub use tails::tails_of;
+pub use transactions::block_count;
+pub use transactions::cell_of;
+pub use transactions::clear;
+pub use transactions::is_live;
+pub use transactions::name_count;
+pub use transactions::name_of;
+pub use transactions::same_name;
 
 // What a command answers: the number of its refusal, 0 if it is done, and the stores that it did.
 pub struct Answer {

@@ -12,11 +12,11 @@ use crate::Found;
 use crate::rules::is_named_back;
 use crate::rules::names_holder;
 use crate::rules::takes_block;
-use cells::add_block;
-use cells::add_name;
 use cells::hold;
-use cells::open_at;
 use cells::running_place;
+use lists::add_block;
+use lists::add_name;
+use lists::open_at;
 use model::Name;
 use model::Rule;
 

@@ -1,9 +1,9 @@
--- `cells::lists::same_name` meets its contract: the two tests in turn.
+-- `cells::transactions::same_name` meets its contract: the two tests in turn.
 use borrow.Author.Needs.{needs}
 use Rattle.model.specs.Card.{sameName}
 use Rattle.cells.proofs.Parts.{tests}
-use Rattle.cells.proofs.lists.same_name.Statement.{statement}
-use Rattle.cells.proofs.lists.same_name.Tie as tie
+use Rattle.cells.proofs.transactions.same_name.Statement.{statement}
+use Rattle.cells.proofs.transactions.same_name.Tie as tie
 
 returns : tie.Need-returns
 unfolding sameName

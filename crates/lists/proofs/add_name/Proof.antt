@@ -1,10 +1,10 @@
--- `cells::lists::add_name` meets its contract: 24 leaves room for a name that is not listed.
+-- `lists::add_name` meets its contract: 24 leaves room for a name that is not listed.
 use Rattle.cells.proofs.Parts.{name-stands}
 use Rattle.cells.proofs.CellLaws.{name-in, named-in, name-put-there, name-frame}
 use Rattle.cells.proofs.FitsLaws.{frame-same}
 use borrow.Author.Needs.{needs}
-use Rattle.cells.proofs.lists.add_name.Statement.{statement}
-use Rattle.cells.proofs.lists.add_name.Tie as tie
+use Rattle.lists.proofs.add_name.Statement.{statement}
+use Rattle.lists.proofs.add_name.Tie as tie
 
 returns-2 : tie.Need-returns-2
 returns-2 c = (search (needs, name-put-there), search (needs, name-frame))

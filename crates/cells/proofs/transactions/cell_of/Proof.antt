@@ -1,8 +1,8 @@
--- `cells::lists::cell_of` meets its contract: the name is read back.
+-- `cells::transactions::cell_of` meets its contract: the name is read back.
 use Rattle.cells.proofs.CellLaws.{name-put}
 use borrow.Author.Needs.{needs}
-use Rattle.cells.proofs.lists.cell_of.Statement.{statement}
-use Rattle.cells.proofs.lists.cell_of.Tie as tie
+use Rattle.cells.proofs.transactions.cell_of.Statement.{statement}
+use Rattle.cells.proofs.transactions.cell_of.Tie as tie
 
 pub cell-of-spec : {M : Type 1} → statement M
 cell-of-spec = tie.close (tie.spec (λ c. search needs) (λ c. search needs) (λ c. search needs) (λ c. search needs) (λ c. (search (needs, name-put), search needs)))

@@ -1,9 +1,9 @@
--- `cells::lists::clear` meets its contract: one cell after another.
+-- `cells::transactions::clear` meets its contract: one cell after another.
 use Prim.Native.Nat.{_-_}
 use Rattle.cells.proofs.CellLaws.{Cleared, cleared-start, cleared-more, cleared-all}
 use borrow.Author.Needs.{needs}
-use Rattle.cells.proofs.lists.clear.Statement.{statement}
-use Rattle.cells.proofs.lists.clear.Tie as tie
+use Rattle.cells.proofs.transactions.clear.Statement.{statement}
+use Rattle.cells.proofs.transactions.clear.Tie as tie
 
 abbrev Inv-loop : tie.InvT-loop
 Inv-loop w₀ at i₀ w i = Cleared w₀ at w i

@@ -1,9 +1,9 @@
--- `cells::lists::open_at` meets its contract.
+-- `lists::open_at` meets its contract.
 use Rattle.cells.proofs.CellLaws.{open-live, still-in, opened-there, opened-frame}
 use Rattle.cells.proofs.FitsLaws.{frame-same}
 use borrow.Author.Needs.{needs}
-use Rattle.cells.proofs.lists.open_at.Statement.{statement}
-use Rattle.cells.proofs.lists.open_at.Tie as tie
+use Rattle.lists.proofs.open_at.Statement.{statement}
+use Rattle.lists.proofs.open_at.Tie as tie
 
 returns-2 : tie.Need-returns-2
 returns-2 c = (search (needs, opened-there), search (needs, opened-frame))

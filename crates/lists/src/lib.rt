@@ -1,0 +1,75 @@
+// A transaction at its place in the cells: opened, its list of names searched and grown, a block taken. No function here is a public
+// entry of the library.
+ghost use mathlib.Core.Path.{_≡_};
+ghost use mathlib.Core.Bool.{false};
+ghost use Prim.Native.Nat.{_+_, _<_, _≤_};
+ghost use lib.ListN.{length};
+ghost use Rattle.model.specs.Card.{lists, withName, withBlock};
+ghost use Rattle.model.specs.Write.{passesTwelve};
+ghost use Rattle.cells.specs.Cells.{transactionIn};
+ghost use Rattle.cells.specs.Changes.{openedOr, IsPlace, Frame};
+use cells::BLOCKS;
+use cells::COUNT;
+use cells::NAMED;
+use cells::NAMES;
+use cells::byte_in;
+use cells::cell_of;
+use cells::clear;
+use cells::is_live;
+use cells::name_count;
+use cells::name_of;
+use cells::same_name;
+use model::Name;
+
+// Whether the list of the transaction at a place has the name.
+pub fn lists_name(w: &[u64], at: usize, n: Name) -> bool
+    requires { ⌜ (length (now w) ≡ 512) × (at + 24 ≤ 512) ⌝ }
+    ensures { λ r. ⌜ r ≡ lists (transactionIn (now (w .entry)) at) n ⌝ }
+{
+    let count = name_count(w, at);
+    let mut i: usize = 0;
+    while i < count {
+        let m = name_of(w[at + NAMES + i]);
+        if same_name(n, m) {
+            return true;
+        }
+        i += 1;
+    }
+    false
+}
+
+// The name added to the list, where it does not stand in it.
+pub fn add_name(w: &mut [u64], at: usize, n: Name)
+    requires { ⌜ (length (now w) ≡ 512) × IsPlace at × (n .core < 8) × (passesTwelve (transactionIn (now w) at) n ≡ false) ⌝ }
+    ensures { λ _. ⌜ (transactionIn (now (w .exit)) at ≡ withName (transactionIn (now (w .entry)) at) n) × Frame (now (w .entry)) (now (w .exit)) at 24 ⌝ }
+{
+    if lists_name(w, at, n) {
+        return;
+    }
+    let i = byte_in(w, at + NAMED);
+    let cell = cell_of(n);
+    w[at + NAMES + i as usize] = cell;
+    w[at + NAMED] = i as u64 + 1;
+}
+
+// The block taken.
+pub fn add_block(w: &mut [u64], at: usize, b: u8)
+    requires { ⌜ (length (now w) ≡ 512) × IsPlace at × ((transactionIn (now w) at) .count < 8) ⌝ }
+    ensures { λ _. ⌜ (transactionIn (now (w .exit)) at ≡ withBlock (transactionIn (now (w .entry)) at) b) × Frame (now (w .entry)) (now (w .exit)) at 24 ⌝ }
+{
+    let i = byte_in(w, at + COUNT);
+    w[at + BLOCKS + i as usize] = b as u64;
+    w[at + COUNT] = i as u64 + 1;
+}
+
+// The transaction at a place, or one that opens.
+pub fn open_at(w: &mut [u64], at: usize)
+    requires { ⌜ (length (now w) ≡ 512) × IsPlace at ⌝ }
+    ensures { λ _. ⌜ (transactionIn (now (w .exit)) at ≡ openedOr (transactionIn (now (w .entry)) at)) × Frame (now (w .entry)) (now (w .exit)) at 24 ⌝ }
+{
+    if is_live(w, at) {
+        return;
+    }
+    clear(w, at);
+    w[at] = 1;
+}
