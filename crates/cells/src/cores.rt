@@ -10,7 +10,10 @@ use crate::fields::core_place;
 // Core c with these numbers.
 pub fn put_numbers(w: &mut [u64], c: u8, next: u32, used: u8, stored: u8, homed: u8)
     requires { ⌜ (length (now w) ≡ 512) × (c < 8) ⌝ }
-    ensures { λ _. ⌜ (cardIn (now (w .exit)) ≡ withCore (cardIn (now (w .entry))) c (withNumbers (coreOf (cardIn (now (w .entry))) c) next used stored homed)) × Frame (now (w .entry)) (now (w .exit)) (corePlace c) 4 ⌝ }
+    ensures { λ _. ⌜
+        (cardIn (now (w .exit)) ≡ withCore (cardIn (now (w .entry))) c (withNumbers (coreOf (cardIn (now (w .entry))) c) next used stored homed))
+        × Frame (now (w .entry)) (now (w .exit)) (corePlace c) 4
+        ⌝ }
 {
     let at = core_place(c);
     w[at] = next as u64;

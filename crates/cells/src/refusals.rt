@@ -63,7 +63,10 @@ pub fn core_refusal(w: &[u64], c: u8) -> u8
 // What CLOSE, STORE and CHECKPOINT meet first: a wrong length, a card that is not up, a core that the disk has not.
 pub fn entry_refusal(w: &[u64], c: u8, disk: &[u8], memory: &[u8]) -> u8
     requires { ⌜ length (now w) ≡ 512 ⌝ }
-    ensures { λ r. ⌜ r ≡ refusal (notUp (worldIn (now (w .entry)) (now (disk .entry)) (now (memory .entry))) ((noCore (worldIn (now (w .entry)) (now (disk .entry)) (now (memory .entry))) c, 5) ∷ [])) ⌝ }
+    ensures { λ r. ⌜
+        r ≡ refusal (notUp (worldIn (now (w .entry)) (now (disk .entry)) (now (memory .entry)))
+        ((noCore (worldIn (now (w .entry)) (now (disk .entry)) (now (memory .entry))) c, 5) ∷ []))
+        ⌝ }
 {
     let n = state_refusal(w, disk, memory);
     if n != 0 {

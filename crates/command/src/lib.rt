@@ -98,7 +98,10 @@ fn next_offset(tape: &[u8], at: usize) -> usize
 
 // What a command meets before it is looked at.
 fn tape_refusal(tape: &[u8], at: usize, disk: &[u8], memory: &[u8]) -> u8
-    ensures { λ r. ⌜ ((x : Card) → r ≡ refusal ((wrongLength (world x (now (disk .entry)) (now (memory .entry))), 1) ∷ (isUnknown (now (tape .entry)) at, 2) ∷ (endsEarly (now (tape .entry)) at, 3) ∷ [])) ⌝ }
+    ensures { λ r. ⌜
+        ((x : Card) → r ≡ refusal ((wrongLength (world x (now (disk .entry)) (now (memory .entry))), 1)
+        ∷ (isUnknown (now (tape .entry)) at, 2) ∷ (endsEarly (now (tape .entry)) at, 3) ∷ []))
+        ⌝ }
 {
     if wrong_length(disk, memory) {
         return 1;
