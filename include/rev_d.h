@@ -67,18 +67,27 @@ extern "C" {
 #define REV_D_CELL_RECOVERED 5 /* while down: recovery has passed the home blocks below this one */
 #define REV_D_CELL_STORES 6    /* stores since format; the count stays at its largest */
 
-/* Groups: core c's tail has two cells from REV_D_FIRST_TAIL + 2 * c on: number, position. Block b's holder is cell
+/* Groups. Core c's tail has two cells from REV_D_FIRST_TAIL + 2 * c on: number, position. Block b's holder is cell
  * REV_D_FIRST_HOLDER + b: 0 for none, else 1 above the holder's name; a name is 8 * number + core. Core c has REV_D_CORE_SIZE cells
- * from REV_D_FIRST_CORE + REV_D_CORE_SIZE * c on: the number that runs or opens next, journal blocks of its committed unretired
- * records, stores done of its closed transaction, home stores done of its oldest committed one; from REV_D_CORE_RUNNING on its
- * running transaction, from REV_D_CORE_CLOSED on its closed one. A transaction has 24 cells: 1 where there is one, stamp, how many
- * blocks it took, how many names its list has, from 4 on the blocks, from 12 on the names. All other cells are unused and stay 0. */
+ * from REV_D_FIRST_CORE + REV_D_CORE_SIZE * c on: the number that runs or opens next, then those below. All other cells are unused and
+ * stay 0. */
 #define REV_D_FIRST_TAIL 16
 #define REV_D_FIRST_HOLDER 32
 #define REV_D_FIRST_CORE 96
 #define REV_D_CORE_SIZE 52
-#define REV_D_CORE_RUNNING 4
-#define REV_D_CORE_CLOSED 28
+#define REV_D_CORE_USED 1     /* journal blocks of its committed unretired records */
+#define REV_D_CORE_STORED 2   /* stores done of its closed transaction */
+#define REV_D_CORE_HOMED 3    /* home stores done of its oldest committed one */
+#define REV_D_CORE_RUNNING 4  /* its running transaction */
+#define REV_D_CORE_CLOSED 28  /* its closed one */
+
+/* A transaction has REV_D_TRANSACTION_SIZE cells: 1 where there is one, then: */
+#define REV_D_TRANSACTION_SIZE 24
+#define REV_D_TRANSACTION_STAMP 1
+#define REV_D_TRANSACTION_COUNT 2  /* how many blocks it took */
+#define REV_D_TRANSACTION_NAMED 3  /* how many names its list has */
+#define REV_D_TRANSACTION_BLOCKS 4 /* from here on the blocks */
+#define REV_D_TRANSACTION_NAMES 12 /* from here on the names */
 
 /* What came of a command: the offset of the next one, its number, its byte (0 past the tape's end). */
 struct rev_d_reply {
@@ -114,7 +123,8 @@ void rev_d_down(uint64_t *cells);
  * 1 FORMAT C, B, J | 2 WRITE core, block (2 bytes), offset, data (4 bytes) | 3 CLOSE core | 4 STORE core | 5 CHECKPOINT core | 6 CUT
  * | 7 RECOVER
  *
- * After 2 or 3 the tape ends: `next` is its length. */
+ * `next` is behind the command. After 2 or 3 the tape ends: `next` is its length, or `at` where that is greater. Over slices of a wrong
+ * length it is the same. */
 struct rev_d_reply rev_d_command(uint64_t *cells, const uint8_t *tape, size_t tape_length, size_t at, uint8_t *disk,
                                  size_t disk_length, uint8_t *memory, size_t memory_length);
 

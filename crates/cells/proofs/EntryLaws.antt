@@ -1,4 +1,4 @@
--- What CLOSE, STORE and CHECKPOINT meet first.
+-- What WRITE, CLOSE, STORE and CHECKPOINT meet first.
 use Prim.Native.Nat.{ℕ, _<_}
 use native.Mathlib.Omega.{arith}
 use mathlib.Core.Path.{_≡_, sym, _∙_}

@@ -19,9 +19,10 @@ use Rattle.model.specs.declared.Core.{Core}
 use Rattle.model.specs.declared.Holder.{Holder}
 use Rattle.model.specs.declared.Card.{Card}
 use Rattle.model.proofs.Lists.{cases, both-ways, getD-map-below}
-use Rattle.cells.proofs.FitsLaws.{in-place, fits-zero, fits-phase, fits-stores, fits-in-number, fits-in-position, fits-in-holder, fits-in-core, fits-set}
+use Rattle.cells.proofs.FitsLaws.{in-place, fits-zero, fits-phase, fits-in-number, fits-in-position, fits-in-holder, fits-in-core, fits-set}
 use Rattle.cells.proofs.CellLaws.{length-tabled, same-transaction, same-tail, same-core, same-card, same-shape, name-put, name-read, block-read, holder-cell, holder-read, core-at}
-use Rattle.cells.specs.Cells.{phaseIn, nameIn, holderIn, tailFrom, transactionIn, coreIn, cardIn, storesIn, corePlace, tailPlace, holderPlace, phaseCell, nameCell, holderCell, headerCell, tailCell, transactionCell, coreCell, cellOf, cellsOf, Exact, SizedName, SizedTransaction, SizedCore, SizedTail, SizedHolder, Sized}
+use Rattle.cells.specs.Cells.{phaseIn, nameIn, holderIn, tailFrom, transactionIn, coreIn, cardIn, storesIn, corePlace, tailPlace, holderPlace, phaseCell, nameCell, holderCell, headerCell, tailCell, transactionCell, coreCell, cellOf, cellsOf, Exact}
+use Rattle.cells.specs.Sized.{SizedName, SizedTransaction, SizedCore, SizedTail, SizedHolder, Sized}
 use Rattle.cells.specs.Changes.{fitsHeader, fitsTransaction, fitsCore, fitsAt, Fits}
 
 ruleset tests = (ltb-true, leb-true, eqb-true, lt-ltb, le-leb, eq-eqb)
@@ -319,9 +320,10 @@ module _ (w : List ℕ) where
   unfolding Fits Exact
   exact-fits e i h = cell-fits i h ∙ eq-eqb _ _ (ap (λ (v : List ℕ). getD v i 0) e ∙ cell-at (cardIn w) (storesIn w) i h)
 
-pub sized-fits : (x : Card) (n : ℕ) → Sized x → Fits (cellsOf x n)
+-- the cells of a card within its widths are those of their card and count
+pub sized-exact : (x : Card) (n : ℕ) → Sized x → Exact (cellsOf x n)
 unfolding Exact
-sized-fits x n s = exact-fits (cellsOf x n) (sym (ap₂ cellsOf (card-of-cells x n s) (stores-of-cells x n)))
+sized-exact x n s = sym (ap₂ cellsOf (card-of-cells x n s) (stores-of-cells x n))
 
 -- ---- the card blank, and down
 zero-fits : Fits (replicate 512 0)
@@ -336,20 +338,19 @@ pub blank-cells : cellsOf blankCard 0 ≡ replicate 512 0
 unfolding Exact
 blank-cells = ap (λ (x : Card). cellsOf x 0) (sym blank-read) ∙ sym (fits-exact (replicate 512 0) (length-replicate {A = ℕ} 512 0) zero-fits)
 
-module _ (n : ℕ) where
-  pub down-read : cardIn (set (set (replicate 512 0) 0 2) 6 n) ≡ downCard
-  unfolding cardIn coreIn transactionIn nameIn holderIn tailFrom phaseIn below downCard emptyCard freshCard
-  down-read = refl
+pub down-read : cardIn (set (replicate 512 0) 0 2) ≡ downCard
+unfolding cardIn coreIn transactionIn nameIn holderIn tailFrom phaseIn below downCard emptyCard freshCard
+down-read = refl
 
-  pub down-cells : cellsOf downCard n ≡ set (set (replicate 512 0) 0 2) 6 n
-  unfolding Exact
-  down-cells =
-      ap (λ (x : Card). cellsOf x n) (sym down-read)
-      ∙ sym (fits-exact (set (set (replicate 512 0) 0 2) 6 n) refl (fits-set _ 6 n (fits-stores n) (fits-set _ 0 2 (fits-phase 2 (omega arith)) zero-fits)))
+pub down-cells : cellsOf downCard 0 ≡ set (replicate 512 0) 0 2
+unfolding Exact
+down-cells =
+    ap (λ (x : Card). cellsOf x 0) (sym down-read)
+    ∙ sym (fits-exact (set (replicate 512 0) 0 2) refl (fits-set _ 0 2 (fits-phase 2 (omega arith)) zero-fits))
 
--- no store counted
-pub down-first-read : cardIn (set (replicate 512 0) 0 2) ≡ downCard
-down-first-read = down-read 0
+-- so a run starts with such cells
+pub blank-exact : Exact (cellsOf blankCard 0)
+blank-exact = sized-exact blankCard 0 (subst Sized blank-read (card-sized (replicate 512 0)))
 
-pub down-first : cellsOf downCard 0 ≡ set (replicate 512 0) 0 2
-down-first = down-cells 0
+pub down-exact : Exact (cellsOf downCard 0)
+down-exact = sized-exact downCard 0 (subst Sized down-read (card-sized (set (replicate 512 0) 0 2)))

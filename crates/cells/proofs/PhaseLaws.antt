@@ -17,7 +17,7 @@ use Rattle.cells.specs.Changes.{withNumbers, withTail, upWith, fitsAt, F
 use Rattle.cells.proofs.Parts.{filled, filled-none, filled-more, filled-all}
 use Rattle.cells.proofs.FitsLaws.{fits-zero, fits-phase, fits-field, frame-same, frame-set, frame-then, frame-wider}
 use Rattle.cells.proofs.CellLaws.{length-tabled, same-card, same-shape}
-use Rattle.cells.proofs.ExactLaws.{blank-read, blank-cells, down-first-read, down-first}
+use Rattle.cells.proofs.ExactLaws.{blank-read, blank-cells, down-read, down-cells}
 use Rattle.cells.proofs.CoreLaws.{tails-kept, cores-kept, holders-kept}
 
 -- ---- zeros
@@ -51,10 +51,10 @@ module _ (v : List ℕ) (size : length v ≡ 512) where
 -- ---- down
 module _ (v w : List ℕ) (e : w ≡ cellsOf blankCard 0) where
   pub down-left : set w 0 2 ≡ cellsOf downCard 0
-  down-left = ap (λ (u : List ℕ). set u 0 2) (e ∙ blank-cells) ∙ sym down-first
+  down-left = ap (λ (u : List ℕ). set u 0 2) (e ∙ blank-cells) ∙ sym down-cells
 
   pub down-seen : cardIn (set w 0 2) ≡ downCard
-  down-seen = ap (λ (u : List ℕ). cardIn (set u 0 2)) (e ∙ blank-cells) ∙ down-first-read
+  down-seen = ap (λ (u : List ℕ). cardIn (set u 0 2)) (e ∙ blank-cells) ∙ down-read
 
 pub down-frame : (v w : List ℕ) → Frame v w 0 512 → Frame v (set w 0 2) 0 512
 down-frame v w f = frame-then w (set w 0 2) v 0 512 f (frame-set w 0 512 0 2 (omega arith) (omega arith) (fits-phase 2 (omega arith)))

@@ -11,7 +11,7 @@ use Rattle.model.specs.declared.Phase.{Phase}
 use Rattle.model.specs.declared.Phase.the-variants.{Blank, Up, Down}
 use Rattle.cells.specs.declared.Answer.{Answer}
 use Rattle.cells.specs.Cells.{worldIn}
-use Rattle.cells.specs.Changes.{Fits}
+use Rattle.cells.specs.Changes.{Fits, Frame}
 
 abbrev pub newAnswer : ℕ → ℕ → Answer
 newAnswer n s = record { number = n; stores = s }
@@ -27,6 +27,11 @@ pub record Meets (o : Outcome) (v w : List ℕ) (d m : Bytes) (r : Answer) : Typ
   pub size : length w ≡ 512
   pub kept : Fits v → Fits w
   pub refused : (r .number ≡ 0 → ⊥) → w ≡ v
+
+-- One store of a command, over the cells v and the disk d: it left w and e. With any memory that is the outcome given.
+pub record Stores (f : World → Outcome) (v w : List ℕ) (d e : Bytes) : Type 0 where
+  pub outcome : (m : Bytes) → outcomeIn (newAnswer 0 1) w e m ≡ f (worldIn v d m)
+  pub frame : Frame v w 0 512
 
 -- of the refusals of two stages, the one met first; 0 for none
 unfoldable pub firstOf : ℕ → ℕ → ℕ

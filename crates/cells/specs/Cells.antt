@@ -1,12 +1,12 @@
 -- The card's state in 512 cells of eight bytes that the caller lends: what each cell means (`cardIn`), and the cells of a card and its
 -- count of stores (`cellsOf`).
 -- A field narrower than its cell is the cell modulo its width, so every value of a cell has a meaning.
-use Prim.Native.Nat.{ℕ, _+_, _-_, _*_, _/_, _%_, _<_}
+use Prim.Native.Nat.{ℕ, _+_, _-_, _*_, _/_, _%_}
 use mathlib.Core.Path.{_≡_}
 use mathlib.Core.List.{List, [], _∷_, map}
-use mathlib.Core.Bool.{false, cond, not}
+use mathlib.Core.Bool.{cond, not}
 use lib.Dec.{eqb, ltb}
-use lib.ListN.{length, getD}
+use lib.ListN.{getD}
 use Rattle.model.specs.Lists.{below}
 use Rattle.model.specs.Bytes.{Bytes}
 use Rattle.model.specs.Command.{World}
@@ -43,16 +43,41 @@ recoveredPlace = 5
 abbrev pub storesPlace : ℕ
 storesPlace = 6
 
--- A tail has two cells: number, position.
+-- Eight tails, 64 holders, eight cores.
+abbrev pub firstTail : ℕ
+firstTail = 16
+
+abbrev pub firstHolder : ℕ
+firstHolder = 32
+
+abbrev pub firstCore : ℕ
+firstCore = 96
+
+-- A tail has two cells: its number, then its position.
 abbrev pub tailPlace : ℕ → ℕ
-tailPlace c = 16 + 2 * c
+tailPlace c = firstTail + 2 * c
+
+abbrev pub positionPlace : ℕ → ℕ
+positionPlace a = a + 1
 
 abbrev pub holderPlace : ℕ → ℕ
-holderPlace b = 32 + b
+holderPlace b = firstHolder + b
 
--- A core has 52 cells: next, used, stored, homed, then its running transaction and its closed one.
+-- A core at a has its next number there, then used, stored, homed, its running transaction and its closed one.
+abbrev pub coreSize : ℕ
+coreSize = 52
+
 abbrev pub corePlace : ℕ → ℕ
-corePlace c = 96 + 52 * c
+corePlace c = firstCore + coreSize * c
+
+abbrev pub usedPlace : ℕ → ℕ
+usedPlace a = a + 1
+
+abbrev pub storedPlace : ℕ → ℕ
+storedPlace a = a + 2
+
+abbrev pub homedPlace : ℕ → ℕ
+homedPlace a = a + 3
 
 abbrev pub runningPlace : ℕ → ℕ
 runningPlace c = corePlace c + 4
@@ -60,7 +85,21 @@ runningPlace c = corePlace c + 4
 abbrev pub closedPlace : ℕ → ℕ
 closedPlace c = corePlace c + 28
 
--- A transaction has 24 cells: live, stamp, count, named, from 4 on the blocks, from 12 on the names.
+-- A transaction at a has 24 cells: whether there is one, then its stamp, the counts of its blocks and names, the blocks, the names.
+abbrev pub stampPlace : ℕ → ℕ
+stampPlace a = a + 1
+
+abbrev pub countPlace : ℕ → ℕ
+countPlace a = a + 2
+
+abbrev pub namedPlace : ℕ → ℕ
+namedPlace a = a + 3
+
+abbrev pub blockPlace : ℕ → ℕ → ℕ
+blockPlace a i = a + 4 + i
+
+abbrev pub namePlace : ℕ → ℕ → ℕ
+namePlace a i = a + 12 + i
 
 -- ---- what the cells mean
 -- a field of one byte, and of four
@@ -83,26 +122,26 @@ unfoldable pub holderIn : ℕ → Holder
 holderIn n = cond (eqb n 0) noHolder (newHolder (nameIn (n - 1)))
 
 unfoldable pub tailFrom : List ℕ → ℕ → Tail
-tailFrom w a = newTail (numberIn w a) (byteIn w (a + 1))
+tailFrom w a = newTail (numberIn w a) (byteIn w (positionPlace a))
 
 unfoldable pub transactionIn : List ℕ → ℕ → Transaction
 transactionIn w a =
     record {
       live = not (eqb (getD w a 0) 0);
-      stamp = getD w (a + 1) 0;
-      count = byteIn w (a + 2);
-      blocks = map (λ (i : ℕ). byteIn w (a + 4 + i)) (below 8);
-      named = byteIn w (a + 3);
-      names = map (λ (i : ℕ). nameIn (getD w (a + 12 + i) 0)) (below 12);
+      stamp = getD w (stampPlace a) 0;
+      count = byteIn w (countPlace a);
+      blocks = map (λ (i : ℕ). byteIn w (blockPlace a i)) (below 8);
+      named = byteIn w (namedPlace a);
+      names = map (λ (i : ℕ). nameIn (getD w (namePlace a i) 0)) (below 12);
     }
 
 unfoldable pub coreIn : List ℕ → ℕ → Core
 coreIn w a =
     record {
       next = numberIn w a;
-      used = byteIn w (a + 1);
-      stored = byteIn w (a + 2);
-      homed = byteIn w (a + 3);
+      used = byteIn w (usedPlace a);
+      stored = byteIn w (storedPlace a);
+      homed = byteIn w (homedPlace a);
       running = transactionIn w (a + 4);
       closed = transactionIn w (a + 28);
     }
@@ -163,9 +202,10 @@ tailCell t i = cond (eqb i 0) (t .number) (t .position)
 -- cell i of a card with n stores
 unfoldable pub cellOf : Card → ℕ → ℕ → ℕ
 cellOf x n i =
-    cond (ltb i 16) (headerCell x n i)
-    (cond (ltb i 32) (tailCell (tailOf x ((i - 16) / 2)) (i % 2))
-    (cond (ltb i 96) (holderCell (holderOf x (i - 32))) (coreCell (coreOf x ((i - 96) / 52)) ((i - 96) % 52))))
+    cond (ltb i firstTail) (headerCell x n i)
+    (cond (ltb i firstHolder) (tailCell (tailOf x ((i - firstTail) / 2)) (i % 2))
+    (cond (ltb i firstCore) (holderCell (holderOf x (i - firstHolder)))
+    (coreCell (coreOf x ((i - firstCore) / coreSize)) ((i - firstCore) % coreSize))))
 
 unfoldable pub cellsOf : Card → ℕ → List ℕ
 cellsOf x n = map (cellOf x n) (below 512)
@@ -173,41 +213,3 @@ cellsOf x n = map (cellOf x n) (below 512)
 -- cells that are those of their card and count: nothing stands in an unused cell or above a field's width
 unfoldable pub Exact : List ℕ → Type 0
 Exact w = w ≡ cellsOf (cardIn w) (storesIn w)
-
--- ---- cards that are the card of their cells: each array has its length, each field is within its width
--- A field of eight bytes has no bound here.
-pub record SizedName (n : Name) : Type 0 where
-  pub core : n .core < 8
-  pub number : n .number < 4294967296
-
-pub record SizedTransaction (t : Transaction) : Type 0 where
-  pub count : t .count < 256
-  pub named : t .named < 256
-  pub lengths : (length (t .blocks) ≡ 8) × (length (t .names) ≡ 12)
-  pub block : (i : ℕ) → i < 8 → getD (t .blocks) i 0 < 256
-  pub name : (i : ℕ) → i < 12 → SizedName (getD (t .names) i (newName 0 0))
-
-pub record SizedCore (k : Core) : Type 0 where
-  pub next : k .next < 4294967296
-  pub used : k .used < 256
-  pub stored : k .stored < 256
-  pub homed : k .homed < 256
-  pub running : SizedTransaction (k .running)
-  pub closed : SizedTransaction (k .closed)
-
-pub record SizedTail (t : Tail) : Type 0 where
-  pub number : t .number < 4294967296
-  pub position : t .position < 256
-
--- a block without a holder has no name
-pub record SizedHolder (h : Holder) : Type 0 where
-  pub name : SizedName (h .name)
-  pub free : h .held ≡ false → h ≡ noHolder
-
-pub record Sized (x : Card) : Type 0 where
-  pub shape : (x .shape .cores < 256) × (x .shape .blocks < 256) × (x .shape .journal < 256)
-  pub recovered : x .recovered < 256
-  pub lengths : (length (x .tails) ≡ 8) × (length (x .cores) ≡ 8) × (length (x .holders) ≡ 64)
-  pub tail : (c : ℕ) → c < 8 → SizedTail (tailOf x c)
-  pub core : (c : ℕ) → c < 8 → SizedCore (coreOf x c)
-  pub holder : (b : ℕ) → b < 64 → SizedHolder (holderOf x b)

@@ -5,6 +5,9 @@ ghost use lib.ListN.{length};
 ghost use Rattle.model.specs.Card.{coreOf, withCore};
 ghost use Rattle.cells.specs.Cells.{cardIn, corePlace};
 ghost use Rattle.cells.specs.Changes.{withNumbers, Frame};
+use crate::fields::HOMED;
+use crate::fields::STORED;
+use crate::fields::USED;
 use crate::fields::core_place;
 
 // Core c with these numbers.
@@ -17,7 +20,7 @@ pub fn put_numbers(w: &mut [u64], c: u8, next: u32, used: u8, stored: u8, homed:
 {
     let at = core_place(c);
     w[at] = next as u64;
-    w[at + 1] = used as u64;
-    w[at + 2] = stored as u64;
-    w[at + 3] = homed as u64;
+    w[at + USED] = used as u64;
+    w[at + STORED] = stored as u64;
+    w[at + HOMED] = homed as u64;
 }

@@ -22,8 +22,12 @@ pub const RECOVERED: usize = 5;
 
 pub const STORES: usize = 6;
 
-// Eight tails of two cells, 64 holders, eight cores.
+// Eight tails, each its number and its position; 64 holders, eight cores.
 pub const TAILS: usize = 16;
+
+pub const TAIL_SIZE: usize = 2;
+
+pub const POSITION: usize = 1;
 
 pub const HOLDERS: usize = 32;
 

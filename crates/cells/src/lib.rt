@@ -1,6 +1,6 @@
 // The card's state in 512 cells of eight bytes that the caller lends: fields read and put, the tails, transactions in place, the
-// block's holders, the refusals that come first. Its functions are no public entries: each asks for the length of the cells, which
-// the type fixes at the library's entries.
+// blocks' holders, the refusals that come first. No function here is a public entry of the library: each says in a `requires` what its
+// callers ensure.
 mod fields; // the header, and where each part stands
 mod cores; // a core's numbers
 mod transactions; // a transaction at its place

@@ -60,7 +60,7 @@ pub fn core_refusal(w: &[u64], c: u8) -> u8
     0
 }
 
-// What CLOSE, STORE and CHECKPOINT meet first: a wrong length, a card that is not up, a core that the disk has not.
+// What WRITE, CLOSE, STORE and CHECKPOINT meet first: a wrong length, a card that is not up, a core that the disk has not.
 pub fn entry_refusal(w: &[u64], c: u8, disk: &[u8], memory: &[u8]) -> u8
     requires { ⌜ length (now w) ≡ 512 ⌝ }
     ensures { λ r. ⌜

@@ -1,7 +1,7 @@
 // The count of stores, which is no part of the card.
 ghost use mathlib.Core.Path.{_≡_};
 ghost use lib.ListN.{length, set};
-ghost use Rattle.cells.specs.Cells.{storesIn};
+ghost use Rattle.cells.specs.Cells.{storesPlace, storesIn};
 use crate::fields::STORES;
 
 pub fn stores_of(w: &[u64]) -> u64
@@ -13,7 +13,7 @@ pub fn stores_of(w: &[u64]) -> u64
 
 pub fn put_stores(w: &mut [u64], n: u64)
     requires { ⌜ length (now w) ≡ 512 ⌝ }
-    ensures { λ _. ⌜ now (w .exit) ≡ set (now (w .entry)) 6 n ⌝ }
+    ensures { λ _. ⌜ now (w .exit) ≡ set (now (w .entry)) storesPlace n ⌝ }
 {
     w[STORES] = n;
 }

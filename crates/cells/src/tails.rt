@@ -5,6 +5,8 @@ ghost use lib.ListN.{length};
 ghost use Rattle.model.specs.Card.{tailOf};
 ghost use Rattle.cells.specs.Cells.{cardIn, tailPlace};
 ghost use Rattle.cells.specs.Changes.{withTail, Frame};
+use crate::fields::POSITION;
+use crate::fields::TAIL_SIZE;
 use crate::fields::TAILS;
 use crate::fields::byte_in;
 use crate::fields::number_in;
@@ -15,10 +17,10 @@ pub fn tail_at(w: &[u64], c: u8) -> Tail
     requires { ⌜ (length (now w) ≡ 512) × (c < 8) ⌝ }
     ensures { λ r. ⌜ r ≡ tailOf (cardIn (now (w .entry))) c ⌝ }
 {
-    let at = TAILS + 2 * c as usize;
+    let at = TAILS + TAIL_SIZE * c as usize;
     Tail {
         number: number_in(w, at),
-        position: byte_in(w, at + 1),
+        position: byte_in(w, at + POSITION),
     }
 }
 
@@ -47,7 +49,7 @@ pub fn put_tail(w: &mut [u64], c: u8, t: Tail)
         × Frame (now (w .entry)) (now (w .exit)) (tailPlace c) 2
         ⌝ }
 {
-    let at = TAILS + 2 * c as usize;
+    let at = TAILS + TAIL_SIZE * c as usize;
     w[at] = t.number as u64;
-    w[at + 1] = t.position as u64;
+    w[at + POSITION] = t.position as u64;
 }

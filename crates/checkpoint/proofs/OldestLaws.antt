@@ -36,13 +36,13 @@ use Rattle.journal.specs.Newest.{sharesBelow}
 use Rattle.journal.proofs.Slots.{number-at}
 use Rattle.journal.proofs.Commands.{slots-valid, slots-share}
 use Rattle.journal.proofs.Sets.{in-slot}
-use Rattle.cells.specs.Answer.{newAnswer, firstOf, Meets}
+use Rattle.cells.specs.Answer.{newAnswer, firstOf, Meets, Stores}
 use Rattle.cells.specs.declared.Answer.{Answer}
 use Rattle.cells.specs.Cells.{cardIn, world, worldIn}
 use Rattle.cells.proofs.RefusalLaws.{first-hit, first-pass, refusal-joined, refusal-next}
 use Rattle.cells.proofs.EntryLaws.{entry, Entered, entered}
 use Rattle.cells.proofs.MeetLaws.{meets-refused, meets-done}
-use Rattle.checkpoint.specs.Oldest.{countAt, counts, Counts, oldestAt, IsRead, lowerClosed, closedLower, lowerShares, oldestConditions, nextStore, oldestOutcome, Stores, IsOldest}
+use Rattle.checkpoint.specs.Oldest.{countAt, counts, Counts, oldestAt, IsRead, lowerClosed, closedLower, lowerShares, oldestConditions, nextStore, oldestOutcome, IsOldest}
 use Rattle.checkpoint.proofs.SharedLaws.{core-low}
 use Rattle.checkpoint.proofs.CountLaws.{count-in, reads-card, core-below}
 

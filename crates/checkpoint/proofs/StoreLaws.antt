@@ -23,7 +23,8 @@ use Rattle.cells.specs.Cells.{world}
 use Rattle.cells.specs.Cells.{byteIn, cardIn, corePlace}
 use Rattle.cells.specs.Changes.{Frame}
 use Rattle.cells.proofs.FitsLaws.{frame-wider}
-use Rattle.checkpoint.specs.Oldest.{nextStore, Stores}
+use Rattle.cells.specs.Answer.{Stores}
+use Rattle.checkpoint.specs.Oldest.{nextStore}
 use Rattle.checkpoint.proofs.RetireLaws.{homed-is}
 use Rattle.checkpoint.proofs.SharedLaws.{shape-range}
 

@@ -24,10 +24,8 @@ use Rattle.model.proofs.Journal.{Known}
 use Rattle.layout.specs.Loops.{some}
 use Rattle.journal.specs.Slots.{entries}
 use Rattle.journal.specs.Newest.{sharesBelow}
-use Rattle.cells.specs.Answer.{outcomeIn, newAnswer}
-use Rattle.cells.specs.Cells.{worldIn}
 use Rattle.cells.specs.Cells.{holderIn}
-use Rattle.cells.specs.Changes.{fitsAt, Frame}
+use Rattle.cells.specs.Changes.{fitsAt}
 
 -- ---- read
 -- core c's count; a journal has no more than twelve records
@@ -84,11 +82,6 @@ nextStore c e w = cond (ltb ((coreOf (w .card) c) .homed) (e .count)) (storedHom
 -- refused, or its next store
 unfoldable pub oldestOutcome : ℕ → Committed → World → Outcome
 oldestOutcome c e w = unless (oldestConditions e w) w (nextStore c e w)
-
--- One store of a checkpoint, over the cells v and the disk d: it left w and k. With any memory that is the outcome given.
-pub record Stores (o : World → Outcome) (v w : List ℕ) (d k : Bytes) : Type 0 where
-  pub outcome : (m : Bytes) → outcomeIn (newAnswer 0 1) w k m ≡ o (worldIn v d m)
-  pub frame : Frame v w 0 512
 
 -- the card with no block held by the transaction of this name
 abbrev pub withReleased : Card → Name → Card

@@ -19,7 +19,8 @@ use Rattle.cells.specs.declared.Answer.{Answer}
 use Rattle.cells.proofs.FitsLaws.{fits-set, fits-stores, frame-set}
 use Rattle.cells.proofs.CoreLaws.{stores-unseen}
 use Rattle.cells.proofs.ExactLaws.{fits-exact, exact-fits}
-use Rattle.command.specs.Counting.{counted, countedIn, Performs}
+use Rattle.command.specs.Counting.{counted, Performs}
+use Rattle.command.specs.Counted.{countedIn}
 
 -- ---- the count
 pub counted-most : (n k : ℕ) → 18446744073709551615 - n < k → n < 18446744073709551616 → 18446744073709551615 ≡ counted n k

@@ -2,21 +2,14 @@
 use Prim.Native.Nat.{ℕ, _+_, min, max}
 use mathlib.Core.Path.{_≡_}
 use mathlib.Core.List.{List}
-use mathlib.Core.Bool.{cond}
-use lib.Dec.{eqb}
-use lib.ListN.{set}
 use Rattle.model.specs.Bytes.{Bytes}
 use Rattle.model.specs.Command.{Outcome}
 use Rattle.cells.specs.Cells.{storesIn, Exact, worldIn}
-use Rattle.cells.specs.declared.Answer.{Answer}
 
--- a count of stores grown by k, up to the largest number of eight bytes
+-- a count of stores grown by k, up to the largest number of eight bytes; a larger count, which no cell has, stays, so that a refusal
+-- keeps every count
 unfoldable pub counted : ℕ → ℕ → ℕ
 counted n k = max n (min (n + k) 18446744073709551615)
-
--- the cells with the count after a command; n before it. A refusal puts nothing.
-unfoldable pub countedIn : List ℕ → ℕ → Answer → List ℕ
-countedIn w n a = cond (eqb (a .number) 0) (set w 6 (counted n (a .stores))) w
 
 -- A command that found the cells v, left w, d and m and answered n: the answer and the world of its outcome, its stores counted;
 -- cells that are those of their card and count stay so; a refusal leaves every cell as it was.

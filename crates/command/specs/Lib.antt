@@ -1,2 +1,3 @@
--- What the contract of a counted command says.
+-- What the contract of a counted command says, and the count put.
 pub mod Counting
+pub mod Counted

@@ -2,11 +2,11 @@
 use Prim.Native.Nat.{ℕ, _+_, _≤_, _<_}
 use native.Mathlib.Omega.{arith}
 use mathlib.Core.Path.{_≡_, refl, sym, ap, _∙_, subst}
-use mathlib.Core.Bool.{Bool}
+use mathlib.Core.Bool.{Bool, true, not}
 use mathlib.Core.List.{List, [], _∷_}
 use lib.ListN.{length, getD}
-use lib.Dec.{ltb}
-use borrow.Author.Tests.{lt-ltb, eq-eqb, ne-eqb}
+use lib.Dec.{ltb, eqb}
+use borrow.Author.Tests.{lt-ltb, eq-eqb, ne-eqb, eqb-false, not-true}
 use Rattle.model.specs.Bytes.{Bytes}
 use Rattle.model.specs.Shape.{homeBlock}
 use Rattle.model.specs.Card.{holderOf, coreOf, downCard}
@@ -20,7 +20,8 @@ use Rattle.model.specs.Commit.{closed, stored}
 use Rattle.model.specs.Checkpoint.{committedOf, oldest, storedHome, storedMaster, checkpointed}
 use Rattle.model.specs.Recovery.{blocksLeft, recoverStep, recovered}
 use Rattle.model.proofs.Command.{Decided, refused, carried-out, of-command, Row, rowOf, command-decided}
-use Rattle.model.proofs.Lists.{cases, mem-all, mem-getD}
+use Rattle.model.specs.Lists.{all}
+use Rattle.model.proofs.Lists.{cases, and-left, and-right, mem-all, mem-getD}
 use Rattle.model.proofs.Store.{length-blockAt}
 use Rattle.model.proofs.Tape.{Runs, at-end, one-more, next-past, next-within, run-runs}
 use Rattle.crash.specs.Service.{emptyService}
@@ -33,10 +34,18 @@ use Rattle.reading.specs.Part.{partOf}
 use Rattle.reading.proofs.ReadLaws.{readable}
 use Rattle.command.specs.Counting.{counted}
 use Rattle.command.proofs.CountLaws.{counted-sum, counted-none, counted-more}
-use Rattle.firmware.specs.Session.{storesAfter, newStop, stopAfter, readInto, partIn, DemandsMet, RunsCommand, RunsTape}
+use Rattle.firmware.specs.Session.{storesAfter, allRefused, newStop, stopAfter, readInto, partIn, DemandsMet, RunsCommand, RunsTape}
 use Rattle.firmware.specs.declared.session.Reply.{Reply}
 use Rattle.firmware.specs.declared.session.Stop.{Stop}
 use Rattle.firmware.specs.declared.session.Part as wide
+
+-- ---- a run in which every command was refused
+refused-more : (p : Point) (ps : List Point) → allRefused (p ∷ ps) ≡ true → (p .outcome .answer ≡ 0 → ⊥) × (allRefused ps ≡ true)
+unfolding allRefused all
+refused-more p ps h =
+    let a : Bool = not (eqb (p .outcome .answer) 0) in
+    let b : Bool = all (λ (q : Point). not (eqb (q .outcome .answer) 0)) ps in
+    (eqb-false (p .outcome .answer) 0 (not-true (eqb (p .outcome .answer) 0) (and-left a b h)), and-right a b h)
 
 -- ---- a run from an offset on
 module _ (t : Bytes) where
@@ -45,6 +54,7 @@ module _ (t : Bytes) where
     pub runs : Runs step t (nextOffset t at) (n + (commandAt step t at w) .stores) ((commandAt step t at w) .world) rest
     pub world-after : worldAfter w ps ≡ worldAfter ((commandAt step t at w) .world) rest
     pub total : storesAfter n ps ≡ storesAfter (n + (commandAt step t at w) .stores) rest
+    pub held : allRefused ps ≡ true → ((commandAt step t at w) .answer ≡ 0 → ⊥) × (allRefused rest ≡ true)
     pub last : (s : Stop) → stopAfter s ps ≡ stopAfter (newStop at ((commandAt step t at w) .answer) (commandByte t at)) rest
 
   further : {at n : ℕ} {w : World} {ps : List Point} → Runs step t at n w ps → at < length t → Further at n w ps
@@ -56,6 +66,7 @@ module _ (t : Bytes) where
         runs = subst (λ (p : Point). Runs step t (nextOffset t at) (p .stores) (p .outcome .world) ps) e r;
         world-after = ap (λ (p : Point). worldAfter (p .outcome .world) ps) e;
         total = ap (λ (p : Point). storesAfter (p .stores) ps) e;
+        held = λ h. let q = refused-more p ps h in (λ z. q .0 (ap (λ (p : Point). p .outcome .answer) e ∙ z), q .1);
         last = λ s. ap (λ (p : Point). stopAfter (newStop (p .offset) (p .outcome .answer) (p .byte)) ps) e;
       }
 
@@ -111,6 +122,7 @@ pub record Left (t : Bytes) (v₀ : List ℕ) (d₀ m₀ : Bytes) (at : ℕ) (v 
   pub total : storesAfter count points ≡ storesAfter 0 (run step t (worldIn v₀ d₀ m₀))
   pub capped : storesIn v ≡ counted (storesIn v₀) count
   pub exact : Exact v₀ → Exact v
+  pub held : allRefused (run step t (worldIn v₀ d₀ m₀)) ≡ true → (v ≡ v₀) × (allRefused points ≡ true)
   pub stops : stopAfter s points ≡ stopAfter (newStop 0 0 0) (run step t (worldIn v₀ d₀ m₀))
 
 pub left-start : (t : Bytes) (v : List ℕ) (d m : Bytes) → Left t v d m 0 v d m (newStop 0 0 0)
@@ -123,6 +135,7 @@ left-start t v d m =
       total = refl;
       capped = counted-none (storesIn v);
       exact = λ x. x;
+      held = λ h. (refl, h);
       stops = refl;
     }
 
@@ -140,6 +153,7 @@ module _ (t : Bytes) (v₀ : List ℕ) (d₀ m₀ : Bytes) (at : ℕ) (v : List 
         total = sym (f .total) ∙ l .total;
         capped = p .stores ∙ ap (λ (n : ℕ). counted n (o .stores)) (l .capped) ∙ counted-more (storesIn v₀) (l .count) (o .stores);
         exact = λ x. p .exact (l .exact x);
+        held = λ h. let q = l .held h in let g = f .held (q .1) in (p .refused (λ z. g .0 (sym (p .answer) ∙ z)) ∙ q .0, g .1);
         stops = rw (p .answer, c .byte) (sym (f .last s)) ∙ l .stops;
       }
 
@@ -152,6 +166,7 @@ module _ (t : Bytes) (v₀ : List ℕ) (d₀ m₀ : Bytes) (at : ℕ) (v : List 
         stores = n;
         from-none = λ z. n ∙ ap (λ (k : ℕ). counted k (storesAfter 0 (run step t (worldIn v₀ d₀ m₀)))) z ∙ run-stores t (worldIn v₀ d₀ m₀) q;
         exact = l .exact;
+        refused = λ z. l .held z .0;
         stopped = sym (f .2 s) ∙ l .stops;
         demands = x;
       }

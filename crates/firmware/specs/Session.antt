@@ -3,9 +3,10 @@
 use Prim.Native.Nat.{ℕ}
 use mathlib.Core.Path.{_≡_}
 use mathlib.Core.List.{List, [], _∷_}
-use mathlib.Core.Bool.{true, cond}
+use mathlib.Core.Bool.{Bool, true, cond, not}
 use lib.ListN.{length}
 use lib.Dec.{eqb}
+use Rattle.model.specs.Lists.{all}
 use Rattle.model.specs.Bytes.{Bytes}
 use Rattle.model.specs.Shape.{inRange}
 use Rattle.model.specs.Card.{blankCard, downCard}
@@ -28,6 +29,10 @@ use Rattle.firmware.specs.declared.session.Part.{Part}
 unfoldable pub storesAfter : ℕ → List Point → ℕ
 storesAfter n [] = n
 storesAfter n (p ∷ ps) = storesAfter (p .stores) ps
+
+-- every command of a run was refused
+unfoldable pub allRefused : List Point → Bool
+allRefused ps = all (λ (p : Point). not (eqb (p .outcome .answer) 0)) ps
 
 -- where a run stopped: its last command's offset, number and byte
 abbrev pub newStop : ℕ → ℕ → ℕ → Stop
@@ -61,12 +66,13 @@ pub record RunsCommand (t : Bytes) (at : ℕ) (v : List ℕ) (d m : Bytes) (u : 
   pub next : r .next ≡ nextOffset t at
 
 -- A tape t run over the cells v, the disk d and memory m left u, e and k: the world after the run, its stores counted, and
--- exactly where none were counted before; cells that are those of their card and count stay so; where it stopped; and the run meets
--- the demands.
+-- exactly where none were counted before; cells that are those of their card and count stay so; where every command was
+-- refused, every cell is as it was; where it stopped; and the run meets the demands.
 pub record RunsTape (t : Bytes) (v : List ℕ) (d m : Bytes) (u : List ℕ) (e k : Bytes) (r : Stop) : Type 0 where
   pub world : worldIn u e k ≡ worldAfter (worldIn v d m) (run step t (worldIn v d m))
   pub stores : storesIn u ≡ counted (storesIn v) (storesAfter 0 (run step t (worldIn v d m)))
   pub from-none : storesIn v ≡ 0 → storesIn u ≡ storesAfter 0 (run step t (worldIn v d m))
   pub exact : Exact v → Exact u
+  pub refused : allRefused (run step t (worldIn v d m)) ≡ true → u ≡ v
   pub stopped : r ≡ stopAfter (newStop 0 0 0) (run step t (worldIn v d m))
   pub demands : DemandsMet t (worldIn v d m)

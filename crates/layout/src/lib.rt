@@ -1,5 +1,5 @@
 // The bytes of the blocks, written and read: master, descriptor, commit, data. A block is a part of 128 bytes that the
-// caller lends. No function here is a public entry of the library: each says in a `requires` what its callers ensure.
+// caller lends; the master store and a home store lend it of the whole disk. No function here is a public entry of the library: each says in a `requires` what its callers ensure.
 mod commit_block;
 mod data;
 mod descriptor_block;

@@ -27,12 +27,12 @@ use Rattle.journal.specs.Slots.{entries}
 use Rattle.journal.specs.Newest.{firstOr, heldFrom}
 use Rattle.cells.specs.Cells.{byteIn, cardIn, world, worldIn}
 use Rattle.cells.specs.Changes.{Frame}
-use Rattle.cells.specs.Answer.{newAnswer, Meets}
+use Rattle.cells.specs.Answer.{newAnswer, Meets, Stores}
 use Rattle.cells.proofs.RefusalLaws.{none-held}
 use Rattle.cells.proofs.MeetLaws.{meets-refused, meets-done}
 use Rattle.cells.proofs.FitsLaws.{fits-field, frame-set, frame-wider}
 use Rattle.cells.proofs.CoreLaws.{recovered-put}
-use Rattle.recovery.specs.Recovering.{tailAfter, Shaped, OnDisk, IsValid, Stores}
+use Rattle.recovery.specs.Recovering.{tailAfter, Shaped, OnDisk, IsValid}
 use Rattle.recovery.proofs.JournalLaws.{tails-after, left-first}
 
 -- ---- the command

@@ -9,7 +9,6 @@ use Rattle.model.specs.Lists.{below}
 use Rattle.model.specs.Bytes.{Bytes, blockAt}
 use Rattle.model.specs.Card.{newTail}
 use Rattle.model.specs.Layout.{isMaster}
-use Rattle.model.specs.Command.{World, Outcome}
 use Rattle.model.specs.Recovery.{shapeOn, validOn, tailPast}
 use Rattle.model.specs.declared.Shape.{Shape}
 use Rattle.model.specs.declared.Tail.{Tail}
@@ -17,9 +16,6 @@ use Rattle.model.proofs.Limits.{InRange}
 use Rattle.layout.specs.Tails.{tailOrNone}
 use Rattle.journal.specs.Slots.{numbersOf, entries, filledFrom}
 use Rattle.journal.specs.Walk.{Reads}
-use Rattle.cells.specs.Changes.{Frame}
-use Rattle.cells.specs.Answer.{outcomeIn, newAnswer}
-use Rattle.cells.specs.Cells.{worldIn}
 
 -- the tail numbers of a disk's master
 unfoldable pub numbersOn : Bytes → List ℕ
@@ -45,8 +41,3 @@ pub record OnDisk (s : Shape) (d : Bytes) (ts : List Tail) (set : List ℕ) : Ty
 -- slots that are the valid set of a disk
 pub record IsValid (s : Shape) (d : Bytes) (set : List ℕ) : Type 0 where
   pub valid : entries s d (numbersOn d) set ≡ validOn d
-
--- One store of recovery, over the cells v and the disk d: it left w and e. With any memory that is the outcome given.
-pub record Stores (f : World → Outcome) (v w : List ℕ) (d e : Bytes) : Type 0 where
-  pub outcome : (m : Bytes) → outcomeIn (newAnswer 0 1) w e m ≡ f (worldIn v d m)
-  pub frame : Frame v w 0 512

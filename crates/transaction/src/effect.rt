@@ -86,7 +86,7 @@ fn take_hold(w: &mut [u64], f: Found)
     hold(w, f.block, f.own);
 }
 
-// All three.
+// What a WRITE makes of the cells: the holder's list, the writer, the block's holder.
 pub fn write_state(w: &mut [u64], f: Found)
     requires { ⌜ (length (now w) ≡ 512) × Bounded f × (f ≡ foundAt (cardIn (now w)) (f .core) (f .block)) × Room (cardIn (now w)) f ⌝ }
     ensures { λ _. ⌜ (cardIn (now (w .exit)) ≡ writtenCard (cardIn (now (w .entry))) (f .core) (f .block))

@@ -15,6 +15,7 @@ use crate::rules::has_running;
 use crate::rules::is_named_back;
 use crate::rules::names_holder;
 use crate::rules::takes_block;
+use cells::USED;
 use cells::block_count;
 use cells::byte_in;
 use cells::closed_place;
@@ -91,7 +92,7 @@ fn closed_blocks(w: &[u64], c: u8) -> usize
     requires { ⌜ (length (now w) ≡ 512) × (c < 8) ⌝ }
     ensures { λ r. ⌜ (r ≡ closedBlocks (coreOf (cardIn (now (w .entry))) c)) × (r ≤ 265) ⌝ }
 {
-    let used = byte_in(w, core_place(c) + 1) as usize;
+    let used = byte_in(w, core_place(c) + USED) as usize;
     let at = closed_place(c);
     if !is_live(w, at) {
         return used;
