@@ -19,8 +19,7 @@ use Rattle.model.proofs.Limits.{clamped-same}
 use Rattle.journal.specs.Newest.{imageAt}
 use Rattle.journal.specs.declared.newest.Image.{Image}
 use Rattle.journal.proofs.Model.{image-bytes}
-use Rattle.cells.specs.Cells.{world}
-use Rattle.cells.specs.Cells.{byteIn, cardIn, corePlace}
+use Rattle.cells.specs.Cells.{world, byteIn, cardIn, corePlace}
 use Rattle.cells.specs.Changes.{Frame}
 use Rattle.cells.proofs.FitsLaws.{frame-wider}
 use Rattle.cells.specs.Answer.{Stores}

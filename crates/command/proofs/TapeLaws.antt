@@ -21,12 +21,11 @@ use Rattle.model.specs.Recovery.{cut, recover}
 use Rattle.model.specs.Tape.{operandLengths, operandLength, step, commandByte, operandsAt, isUnknown, endsEarly, commandAt, nextOffset}
 use Rattle.model.specs.declared.Card.{Card}
 use Rattle.model.proofs.Lists.{cases, all-mem, getD-mem}
-use Rattle.model.proofs.Command.{tapeConditions, refusal-clear}
+use Rattle.model.proofs.Command.{tapeConditions, refusal-clear, unless-done}
 use Rattle.cells.specs.declared.Answer.{Answer}
 use Rattle.cells.specs.Answer.{newAnswer, Meets}
 use Rattle.cells.specs.Cells.{world, worldIn}
 use Rattle.cells.proofs.MeetLaws.{meets-refused, meets-same}
-use Rattle.model.proofs.Command.{unless-done}
 
 -- past the end of a slice stands 0
 pub byte-past : (s : Bytes) (i : ℕ) → length s ≤ i → 0 ≡ getD s i 0

@@ -19,8 +19,7 @@ use Rattle.model.proofs.Command.{Clear, Numbered, refusal-clear}
 use Rattle.model.proofs.OneStore.{shape-limits, right-lengths}
 use Rattle.layout.proofs.Blocks.{sets-replaced}
 use Rattle.cells.specs.Answer.{newAnswer, firstOf, Meets}
-use Rattle.cells.specs.Cells.{world, worldIn}
-use Rattle.cells.specs.Cells.{cardIn}
+use Rattle.cells.specs.Cells.{world, worldIn, cardIn}
 use Rattle.cells.specs.Changes.{Frame}
 use Rattle.cells.proofs.RefusalLaws.{first-hit, first-pass, refusal-joined, refusal-next, refusal-one}
 use Rattle.cells.proofs.EntryLaws.{entry, entry-hit, entry-pass}
