@@ -1,8 +1,6 @@
-// One command at an offset of a tape: its byte, its operands, the refusals 1, 2 and 3, and where the next one stands.
-// Offsets are compared by subtraction: past the tape's end a sum could pass the largest offset.
+// One command at an offset of a tape: the refusals 1, 2 and 3, which of the seven commands it is, and its stores counted.
 ghost use mathlib.Core.Path.{_≡_};
 ghost use mathlib.Core.List.{[], _∷_};
-ghost use Prim.Native.Nat.{_≤_};
 ghost use lib.ListN.{length, getD};
 ghost use Rattle.model.specs.Bytes.{number, part};
 ghost use Rattle.model.specs.Command.{refusal, wrongLength};
@@ -17,84 +15,21 @@ use cells::wrong_length;
 use checkpoint::checkpoint;
 use commit::close;
 use commit::store;
+use cut::cut;
 use format::format;
 use model::Card;
-use recovery::cut;
+use operands::byte_at;
+use operands::ends_early;
+use operands::is_unknown;
+use operands::next_offset;
 use recovery::recover;
 use transaction::write;
-
-// The bytes of the operands of commands 1 to 7; there is no command 0.
-const OPERAND_LENGTHS: [u8; 8] = [0, 3, 8, 1, 1, 1, 0, 0];
 
 // What came of the command at an offset: its answer, its byte, and the offset of the next one.
 pub struct Performed {
     pub answer: Answer,
     pub byte: u8,
     pub next: usize,
-}
-
-// The byte at an offset, 0 past the end.
-fn byte_at(s: &[u8], i: usize) -> u8
-    ensures { λ r. ⌜ r ≡ getD (now (s .entry)) i 0 ⌝ }
-{
-    if s.len() <= i {
-        return 0;
-    }
-    s[i]
-}
-
-// How many bytes of operands command k has; none where there is no such command.
-pub fn operand_length(k: u8) -> usize
-    ensures { λ r. ⌜ (r ≡ operandLength k) × (r ≤ 8) ⌝ }
-{
-    let i = k as usize;
-    if 8 <= i {
-        return 0;
-    }
-    let n = OPERAND_LENGTHS[i];
-    n as usize
-}
-
-// Refusal 2, a byte that is no command.
-fn is_unknown(tape: &[u8], at: usize) -> bool
-    ensures { λ r. ⌜ r ≡ isUnknown (now (tape .entry)) at ⌝ }
-{
-    if tape.len() <= at {
-        return false;
-    }
-    let k = byte_at(tape, at);
-    if k < 1 {
-        return true;
-    }
-    7 < k
-}
-
-// Refusal 3, operands that end early.
-fn ends_early(tape: &[u8], at: usize) -> bool
-    ensures { λ r. ⌜ r ≡ endsEarly (now (tape .entry)) at ⌝ }
-{
-    if tape.len() <= at {
-        return true;
-    }
-    let n = operand_length(byte_at(tape, at));
-    tape.len() - at <= n
-}
-
-// Where the next command stands: behind this one, or at the tape's end where this one is unknown or ends early.
-fn next_offset(tape: &[u8], at: usize) -> usize
-    ensures { λ r. ⌜ r ≡ nextOffset (now (tape .entry)) at ⌝ }
-{
-    if tape.len() <= at {
-        return at;
-    }
-    if is_unknown(tape, at) {
-        return tape.len();
-    }
-    if ends_early(tape, at) {
-        return tape.len();
-    }
-    let n = operand_length(byte_at(tape, at));
-    at + 1 + n
 }
 
 // What a command meets before it is looked at.

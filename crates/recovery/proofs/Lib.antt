@@ -1,5 +1,4 @@
--- Laws that the proofs of CUT and RECOVER cite.
+-- Laws that the proofs of RECOVER cite.
 pub mod MasterLaws
 pub mod JournalLaws
-pub mod CutLaws
 pub mod RecoverLaws

@@ -1,2 +1,2 @@
--- What the contracts of CUT and RECOVER say beyond the crates `model` and `cells`.
+-- What the contracts of RECOVER say beyond the crates `model` and `cells`.
 pub mod Recovering

@@ -1,10 +1,8 @@
-// CUT and RECOVER over the lent cells, and how many home blocks a card counts.
-mod cutting; // CUT
+// RECOVER over the lent cells, and how many home blocks a card counts.
 mod home; // the home blocks that a card counts
 mod journals; // all journals of a disk: their tails, the valid set, the newest images
 mod master; // the first block of a disk
 mod restoring; // RECOVER
 
-pub use cutting::cut;
 pub use home::home_count;
 pub use restoring::recover;

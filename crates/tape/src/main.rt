@@ -33,7 +33,7 @@ fn read_command(text: &mut [u8]) -> usize
     if io::read_full(0, &mut text[0..1]) == 0 {
         return 0;
     }
-    let end = 1 + command::operand_length(text[0]);
+    let end = 1 + operands::operand_length(text[0]);
     let got = io::read_full(0, &mut text[1..end]);
     1 + got
 }

@@ -1,11 +1,11 @@
--- `command::operand_length` meets its contract: the table is the definition's; past it there is no command.
+-- `operands::operand_length` meets its contract: the table is the definition's; past it there is no command.
 use mathlib.Core.Path.{refl}
 use native.Mathlib.Omega.{arith}
 use Rattle.model.specs.Tape.{operandLengths, operandLength}
-use Rattle.command.proofs.TapeLaws.{length-past, length-few}
+use Rattle.operands.proofs.OffsetLaws.{length-past, length-few}
 use borrow.Author.Needs.{needs}
-use Rattle.command.proofs.operand_length.Statement.{statement}
-use Rattle.command.proofs.operand_length.Tie as tie
+use Rattle.operands.proofs.operand_length.Statement.{statement}
+use Rattle.operands.proofs.operand_length.Tie as tie
 
 returns : tie.Need-returns
 returns c = (length-past _ (search needs), omega arith)

@@ -1,8 +1,8 @@
--- `command::next_offset` meets its contract: behind the command, or the tape's end.
-use Rattle.command.proofs.TapeLaws.{next-past, next-unknown, next-early, next-whole}
+-- `operands::next_offset` meets its contract: behind the command, or the tape's end.
+use Rattle.operands.proofs.OffsetLaws.{next-past, next-unknown, next-early, next-whole}
 use borrow.Author.Needs.{needs}
-use Rattle.command.proofs.next_offset.Statement.{statement}
-use Rattle.command.proofs.next_offset.Tie as tie
+use Rattle.operands.proofs.next_offset.Statement.{statement}
+use Rattle.operands.proofs.next_offset.Tie as tie
 
 returns : tie.Need-returns
 returns c = search (needs, next-past)

@@ -1,8 +1,8 @@
--- `command::ends_early` meets its contract: the operands reach past the end.
-use Rattle.command.proofs.TapeLaws.{early-past, early-rest}
+-- `operands::ends_early` meets its contract: the operands reach past the end.
+use Rattle.operands.proofs.OffsetLaws.{early-past, early-rest}
 use borrow.Author.Needs.{needs}
-use Rattle.command.proofs.ends_early.Statement.{statement}
-use Rattle.command.proofs.ends_early.Tie as tie
+use Rattle.operands.proofs.ends_early.Statement.{statement}
+use Rattle.operands.proofs.ends_early.Tie as tie
 
 returns : tie.Need-returns
 returns c = search (needs, early-past)

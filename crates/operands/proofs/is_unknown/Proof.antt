@@ -1,8 +1,8 @@
--- `command::is_unknown` meets its contract: test by test.
-use Rattle.command.proofs.TapeLaws.{unknown-past, unknown-zero, unknown-rest}
+-- `operands::is_unknown` meets its contract: test by test.
+use Rattle.operands.proofs.OffsetLaws.{unknown-past, unknown-zero, unknown-rest}
 use borrow.Author.Needs.{needs}
-use Rattle.command.proofs.is_unknown.Statement.{statement}
-use Rattle.command.proofs.is_unknown.Tie as tie
+use Rattle.operands.proofs.is_unknown.Statement.{statement}
+use Rattle.operands.proofs.is_unknown.Tie as tie
 
 returns : tie.Need-returns
 returns c = search (needs, unknown-past)

@@ -1,8 +1,8 @@
--- `command::byte_at` meets its contract: the byte, or 0 past the end.
-use Rattle.command.proofs.TapeLaws.{byte-past}
+-- `operands::byte_at` meets its contract: the byte, or 0 past the end.
+use Rattle.operands.proofs.OffsetLaws.{byte-past}
 use borrow.Author.Needs.{needs}
-use Rattle.command.proofs.byte_at.Statement.{statement}
-use Rattle.command.proofs.byte_at.Tie as tie
+use Rattle.operands.proofs.byte_at.Statement.{statement}
+use Rattle.operands.proofs.byte_at.Tie as tie
 
 returns : tie.Need-returns
 returns c = byte-past (c .before .args .s .now) _ (c .if1 .taken)

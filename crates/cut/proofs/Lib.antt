@@ -1,0 +1,2 @@
+-- Laws that the proof of CUT cites.
+pub mod CutLaws

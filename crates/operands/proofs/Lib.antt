@@ -1,0 +1,2 @@
+-- Laws that the proofs of the tape reader cite.
+pub mod OffsetLaws
