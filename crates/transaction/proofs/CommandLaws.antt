@@ -24,9 +24,10 @@ use Rattle.cells.specs.Changes.{Frame}
 use Rattle.cells.proofs.RefusalLaws.{first-hit, first-pass, refusal-joined, refusal-next, refusal-one}
 use Rattle.cells.proofs.EntryLaws.{entry, entry-hit, entry-pass}
 use Rattle.cells.proofs.MeetLaws.{meets-refused, meets-done}
-use Rattle.transaction.specs.Writing.{firstConditions, Passed, foundAt, ownFull, backFull, ninth, namedBy, takenBy, foundConditions, Room, loadedBy}
-use Rattle.transaction.specs.declared.Found.{Found}
-use Rattle.transaction.proofs.RuleLaws.{cond-done}
+use Rattle.rules.specs.Conditions.{foundAt, ownFull, backFull, ninth, namedBy, takenBy, foundConditions}
+use Rattle.rules.specs.declared.Found.{Found}
+use Rattle.rules.proofs.RuleLaws.{cond-done}
+use Rattle.transaction.specs.Writing.{firstConditions, Passed, Room, loadedBy}
 
 -- ---- what it meets first
 module _ (x : Card) (c b o : ℕ) (d m : Bytes) (n : ℕ) (e : n ≡ refusal (entry c (world x d m))) where

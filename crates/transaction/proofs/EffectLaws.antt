@@ -18,10 +18,11 @@ use Rattle.cells.specs.Cells.{transactionIn, cardIn, holderPlace, runningPlace}
 use Rattle.cells.specs.Changes.{openedOr, Frame}
 use Rattle.cells.proofs.CellLaws.{running-put}
 use Rattle.cells.proofs.FitsLaws.{frame-then, frame-wider}
-use Rattle.transaction.specs.Writing.{foundAt, Room, ownFull, backFull, ninth, namedBy, takenBy, afterBy, namedBack, heldBy}
-use Rattle.transaction.specs.declared.Found.{Found}
-use Rattle.transaction.proofs.RuleLaws.{running-at, cond-done}
-use Rattle.transaction.proofs.RoomLaws.{named-count}
+use Rattle.rules.specs.Conditions.{foundAt, ownFull, backFull, ninth, namedBy, takenBy, afterBy}
+use Rattle.rules.specs.declared.Found.{Found}
+use Rattle.rules.proofs.RuleLaws.{running-at, cond-done}
+use Rattle.rules.proofs.RoomLaws.{named-count}
+use Rattle.transaction.specs.Writing.{Room, namedBack, heldBy}
 
 -- ---- a core's running transaction, changed at its place
 module _ (c : ℕ) (h : c < 8) (p : ℕ) (e : p ≡ runningPlace c) where

@@ -7,11 +7,8 @@ ghost use Rattle.model.specs.Card.{withRunning, withCore, coreOf};
 ghost use Rattle.model.specs.Write.{writer, writtenCard};
 ghost use Rattle.cells.specs.Cells.{transactionIn, cardIn};
 ghost use Rattle.cells.specs.Changes.{IsPlace, Frame};
-ghost use Rattle.transaction.specs.Writing.{foundAt, Bounded, Room, ownFull, backFull, ninth, namedBack, namedBy, takenBy, afterBy, heldBy};
-use crate::Found;
-use crate::rules::is_named_back;
-use crate::rules::names_holder;
-use crate::rules::takes_block;
+ghost use Rattle.rules.specs.Conditions.{foundAt, Bounded, ownFull, backFull, ninth, namedBy, takenBy, afterBy};
+ghost use Rattle.transaction.specs.Writing.{Room, namedBack, heldBy};
 use cells::hold;
 use cells::running_place;
 use lists::add_block;
@@ -19,6 +16,10 @@ use lists::add_name;
 use lists::open_at;
 use model::Name;
 use model::Rule;
+use rules::Found;
+use rules::is_named_back;
+use rules::names_holder;
+use rules::takes_block;
 
 // The holder's list, naming the writer where the rule asks for it.
 fn name_back(w: &mut [u64], f: Found)

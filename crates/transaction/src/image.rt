@@ -4,9 +4,9 @@ ghost use Prim.Native.Nat.{_+_, _*_, _≤_};
 ghost use lib.ListN.{length};
 ghost use Rattle.model.specs.Bytes.{replaced};
 ghost use Rattle.transaction.specs.Writing.{Within, loadedBy};
-use crate::rules::loads_image;
 use model::Rule;
 use model::Shape;
+use rules::loads_image;
 
 // Block b's image loaded where the rule asks for it.
 fn load_image(s: Shape, rule: Rule, b: u8, disk: &[u8], memory: &mut [u8])

@@ -1,12 +1,9 @@
 // WRITE: four bytes replaced in a block's memory image, which is loaded from home where the block had no holder. What it meets
 // is found once and handed on.
-mod rules; // which rule it meets
-mod room; // whether there is room
 mod effect; // the cells afterwards
 mod image; // memory afterwards
 
 ghost use mathlib.Core.Path.{_≡_};
-ghost use Prim.Native.Nat.{_<_};
 ghost use lib.ListN.{length};
 ghost use Rattle.model.specs.Command.{refusal};
 ghost use Rattle.model.specs.Write.{write};
@@ -15,23 +12,12 @@ ghost use Rattle.cells.specs.Cells.{worldIn, cardIn};
 ghost use Rattle.transaction.specs.Writing.{firstConditions, Passed};
 use crate::effect::write_state;
 use crate::image::write_memory;
-use crate::room::room_refusal;
-use crate::rules::find;
 use cells::Answer;
 use cells::block_refusal;
 use cells::entry_refusal;
 use cells::shape_of;
-use model::Name;
-use model::Rule;
-
-// A WRITE as its core, its block and what it meets there: the rule, the name of the block's holder, the writer's own name.
-struct Found {
-    core: u8,
-    block: u8,
-    rule: Rule,
-    holder: Name,
-    own: Name,
-}
+use rules::find;
+use rules::room_refusal;
 
 // What a WRITE meets before its rule.
 fn first_refusal(w: &[u64], c: u8, b: u16, o: u8, disk: &[u8], memory: &[u8]) -> u8

@@ -1,7 +1,7 @@
 -- `transaction::effect::block_own` meets its contract.
 use Rattle.cells.proofs.FitsLaws.{frame-same}
-use Rattle.transaction.specs.Writing.{takenBy}
-use Rattle.transaction.proofs.RuleLaws.{cond-not, cond-done}
+use Rattle.rules.specs.Conditions.{takenBy}
+use Rattle.rules.proofs.RuleLaws.{cond-not, cond-done}
 use Rattle.transaction.proofs.EffectLaws.{block-room}
 use borrow.Author.Needs.{needs}
 use Rattle.transaction.proofs.effect.block_own.Statement.{statement}

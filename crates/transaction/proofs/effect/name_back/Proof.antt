@@ -1,7 +1,7 @@
 -- `transaction::effect::name_back` meets its contract.
 use Rattle.cells.proofs.FitsLaws.{frame-same}
+use Rattle.rules.proofs.RuleLaws.{cond-not}
 use Rattle.transaction.specs.Writing.{namedBack}
-use Rattle.transaction.proofs.RuleLaws.{cond-not}
 use Rattle.transaction.proofs.EffectLaws.{place-of, back-room, back-done, frame-all}
 use borrow.Author.Needs.{needs}
 use Rattle.transaction.proofs.effect.name_back.Statement.{statement}

@@ -1,7 +1,7 @@
 -- `transaction::effect::name_own` meets its contract.
 use Rattle.cells.proofs.FitsLaws.{frame-same}
-use Rattle.transaction.specs.Writing.{namedBy}
-use Rattle.transaction.proofs.RuleLaws.{cond-not, cond-done}
+use Rattle.rules.specs.Conditions.{namedBy}
+use Rattle.rules.proofs.RuleLaws.{cond-not, cond-done}
 use Rattle.transaction.proofs.EffectLaws.{own-room}
 use borrow.Author.Needs.{needs}
 use Rattle.transaction.proofs.effect.name_own.Statement.{statement}

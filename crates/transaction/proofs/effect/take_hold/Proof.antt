@@ -1,7 +1,7 @@
 -- `transaction::effect::take_hold` meets its contract.
 use Rattle.cells.proofs.FitsLaws.{frame-same}
+use Rattle.rules.proofs.RuleLaws.{cond-not, cond-done}
 use Rattle.transaction.specs.Writing.{heldBy}
-use Rattle.transaction.proofs.RuleLaws.{cond-not, cond-done}
 use Rattle.transaction.proofs.EffectLaws.{holder-all}
 use borrow.Author.Needs.{needs}
 use Rattle.transaction.proofs.effect.take_hold.Statement.{statement}

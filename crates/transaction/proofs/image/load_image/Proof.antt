@@ -1,7 +1,7 @@
 -- `transaction::image::load_image` meets its contract.
 use Rattle.model.specs.Bytes.{replaced}
+use Rattle.rules.proofs.RuleLaws.{cond-not}
 use Rattle.transaction.specs.Writing.{loadedBy}
-use Rattle.transaction.proofs.RuleLaws.{cond-not}
 use Rattle.transaction.proofs.CommandLaws.{image-loaded}
 use borrow.Author.Needs.{needs}
 use Rattle.transaction.proofs.image.load_image.Statement.{statement}

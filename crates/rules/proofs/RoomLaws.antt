@@ -1,0 +1,186 @@
+-- WRITE: whether there is room, 24 to 27.
+use Prim.Native.Nat.{ℕ, _+_, _≤_, _<_, min}
+use native.Mathlib.Omega.{arith}
+use mathlib.Core.Path.{_≡_, refl, sym, ap, _∙_}
+use mathlib.Core.Bool.{Bool, true, false, cond, not, _&&_, and-false, and-true}
+use mathlib.Core.List.{List}
+use lib.Dec.{ltb, leb}
+use lib.ListN.{length, take, set, length-take, length-set}
+use borrow.Author.Tests.{lt-leb, le-leb, leb-true, leb-false, not-true, not-false}
+use Rattle.model.specs.Card.{opened, taken, listed, lists, withName, recordSize, shapeOf, coreOf}
+use Rattle.model.specs.Command.{refusal}
+use Rattle.model.specs.Layout.{maxNumber}
+use Rattle.model.specs.Lists.{any}
+use Rattle.model.specs.Write.{writer, takesBlock, namesHolder, passesTwelve, closedBlocks}
+use Rattle.model.specs.declared.Shape.{Shape}
+use Rattle.model.specs.declared.Name.{Name}
+use Rattle.model.specs.declared.Transaction.{Transaction}
+use Rattle.model.specs.declared.Card.{Card}
+use Rattle.model.specs.declared.Rule.{Rule}
+use Rattle.model.proofs.Lists.{cases}
+use Rattle.cells.specs.Cells.{byteIn, transactionIn, cardIn, corePlace, runningPlace, closedPlace}
+use Rattle.cells.specs.Changes.{openedOr}
+use Rattle.cells.proofs.CellLaws.{used-read, running-read, closed-read, blocks-long, names-long, open-live}
+use Rattle.rules.specs.Conditions.{ownFull, backFull, ninth, sizeAfter, namedBy, takenBy, afterBy, foundConditions}
+use Rattle.rules.specs.declared.Found.{Found}
+use Rattle.rules.proofs.RuleLaws.{cond-not, cond-done, running-at}
+
+-- ---- 24, the list of a transaction
+module _ (w : List ℕ) (a : ℕ) (n : Name) (k : ℕ) (e : k ≡ length (listed (transactionIn w a))) where
+  listed-count : k ≡ min ((transactionIn w a) .named) 12
+  unfolding listed
+  listed-count = e ∙ length-take ((transactionIn w a) .named) ((transactionIn w a) .names) ∙ ap (min ((transactionIn w a) .named)) (names-long w a)
+
+  pub twelve-not : k < 12 → false ≡ passesTwelve (transactionIn w a) n
+  unfolding passesTwelve
+  twelve-not h = let z : leb 12 ((transactionIn w a) .named) ≡ false = lt-leb 12 ((transactionIn w a) .named) (omega (arith, listed-count)) in rw (z, and-false)
+
+  pub twelve-full : 12 ≤ k → (g : Bool) → g ≡ lists (transactionIn w a) n → not g ≡ passesTwelve (transactionIn w a) n
+  unfolding passesTwelve
+  twelve-full h g q = let z : leb 12 ((transactionIn w a) .named) ≡ true = le-leb 12 ((transactionIn w a) .named) (omega (arith, listed-count)) in rw (z, ← q, and-true)
+
+-- ---- the writer: one that opens has no names, no blocks
+opened-lists : (n : Name) → false ≡ passesTwelve opened n
+unfolding passesTwelve lists listed any
+opened-lists n = refl
+
+opened-count : _≡_ {A = ℕ} 0 (length (taken opened))
+unfolding taken
+opened-count = refl
+
+module _ (x : Card) (c : ℕ) (l : Bool) (q : l ≡ (coreOf x c) .running .live) (z : not l ≡ true) where
+  writer-opens : writer x c ≡ opened
+  unfolding writer
+  writer-opens = rw (← q, not-true l z)
+
+  pub names-none : (n : Name) → false ≡ passesTwelve (writer x c) n
+  names-none n = rw writer-opens (opened-lists n)
+
+  pub count-none : 0 ≡ length (taken (writer x c))
+  count-none = rw writer-opens opened-count
+
+module _ (w : List ℕ) (c : ℕ) (h : c < 8) (p : ℕ) (e : p ≡ runningPlace c) where
+  pub holder-names : (own : Name) (f : Bool) → f ≡ passesTwelve (transactionIn w p) own → f ≡ passesTwelve ((coreOf (cardIn w) c) .running) own
+  holder-names own f s = s ∙ ap (λ (t : Transaction). passesTwelve t own) (running-at w c h p e)
+
+  module _ (l : Bool) (q : l ≡ (coreOf (cardIn w) c) .running .live) (z : not l ≡ false) where
+    writer-runs : transactionIn w p ≡ writer (cardIn w) c
+    unfolding writer openedOr
+    writer-runs = running-at w c h p e ∙ open-live ((coreOf (cardIn w) c) .running) l q (not-false l z)
+
+    pub names-some : (n : Name) (f : Bool) → f ≡ passesTwelve (transactionIn w p) n → f ≡ passesTwelve (writer (cardIn w) c) n
+    names-some n f s = s ∙ rw writer-runs
+
+    pub count-some : (k : ℕ) → k ≡ length (taken (transactionIn w p)) → k ≡ length (taken (writer (cardIn w) c))
+    count-some k s = s ∙ rw writer-runs
+
+pub writer-long : (w : List ℕ) (c : ℕ) → c < 8 → length ((writer (cardIn w) c) .blocks) ≡ 8
+unfolding writer
+writer-long w c h =
+    cases ((coreOf (cardIn w) c) .running .live) (λ t. rw (t, ← running-read w c h) (blocks-long w (runningPlace c))) (λ t. rw t)
+
+-- ---- closed ones
+module _ (w : List ℕ) (c : ℕ) (h : c < 8) (a : ℕ) (d : a ≡ corePlace c) (u : ℕ) (s : u ≡ byteIn w (a + 1)) (p : ℕ) (e : p ≡ closedPlace c) (g : Bool) (q : g ≡ (transactionIn w p) .live) where
+  closed-used : u ≡ (coreOf (cardIn w) c) .used
+  closed-used = s ∙ ap (λ (m : ℕ). byteIn w (m + 1)) d ∙ used-read w c h
+
+  closed-at : transactionIn w p ≡ (coreOf (cardIn w) c) .closed
+  closed-at = ap (transactionIn w) e ∙ closed-read w c h
+
+  closed-live : g ≡ (coreOf (cardIn w) c) .closed .live
+  closed-live = q ∙ ap (λ (t : Transaction). t .live) closed-at
+
+  pub used-none : not g ≡ true → u ≡ closedBlocks (coreOf (cardIn w) c)
+  unfolding closedBlocks
+  used-none z = omega (arith, closed-used, cond-not g _ closed-live (recordSize ((coreOf (cardIn w) c) .closed)) 0 z)
+
+  pub used-some : not g ≡ false → (k : ℕ) → k ≡ length (taken (transactionIn w p)) → u + (k + 2) ≡ closedBlocks (coreOf (cardIn w) c)
+  unfolding closedBlocks recordSize
+  used-some z k r =
+      let size : k + 2 ≡ recordSize ((coreOf (cardIn w) c) .closed) = ap (λ (m : ℕ). m + 2) (r ∙ ap (λ (t : Transaction). length (taken t)) closed-at) in
+      omega (arith, closed-used, cond-done g _ closed-live (recordSize ((coreOf (cardIn w) c) .closed)) 0 (k + 2) size z)
+
+-- ---- 26, the record afterwards
+pub journal-test : (j u m a b : ℕ) → u ≡ a → m ≡ b → ltb j (u + m) ≡ ltb j (a + b)
+journal-test j u m a b p q = rw (p, q)
+
+-- a name added leaves the blocks alone
+pub named-count : (r : Rule) (t : Transaction) (n : Name) → (namedBy r t n) .count ≡ t .count
+unfolding namedBy withName
+named-count r t n = cases (namesHolder r) (λ h. cases (lists t n) (λ k. rw (h, k)) (λ k. rw (h, k))) (λ h. rw h)
+
+named-blocks : (r : Rule) (t : Transaction) (n : Name) → (namedBy r t n) .blocks ≡ t .blocks
+unfolding namedBy withName
+named-blocks r t n = cases (namesHolder r) (λ h. cases (lists t n) (λ k. rw (h, k)) (λ k. rw (h, k))) (λ h. rw h)
+
+module _ (r : Rule) (t : Transaction) (l : length (t .blocks) ≡ 8) (k : ℕ) (e : k ≡ length (taken t)) where
+  taken-count : k ≡ min (t .count) 8
+  unfolding taken
+  taken-count = e ∙ length-take (t .count) (t .blocks) ∙ ap (min (t .count)) l
+
+  -- 25
+  ninth-count : leb 8 k ≡ leb 8 (t .count)
+  ninth-count =
+      cases (leb 8 (t .count))
+      (λ h. le-leb 8 k (omega (arith, taken-count, leb-true 8 (t .count) h)) ∙ sym h)
+      (λ h. lt-leb 8 k (omega (arith, taken-count, leb-false 8 (t .count) h)) ∙ sym h)
+
+  pub ninth-is : (g : Bool) → g ≡ (takesBlock r && leb 8 k) → g ≡ ninth r t
+  unfolding ninth
+  ninth-is g q = q ∙ rw ninth-count
+
+  pub size-is : (n : Name) (b : ℕ) → (g : Bool) → g ≡ (takesBlock r && leb 8 k) → g ≡ false → sizeAfter r k ≡ recordSize (takenBy r (namedBy r t n) b)
+  unfolding sizeAfter recordSize takenBy taken
+  size-is n b g q z =
+      cases (takesBlock r)
+      (λ h.
+      let y : leb 8 k ≡ false = rw h at (sym q ∙ z) in
+      let u : length (take ((namedBy r t n) .count + 1) (set ((namedBy r t n) .blocks) ((namedBy r t n) .count) b)) ≡ min (t .count + 1) 8 =
+      length-take ((namedBy r t n) .count + 1) _ ∙ rw (length-set, named-count r t n, named-blocks r t n, l) in
+      rw (h, u) (omega (arith, taken-count, leb-false 8 k y)))
+      (λ h. rw (h, named-count r t n, named-blocks r t n, e))
+
+-- ---- 27
+pub number-opens : (l p : Bool) → l ≡ false → p ≡ (not l && p)
+number-opens l p h = rw h
+
+-- ---- the refusals in turn
+module _ (w : List ℕ) (f : Found) (p : Bool) (own : p ≡ ownFull (f .rule) (writer (cardIn w) (f .core)) (f .holder)) where
+  pub refused-own : p ≡ true → 24 ≡ refusal (foundConditions (cardIn w) f)
+  unfolding refusal
+  refused-own h = rw (← own, h)
+
+  module _ (p' : p ≡ false) (q : Bool) (back : q ≡ backFull (f .rule) ((coreOf (cardIn w) (f .holder .core)) .running) (f .own)) where
+    pub refused-back : q ≡ true → 24 ≡ refusal (foundConditions (cardIn w) f)
+    unfolding refusal
+    refused-back h = rw (← own, p', ← back, h)
+
+    module _ (q' : q ≡ false) (core : f .core < 8) (k : ℕ) (count : k ≡ length (taken (writer (cardIn w) (f .core)))) (r : Bool) (more : r ≡ (takesBlock (f .rule) && leb 8 k)) where
+      ninth-met : r ≡ ninth (f .rule) (writer (cardIn w) (f .core))
+      ninth-met = ninth-is (f .rule) (writer (cardIn w) (f .core)) (writer-long w (f .core) core) k count r more
+
+      pub refused-ninth : r ≡ true → 25 ≡ refusal (foundConditions (cardIn w) f)
+      unfolding refusal
+      refused-ninth h = rw (← own, p', ← back, q', ← ninth-met, h)
+
+      module _ (r' : r ≡ false) (s : Shape) (shape : s ≡ shapeOf (cardIn w)) (t : Bool) (full : t ≡ ltb (s .journal) (closedBlocks (coreOf (cardIn w) (f .core)) + sizeAfter (f .rule) k)) where
+        journal-met : t ≡ ltb ((shapeOf (cardIn w)) .journal) (closedBlocks (coreOf (cardIn w) (f .core)) + recordSize (afterBy (cardIn w) f))
+        journal-met = full ∙ rw (shape, size-is (f .rule) (writer (cardIn w) (f .core)) (writer-long w (f .core) core) k count (f .holder) (f .block) r more r')
+
+        pub refused-journal : t ≡ true → 26 ≡ refusal (foundConditions (cardIn w) f)
+        unfolding refusal
+        refused-journal h = rw (← own, p', ← back, q', ← ninth-met, r', ← journal-met, h)
+
+        module _ (t' : t ≡ false) (l : Bool) (live : l ≡ (coreOf (cardIn w) (f .core)) .running .live) (u : Bool) (last : u ≡ (not l && ltb maxNumber (f .own .number))) where
+          numbers-met : u ≡ (not ((coreOf (cardIn w) (f .core)) .running .live) && ltb maxNumber (f .own .number))
+          numbers-met = last ∙ rw live
+
+          refused-last : refusal (foundConditions (cardIn w) f) ≡ cond u 27 0
+          unfolding refusal
+          refused-last = rw (← own, p', ← back, q', ← ninth-met, r', ← journal-met, t', ← numbers-met)
+
+          pub refused-numbers : u ≡ true → 27 ≡ refusal (foundConditions (cardIn w) f)
+          refused-numbers h = rw (refused-last, h)
+
+          pub refused-not : u ≡ false → 0 ≡ refusal (foundConditions (cardIn w) f)
+          refused-not h = rw (refused-last, h)

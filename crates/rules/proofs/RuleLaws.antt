@@ -1,0 +1,84 @@
+-- WRITE: a core of the card at its places, the writer's name, and the rule that it meets.
+use Prim.Native.Nat.{ℕ, _<_}
+use mathlib.Core.Path.{_≡_, ap, _∙_}
+use mathlib.Core.Bool.{Bool, true, false, cond, not, _&&_}
+use mathlib.Core.List.{List}
+use lib.Dec.{eqb}
+use borrow.Author.Tests.{not-true, not-false}
+use Rattle.model.specs.Card.{newName, sameName, coreOf, holderOf}
+use Rattle.model.specs.Write.{writerName, isRunning, ruleFor}
+use Rattle.model.specs.declared.Name.{Name}
+use Rattle.model.specs.declared.Transaction.{Transaction}
+use Rattle.model.specs.declared.Holder.{Holder}
+use Rattle.model.specs.declared.Card.{Card}
+use Rattle.model.specs.declared.Rule.{Rule}
+use Rattle.model.specs.declared.Rule.the-variants.{Free, Own, Running, Closed}
+use Rattle.cells.specs.Cells.{numberIn, transactionIn, cardIn, corePlace, runningPlace}
+use Rattle.cells.proofs.CellLaws.{next-read, running-read}
+use Rattle.rules.specs.Conditions.{foundAt}
+
+-- ---- a test g of the rule, that the code asks for by not g
+module _ (g a : Bool) (q : g ≡ a) where
+  pub both-not : (p : Bool) → not g ≡ true → false ≡ (a && p)
+  both-not p z = rw (← q, not-true g z)
+
+  pub both-test : (p f : Bool) → f ≡ p → not g ≡ false → f ≡ (a && p)
+  both-test p f s z = s ∙ rw (← q, not-false g z)
+
+  module _ {A : Type 0} (x y : A) where
+    pub cond-not : not g ≡ true → y ≡ cond a x y
+    cond-not z = rw (← q, not-true g z)
+
+    pub cond-done : (v : A) → v ≡ x → not g ≡ false → v ≡ cond a x y
+    cond-done v e z = e ∙ rw (← q, not-false g z)
+
+-- ---- a core of the card, at its places
+module _ (w : List ℕ) (c : ℕ) (h : c < 8) (p : ℕ) where
+  pub next-at : p ≡ corePlace c → (k : ℕ) → k ≡ numberIn w p → k ≡ (coreOf (cardIn w) c) .next
+  next-at e k q = q ∙ ap (numberIn w) e ∙ next-read w c h
+
+  -- the writer's name
+  pub name-met : p ≡ corePlace c → (k : ℕ) → k ≡ numberIn w p → newName c k ≡ writerName (cardIn w) c
+  unfolding writerName
+  name-met e k q = rw (next-at e k q)
+
+  pub running-at : p ≡ runningPlace c → transactionIn w p ≡ (coreOf (cardIn w) c) .running
+  running-at e = ap (transactionIn w) e ∙ running-read w c h
+
+  pub live-at : p ≡ runningPlace c → (g : Bool) → g ≡ (transactionIn w p) .live → g ≡ (coreOf (cardIn w) c) .running .live
+  live-at e g q = q ∙ ap (λ (t : Transaction). t .live) (running-at e)
+
+-- ---- whether the transaction of a name runs
+module _ (w : List ℕ) (n : Name) (g : Bool) (q : g ≡ (coreOf (cardIn w) (n .core)) .running .live) where
+  pub runs-not : not g ≡ true → false ≡ isRunning (cardIn w) n
+  unfolding isRunning
+  runs-not z = both-not g _ q _ z
+
+  pub runs : n .core < 8 → (p : ℕ) → p ≡ corePlace (n .core) → (k : ℕ) → k ≡ numberIn w p → not g ≡ false → eqb k (n .number) ≡ isRunning (cardIn w) n
+  unfolding isRunning
+  runs h p e k s z = both-test g _ q _ _ (ap (λ (m : ℕ). eqb m (n .number)) (next-at w (n .core) h p e k s)) z
+
+-- ---- the rule
+module _ (x : Card) (h : Holder) (own : Name) where
+  pub rule-free : not (h .held) ≡ true → (c b : ℕ) → h ≡ holderOf x b → own ≡ writerName x c → Free ≡ ruleFor x c b
+  unfolding ruleFor
+  rule-free p c b e i = rw (← e, p)
+
+  module _ (g : Bool) (s : g ≡ sameName (h .name) own) (p : not (h .held) ≡ false) where
+    pub rule-own : g ≡ true → (c b : ℕ) → h ≡ holderOf x b → own ≡ writerName x c → Own ≡ ruleFor x c b
+    unfolding ruleFor
+    rule-own z c b e i = rw (← e, ← i, p, ← s, z)
+
+    module _ (f : Bool) (q : f ≡ isRunning x (h .name)) (z : g ≡ false) where
+      pub rule-closed : not f ≡ true → (c b : ℕ) → h ≡ holderOf x b → own ≡ writerName x c → Closed ≡ ruleFor x c b
+      unfolding ruleFor
+      rule-closed v c b e i = rw (← e, ← i, p, ← s, z, ← q, not-true f v)
+
+      pub rule-running : not f ≡ false → (c b : ℕ) → h ≡ holderOf x b → own ≡ writerName x c → Running ≡ ruleFor x c b
+      unfolding ruleFor
+      rule-running v c b e i = rw (← e, ← i, p, ← s, z, ← q, not-false f v)
+
+-- ---- what a WRITE of core c to block b finds
+pub found : (x : Card) (c b : ℕ) (h : Holder) → h ≡ holderOf x b → (own : Name) → own ≡ writerName x c → (r : Rule) → ((a d : ℕ) → h ≡ holderOf x d → own ≡ writerName x a → r ≡ ruleFor x a d)
+    → record { core = c; block = b; rule = r; holder = h .name; own = own } ≡ foundAt x c b
+found x c b h p own q r e = rw (e c b p q, q, p)

@@ -1,0 +1,61 @@
+-- What a WRITE finds at a block, what its rule makes of the writer, and the conditions 24 to 27 over both.
+use Prim.Native.Nat.{ℕ, _+_, _<_}
+use mathlib.Core.Bool.{Bool, cond, not, _&&_, _||_}
+use mathlib.Core.List.{List, [], _∷_}
+use lib.Dec.{ltb, leb}
+use Rattle.model.specs.Card.{recordSize, shapeOf, coreOf, holderOf, withBlock, withName}
+use Rattle.model.specs.Layout.{maxNumber}
+use Rattle.model.specs.Write.{writer, writerName, ruleFor, takesBlock, namesHolder, isNamedBack, passesTwelve, closedBlocks}
+use Rattle.model.specs.declared.Name.{Name}
+use Rattle.model.specs.declared.Transaction.{Transaction}
+use Rattle.model.specs.declared.Card.{Card}
+use Rattle.model.specs.declared.Rule.{Rule}
+use Rattle.rules.specs.declared.Found.{Found}
+
+-- ---- what a WRITE finds
+-- that of core c to block b
+abbrev pub foundAt : Card → ℕ → ℕ → Found
+foundAt x c b = record { core = c; block = b; rule = ruleFor x c b; holder = (holderOf x b) .name; own = writerName x c }
+
+pub record Bounded (f : Found) : Type 0 where
+  pub core : f .core < 8
+  pub block : f .block < 64
+  pub holder : f .holder .core < 8
+  pub own : f .own .core < 8
+
+-- ---- what a rule makes of the writer t
+-- its list names n where the rule has it name the holder
+unfoldable pub namedBy : Rule → Transaction → Name → Transaction
+namedBy r t n = cond (namesHolder r) (withName t n) t
+
+-- it takes the block where the rule asks for it
+unfoldable pub takenBy : Rule → Transaction → ℕ → Transaction
+takenBy r t b = cond (takesBlock r) (withBlock t b) t
+
+abbrev pub afterBy : Card → Found → Transaction
+afterBy x f = takenBy (f .rule) (namedBy (f .rule) (writer x (f .core)) (f .holder)) (f .block)
+
+-- ---- room
+-- 24 for the writer t, and for the transaction t that holds the block
+unfoldable pub ownFull : Rule → Transaction → Name → Bool
+ownFull r t n = namesHolder r && passesTwelve t n
+
+unfoldable pub backFull : Rule → Transaction → Name → Bool
+backFull r t own = isNamedBack r && passesTwelve t own
+
+-- '25 a ninth block'
+unfoldable pub ninth : Rule → Transaction → Bool
+ninth r t = takesBlock r && leb 8 (t .count)
+
+-- the blocks of the record of a writer that had n blocks
+unfoldable pub sizeAfter : Rule → ℕ → ℕ
+sizeAfter r n = cond (takesBlock r) (n + 3) (n + 2)
+
+-- 24 to 27
+abbrev pub foundConditions : Card → Found → List (Bool × ℕ)
+foundConditions x f =
+    (ownFull (f .rule) (writer x (f .core)) (f .holder) || backFull (f .rule) ((coreOf x (f .holder .core)) .running) (f .own), 24)
+    ∷ (ninth (f .rule) (writer x (f .core)), 25)
+    ∷ (ltb ((shapeOf x) .journal) (closedBlocks (coreOf x (f .core)) + recordSize (afterBy x f)), 26)
+    ∷ (not ((coreOf x (f .core)) .running .live) && ltb maxNumber (f .own .number), 27)
+    ∷ []

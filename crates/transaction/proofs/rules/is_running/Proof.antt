@@ -1,8 +1,0 @@
--- `transaction::rules::is_running` meets its contract.
-use Rattle.transaction.proofs.RuleLaws.{runs-not, runs}
-use borrow.Author.Needs.{needs}
-use Rattle.transaction.proofs.rules.is_running.Statement.{statement}
-use Rattle.transaction.proofs.rules.is_running.Tie as tie
-
-pub is-running-spec : {M : Type 1} → statement M
-is-running-spec = tie.close (tie.spec (λ c κs. search needs) (λ c. search (needs, runs-not)) (λ c κs. search needs) (λ c κs. search needs) (λ c. search (needs, runs)))
