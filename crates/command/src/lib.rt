@@ -15,7 +15,7 @@ ghost use Rattle.command.specs.Counted.{countedIn};
 use cells::Answer;
 use cells::wrong_length;
 use checkpoint::checkpoint;
-use commit::close;
+use close::close;
 use commit::store;
 use format::format;
 use model::Card;
