@@ -13,7 +13,7 @@ ghost use Rattle.command.specs.Counted.{countedIn};
 use cells::Answer;
 use cells::wrong_length;
 use checkpoint::checkpoint;
-use commit::close;
+use close::close;
 use commit::store;
 use cut::cut;
 use format::format;

@@ -1,5 +1,3 @@
--- Laws that the proofs of CLOSE and STORE cite.
-pub mod ReadLaws
+-- Laws that the proofs of STORE cite.
 pub mod StateLaws
-pub mod CloseLaws
 pub mod StoreLaws

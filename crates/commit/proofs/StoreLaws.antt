@@ -10,7 +10,7 @@ use Rattle.model.specs.Lists.{below}
 use Rattle.model.specs.Bytes.{Bytes, blockAt}
 use Rattle.model.specs.Shape.{clamped, journalBlock}
 use Rattle.model.specs.Card.{taken, listed, shapeOf, tailOf, coreOf, withCore}
-use Rattle.model.specs.Layout.{newHeld, descriptorBlock, commitBlock, flagOf, escaped}
+use Rattle.model.specs.Layout.{newHeld, descriptorBlock, commitBlock, escaped}
 use Rattle.model.specs.Command.{refusal}
 use Rattle.model.specs.Commit.{copyBlock, heldCopies, closedNumber, nextStored, nextPosition, coreStored, storeConditions, stored, storeNext}
 use Rattle.model.specs.declared.Shape.{Shape}
@@ -28,8 +28,9 @@ use Rattle.cells.specs.Answer.{newAnswer, Meets}
 use Rattle.cells.proofs.CellLaws.{count-read, named-read, blocks-long}
 use Rattle.cells.proofs.EntryLaws.{entry, entry-hit, entry-pass, Entered, entered}
 use Rattle.cells.proofs.MeetLaws.{meets-refused, meets-done}
-use Rattle.commit.proofs.ReadLaws.{next-there, used-there, stored-there, closed-there}
-use Rattle.commit.proofs.CloseLaws.{taken-at}
+use Rattle.close.proofs.ReadLaws.{next-there, used-there, closed-there}
+use Rattle.close.proofs.CloseLaws.{taken-at, copyFlag}
+use Rattle.commit.proofs.StateLaws.{stored-there}
 
 -- ---- refusals
 -- what STORE asks of the core
@@ -52,17 +53,6 @@ module _ (v : List ℕ) (c : ℕ) (d m : Bytes) (n : ℕ) (e : n ≡ refusal (en
     pub store-free : not g ≡ false → 0 ≡ refusal (storeConditions c (worldIn v d m))
     unfolding storeConditions refusal
     store-free z = entry-pass c (worldIn v d m) (ofClosed (cardIn v) c) n e h 0 (rw (← is-closed, not-false g z))
-
--- ---- copies and their flags
-pub copy-read : (m : Bytes) (k p : ℕ) → k ≡ p → (image : Bytes) → image ≡ blockAt m k → image ≡ blockAt m p
-copy-read m k p e image q = q ∙ ap (blockAt m) e
-
--- the flag of a core's copy
-abbrev pub copyFlag : ℕ → Bytes → ℕ → ℕ
-copyFlag c m = λ i. flagOf (blockAt m (copyBlock c i))
-
-pub flag-read : (c : ℕ) (m : Bytes) (i : ℕ) (image : Bytes) → image ≡ blockAt m (copyBlock c i) → (f : ℕ) → f ≡ flagOf image → f ≡ copyFlag c m i
-flag-read c m i image e f q = q ∙ ap flagOf e
 
 -- ---- the arrays of a transaction, read out of its cells
 abbrev pub blockIn : List ℕ → ℕ → ℕ → ℕ

@@ -7,8 +7,6 @@ ghost use Rattle.model.specs.Card.{taken, listed, coreOf};
 ghost use Rattle.model.specs.Layout.{descriptorBlock, commitBlock, escaped};
 ghost use Rattle.model.specs.Commit.{copyBlock, heldCopies, closedNumber, nextStored, nextPosition};
 ghost use Rattle.cells.specs.Cells.{transactionIn, cardIn};
-use crate::copies::copy_at;
-use crate::copies::flags_of;
 use cells::BLOCKS;
 use cells::COUNT;
 use cells::NAMED;
@@ -23,6 +21,8 @@ use cells::core_place;
 use cells::name_of;
 use cells::number_in;
 use cells::tail_at;
+use close::copy_at;
+use close::flags_of;
 use model::Name;
 
 // The number of core c's closed transaction: CLOSE moved the count on. Only a card that no run made has the count at 0.

@@ -1,5 +1,5 @@
 -- `commit::store_refusal` meets its contract: what comes first, then the one of the core.
-use Rattle.commit.proofs.CloseLaws.{closed-fits}
+use Rattle.close.proofs.CloseLaws.{closed-fits}
 use Rattle.commit.proofs.StoreLaws.{store-first, store-none, store-free}
 use borrow.Author.Needs.{needs}
 use Rattle.commit.proofs.store_refusal.Statement.{statement}

@@ -1,4 +1,4 @@
--- CLOSE: its refusals, the copies, and what the code leaves where it is carried out.
+-- CLOSE: its refusals, the copies and their flags, and what the code leaves where it is carried out.
 use Prim.Native.Nat.{ℕ, _+_, _*_, _-_, _%_, _≤_, _<_}
 use native.Mathlib.Omega.{arith}
 use native.Mathlib.Numerals.{add-one}
@@ -10,6 +10,7 @@ use lib.Seq.{drop-cons, getD-take}
 use borrow.Author.Tests.{not-true, not-false}
 use Rattle.model.specs.Bytes.{Bytes, blockAt, store}
 use Rattle.model.specs.Card.{taken, coreOf}
+use Rattle.model.specs.Layout.{flagOf}
 use Rattle.model.specs.Command.{refusal}
 use Rattle.model.specs.Commit.{copyBlock, copied, closeConditions, closedCard, closed, close}
 use Rattle.model.specs.declared.Transaction.{Transaction}
@@ -21,7 +22,7 @@ use Rattle.cells.specs.Answer.{newAnswer, Meets}
 use Rattle.cells.proofs.CellLaws.{block-read}
 use Rattle.cells.proofs.EntryLaws.{entry, entry-hit, entry-pass, Entered, entered}
 use Rattle.cells.proofs.MeetLaws.{meets-refused, meets-done}
-use Rattle.commit.proofs.ReadLaws.{running-there, closed-there}
+use Rattle.close.proofs.ReadLaws.{running-there, closed-there}
 
 -- ---- refusals
 -- what CLOSE asks of the core
@@ -95,6 +96,17 @@ module _ (w : List ℕ) (a c i count : ℕ) (m₀ m : Bytes) (e : copied c i (dr
   copied-all h =
       let l : length (taken (transactionIn w a)) ≤ i = omega arith in
       sym (ap (λ (bs : List ℕ). copied c i bs m) (drop-of-length-le (taken (transactionIn w a)) l)) ∙ e
+
+-- ---- copies read, and their flags
+pub copy-read : (m : Bytes) (k p : ℕ) → k ≡ p → (image : Bytes) → image ≡ blockAt m k → image ≡ blockAt m p
+copy-read m k p e image q = q ∙ ap (blockAt m) e
+
+-- the flag of a core's copy
+abbrev pub copyFlag : ℕ → Bytes → ℕ → ℕ
+copyFlag c m = λ i. flagOf (blockAt m (copyBlock c i))
+
+pub flag-read : (c : ℕ) (m : Bytes) (i : ℕ) (image : Bytes) → image ≡ blockAt m (copyBlock c i) → (f : ℕ) → f ≡ flagOf image → f ≡ copyFlag c m i
+flag-read c m i image e f q = q ∙ ap flagOf e
 
 -- ---- the command
 module _ (v : List ℕ) (size : length v ≡ 512) (c : ℕ) (d m : Bytes) (n : ℕ) (e : n ≡ refusal (closeConditions c (worldIn v d m))) where

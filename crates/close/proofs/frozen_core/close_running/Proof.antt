@@ -1,8 +1,8 @@
--- `commit::core_state::close_running` meets its contract: frozen, counted, and the count of closes.
-use Rattle.commit.proofs.StateLaws.{frozen-long, closes-in, closed-card, closed-frame, closed-size}
+-- `close::frozen_core::close_running` meets its contract: frozen, counted, and the count of closes.
+use Rattle.close.proofs.StateLaws.{frozen-long, closes-in, closed-card, closed-frame, closed-size}
 use borrow.Author.Needs.{needs}
-use Rattle.commit.proofs.core_state.close_running.Statement.{statement}
-use Rattle.commit.proofs.core_state.close_running.Tie as tie
+use Rattle.close.proofs.frozen_core.close_running.Statement.{statement}
+use Rattle.close.proofs.frozen_core.close_running.Tie as tie
 
 pub close-running-spec : {M : Type 1} → statement M
 close-running-spec =

@@ -1,8 +1,8 @@
--- `commit::close` meets its contract: refused, or the images copied and the transaction closed.
-use Rattle.commit.proofs.CloseLaws.{close-refused, close-memory, close-core, close-place, close-done}
+-- `close::close` meets its contract: refused, or the images copied and the transaction closed.
+use Rattle.close.proofs.CloseLaws.{close-refused, close-memory, close-core, close-place, close-done}
 use borrow.Author.Needs.{needs}
-use Rattle.commit.proofs.close.Statement.{statement}
-use Rattle.commit.proofs.close.Tie as tie
+use Rattle.close.proofs.close.Statement.{statement}
+use Rattle.close.proofs.close.Tie as tie
 
 returns-2 : tie.Need-returns-2
 returns-2 c = search (needs, close-done)

@@ -1,8 +1,8 @@
--- `commit::core_state::freeze` meets its contract: copied and stamped, then none is running.
-use Rattle.commit.proofs.StateLaws.{stamp-in, stamp-long, frozen-frame, frozen-size, frozen-card}
+-- `close::frozen_core::freeze` meets its contract: copied and stamped, then none is running.
+use Rattle.close.proofs.StateLaws.{stamp-in, stamp-long, frozen-frame, frozen-size, frozen-card}
 use borrow.Author.Needs.{needs}
-use Rattle.commit.proofs.core_state.freeze.Statement.{statement}
-use Rattle.commit.proofs.core_state.freeze.Tie as tie
+use Rattle.close.proofs.frozen_core.freeze.Statement.{statement}
+use Rattle.close.proofs.frozen_core.freeze.Tie as tie
 
 pub freeze-spec : {M : Type 1} → statement M
 freeze-spec =

@@ -1,8 +1,8 @@
--- `commit::copies::copy_place` meets its contract: the sum is the definition's.
+-- `close::copies::copy_place` meets its contract: the sum is the definition's.
 use Rattle.model.specs.Commit.{copyBlock}
 use borrow.Author.Needs.{needs}
-use Rattle.commit.proofs.copies.copy_place.Statement.{statement}
-use Rattle.commit.proofs.copies.copy_place.Tie as tie
+use Rattle.close.proofs.copies.copy_place.Statement.{statement}
+use Rattle.close.proofs.copies.copy_place.Tie as tie
 
 returns : tie.Need-returns
 unfolding copyBlock

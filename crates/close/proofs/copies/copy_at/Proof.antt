@@ -1,9 +1,9 @@
--- `commit::copies::copy_at` meets its contract: the copy lies within memory.
+-- `close::copies::copy_at` meets its contract: the copy lies within memory.
 use Rattle.model.specs.Commit.{copyBlock}
-use Rattle.commit.proofs.StoreLaws.{copy-read}
+use Rattle.close.proofs.CloseLaws.{copy-read}
 use borrow.Author.Needs.{needs}
-use Rattle.commit.proofs.copies.copy_at.Statement.{statement}
-use Rattle.commit.proofs.copies.copy_at.Tie as tie
+use Rattle.close.proofs.copies.copy_at.Statement.{statement}
+use Rattle.close.proofs.copies.copy_at.Tie as tie
 
 load-block-requires : tie.Need-load-block-requires
 unfolding copyBlock

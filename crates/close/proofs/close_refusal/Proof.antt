@@ -1,8 +1,8 @@
--- `commit::close_refusal` meets its contract: what comes first, then the two of the core.
-use Rattle.commit.proofs.CloseLaws.{close-first, running-fits, closed-fits, close-none, close-early, close-free}
+-- `close::close_refusal` meets its contract: what comes first, then the two of the core.
+use Rattle.close.proofs.CloseLaws.{close-first, running-fits, closed-fits, close-none, close-early, close-free}
 use borrow.Author.Needs.{needs}
-use Rattle.commit.proofs.close_refusal.Statement.{statement}
-use Rattle.commit.proofs.close_refusal.Tie as tie
+use Rattle.close.proofs.close_refusal.Statement.{statement}
+use Rattle.close.proofs.close_refusal.Tie as tie
 
 returns-2 : tie.Need-returns-2
 returns-2 c = search (needs, close-none)

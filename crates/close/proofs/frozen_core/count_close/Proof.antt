@@ -1,8 +1,8 @@
--- `commit::core_state::count_close` meets its contract.
-use Rattle.commit.proofs.StateLaws.{close-counted}
+-- `close::frozen_core::count_close` meets its contract.
+use Rattle.close.proofs.StateLaws.{close-counted}
 use borrow.Author.Needs.{needs}
-use Rattle.commit.proofs.core_state.count_close.Statement.{statement}
-use Rattle.commit.proofs.core_state.count_close.Tie as tie
+use Rattle.close.proofs.frozen_core.count_close.Statement.{statement}
+use Rattle.close.proofs.frozen_core.count_close.Tie as tie
 
 pub count-close-spec : {M : Type 1} → statement M
 count-close-spec =

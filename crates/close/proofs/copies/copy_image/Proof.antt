@@ -1,9 +1,9 @@
--- `commit::copies::copy_image` meets its contract: the copy lies within memory, and the part lent is replaced.
+-- `close::copies::copy_image` meets its contract: the copy lies within memory, and the part lent is replaced.
 use Rattle.model.specs.Commit.{copyBlock}
-use Rattle.commit.proofs.CloseLaws.{copied-image}
+use Rattle.close.proofs.CloseLaws.{copied-image}
 use borrow.Author.Needs.{needs}
-use Rattle.commit.proofs.copies.copy_image.Statement.{statement}
-use Rattle.commit.proofs.copies.copy_image.Tie as tie
+use Rattle.close.proofs.copies.copy_image.Statement.{statement}
+use Rattle.close.proofs.copies.copy_image.Tie as tie
 
 mul-start : tie.Need-mul-start
 unfolding copyBlock

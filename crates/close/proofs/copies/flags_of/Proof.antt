@@ -1,12 +1,12 @@
--- `commit::copies::flags_of` meets its contract. Invariant: the first i flags are those of their copies.
+-- `close::copies::flags_of` meets its contract. Invariant: the first i flags are those of their copies.
 use Prim.Native.Nat.{_-_, _<_}
 use mathlib.Core.Path.{_≡_}
 use borrow.Author.Needs.{needs}
 use lib.ListN.{length}
 use Rattle.layout.proofs.Loops.{Filled, filled-none, filled-more, filled-all}
-use Rattle.commit.proofs.StoreLaws.{copyFlag, flag-read}
-use Rattle.commit.proofs.copies.flags_of.Statement.{statement}
-use Rattle.commit.proofs.copies.flags_of.Tie as tie
+use Rattle.close.proofs.CloseLaws.{copyFlag, flag-read}
+use Rattle.close.proofs.copies.flags_of.Statement.{statement}
+use Rattle.close.proofs.copies.flags_of.Tie as tie
 
 abbrev Inv-loop : tie.InvT-loop
 Inv-loop memory c flags₀ i₀ flags i = (c < 8) × (length memory ≡ 16384) × Filled (copyFlag c memory) 8 flags i

@@ -1,11 +1,11 @@
--- `commit::core_state::copy_running` meets its contract. Invariant: the first i cells are copied.
+-- `close::frozen_core::copy_running` meets its contract. Invariant: the first i cells are copied.
 use Prim.Native.Nat.{_-_}
 use mathlib.Core.Path.{_≡_}
 use Rattle.cells.specs.Cells.{runningPlace, closedPlace}
-use Rattle.commit.proofs.StateLaws.{Moved, moved-start, from-in, to-in, moved-more, moved-all}
+use Rattle.close.proofs.StateLaws.{Moved, moved-start, from-in, to-in, moved-more, moved-all}
 use borrow.Author.Needs.{needs}
-use Rattle.commit.proofs.core_state.copy_running.Statement.{statement}
-use Rattle.commit.proofs.core_state.copy_running.Tie as tie
+use Rattle.close.proofs.frozen_core.copy_running.Statement.{statement}
+use Rattle.close.proofs.frozen_core.copy_running.Tie as tie
 
 abbrev Inv-loop : tie.InvT-loop
 Inv-loop w₀ c from to i₀ w i = (from ≡ runningPlace c) × (to ≡ closedPlace c) × Moved w₀ c w i

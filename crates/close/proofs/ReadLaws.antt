@@ -8,10 +8,6 @@ use Rattle.cells.specs.Cells.{byteIn, numberIn, transactionIn, coreIn, cardIn, 
 use Rattle.cells.proofs.CellLaws.{core-at, next-read, used-read, running-read, closed-read}
 
 module _ (w : List ℕ) (c : ℕ) (h : c < 8) where
-  stored-read : byteIn w (corePlace c + 2) ≡ (coreOf (cardIn w) c) .stored
-  unfolding coreIn
-  stored-read = sym (ap (λ (k : Core). k .stored) (core-at w c h))
-
   homed-read : byteIn w (corePlace c + 3) ≡ (coreOf (cardIn w) c) .homed
   unfolding coreIn
   homed-read = sym (ap (λ (k : Core). k .homed) (core-at w c h))
@@ -23,9 +19,6 @@ module _ (w : List ℕ) (c : ℕ) (h : c < 8) where
 
     pub used-there : n ≡ byteIn w (a + 1) → n ≡ (coreOf (cardIn w) c) .used
     used-there q = q ∙ ap (λ (b : ℕ). byteIn w (b + 1)) e ∙ used-read w c h
-
-    pub stored-there : n ≡ byteIn w (a + 2) → n ≡ (coreOf (cardIn w) c) .stored
-    stored-there q = q ∙ ap (λ (b : ℕ). byteIn w (b + 2)) e ∙ stored-read
 
     pub homed-there : n ≡ byteIn w (a + 3) → n ≡ (coreOf (cardIn w) c) .homed
     homed-there q = q ∙ ap (λ (b : ℕ). byteIn w (b + 3)) e ∙ homed-read
