@@ -20,9 +20,10 @@ use Rattle.model.proofs.Lists.{cases, map-below}
 use Rattle.cells.specs.Cells.{byteIn, numberIn, nameIn, holderIn, coreIn, cardIn, tailPlace, holderPlace, corePlace}
 use Rattle.cells.specs.Changes.{fitsAt, Fits, Frame, withNumbers, withTail}
 use Rattle.cells.proofs.FitsLaws.{fits-zero, fits-set, frame-then, frame-same, frame-wider}
-use Rattle.cells.proofs.CellLaws.{core-at, next-read, used-read}
+use Rattle.cells.proofs.CellLaws.{core-at, used-read}
 use Rattle.cells.proofs.CoreLaws.{holders-put}
-use Rattle.checkpoint.specs.Oldest.{withReleased, Freed}
+use Rattle.oldest.proofs.CountLaws.{next-is}
+use Rattle.checkpoint.specs.NextStore.{withReleased, Freed}
 
 -- ---- a holder's cell
 module _ (n : Name) (x : ℕ) where
@@ -97,9 +98,6 @@ module _ (n : Name) (v : List ℕ) where
 
 -- ---- a core's numbers
 module _ (w : List ℕ) (c : ℕ) (h : c < 8) (p : ℕ) (e : p ≡ corePlace c) where
-  pub next-is : (n : ℕ) → n ≡ numberIn w p → n ≡ (coreOf (cardIn w) c) .next
-  next-is n q = q ∙ ap (numberIn w) e ∙ next-read w c h
-
   pub used-is : (n : ℕ) → n ≡ byteIn w (p + 1) → n ≡ (coreOf (cardIn w) c) .used
   used-is n q = q ∙ ap (λ (i : ℕ). byteIn w (i + 1)) e ∙ used-read w c h
 

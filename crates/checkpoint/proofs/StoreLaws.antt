@@ -23,9 +23,9 @@ use Rattle.cells.specs.Cells.{world, byteIn, cardIn, corePlace}
 use Rattle.cells.specs.Changes.{Frame}
 use Rattle.cells.proofs.FitsLaws.{frame-wider}
 use Rattle.cells.specs.Answer.{Stores}
-use Rattle.checkpoint.specs.Oldest.{nextStore}
+use Rattle.oldest.proofs.SharedLaws.{shape-range}
+use Rattle.checkpoint.specs.NextStore.{nextStore}
 use Rattle.checkpoint.proofs.RetireLaws.{homed-is}
-use Rattle.checkpoint.proofs.SharedLaws.{shape-range}
 
 -- ---- a home store
 pub home-put : (s : Shape) (d : Bytes) (e : Committed) (i b : ℕ) → b ≡ getD (blocksOf s d e) i 0 → (at : Image) → at ≡ imageAt s d e i

@@ -1,2 +1,2 @@
--- What the contracts of CHECKPOINT say beyond crate `model`.
-pub mod Oldest
+-- What the contracts of CHECKPOINT say beyond crates `model` and `oldest`.
+pub mod NextStore

@@ -8,7 +8,7 @@ ghost use Rattle.model.specs.Checkpoint.{movedTail, retiredCore, retiredCard};
 ghost use Rattle.model.proofs.Limits.{InRange};
 ghost use Rattle.cells.specs.Cells.{cardIn, corePlace};
 ghost use Rattle.cells.specs.Changes.{Frame};
-ghost use Rattle.checkpoint.specs.Oldest.{withReleased, Freed};
+ghost use Rattle.checkpoint.specs.NextStore.{withReleased, Freed};
 use cells::HOLDERS;
 use cells::STORED;
 use cells::USED;

@@ -11,10 +11,10 @@ ghost use Rattle.model.specs.Checkpoint.{homedCore, storedHome, storedMaster};
 ghost use Rattle.cells.specs.Cells.{cardIn, corePlace};
 ghost use Rattle.cells.specs.Changes.{Frame};
 ghost use Rattle.cells.specs.Answer.{Stores};
-ghost use Rattle.checkpoint.specs.Oldest.{IsRead, nextStore};
+ghost use Rattle.oldest.specs.Oldest.{IsRead};
+ghost use Rattle.checkpoint.specs.NextStore.{nextStore};
 use crate::retired::moved_tail;
 use crate::retired::retire;
-use crate::shared::block_at;
 use cells::HOMED;
 use cells::STORED;
 use cells::USED;
@@ -26,6 +26,7 @@ use cells::shape_of;
 use cells::tails_of;
 use model::Committed;
 use model::Shape;
+use oldest::block_at;
 
 // The i-th block of a transaction stored home, with its image out of the journal.
 fn put_home(s: Shape, e: Committed, i: usize, disk: &mut [u8])

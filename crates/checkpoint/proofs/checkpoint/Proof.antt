@@ -1,5 +1,5 @@
 -- `checkpoint::checkpoint` meets its contract: refused at one of the first stages, none committed, or what its oldest transaction meets.
-use Rattle.checkpoint.proofs.OldestLaws.{first-refused, first-passed, none-committed, oldest-found, oldest-settled}
+use Rattle.checkpoint.proofs.CommandLaws.{first-refused, first-passed, none-committed, oldest-found, oldest-settled}
 use borrow.Author.Needs.{needs}
 use Rattle.checkpoint.proofs.checkpoint.Statement.{statement}
 use Rattle.checkpoint.proofs.checkpoint.Tie as tie

@@ -1,5 +1,6 @@
 -- `checkpoint::checkpoint_oldest` meets its contract: refused, or the next store.
-use Rattle.checkpoint.proofs.OldestLaws.{oldest-was-read, number-low, oldest-core, oldest-refused, oldest-done}
+use Rattle.oldest.proofs.OldestLaws.{oldest-was-read}
+use Rattle.checkpoint.proofs.CommandLaws.{number-low, oldest-core, oldest-refused, oldest-done}
 use borrow.Author.Needs.{needs}
 use Rattle.checkpoint.proofs.checkpoint_oldest.Statement.{statement}
 use Rattle.checkpoint.proofs.checkpoint_oldest.Tie as tie

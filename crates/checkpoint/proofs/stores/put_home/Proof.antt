@@ -1,5 +1,5 @@
 -- `checkpoint::stores::put_home` meets its contract.
-use Rattle.checkpoint.proofs.SharedLaws.{is-sized}
+use Rattle.oldest.proofs.SharedLaws.{is-sized}
 use Rattle.checkpoint.proofs.StoreLaws.{home-put}
 use borrow.Author.Needs.{needs}
 use Rattle.checkpoint.proofs.stores.put_home.Statement.{statement}

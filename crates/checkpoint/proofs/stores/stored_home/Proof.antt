@@ -1,5 +1,5 @@
 -- `checkpoint::stores::stored_home` meets its contract.
-use Rattle.checkpoint.proofs.SharedLaws.{read-shape}
+use Rattle.oldest.proofs.SharedLaws.{read-shape}
 use Rattle.checkpoint.proofs.StoreLaws.{home-stored}
 use borrow.Author.Needs.{needs}
 use Rattle.checkpoint.proofs.stores.stored_home.Statement.{statement}

@@ -1,5 +1,5 @@
 -- `checkpoint::stores::stored_master` meets its contract: the master in block 0, then the cells.
-use Rattle.checkpoint.proofs.SharedLaws.{shape-range}
+use Rattle.oldest.proofs.SharedLaws.{shape-range}
 use Rattle.checkpoint.proofs.StoreLaws.{moved-past, master-stored}
 use borrow.Author.Needs.{needs}
 use Rattle.checkpoint.proofs.stores.stored_master.Statement.{statement}

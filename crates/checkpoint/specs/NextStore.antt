@@ -1,0 +1,31 @@
+-- CHECKPOINT: the next store of a core's oldest transaction, and the holders after it is retired.
+use Prim.Native.Nat.{ℕ}
+use mathlib.Core.Path.{_≡_}
+use mathlib.Core.Bool.{true, cond}
+use lib.Dec.{ltb}
+use Rattle.model.specs.Card.{coreOf, withLists}
+use Rattle.model.specs.Checkpoint.{freed, released, storedHome, storedMaster}
+use Rattle.model.specs.Command.{World, Outcome, unless}
+use Rattle.model.specs.declared.Name.{Name}
+use Rattle.model.specs.declared.Card.{Card}
+use Rattle.model.specs.declared.Committed.{Committed}
+use Rattle.cells.specs.Cells.{holderIn}
+use Rattle.cells.specs.Changes.{fitsAt}
+use Rattle.oldest.specs.Oldest.{oldestConditions}
+
+-- its next store
+unfoldable pub nextStore : ℕ → Committed → World → Outcome
+nextStore c e w = cond (ltb ((coreOf (w .card) c) .homed) (e .count)) (storedHome c e w) (storedMaster c e w)
+
+-- refused, or its next store
+unfoldable pub oldestOutcome : ℕ → Committed → World → Outcome
+oldestOutcome c e w = unless (oldestConditions e w) w (nextStore c e w)
+
+-- the card with no block held by the transaction of this name
+abbrev pub withReleased : Card → Name → Card
+withReleased x n = withLists x (x .tails) (x .cores) (released n (x .holders))
+
+-- a holder's cell after the transaction of this name is retired: it tells of the holder, and still fits where it did
+pub record Freed (n : Name) (x r : ℕ) : Type 0 where
+  pub holder : holderIn r ≡ freed n (holderIn x)
+  pub kept : (i : ℕ) → fitsAt i x ≡ true → fitsAt i r ≡ true

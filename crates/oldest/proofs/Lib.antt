@@ -1,0 +1,4 @@
+-- Laws of a core's oldest transaction that its proofs, and those of CHECKPOINT, cite.
+pub mod SharedLaws
+pub mod CountLaws
+pub mod OldestLaws

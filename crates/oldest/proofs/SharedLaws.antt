@@ -1,0 +1,163 @@
+-- A transaction read from its record, and others that share a block with it.
+use Prim.Native.Nat.{ℕ, _+_, _≤_, _<_}
+use native.Mathlib.Omega.{arith}
+use mathlib.Core.Path.{_≡_, refl, sym, ap, _∙_, subst}
+use mathlib.Core.Bool.{Bool, true, false, not}
+use mathlib.Core.List.{List, [], map}
+use lib.ListN.{length, getD, take, List·getD-map}
+use lib.Dec.{eqb}
+use borrow.Author.Tests.{not-true, not-false, lt-ltb, le-ltb, eq-eqb, ne-eqb}
+use Rattle.model.specs.Lists.{below, any}
+use Rattle.model.specs.Bytes.{Bytes}
+use Rattle.model.specs.Card.{taken, shapeOf}
+use Rattle.model.specs.Layout.{Held, newHeld, pairAt, pairsIn, heldIn}
+use Rattle.model.specs.Journal.{journalAt, heldBy, blocksOf}
+use Rattle.model.specs.Checkpoint.{share}
+use Rattle.model.specs.declared.Shape.{Shape}
+use Rattle.model.specs.declared.Card.{Card}
+use Rattle.model.specs.declared.Committed.{Committed}
+use Rattle.model.proofs.Lists.{any-mem, mem-any, getD-mem, mem-getD, mem-below, below-mem, getD-map-below, both-ways}
+use Rattle.model.proofs.OneStore.{shape-limits}
+use Rattle.model.proofs.Limits.{InRange}
+use Rattle.model.proofs.Records.{length-blocksOf, known-below}
+use Rattle.layout.specs.Loops.{some}
+use Rattle.layout.proofs.Loops.{some-none, some-no, some-in, some-out}
+use Rattle.journal.specs.Slots.{entries, Sized}
+use Rattle.journal.specs.Newest.{sharesBelow}
+use Rattle.cells.specs.Cells.{byteIn, transactionIn, cardIn, closedPlace}
+use Rattle.cells.proofs.Parts.{any-hit, any-more, any-none, any-all}
+use Rattle.cells.proofs.CellLaws.{block-read, closed-read}
+use Rattle.oldest.specs.Oldest.{IsRead, lowerClosed, closedLower, lowerShares}
+
+-- the shape as it is read is within its limits
+pub shape-range : (x : Card) (s : Shape) → s ≡ shapeOf x → InRange s
+shape-range x s e = subst InRange (sym e) (shape-limits x)
+
+pub core-low : (x : Card) (c : ℕ) → c < (shapeOf x) .cores → c < 8
+core-low x c h = omega (arith, shape-limits x .few-cores)
+
+-- ---- a transaction read
+block-there : (f : Bytes) (n i : ℕ) → i < n → getD (map (λ (h : Held). h .block) (heldIn f n)) i 0 ≡ (pairAt newHeld f 16 i) .block
+unfolding heldIn pairsIn
+block-there f n i h =
+    List·getD-map (λ (x : Held). x .block) (map (pairAt newHeld f 16) (below n)) i (newHeld 0 0) ∙ rw (getD-map-below (pairAt newHeld f 16) n i (newHeld 0 0) h)
+
+module _ (s : Shape) (d : Bytes) (e : Committed) (r : IsRead s d e) (i : ℕ) (b : Bytes) (p : b ≡ journalAt s d (e .core) (e .position)) (v : ℕ)
+    (q : v ≡ (pairAt newHeld b 16 i) .block) (h : i < e .count) where
+  pub block-is : v ≡ getD (blocksOf s d e) i 0
+  unfolding blocksOf heldBy
+  block-is = q ∙ rw p (sym (block-there (journalAt s d (e .core) (e .position)) (e .count) i h))
+
+  pub block-low : v < 64
+  block-low = omega (arith, block-is, known-below s d (e .core) (e .number) e (r .known) i h, r .range .few-blocks)
+
+  pub block-fits : v < 256
+  block-fits = omega (arith, block-low)
+
+pub is-sized : (s : Shape) (d : Bytes) (e : Committed) → IsRead s d e → Sized s e
+is-sized s d e r = record { core = r .core; few = r .known .few; short = r .known .short }
+
+module _ (x : Card) (s : Shape) (q : s ≡ shapeOf x) where
+  pub read-shape : (d : Bytes) (e : Committed) → IsRead (shapeOf x) d e → IsRead s d e
+  read-shape d e r = subst (λ (s : Shape). IsRead s d e) (sym q) r
+
+-- ---- block b among those that the transaction at a place took
+module _ (w : List ℕ) (a b : ℕ) where
+  pub none-taken : any (eqb b) (take 0 (taken (transactionIn w a))) ≡ false
+  none-taken = any-none (eqb b) (taken (transactionIn w a))
+
+  module _ (i count : ℕ) (e : count ≡ length (taken (transactionIn w a))) where
+    pub not-taken : any (eqb b) (take i (taken (transactionIn w a))) ≡ false → count ≤ i → false ≡ any (eqb b) (taken (transactionIn w a))
+    not-taken u h = sym (any-all (eqb b) (taken (transactionIn w a)) i u (omega arith))
+
+    module _ (l : count ≤ 8) (h : i < count) (g : ℕ) (q : g ≡ byteIn w (a + 4 + i)) where
+      here : getD ((transactionIn w a) .blocks) i 0 ≡ g
+      here = block-read w a i 0 (omega arith) ∙ sym q
+
+      pub block-hit : g ≡ b → true ≡ any (eqb b) (taken (transactionIn w a))
+      unfolding taken
+      block-hit z =
+          sym
+          (any-hit (eqb b) ((transactionIn w a) .blocks) ((transactionIn w a) .count) i (omega arith) 0
+          (eq-eqb b (getD ((transactionIn w a) .blocks) i 0) (sym (here ∙ z))))
+
+      pub block-missed : any (eqb b) (take i (taken (transactionIn w a))) ≡ false → (g ≡ b → ⊥) → any (eqb b) (take (i + 1) (taken (transactionIn w a))) ≡ false
+      unfolding taken
+      block-missed u z =
+          any-more (eqb b) ((transactionIn w a) .blocks) ((transactionIn w a) .count) i (omega arith) 0 u
+          (ne-eqb b (getD ((transactionIn w a) .blocks) i 0) (λ y. z (sym (y ∙ here))))
+
+-- ---- blocks shared
+-- the block at place i is one of those
+unfoldable pub sharesAt : List ℕ → List ℕ → ℕ → Bool
+sharesAt bs cs i = any (eqb (getD bs i 0)) cs
+
+some-share : (bs cs : List ℕ) → some (length bs) (sharesAt bs cs) ≡ share bs cs
+unfolding some share sharesAt
+some-share bs cs =
+    both-ways
+    (λ h.
+    let m = any-mem (λ (i : ℕ). any (eqb (getD bs i 0)) cs) (below (length bs)) h in
+    mem-any (λ (b : ℕ). any (eqb b) cs) (getD-mem bs (m .0) 0 (mem-below (length bs) (m .1))) (m .2))
+    (λ h.
+    let m = any-mem (λ (b : ℕ). any (eqb b) cs) bs h in
+    let i = mem-getD (m .1) 0 in
+    mem-any (λ (i : ℕ). any (eqb (getD bs i 0)) cs) (below-mem (length bs) (i .0) (i .1)) (ap (λ (b : ℕ). any (eqb b) cs) (i .2) ∙ m .2))
+
+module _ (s : Shape) (d : Bytes) (e : Committed) (cs : List ℕ) where
+  shares-all : some (e .count) (sharesAt (blocksOf s d e) cs) ≡ share (blocksOf s d e) cs
+  shares-all = ap (λ (n : ℕ). some n (sharesAt (blocksOf s d e) cs)) (sym (length-blocksOf s d e)) ∙ some-share (blocksOf s d e) cs
+
+  pub none-shared : some 0 (sharesAt (blocksOf s d e) cs) ≡ false
+  none-shared = some-none _
+
+  pub end-shared : (i : ℕ) → some i (sharesAt (blocksOf s d e) cs) ≡ false → i ≤ e .count → e .count ≤ i → false ≡ share (blocksOf s d e) cs
+  end-shared i h p q = some-no (sharesAt (blocksOf s d e) cs) i (e .count) h p q ∙ shares-all
+
+  module _ (i b : ℕ) (p : b ≡ getD (blocksOf s d e) i 0) (r : Bool) (q : r ≡ any (eqb b) cs) where
+    answered : r ≡ sharesAt (blocksOf s d e) cs i
+    unfolding sharesAt
+    answered = q ∙ rw p
+
+    pub one-shared : r ≡ true → i < e .count → true ≡ share (blocksOf s d e) cs
+    one-shared h l = some-in (sharesAt (blocksOf s d e) cs) i r answered (e .count) h l ∙ shares-all
+
+    pub more-unshared : some i (sharesAt (blocksOf s d e) cs) ≡ false → r ≡ false → some (i + 1) (sharesAt (blocksOf s d e) cs) ≡ false
+    more-unshared h n = some-out (sharesAt (blocksOf s d e) cs) i r answered h n
+
+-- ---- those of lower stamp
+stamp-read : (w : List ℕ) (a : ℕ) → getD w (a + 1) 0 ≡ (transactionIn w a) .stamp
+unfolding transactionIn
+stamp-read w a = refl
+
+module _ (s : Shape) (d : Bytes) (e : Committed) (w : List ℕ) (a : ℕ) (g : Bool) (q : g ≡ (transactionIn w a) .live) where
+  pub closed-none : not g ≡ true → false ≡ lowerClosed s d e (transactionIn w a)
+  unfolding lowerClosed
+  closed-none h = rw (← q, not-true g h)
+
+  module _ (h : not g ≡ false) where
+    pub closed-later : e .stamp ≤ getD w (a + 1) 0 → false ≡ lowerClosed s d e (transactionIn w a)
+    unfolding lowerClosed
+    closed-later l = rw (← q, not-false g h, ← stamp-read w a, le-ltb (getD w (a + 1) 0) (e .stamp) l)
+
+    pub closed-earlier : getD w (a + 1) 0 < e .stamp → (r : Bool) → r ≡ share (blocksOf s d e) (taken (transactionIn w a)) → r ≡ lowerClosed s d e (transactionIn w a)
+    unfolding lowerClosed
+    closed-earlier l r z = z ∙ rw (← q, not-false g h, ← stamp-read w a, lt-ltb (getD w (a + 1) 0) (e .stamp) l)
+
+module _ (s : Shape) (c at : ℕ) (p : at ≡ closedPlace c) (l : InRange s) (h : c < s .cores) where
+  pub closed-in : at + 24 ≤ 512
+  closed-in = omega (arith, l .few-cores)
+
+  pub is-lower : (w : List ℕ) (d : Bytes) (e : Committed) (r : Bool) → r ≡ lowerClosed s d e (transactionIn w at) → r ≡ closedLower (cardIn w) s d e c
+  unfolding closedLower
+  is-lower w d e r q = q ∙ rw p (rw (closed-read w c (omega (arith, l .few-cores))))
+
+-- a committed one, then a closed one
+module _ (x : Card) (s : Shape) (d : Bytes) (slots : List ℕ) (e : Committed) (g : Bool) (q : g ≡ any (sharesBelow s d e) (entries s d [] slots)) where
+  pub lower-committed : g ≡ true → true ≡ lowerShares x s d slots e
+  unfolding lowerShares
+  lower-committed t = rw (← q, t)
+
+  pub lower-closed : g ≡ false → (r : Bool) → r ≡ some (s .cores) (closedLower x s d e) → r ≡ lowerShares x s d slots e
+  unfolding lowerShares
+  lower-closed t r z = z ∙ rw (← q, t)

@@ -1,0 +1,2 @@
+-- What the contracts of a core's oldest transaction say beyond crate `model`.
+pub mod Oldest

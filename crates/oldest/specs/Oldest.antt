@@ -1,0 +1,74 @@
+-- A core's oldest committed transaction as the code finds it, the tests of those that share a block with it, and what refuses its
+-- checkpoint.
+use Prim.Native.Nat.{ℕ, _<_, min}
+use mathlib.Core.Path.{_≡_}
+use mathlib.Core.List.{List, [], _∷_, map}
+use mathlib.Core.Bool.{Bool, cond, not, _&&_, _||_}
+use lib.ListN.{length, getD}
+use lib.Dec.{ltb, eqb}
+use Rattle.model.specs.Lists.{below, any}
+use Rattle.model.specs.Bytes.{Bytes}
+use Rattle.model.specs.Card.{taken, shapeOf, tailOf, coreOf, committedCount}
+use Rattle.model.specs.Journal.{recordAt, nameOf, blocksOf}
+use Rattle.model.specs.Valid.{isIn}
+use Rattle.model.specs.Checkpoint.{share, validNow, sharesLower}
+use Rattle.model.specs.Command.{World}
+use Rattle.model.specs.declared.Shape.{Shape}
+use Rattle.model.specs.declared.Transaction.{Transaction}
+use Rattle.model.specs.declared.Card.{Card}
+use Rattle.model.specs.declared.Committed.{Committed}
+use Rattle.model.specs.declared.Found.{Found}
+use Rattle.model.specs.declared.Found.the-variants.{Whole, Miss}
+use Rattle.model.proofs.Limits.{InRange}
+use Rattle.model.proofs.Journal.{Known}
+use Rattle.layout.specs.Loops.{some}
+use Rattle.journal.specs.Slots.{entries}
+use Rattle.journal.specs.Newest.{sharesBelow}
+
+-- ---- read
+-- core c's count; a journal has no more than twelve records
+unfoldable pub countAt : Card → ℕ → ℕ
+countAt x c = min (committedCount x c) 12
+
+unfoldable pub counts : Card → List ℕ
+counts x = map (countAt x) (below 8)
+
+-- an array of the counts; those of cores that the disk has not do not matter
+unfoldable pub Counts : Card → List ℕ → Type 0
+Counts x most = (c : ℕ) → c < (shapeOf x) .cores → getD most c 0 ≡ countAt x c
+
+-- core c's oldest transaction, if the card counts one
+unfoldable pub oldestAt : Card → Bytes → ℕ → Found
+oldestAt x d c =
+    cond (eqb (countAt x c) 0) Miss (recordAt (shapeOf x) d c ((tailOf x c) .number) ((tailOf x c) .position) ((shapeOf x) .journal))
+
+-- a transaction that was read from its record, on a whole disk of this shape
+pub record IsRead (s : Shape) (d : Bytes) (e : Committed) : Type 0 where
+  pub long : length d ≡ 32896
+  pub range : InRange s
+  pub core : e .core < s .cores
+  pub known : Known s d (e .core) (e .number) e
+
+-- core c's oldest transaction, as it was found by the counts
+pub record IsOldest (x : Card) (d : Bytes) (c : ℕ) (most : List ℕ) (e : Committed) : Type 0 where
+  pub long : length d ≡ 32896
+  pub core : c < (shapeOf x) .cores
+  pub counted : Counts x most
+  pub first : oldestAt x d c ≡ Whole e
+
+-- ---- those closed, of lower stamp, that share a block with e
+unfoldable pub lowerClosed : Shape → Bytes → Committed → Transaction → Bool
+lowerClosed s d e t = t .live && ltb (t .stamp) (e .stamp) && share (blocksOf s d e) (taken t)
+
+-- the closed transaction of core i is one
+unfoldable pub closedLower : Card → Shape → Bytes → Committed → ℕ → Bool
+closedLower x s d e i = lowerClosed s d e ((coreOf x i) .closed)
+
+-- one of those, or a committed one, as the slots have them
+unfoldable pub lowerShares : Card → Shape → Bytes → List ℕ → Committed → Bool
+lowerShares x s d slots e = any (sharesBelow s d e) (entries s d [] slots) || some (s .cores) (closedLower x s d e)
+
+-- ---- refused
+-- what refuses the checkpoint of core c's oldest transaction
+unfoldable pub oldestConditions : Committed → World → List (Bool × ℕ)
+oldestConditions e w = (not (isIn (validNow w) (nameOf e)), 32) ∷ (sharesLower w e, 33) ∷ []
