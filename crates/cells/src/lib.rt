@@ -56,6 +56,7 @@ pub use transactions::block_count;
 pub use transactions::cell_of;
 pub use transactions::clear;
 pub use transactions::is_live;
+pub use transactions::lists_name;
 pub use transactions::name_count;
 pub use transactions::name_of;
 pub use transactions::same_name;

@@ -2,11 +2,12 @@
 ghost use mathlib.Core.Path.{_≡_};
 ghost use Prim.Native.Nat.{_+_, _<_, _≤_};
 ghost use lib.ListN.{length};
-ghost use Rattle.model.specs.Card.{noTransaction, sameName, taken, listed};
+ghost use Rattle.model.specs.Card.{noTransaction, sameName, taken, listed, lists};
 ghost use Rattle.cells.specs.Cells.{nameIn, transactionIn};
 ghost use Rattle.cells.specs.Changes.{Frame};
 use crate::fields::COUNT;
 use crate::fields::NAMED;
+use crate::fields::NAMES;
 use crate::fields::TRANSACTION_SIZE;
 use crate::fields::byte_in;
 use model::Name;
@@ -67,6 +68,23 @@ pub fn same_name(a: Name, b: Name) -> bool
 {
     if a.core == b.core {
         return a.number == b.number;
+    }
+    false
+}
+
+// Whether the list of the transaction at a place has the name.
+pub fn lists_name(w: &[u64], at: usize, n: Name) -> bool
+    requires { ⌜ (length (now w) ≡ 512) × (at + 24 ≤ 512) ⌝ }
+    ensures { λ r. ⌜ r ≡ lists (transactionIn (now (w .entry)) at) n ⌝ }
+{
+    let count = name_count(w, at);
+    let mut i: usize = 0;
+    while i < count {
+        let m = name_of(w[at + NAMES + i]);
+        if same_name(n, m) {
+            return true;
+        }
+        i += 1;
     }
     false
 }

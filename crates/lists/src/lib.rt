@@ -1,10 +1,10 @@
-// A transaction at its place in the cells: opened, its list of names searched and grown, a block taken. No function here is a public
+// A transaction at its place in the cells: opened, its list of names grown, a block taken. No function here is a public
 // entry of the library.
 ghost use mathlib.Core.Path.{_≡_};
 ghost use mathlib.Core.Bool.{false};
-ghost use Prim.Native.Nat.{_+_, _<_, _≤_};
+ghost use Prim.Native.Nat.{_<_};
 ghost use lib.ListN.{length};
-ghost use Rattle.model.specs.Card.{lists, withName, withBlock};
+ghost use Rattle.model.specs.Card.{withName, withBlock};
 ghost use Rattle.model.specs.Write.{passesTwelve};
 ghost use Rattle.cells.specs.Cells.{transactionIn};
 ghost use Rattle.cells.specs.Changes.{openedOr, IsPlace, Frame};
@@ -16,27 +16,8 @@ use cells::byte_in;
 use cells::cell_of;
 use cells::clear;
 use cells::is_live;
-use cells::name_count;
-use cells::name_of;
-use cells::same_name;
+use cells::lists_name;
 use model::Name;
-
-// Whether the list of the transaction at a place has the name.
-pub fn lists_name(w: &[u64], at: usize, n: Name) -> bool
-    requires { ⌜ (length (now w) ≡ 512) × (at + 24 ≤ 512) ⌝ }
-    ensures { λ r. ⌜ r ≡ lists (transactionIn (now (w .entry)) at) n ⌝ }
-{
-    let count = name_count(w, at);
-    let mut i: usize = 0;
-    while i < count {
-        let m = name_of(w[at + NAMES + i]);
-        if same_name(n, m) {
-            return true;
-        }
-        i += 1;
-    }
-    false
-}
 
 // The name added to the list, where it does not stand in it.
 pub fn add_name(w: &mut [u64], at: usize, n: Name)

@@ -21,9 +21,9 @@ use cells::byte_in;
 use cells::closed_place;
 use cells::core_place;
 use cells::is_live;
+use cells::lists_name;
 use cells::name_count;
 use cells::running_place;
-use lists::lists_name;
 use model::Name;
 use model::Shape;
 

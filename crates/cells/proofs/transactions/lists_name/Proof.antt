@@ -1,16 +1,16 @@
--- `lists::lists_name` meets its contract. Invariant: none of the first i names is the one sought.
+-- `cells::transactions::lists_name` meets its contract. Invariant: none of the first i names is the one sought.
 use Prim.Native.Nat.{_-_, _≤_}
 use mathlib.Core.Bool.{false}
 use mathlib.Core.Path.{_≡_}
 use lib.ListN.{length, take}
 use Rattle.model.specs.Card.{sameName, listed}
 use Rattle.model.specs.Lists.{any}
 use Rattle.cells.proofs.Parts.{none-listed, all-missed}
 use Rattle.cells.specs.Cells.{transactionIn}
 use Rattle.cells.proofs.CellLaws.{name-found, name-passed}
 use borrow.Author.Needs.{needs}
-use Rattle.lists.proofs.lists_name.Statement.{statement}
-use Rattle.lists.proofs.lists_name.Tie as tie
+use Rattle.cells.proofs.transactions.lists_name.Statement.{statement}
+use Rattle.cells.proofs.transactions.lists_name.Tie as tie
 
 abbrev Inv-loop : tie.InvT-loop
 Inv-loop w at n count i₀ i = (count ≡ length (listed (transactionIn w at))) × (count ≤ 12) × (any (sameName n) (take i (listed (transactionIn w at))) ≡ false)
