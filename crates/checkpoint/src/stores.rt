@@ -73,7 +73,7 @@ fn stored_master(w: &mut [u64], c: u8, e: Committed, disk: &mut [u8])
     let t = moved_tail(s, e);
     let mut tails = tails_of(w);
     tails[c as usize] = t;
-    layout::store_master(s, tails, disk);
+    master_block::store_master(s, tails, disk);
     retire(w, c, t, e);
 }
 

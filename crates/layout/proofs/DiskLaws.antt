@@ -7,7 +7,7 @@ use lib.ListN.{length, take, drop, replicate, set, length-set}
 use lib.Seq.{drop-length}
 use borrow.Author.Fill.{fill-none, fill-more}
 use borrow.Author.Needs.{needs}
-use Rattle.model.specs.Bytes.{Bytes, replaced, store, zeroDisk, zeroMemory}
+use Rattle.model.specs.Bytes.{Bytes, store, zeroDisk, zeroMemory}
 use Rattle.model.specs.Shape.{homeBlock}
 use Rattle.layout.proofs.Blocks.{block-lent}
 
@@ -47,12 +47,7 @@ unfolding zeroDisk
 zero-disk d h = ap (λ (n : ℕ). replicate n 0) h
 
 -- ---- a block written
--- what a writer made of block 0 is a store
-pub first-stored : (d w b : Bytes) → w ≡ b → w ++ drop 128 d ≡ store d 0 b
-unfolding store replaced
-first-stored d w b e = rw e
-
--- and of a home block
+-- what a writer made of a home block is a store
 pub home-lent : (d : Bytes) (b : ℕ) (image : Bytes) (k : ℕ) → k ≡ homeBlock b → (w : Bytes) → w ≡ image
     → take (128 * k) d ++ (w ++ drop (128 * k + 128 - 128 * k) (drop (128 * k) d)) ≡ store d (homeBlock b) image
 home-lent d b image k r w z = block-lent d k w image z ∙ rw r

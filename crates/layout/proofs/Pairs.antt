@@ -7,16 +7,12 @@ use lib.ListN.{length, take, getD, length-map, length-take, List·getD-append, L
 use lib.Seq.{getD-append-add, getD-take}
 use borrow.Author.Tests.{eq-eqb, ne-eqb}
 use Rattle.model.specs.Lists.{below}
-use Rattle.model.specs.Shape.{clamped}
-use Rattle.model.specs.Card.{newTail, newName}
-use Rattle.model.specs.Layout.{mark, pairWords, masterWords, Held, newHeld, descriptorWords, commitWords}
-use Rattle.model.specs.declared.Shape.{Shape}
-use Rattle.model.specs.declared.Tail.{Tail}
+use Rattle.model.specs.Card.{newName}
+use Rattle.model.specs.Layout.{mark, pairWords, Held, newHeld, descriptorWords, commitWords}
 use Rattle.model.specs.declared.Name.{Name}
 use Rattle.model.proofs.Lists.{length-below, getD-map-below}
-use Rattle.model.proofs.Limits.{clamped-range}
 use Rattle.model.proofs.Encoding.{length-pairs}
-use Rattle.layout.specs.Words.{pairWord, masterFrom, heldOf, descriptorFrom}
+use Rattle.layout.specs.Words.{pairWord, heldOf, descriptorFrom}
 
 -- the length of an array of structs, as its type gives it
 pub length-mapped : {A B : Type 0} (f : A → B) (l : List A) (n : ℕ) → length (map f l) ≡ n → length l ≡ n
@@ -56,48 +52,6 @@ module _ {A : Type 0} (f g : A → ℕ) where
 
     pub word-rest : n ≤ i → length xs ≤ (i - n) / 2 → 0 ≡ getD (hs ++ pairWords f g xs) i 0
     word-rest h q = sym (after h ∙ List·getD-eq-default (pairWords f g xs) 0 (omega (arith, length-pairs f g xs)))
-
--- ---- master
-tails : Shape → List Tail → List Tail
-tails s ts = map (λ (c : ℕ). getD ts c (newTail 0 0)) (below (s .cores))
-
-length-tails : (s : Shape) (ts : List Tail) → length (tails s ts) ≡ s .cores
-unfolding tails
-length-tails s ts = length-map (below (s .cores)) (λ (c : ℕ). getD ts c (newTail 0 0)) ∙ length-below (s .cores)
-
-pub length-master : (s : Shape) (ts : List Tail) → length (masterFrom (clamped s) ts) ≤ 32
-unfolding masterFrom masterWords tails
-length-master s ts =
-    let n = clamped s in
-    omega (arith, length-pairs (λ (t : Tail). t .number) (λ (t : Tail). t .position) (tails n ts), length-tails n ts, (clamped-range s) .few-cores)
-
-pub few-cores : (s near : Shape) (c : ℕ) → near ≡ clamped s → c < near .cores → c < 8
-few-cores s near c e h = omega (arith, (clamped-range s) .few-cores, ap (λ (z : Shape). z .cores) e)
-
--- the shape that the code has is s
-module _ (s near : Shape) (e : near ≡ s) (ts : List Tail) (i : ℕ) where
-  head : List ℕ
-  head = mark ∷ 4 ∷ 0 ∷ near .cores ∷ near .blocks ∷ near .journal ∷ []
-
-  pub master-head : i < 6 → getD (mark ∷ 4 ∷ 0 ∷ near .cores ∷ near .blocks ∷ near .journal ∷ []) i 0 ≡ getD (masterFrom s ts) i 0
-  unfolding masterFrom masterWords head tails
-  master-head h = word-head (λ (t : Tail). t .number) (λ (t : Tail). t .position) head 6 refl (tails near ts) i h ∙ ap (λ (z : Shape). getD (masterFrom z ts) i 0) e
-
-  pub master-rest : 6 ≤ i → near .cores ≤ (i - 6) / 2 → 0 ≡ getD (masterFrom s ts) i 0
-  unfolding masterFrom masterWords head tails
-  master-rest h q =
-      word-rest (λ (t : Tail). t .number) (λ (t : Tail). t .position) head 6 refl (tails near ts) i h (omega (arith, length-tails near ts))
-      ∙ ap (λ (z : Shape). getD (masterFrom z ts) i 0) e
-
-  pub master-pair : (x : ℕ) → x ≡ pairWord ((getD ts ((i - 6) / 2) (newTail 0 0)) .number) ((getD ts ((i - 6) / 2) (newTail 0 0)) .position) (i - 6)
-      → 6 ≤ i → (i - 6) / 2 < near .cores → x ≡ getD (masterFrom s ts) i 0
-  unfolding masterFrom masterWords head tails
-  master-pair x v h q =
-      let t : getD (tails near ts) ((i - 6) / 2) (newTail 0 0) ≡ getD ts ((i - 6) / 2) (newTail 0 0) = getD-map-below (λ (c : ℕ). getD ts c (newTail 0 0)) (near .cores) ((i - 6) / 2) (newTail 0 0) q in
-      v
-      ∙ ap (λ (t : Tail). pairWord (t .number) (t .position) (i - 6)) (sym t)
-      ∙ word-pair (λ (t : Tail). t .number) (λ (t : Tail). t .position) head 6 refl (tails near ts) i (newTail 0 0) h (omega (arith, length-tails near ts))
-      ∙ ap (λ (z : Shape). getD (masterFrom z ts) i 0) e
 
 -- ---- descriptor
 length-heldOf : (n : ℕ) (bs fs : List ℕ) → length (heldOf n bs fs) ≡ n

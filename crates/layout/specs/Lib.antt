@@ -1,5 +1,4 @@
 -- What the contracts of functions within the crate cite, beside the definitions of model: every record block as words.
 pub mod Loops
 pub mod Words
-pub mod Tails
 pub mod Distinct

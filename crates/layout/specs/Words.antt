@@ -5,17 +5,11 @@ use mathlib.Core.Bool.{cond}
 use lib.ListN.{getD}
 use lib.Dec.{eqb}
 use Rattle.model.specs.Lists.{below}
-use Rattle.model.specs.Card.{newTail}
-use Rattle.model.specs.Layout.{masterWords, Held, newHeld, descriptorWords}
-use Rattle.model.specs.declared.Shape.{Shape}
-use Rattle.model.specs.declared.Tail.{Tail}
+use Rattle.model.specs.Layout.{Held, newHeld, descriptorWords}
 
 -- of pairs that stand one after the other, what stands at word k of the one there
 unfoldable pub pairWord : ℕ → ℕ → ℕ → ℕ
 pairWord first second k = cond (eqb (k % 2) 0) first second
-
-unfoldable pub masterFrom : Shape → List Tail → List ℕ
-masterFrom s ts = masterWords s (λ (c : ℕ). getD ts c (newTail 0 0))
 
 -- n blocks with their flags
 unfoldable pub heldOf : ℕ → List ℕ → List ℕ → List Held

@@ -1,24 +1,12 @@
-// A store of the master or of a home block, and slices zeroed.
+// A store of a home block, and slices zeroed.
 ghost use mathlib.Core.Path.{_≡_};
-ghost use Prim.Native.Nat.{ℕ, _<_};
-ghost use lib.ListN.{length, getD, replicate};
+ghost use Prim.Native.Nat.{_<_};
+ghost use lib.ListN.{length, replicate};
 ghost use Rattle.model.specs.Bytes.{store};
-ghost use Rattle.model.specs.Shape.{clamped, homeBlock};
-ghost use Rattle.model.specs.Card.{newTail};
-ghost use Rattle.model.specs.Layout.{masterBlock};
+ghost use Rattle.model.specs.Shape.{homeBlock};
 ghost use Rattle.model.proofs.Limits.{InRange};
 use crate::data::write_image;
-use crate::master_block::write_master;
 use model::Shape;
-use model::Tail;
-
-// The master stored, with these tails.
-pub fn store_master(s: Shape, tails: [Tail; 8], disk: &mut [u8])
-    requires { ⌜ length (now disk) ≡ 32896 ⌝ }
-    ensures { λ _. ⌜ now (disk .exit) ≡ store (now (disk .entry)) 0 (masterBlock (clamped s) (λ (c : ℕ). getD tails c (newTail 0 0))) ⌝ }
-{
-    write_master(&mut disk[0..128], s, tails);
-}
 
 // Home block b becomes the image.
 pub fn store_home(s: Shape, b: usize, image: [u8; 128], disk: &mut [u8])

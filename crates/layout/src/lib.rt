@@ -1,10 +1,10 @@
-// The bytes of the blocks, written and read: master, descriptor, commit, data. A block is a part of 128 bytes that the
-// caller lends; the master store and a home store lend it of the whole disk. No function here is a public entry of the library: each says in a `requires` what its callers ensure.
+// The bytes of the blocks of a journal, written and read: descriptor, commit, data; and the numbers that every block is made
+// of. A block is a part of 128 bytes that the caller lends; a home store lends it of the whole disk. No function here is a public
+// entry of the library: each says in a `requires` what its callers ensure.
 mod commit_block;
 mod data;
 mod descriptor_block;
 mod disk;
-mod master_block;
 mod words;
 
 pub use commit_block::is_commit;
@@ -25,9 +25,9 @@ pub use descriptor_block::held_flag;
 pub use descriptor_block::is_descriptor;
 pub use descriptor_block::write_descriptor;
 pub use disk::store_home;
-pub use disk::store_master;
 pub use disk::zero_all;
-pub use master_block::is_master;
-pub use master_block::read_shape;
-pub use master_block::read_tails;
-pub use master_block::write_master;
+pub use words::MARK;
+pub use words::MAX_NUMBER;
+pub use words::get_word;
+pub use words::pair_word;
+pub use words::put_word;

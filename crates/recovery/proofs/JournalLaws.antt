@@ -19,7 +19,7 @@ use Rattle.model.specs.declared.Shape.{Shape}
 use Rattle.model.specs.declared.Found.the-variants.{Miss}
 use Rattle.model.proofs.Lists.{cases, map-below, getD-map-below}
 use Rattle.model.proofs.Limits.{InRange}
-use Rattle.layout.specs.Tails.{tailOrNone}
+use Rattle.master_block.specs.Tails.{tailOrNone}
 use Rattle.journal.specs.declared.newest.Image.{Image}
 use Rattle.journal.specs.Slots.{numbersOf, numbered, entries, filledFrom}
 use Rattle.journal.specs.Walk.{Reads}

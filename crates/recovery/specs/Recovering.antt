@@ -13,7 +13,7 @@ use Rattle.model.specs.Recovery.{shapeOn, validOn, tailPast}
 use Rattle.model.specs.declared.Shape.{Shape}
 use Rattle.model.specs.declared.Tail.{Tail}
 use Rattle.model.proofs.Limits.{InRange}
-use Rattle.layout.specs.Tails.{tailOrNone}
+use Rattle.master_block.specs.Tails.{tailOrNone}
 use Rattle.journal.specs.Slots.{numbersOf, entries, filledFrom}
 use Rattle.journal.specs.Walk.{Reads}
 

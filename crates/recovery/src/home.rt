@@ -15,7 +15,7 @@ fn master_count(disk: &[u8]) -> u8
     requires { ⌜ length (now disk) ≡ 32896 ⌝ }
     ensures { λ r. ⌜ r ≡ cond (isMaster (blockAt (now (disk .entry)) 0)) ((shapeOn (now (disk .entry))) .blocks) 0 ⌝ }
 {
-    if !layout::is_master(&disk[0..128]) {
+    if !master_block::is_master(&disk[0..128]) {
         return 0;
     }
     let s = disk_shape(disk);

@@ -68,7 +68,7 @@ pub fn read_disk(s: Shape, disk: &[u8]) -> Journals
     requires { ⌜ Shaped s (now disk) ⌝ }
     ensures { λ r. ⌜ OnDisk s (now (disk .entry)) (r .tails) (r .committed) ⌝ }
 {
-    let tails = layout::read_tails(&disk[0..128]);
+    let tails = master_block::read_tails(&disk[0..128]);
     let committed = journal::read_journals(s, disk, tails, [s.journal; 8]);
     Journals { tails, committed }
 }

@@ -13,7 +13,7 @@ pub fn master_refusal(disk: &[u8]) -> u8
     requires { ⌜ length (now disk) ≡ 32896 ⌝ }
     ensures { λ r. ⌜ r ≡ cond (not (isMaster (blockAt (now (disk .entry)) 0))) 8 0 ⌝ }
 {
-    if layout::is_master(&disk[0..128]) {
+    if master_block::is_master(&disk[0..128]) {
         return 0;
     }
     8
@@ -24,7 +24,7 @@ pub fn disk_shape(disk: &[u8]) -> Shape
     requires { ⌜ (length (now disk) ≡ 32896) × (isMaster (blockAt (now disk) 0) ≡ true) ⌝ }
     ensures { λ r. ⌜ Shaped r (now (disk .entry)) ⌝ }
 {
-    let made = layout::read_shape(&disk[0..128]);
+    let made = master_block::read_shape(&disk[0..128]);
     let Checked::Fits(s) = made else {
         return Shape {
             cores: 1,

@@ -25,7 +25,7 @@ use cells::byte_in;
 use cells::come_up;
 use cells::phase_refusal;
 use layout::store_home;
-use layout::store_master;
+use master_block::store_master;
 use model::Shape;
 
 // The first block is looked at once the slices have their lengths and the card is down.

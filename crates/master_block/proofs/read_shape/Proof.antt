@@ -1,8 +1,8 @@
--- `layout::read_shape` meets its contract: the three words are the shape that is checked.
+-- `master_block::read_shape` meets its contract: the three words are the shape that is checked.
 use borrow.Author.Needs.{needs}
-use Rattle.layout.proofs.Readers.{shape-read}
-use Rattle.layout.proofs.master_block.read_shape.Statement.{statement}
-use Rattle.layout.proofs.master_block.read_shape.Tie as tie
+use Rattle.master_block.proofs.Readers.{shape-read}
+use Rattle.master_block.proofs.read_shape.Statement.{statement}
+use Rattle.master_block.proofs.read_shape.Tie as tie
 
 returns : tie.Need-returns
 returns c = search (needs, shape-read)

@@ -1,8 +1,8 @@
--- `layout::master_word` meets its contract: a word of the head, of a tail, or none.
+-- `master_block::master_word` meets its contract: a word of the head, of a tail, or none.
 use borrow.Author.Needs.{needs}
-use Rattle.layout.proofs.Pairs.{few-cores, master-head, master-rest, master-pair}
-use Rattle.layout.proofs.master_block.master_word.Statement.{statement}
-use Rattle.layout.proofs.master_block.master_word.Tie as tie
+use Rattle.master_block.proofs.Writers.{few-cores, master-head, master-rest, master-pair}
+use Rattle.master_block.proofs.master_word.Statement.{statement}
+use Rattle.master_block.proofs.master_word.Tie as tie
 
 returns : tie.Need-returns
 returns c = search (needs, master-head)

@@ -1,22 +1,23 @@
-// The master block: the disk's shape and the tail of each core's journal.
+// The master block: the disk's shape and the tail of each core's journal, written and read, and a master store. No function here is a
+// public entry of the library: each says in a `requires` what its callers ensure.
 ghost use mathlib.Core.Path.{_≡_};
 ghost use mathlib.Core.Bool.{true};
 ghost use mathlib.Core.List.{map};
 ghost use Prim.Native.Nat.{ℕ, _≤_, _<_};
 ghost use lib.ListN.{length, getD};
-ghost use Rattle.model.specs.Bytes.{be4};
+ghost use Rattle.model.specs.Bytes.{be4, store};
 ghost use Rattle.model.specs.Lists.{below};
 ghost use Rattle.model.specs.Shape.{checked, clamped};
 ghost use Rattle.model.specs.Card.{newTail};
 ghost use Rattle.model.specs.Layout.{masterBlock, tailIn, isTail, isMaster};
-ghost use Rattle.layout.specs.Words.{pairWord, masterFrom};
+ghost use Rattle.layout.specs.Words.{pairWord};
 ghost use Rattle.layout.specs.Loops.{every};
-ghost use Rattle.layout.specs.Tails.{tailOrNone};
-use crate::words::MARK;
-use crate::words::MAX_NUMBER;
-use crate::words::get_word;
-use crate::words::pair_word;
-use crate::words::put_word;
+ghost use Rattle.master_block.specs.Tails.{masterFrom, tailOrNone};
+use layout::MARK;
+use layout::MAX_NUMBER;
+use layout::get_word;
+use layout::pair_word;
+use layout::put_word;
 use model::Checked;
 use model::Shape;
 use model::Tail;
@@ -52,7 +53,7 @@ fn master_word(s: Shape, tails: [Tail; 8], i: usize) -> u32
 }
 
 // The master of this shape and these tails.
-pub fn write_master(block: &mut [u8], s: Shape, tails: [Tail; 8])
+fn write_master(block: &mut [u8], s: Shape, tails: [Tail; 8])
     requires { ⌜ length (now block) ≡ 128 ⌝ }
     ensures { λ _. ⌜ now (block .exit) ≡ masterBlock (clamped s) (λ (c : ℕ). getD tails c (newTail 0 0)) ⌝ }
 {
@@ -62,6 +63,14 @@ pub fn write_master(block: &mut [u8], s: Shape, tails: [Tail; 8])
         put_word(block, 4 * i, w);
         i += 1;
     }
+}
+
+// The master stored, with these tails.
+pub fn store_master(s: Shape, tails: [Tail; 8], disk: &mut [u8])
+    requires { ⌜ length (now disk) ≡ 32896 ⌝ }
+    ensures { λ _. ⌜ now (disk .exit) ≡ store (now (disk .entry)) 0 (masterBlock (clamped s) (λ (c : ℕ). getD tails c (newTail 0 0))) ⌝ }
+{
+    write_master(&mut disk[0..128], s, tails);
 }
 
 // The shape that a master gives, if its numbers are within the limits.

@@ -1,10 +1,10 @@
--- `layout::is_master` meets its contract: each return is one condition of `isMaster`; a shape that fits is the one in the block.
+-- `master_block::is_master` meets its contract: each return is one condition of `isMaster`; a shape that fits is the one in the block.
 use borrow.Author.Needs.{needs}
 use Rattle.model.specs.Layout.{isMaster}
-use Rattle.layout.proofs.Readers.{master-no, master-few, master-yes}
+use Rattle.master_block.proofs.Readers.{master-no, master-few, master-yes}
 use Rattle.layout.proofs.Tests.{tests}
-use Rattle.layout.proofs.master_block.is_master.Statement.{statement}
-use Rattle.layout.proofs.master_block.is_master.Tie as tie
+use Rattle.master_block.proofs.is_master.Statement.{statement}
+use Rattle.master_block.proofs.is_master.Tie as tie
 
 returns : tie.Need-returns
 unfolding isMaster

@@ -1,13 +1,13 @@
--- `layout::write_master` meets its contract: with each turn one more word of the block stands, whatever it held before.
+-- `master_block::write_master` meets its contract: with each turn one more word of the block stands, whatever it held before.
 use Prim.Native.Nat.{_-_}
 use borrow.Author.Needs.{needs}
 use Rattle.model.specs.Layout.{masterBlock}
 use Rattle.model.specs.Shape.{clamped}
-use Rattle.layout.specs.Words.{masterFrom}
+use Rattle.master_block.specs.Tails.{masterFrom}
 use Rattle.layout.proofs.Blocks.{Written, written}
-use Rattle.layout.proofs.Pairs.{length-master}
-use Rattle.layout.proofs.master_block.write_master.Statement.{statement}
-use Rattle.layout.proofs.master_block.write_master.Tie as tie
+use Rattle.master_block.proofs.Writers.{length-master}
+use Rattle.master_block.proofs.write_master.Statement.{statement}
+use Rattle.master_block.proofs.write_master.Tie as tie
 
 abbrev Inv-loop : tie.InvT-loop
 Inv-loop block₀ s tails i₀ block i = Written (masterFrom (clamped s) tails) block i

@@ -1,8 +1,8 @@
--- `layout::read_tail` meets its contract: a position below J fits a byte.
+-- `master_block::read_tail` meets its contract: a position below J fits a byte.
 use borrow.Author.Needs.{needs}
-use Rattle.layout.proofs.Readers.{tail-none, tail-some, tail-small}
-use Rattle.layout.proofs.master_block.read_tail.Statement.{statement}
-use Rattle.layout.proofs.master_block.read_tail.Tie as tie
+use Rattle.master_block.proofs.Readers.{tail-none, tail-some, tail-small}
+use Rattle.master_block.proofs.read_tail.Statement.{statement}
+use Rattle.master_block.proofs.read_tail.Tie as tie
 
 returns : tie.Need-returns
 returns c = search (needs, tail-none)

@@ -1,10 +1,10 @@
--- `layout::are_tails` meets its contract: each core passed has its tail within the limits.
+-- `master_block::are_tails` meets its contract: each core passed has its tail within the limits.
 use Prim.Native.Nat.{_-_, ℕ}
 use borrow.Author.Needs.{needs}
 use Rattle.model.specs.Layout.{isTail, tailIn}
 use Rattle.layout.proofs.Loops.{Passed, passed}
-use Rattle.layout.proofs.master_block.are_tails.Statement.{statement}
-use Rattle.layout.proofs.master_block.are_tails.Tie as tie
+use Rattle.master_block.proofs.are_tails.Statement.{statement}
+use Rattle.master_block.proofs.are_tails.Tie as tie
 
 abbrev Inv-loop : tie.InvT-loop
 Inv-loop s block cores c₀ c = Passed (λ (j : ℕ). isTail s (tailIn block j)) cores c

@@ -1,10 +1,10 @@
--- `layout::read_tails` meets its contract: the array is filled core by core.
+-- `master_block::read_tails` meets its contract: the array is filled core by core.
 use Prim.Native.Nat.{_-_}
 use borrow.Author.Needs.{needs}
-use Rattle.layout.specs.Tails.{tailOrNone}
+use Rattle.master_block.specs.Tails.{tailOrNone}
 use Rattle.layout.proofs.Loops.{Filled, filled}
-use Rattle.layout.proofs.master_block.read_tails.Statement.{statement}
-use Rattle.layout.proofs.master_block.read_tails.Tie as tie
+use Rattle.master_block.proofs.read_tails.Statement.{statement}
+use Rattle.master_block.proofs.read_tails.Tie as tie
 
 abbrev Inv-loop : tie.InvT-loop
 Inv-loop block tails₀ c₀ tails c = Filled (tailOrNone block) 8 tails c

@@ -1,0 +1,2 @@
+-- What the contracts of the master cite, beside the definitions of model and layout.
+pub mod Tails
