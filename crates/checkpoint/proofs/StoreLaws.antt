@@ -16,9 +16,9 @@ use Rattle.model.specs.declared.Tail.{Tail}
 use Rattle.model.specs.declared.Card.{Card}
 use Rattle.model.specs.declared.Committed.{Committed}
 use Rattle.model.proofs.Limits.{clamped-same}
-use Rattle.journal.specs.Newest.{imageAt}
-use Rattle.journal.specs.declared.newest.Image.{Image}
-use Rattle.journal.proofs.Model.{image-bytes}
+use Rattle.valid.specs.Newest.{imageAt}
+use Rattle.valid.specs.declared.newest.Image.{Image}
+use Rattle.valid.proofs.Model.{image-bytes}
 use Rattle.cells.specs.Cells.{world, byteIn, cardIn, corePlace}
 use Rattle.cells.specs.Changes.{Frame}
 use Rattle.cells.proofs.FitsLaws.{frame-wider}

@@ -2,7 +2,7 @@
 -- its descriptor, 0 for none. The same slots with some of them zero are a smaller set.
 use Prim.Native.Nat.{ℕ, zero, suc, _+_, _*_, _-_, _/_, _%_, _≤_, _<_, min}
 use mathlib.Core.List.{List, [], _∷_, _++_, map}
-use mathlib.Core.Bool.{Bool, false, cond, not}
+use mathlib.Core.Bool.{Bool, cond, not}
 use lib.ListN.{getD}
 use lib.Dec.{ltb, eqb}
 use Rattle.model.specs.Lists.{below}
@@ -23,14 +23,6 @@ tailIn ts c = getD ts c (newTail 0 0)
 -- the tail numbers alone: all that the names of transactions need
 unfoldable pub numbersOf : List Tail → List ℕ
 numbersOf ts = map (λ (c : ℕ). (tailIn ts c) .number) (below 8)
-
--- core c's; there are eight
-unfoldable pub numberIn : List ℕ → ℕ → ℕ
-numberIn ks c = cond (ltb c 8) (getD ks c 0) 0
-
--- tails with these numbers
-unfoldable pub numbered : List ℕ → ℕ → Tail
-numbered ks c = newTail (numberIn ks c) 0
 
 -- ---- what a slot gives
 -- slot i, no higher than a position can make it; the slots of a core that the disk has not are empty
@@ -87,8 +79,3 @@ filledFrom s set a (suc n) = filledFrom s set a n + cond (isFilled s set (a + n)
 -- the blocks of the first n that a descriptor has
 unfoldable pub blocksIn : Bytes → ℕ → List ℕ
 blocksIn b n = map (λ (h : Held). h .block) (heldIn b n)
-
--- a test of the transaction in a slot; none where it is empty
-unfoldable pub asks : (Committed → Bool) → Found → Bool
-asks p Miss = false
-asks p (Whole e) = p e

@@ -1,19 +1,16 @@
-// The journals read: one record, all journals as slots, the valid set, the newest image of a block.
+// The journals read: one record, all journals as slots, the transaction in a slot.
 // No function here is a public entry of the library: each says in a `requires` what its callers ensure.
 mod entry;
-mod newest;
 mod record;
-mod valid;
 mod walk;
 
+pub use entry::at_most;
 pub use entry::count_slots;
-pub use newest::Image;
-pub use newest::image_at;
-pub use newest::newest_image;
-pub use newest::next_held;
-pub use newest::shares_lower;
+pub use entry::entry_at;
+pub use entry::is_filled;
+pub use entry::place_of;
+pub use entry::slot_of;
+pub use entry::took_block;
 pub use record::journal_part;
 pub use record::read_record;
-pub use valid::is_oldest_in;
-pub use valid::valid_slots;
 pub use walk::read_journals;

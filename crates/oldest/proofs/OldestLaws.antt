@@ -26,13 +26,13 @@ use Rattle.model.proofs.Limits.{InRange}
 use Rattle.model.proofs.OneStore.{shape-limits}
 use Rattle.model.proofs.Journal.{Known, record-known, records-all}
 use Rattle.layout.specs.Loops.{some}
-use Rattle.journal.specs.Slots.{tailIn, numbersOf, numberIn, numbered, isFilled, entries}
-use Rattle.journal.specs.Sets.{isHere}
+use Rattle.journal.specs.Slots.{tailIn, numbersOf, isFilled, entries}
 use Rattle.journal.specs.Walk.{Reads}
-use Rattle.journal.specs.Newest.{sharesBelow}
 use Rattle.journal.proofs.Slots.{number-at}
-use Rattle.journal.proofs.Commands.{slots-valid, slots-share}
-use Rattle.journal.proofs.Sets.{in-slot}
+use Rattle.valid.specs.Sets.{numberIn, numbered, isHere}
+use Rattle.valid.specs.Newest.{sharesBelow}
+use Rattle.valid.proofs.Commands.{slots-valid, slots-share}
+use Rattle.valid.proofs.Sets.{in-slot}
 use Rattle.cells.specs.Cells.{world}
 use Rattle.oldest.specs.Oldest.{countAt, counts, oldestAt, IsRead, lowerClosed, closedLower, lowerShares, oldestConditions, IsOldest}
 use Rattle.oldest.proofs.SharedLaws.{core-low}

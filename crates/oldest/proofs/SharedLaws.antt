@@ -23,7 +23,7 @@ use Rattle.model.proofs.Records.{length-blocksOf, known-below}
 use Rattle.layout.specs.Loops.{some}
 use Rattle.layout.proofs.Loops.{some-none, some-no, some-in, some-out}
 use Rattle.journal.specs.Slots.{entries, Sized}
-use Rattle.journal.specs.Newest.{sharesBelow}
+use Rattle.valid.specs.Newest.{sharesBelow}
 use Rattle.cells.specs.Cells.{byteIn, transactionIn, cardIn, closedPlace}
 use Rattle.cells.proofs.Parts.{any-hit, any-more, any-none, any-all}
 use Rattle.cells.proofs.CellLaws.{block-read, closed-read}

@@ -23,7 +23,7 @@ use Rattle.model.proofs.Limits.{InRange}
 use Rattle.model.proofs.Journal.{Known}
 use Rattle.layout.specs.Loops.{some}
 use Rattle.journal.specs.Slots.{entries}
-use Rattle.journal.specs.Newest.{sharesBelow}
+use Rattle.valid.specs.Newest.{sharesBelow}
 
 -- ---- read
 -- core c's count; a journal has no more than twelve records

@@ -18,8 +18,8 @@ pub fn oldest_refusal(w: &[u64], c: u8, most: [u8; 8], e: Committed, disk: &[u8]
     let s = shape_of(w);
     let tails = tails_of(w);
     let slots = journal::read_journals(s, disk, tails, most);
-    let valid = journal::valid_slots(s, disk, tails, slots);
-    if !journal::is_oldest_in(s, &valid, c) {
+    let valid = valid::valid_slots(s, disk, tails, slots);
+    if !valid::is_oldest_in(s, &valid, c) {
         return 32;
     }
     if shares_lower(w, s, e, disk, &slots) {

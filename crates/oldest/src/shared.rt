@@ -96,7 +96,7 @@ pub fn shares_lower(w: &[u64], s: Shape, e: Committed, disk: &[u8], slots: &[u16
     requires { ⌜ (length (now w) ≡ 512) × IsRead s (now disk) e ⌝ }
     ensures { λ r. ⌜ r ≡ lowerShares (cardIn (now (w .entry))) s (now (disk .entry)) (now (slots .entry)) e ⌝ }
 {
-    if journal::shares_lower(s, disk, slots, e) {
+    if valid::shares_lower(s, disk, slots, e) {
         return true;
     }
     any_closed(w, s, disk, e)

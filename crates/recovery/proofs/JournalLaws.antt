@@ -20,12 +20,13 @@ use Rattle.model.specs.declared.Found.the-variants.{Miss}
 use Rattle.model.proofs.Lists.{cases, map-below, getD-map-below}
 use Rattle.model.proofs.Limits.{InRange}
 use Rattle.master_block.specs.Tails.{tailOrNone}
-use Rattle.journal.specs.declared.newest.Image.{Image}
-use Rattle.journal.specs.Slots.{numbersOf, numbered, entries, filledFrom}
+use Rattle.journal.specs.Slots.{numbersOf, entries, filledFrom}
 use Rattle.journal.specs.Walk.{Reads}
-use Rattle.journal.specs.Newest.{foundImage, firstOr, heldFrom}
-use Rattle.journal.proofs.Model.{found-bytes, image-numbers, held-numbers, read-count}
-use Rattle.journal.proofs.Commands.{core-journal, slots-valid}
+use Rattle.valid.specs.declared.newest.Image.{Image}
+use Rattle.valid.specs.Sets.{numbered}
+use Rattle.valid.specs.Newest.{foundImage, firstOr, heldFrom}
+use Rattle.valid.proofs.Model.{found-bytes, image-numbers, held-numbers, read-count}
+use Rattle.valid.proofs.Commands.{core-journal, slots-valid}
 use Rattle.cells.specs.Cells.{world}
 use Rattle.recovery.specs.Recovering.{numbersOn, tailAfter, Shaped, OnDisk, IsValid}
 

@@ -24,7 +24,7 @@ use Rattle.model.proofs.OneStore.{right-lengths, left-below}
 use Rattle.model.proofs.Command.{Clear}
 use Rattle.model.proofs.Encoding.{master-same}
 use Rattle.journal.specs.Slots.{entries}
-use Rattle.journal.specs.Newest.{firstOr, heldFrom}
+use Rattle.valid.specs.Newest.{firstOr, heldFrom}
 use Rattle.cells.specs.Cells.{byteIn, cardIn, world, worldIn}
 use Rattle.cells.specs.Changes.{Frame}
 use Rattle.cells.specs.Answer.{newAnswer, Meets, Stores}

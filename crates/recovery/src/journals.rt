@@ -80,7 +80,7 @@ pub fn valid_set(s: Shape, disk: &[u8], all: Journals) -> [u16; 96]
 {
     let tails = all.tails;
     let committed = all.committed;
-    journal::valid_slots(s, disk, tails, committed)
+    valid::valid_slots(s, disk, tails, committed)
 }
 
 // The newest image of block b in the valid set.
@@ -88,7 +88,7 @@ pub fn newest_block(s: Shape, disk: &[u8], valid: &[u16; 96], b: u8) -> [u8; 128
     requires { ⌜ Shaped s (now disk) × IsValid s (now disk) (now valid) ⌝ }
     ensures { λ r. ⌜ r ≡ newestImage (now (disk .entry)) b ⌝ }
 {
-    let at = journal::newest_image(s, disk, valid, b);
+    let at = valid::newest_image(s, disk, valid, b);
     let image = layout::load_block(disk, at.block);
     layout::unescape(at.flag, image)
 }

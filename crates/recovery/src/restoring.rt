@@ -73,7 +73,7 @@ fn recovered(w: &mut [u64], disk: &mut [u8])
     let all = read_disk(s, disk);
     let valid = valid_set(s, disk, all);
     let from = byte_in(w, RECOVERED);
-    let b = journal::next_held(s, disk, &valid, from);
+    let b = valid::next_held(s, disk, &valid, from);
     if b < s.blocks {
         restore_block(w, s, disk, &valid, b);
         return;

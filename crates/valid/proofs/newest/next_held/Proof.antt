@@ -1,0 +1,32 @@
+-- `valid::next_held` meets its contract: none of the blocks passed is held.
+use Prim.Native.Nat.{_≤_, _-_}
+use mathlib.Core.List.{[]}
+use borrow.Author.Needs.{needs}
+use Rattle.journal.specs.Slots.{entries}
+use Rattle.valid.proofs.Held.{Unheld, held-none, held-more, held-hit, held-end}
+use Rattle.valid.proofs.newest.next_held.Statement.{statement}
+use Rattle.valid.proofs.newest.next_held.Tie as tie
+
+abbrev Inv-loop : tie.InvT-loop
+Inv-loop s disk set from b₀ b = (from ≤ b) × Unheld s disk (entries s disk [] set) from b
+
+abbrev μ-loop : tie.MeasureT-loop
+μ-loop s disk set from b₀ b = s .blocks - b
+
+loop-holds : tie.Need-loop-holds Inv-loop μ-loop
+loop-holds c = (search needs, held-none _ _ _ _)
+
+returns : tie.Need-returns Inv-loop μ-loop
+returns c = search (needs, held-hit)
+
+loop-again : tie.Need-loop-again Inv-loop μ-loop
+loop-again c = (search needs, search (needs, held-more))
+
+returns-2 : tie.Need-returns-2 Inv-loop μ-loop
+returns-2 c = search (needs, held-end)
+
+pub next-held-spec : {M : Type 1} → statement M
+next-held-spec =
+    tie.close
+    (tie.spec Inv-loop μ-loop loop-holds (λ c κs. search needs) returns (λ c. search needs) (λ c. search needs)
+    loop-again returns-2)

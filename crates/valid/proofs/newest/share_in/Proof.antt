@@ -1,0 +1,20 @@
+-- `valid::share_in` meets its contract: none of the blocks passed is shared.
+use Prim.Native.Nat.{_-_}
+use borrow.Author.Needs.{needs}
+use Rattle.layout.proofs.Loops.{Missed, missed}
+use Rattle.valid.proofs.Held.{tookAt, took-at, share-is}
+use Rattle.valid.proofs.newest.share_in.Statement.{statement}
+use Rattle.valid.proofs.newest.share_in.Tie as tie
+
+abbrev Inv-loop : tie.InvT-loop
+Inv-loop s disk block n f i₀ i = Missed (tookAt s disk f block) n i
+
+abbrev μ-loop : tie.MeasureT-loop
+μ-loop s disk block n f i₀ i = n - i
+
+pub share-in-spec : {M : Type 1} → statement M
+share-in-spec =
+    tie.close
+    (tie.spec Inv-loop μ-loop (λ c. search missed) (λ c κs. search needs) (λ c κs. search needs)
+    (λ c. search (missed, took-at, share-is)) (λ c. search needs) (λ c. search needs) (λ c. search (missed, took-at))
+    (λ c. search (missed, share-is)))

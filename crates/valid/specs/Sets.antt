@@ -1,0 +1,52 @@
+-- The valid set over slots: a name looked up by its slot, and one round that strikes those with a name unmet.
+use Prim.Native.Nat.{ℕ, _+_, _*_, _-_, _<_}
+use mathlib.Core.Path.{_≡_}
+use mathlib.Core.List.{List, [], map}
+use mathlib.Core.Bool.{Bool, false, cond, _&&_, _||_}
+use lib.ListN.{getD}
+use lib.Dec.{ltb}
+use Rattle.model.specs.Lists.{below}
+use Rattle.model.specs.Bytes.{Bytes}
+use Rattle.model.specs.Card.{newName, newTail}
+use Rattle.model.specs.Layout.{pairAt}
+use Rattle.model.specs.Valid.{namesMet}
+use Rattle.model.specs.declared.Shape.{Shape}
+use Rattle.model.specs.declared.Tail.{Tail}
+use Rattle.model.specs.declared.Found.{Found}
+use Rattle.model.specs.declared.Found.the-variants.{Whole, Miss}
+use Rattle.journal.specs.Slots.{isFilled, foundAt, entries}
+
+-- core c's tail number, of the eight that ks holds
+unfoldable pub numberIn : List ℕ → ℕ → ℕ
+numberIn ks c = cond (ltb c 8) (getD ks c 0) 0
+
+-- tails with these numbers
+unfoldable pub numbered : List ℕ → ℕ → Tail
+numbered ks c = newTail (numberIn ks c) 0
+
+-- transaction k of core c, where n is the core's tail number, is in the set
+unfoldable pub isHere : Shape → List ℕ → ℕ → ℕ → ℕ → Bool
+isHere s set n c k = ltb c (s .cores) && ltb (k - n) 12 && isFilled s set (12 * c + (k - n))
+
+-- it is, or lies below the tail number; ks are the tail numbers
+unfoldable pub slotMet : Shape → List ℕ → List ℕ → ℕ → ℕ → Bool
+slotMet s ks set c k = ltb k (numberIn ks c) || isHere s set (numberIn ks c) c k
+
+-- the i-th name that a commit lists is met
+unfoldable pub nameMet : Shape → List ℕ → List ℕ → Bytes → ℕ → Bool
+nameMet s ks set f i = slotMet s ks set ((pairAt newName f 24 i) .core) ((pairAt newName f 24 i) .number)
+
+-- a slot stays where each name of its transaction is met
+unfoldable pub keeps : Shape → Bytes → List ℕ → List ℕ → Found → Bool
+keeps s d ks set Miss = false
+keeps s d ks set (Whole e) = namesMet s d (numbered ks) (entries s d ks set) e
+
+unfoldable pub kept : Shape → Bytes → List ℕ → List ℕ → ℕ → ℕ
+kept s d ks set i = cond (keeps s d ks set (foundAt s d [] set i)) (getD set i 0) 0
+
+unfoldable pub struck : Shape → Bytes → List ℕ → List ℕ → List ℕ
+struck s d ks set = map (kept s d ks set) (below 96)
+
+-- the first n slots of two sets are the same
+unfoldable pub SameTo : List ℕ → List ℕ → ℕ → Type 0
+SameTo a b n = (i : ℕ) → i < n → getD a i 0 ≡ getD b i 0

@@ -1,0 +1,197 @@
+// The valid set: of the transactions read, those whose names are all met, found by striking the others until none goes.
+ghost use mathlib.Core.Path.{_≡_};
+ghost use mathlib.Core.Bool.{true};
+ghost use Prim.Native.Nat.{ℕ, _*_, _≤_, _<_};
+ghost use lib.ListN.{length};
+ghost use Rattle.model.proofs.Limits.{InRange};
+ghost use Rattle.model.specs.Shrink.{shrink};
+ghost use Rattle.model.specs.Valid.{namesMet, validSet};
+ghost use Rattle.layout.specs.Loops.{every};
+ghost use Rattle.journal.specs.Slots.{numbersOf, entry, entries, isFilled, filledFrom};
+ghost use Rattle.valid.specs.Sets.{numbered, isHere, slotMet, nameMet, kept, struck, SameTo};
+use journal::at_most;
+use journal::count_slots;
+use journal::is_filled;
+use journal::journal_part;
+use journal::slot_of;
+use model::Shape;
+use model::Tail;
+
+// Whether transaction k of core c, whose tail number is n, is in the set.
+fn is_here(s: Shape, set: &[u16; 96], n: u32, c: u32, k: u32) -> bool
+    requires { ⌜ InRange s × (n ≤ k) ⌝ }
+    ensures { λ r. ⌜ r ≡ isHere s (now (set .entry)) n c k ⌝ }
+{
+    if s.cores as u32 <= c {
+        return false;
+    }
+    let j = k - n;
+    if 12 <= j {
+        return false;
+    }
+    is_filled(s, set, 12 * c as usize + j as usize)
+}
+
+// Whether a name is met: below its core's tail number, or in the set.
+fn is_met(s: Shape, numbers: &[u32; 8], set: &[u16; 96], c: u32, k: u32) -> bool
+    requires { ⌜ InRange s ⌝ }
+    ensures { λ r. ⌜ r ≡ slotMet s (now (numbers .entry)) (now (set .entry)) c k ⌝ }
+{
+    if 8 <= c {
+        return false;
+    }
+    let n = numbers[c as usize];
+    if k < n {
+        return true;
+    }
+    is_here(s, set, n, c, k)
+}
+
+// Whether the i-th name of a commit is met.
+fn name_met(s: Shape, numbers: &[u32; 8], set: &[u16; 96], commit: &[u8], i: usize) -> bool
+    requires { ⌜ InRange s × (length (now commit) ≡ 128) × (i < 12) ⌝ }
+    ensures { λ r. ⌜ r ≡ nameMet s (now (numbers .entry)) (now (set .entry)) (now (commit .entry)) i ⌝ }
+{
+    let c = layout::name_core(commit, i);
+    let k = layout::name_number(commit, i);
+    is_met(s, numbers, set, c, k)
+}
+
+// Whether the first n names of a commit are.
+fn are_met(s: Shape, numbers: &[u32; 8], set: &[u16; 96], commit: &[u8], n: usize) -> bool
+    requires { ⌜ InRange s × (length (now commit) ≡ 128) × (n ≤ 12) ⌝ }
+    ensures { λ r. ⌜ r ≡ every n (nameMet s (now (numbers .entry)) (now (set .entry)) (now (commit .entry))) ⌝ }
+{
+    let mut i: usize = 0;
+    while i < n {
+        if !name_met(s, numbers, set, commit, i) {
+            return false;
+        }
+        i += 1;
+    }
+    true
+}
+
+// Whether each name of core c's transaction is met, with v the position after its descriptor. Its number and its stamp play
+// no part.
+fn names_met(s: Shape, disk: &[u8], numbers: &[u32; 8], set: &[u16; 96], c: u8, v: usize) -> bool
+    requires { ⌜ InRange s × (length (now disk) ≡ 32896) × (c < s .cores) × (1 ≤ v) × (v ≤ 256) ⌝ }
+    ensures { λ r. ⌜ ((k : ℕ) → r ≡ namesMet s (now (disk .entry)) (numbered (now (numbers .entry))) (entries s (now (disk .entry)) (now (numbers .entry)) (now (set .entry))) (entry s (now (disk .entry)) c k v)) ⌝ }
+{
+    let at = v - 1;
+    let count = at_most(layout::block_count(journal_part(s, disk, c, at)), 8);
+    let commit = journal_part(s, disk, c, at + (count as usize + 1));
+    let named = at_most(layout::name_count(commit), 12);
+    are_met(s, numbers, set, commit, named as usize)
+}
+
+// Slot i after one round: struck where a name is unmet.
+fn keep_slot(s: Shape, disk: &[u8], numbers: &[u32; 8], set: &[u16; 96], i: usize) -> u16
+    requires { ⌜ InRange s × (length (now disk) ≡ 32896) × (i < 96) ⌝ }
+    ensures { λ r. ⌜ r ≡ kept s (now (disk .entry)) (now (numbers .entry)) (now (set .entry)) i ⌝ }
+{
+    let v = slot_of(s, set, i);
+    if v == 0 {
+        return 0;
+    }
+    if names_met(s, disk, numbers, set, (i / 12) as u8, v) {
+        return set[i];
+    }
+    0
+}
+
+// The set after one round.
+fn strike_unmet(s: Shape, disk: &[u8], numbers: &[u32; 8], set: &[u16; 96]) -> [u16; 96]
+    requires { ⌜ InRange s × (length (now disk) ≡ 32896) ⌝ }
+    ensures { λ r. ⌜ r ≡ struck s (now (disk .entry)) (now (numbers .entry)) (now (set .entry)) ⌝ }
+{
+    let mut next = [0u16; 96];
+    let mut i: usize = 0;
+    while i < 96 {
+        next[i] = keep_slot(s, disk, numbers, set, i);
+        i += 1;
+    }
+    next
+}
+
+// One round in place: its copy of the set is gone before the next one begins. It is called from two places, so the compiler
+// keeps it out of the recursion, whose frames stay small.
+fn strike_round(s: Shape, disk: &[u8], numbers: &[u32; 8], set: &mut [u16; 96])
+    requires { ⌜ InRange s × (length (now disk) ≡ 32896) ⌝ }
+    ensures { λ _. ⌜ now (set .exit) ≡ struck s (now (disk .entry)) (now (numbers .entry)) (now (set .entry)) ⌝ }
+{
+    let next = strike_unmet(s, disk, numbers, set);
+    *set = next;
+}
+
+// The largest part of the set in which each name is met: struck until none goes. The count of those remaining falls with
+// each call.
+fn shrink_set(s: Shape, disk: &[u8], numbers: &[u32; 8], set: &mut [u16; 96], count: usize)
+    requires { ⌜ InRange s × (length (now disk) ≡ 32896) × (count ≡ filledFrom s (now set) 0 96) ⌝ }
+    ensures { λ _. ⌜ entries s (now (disk .entry)) (now (numbers .entry)) (now (set .exit)) ≡ shrink (namesMet s (now (disk .entry)) (numbered (now (numbers .entry)))) (entries s (now (disk .entry)) (now (numbers .entry)) (now (set .entry))) ⌝ }
+{
+    strike_round(s, disk, numbers, set);
+    let left = count_slots(s, set, 0, 96);
+    if left == count {
+        return;
+    }
+    shrink_set(s, disk, numbers, set, left);
+}
+
+fn number_of(t: Tail) -> u32
+    ensures { λ r. ⌜ r ≡ t .number ⌝ }
+{
+    t.number
+}
+
+// The tail numbers: what the recursion hands on of the tails.
+fn numbers_of(tails: [Tail; 8]) -> [u32; 8]
+    ensures { λ r. ⌜ r ≡ numbersOf tails ⌝ }
+{
+    let mut numbers = [0u32; 8];
+    let mut c: usize = 0;
+    while c < 8 {
+        let t = tails[c];
+        numbers[c] = number_of(t);
+        c += 1;
+    }
+    numbers
+}
+
+// Whether two sets have the same slots.
+fn same_slots(a: &[u16; 96], b: &[u16; 96]) -> bool
+    ensures { λ r. ⌜ (r ≡ true → SameTo (now (a .entry)) (now (b .entry)) 96) ⌝ }
+{
+    let mut i: usize = 0;
+    while i < 96 {
+        if a[i] != b[i] {
+            return false;
+        }
+        i += 1;
+    }
+    true
+}
+
+// The valid set of the transactions read; the first round is done here, and mostly none goes. No public entry.
+pub fn valid_slots(s: Shape, disk: &[u8], tails: [Tail; 8], committed: [u16; 96]) -> [u16; 96]
+    requires { ⌜ InRange s × (length (now disk) ≡ 32896) ⌝ }
+    ensures { λ r. ⌜ entries s (now (disk .entry)) (numbersOf tails) r ≡ validSet s (now (disk .entry)) (numbered (numbersOf tails)) (entries s (now (disk .entry)) (numbersOf tails) committed) ⌝ }
+{
+    let numbers = numbers_of(tails);
+    let mut set = committed;
+    strike_round(s, disk, &numbers, &mut set);
+    if same_slots(&committed, &set) {
+        return set;
+    }
+    let left = count_slots(s, &set, 0, 96);
+    shrink_set(s, disk, &numbers, &mut set, left);
+    set
+}
+
+// Whether core c's oldest transaction is in the set. No public entry.
+pub fn is_oldest_in(s: Shape, set: &[u16; 96], c: u8) -> bool
+    requires { ⌜ InRange s × (c < s .cores) ⌝ }
+    ensures { λ r. ⌜ r ≡ isFilled s (now (set .entry)) (12 * c) ⌝ }
+{
+    is_filled(s, set, 12 * c as usize)
+}
