@@ -41,7 +41,10 @@ pub fn is_held(w: &[u64], b: u8) -> bool
 // Block b held by the transaction of this name.
 pub fn hold(w: &mut [u64], b: u8, n: Name)
     requires { ⌜ (length (now w) ≡ 512) × (b < 64) × (n .core < 8) ⌝ }
-    ensures { λ _. ⌜ (cardIn (now (w .exit)) ≡ withHolder (cardIn (now (w .entry))) b (newHolder n)) × Frame (now (w .entry)) (now (w .exit)) (holderPlace b) 1 ⌝ }
+    ensures { λ _. ⌜
+        (cardIn (now (w .exit)) ≡ withHolder (cardIn (now (w .entry))) b (newHolder n))
+        × Frame (now (w .entry)) (now (w .exit)) (holderPlace b) 1
+        ⌝ }
 {
     let cell = cell_of(n);
     w[HOLDERS + b as usize] = cell + 1;

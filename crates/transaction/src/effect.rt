@@ -64,7 +64,8 @@ fn write_own(w: &mut [u64], f: Found)
     requires { ⌜ (length (now w) ≡ 512) × Bounded f
         × (ownFull (f .rule) (writer (cardIn (now w)) (f .core)) (f .holder) ≡ false)
         × (ninth (f .rule) (writer (cardIn (now w)) (f .core)) ≡ false) ⌝ }
-    ensures { λ _. ⌜ (cardIn (now (w .exit)) ≡ withCore (cardIn (now (w .entry))) (f .core) (withRunning (coreOf (cardIn (now (w .entry))) (f .core)) (afterBy (cardIn (now (w .entry))) f)))
+    ensures { λ _. ⌜ (let x = cardIn (now (w .entry)) in
+        cardIn (now (w .exit)) ≡ withCore x (f .core) (withRunning (coreOf x (f .core)) (afterBy x f)))
         × Frame (now (w .entry)) (now (w .exit)) 0 512 ⌝ }
 {
     let rule = f.rule;
