@@ -12,10 +12,10 @@ use lib.ListN.{length, take, drop, length-take, length-drop, take-append-drop, r
 use lib.Seq.{length-take-le, take-at, drop-at, take-append-le, drop-append-le, take-append-add, drop-append-add}
 use lib.Dec.{ltb, eqb}
 use borrow.Author.Tests.{lt-ltb}
-use Rattle.model.specs.Lists.{all}
+use Rattle.model.specs.Lists.{all, Each}
 use Rattle.model.specs.Bytes.{Bytes, part, be4, blockAt, replaced, store}
 use Rattle.model.specs.Layout.{mark, escaped}
-use Rattle.model.proofs.Lists.{cases, and-left, and-right, and-both, all-append, mem-all, mem-getD, Each, each-getD, each-replicate}
+use Rattle.model.proofs.Lists.{cases, and-left, and-right, and-both, all-append, mem-all, mem-getD, each-getD, each-replicate}
 use Rattle.model.proofs.Store.{length-replaced, part-before, part-after}
 use Rattle.model.proofs.Words.{IsByte}
 use Rattle.crash.specs.Claims.{IsBytes}

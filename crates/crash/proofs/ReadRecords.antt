@@ -14,7 +14,7 @@ use lib.ListN.{length, getD, length-append, length-map, List·getD-append, List�
 use lib.Seq.{getD-append-add, ext-getD}
 use lib.Dec.{ltb, eqb}
 use borrow.Author.Tests.{le-leb, lt-ltb, ltb-true, ne-eqb}
-use Rattle.model.specs.Lists.{below}
+use Rattle.model.specs.Lists.{below, Each}
 use Rattle.model.specs.Bytes.{Bytes, be4, part, number}
 use Rattle.model.specs.Card.{newName}
 use Rattle.model.specs.Layout.{Held, newHeld, distinct, isHeld, isListable, isCommit, flagOf, mark}
@@ -24,7 +24,7 @@ use Rattle.model.specs.declared.Tail.{Tail}
 use Rattle.model.specs.declared.Name.{Name}
 use Rattle.model.specs.declared.Committed.{Committed}
 use Rattle.model.specs.declared.Found.the-variants.{Whole}
-use Rattle.model.proofs.Lists.{cases, and-both, all-mem, mem-all, getD-mem, mem-getD, flatMap-append, length-below, getD-map-below, Each, getD-each, mem-each}
+use Rattle.model.proofs.Lists.{cases, and-both, all-mem, mem-all, getD-mem, mem-getD, flatMap-append, length-below, getD-map-below, getD-each, mem-each}
 use Rattle.model.proofs.Words.{IsByte, IsWord}
 use Rattle.model.proofs.Encoding.{Sound}
 use Rattle.model.proofs.Journal.{IsBlock, Images, Stands, asRead, journal-wrap, record-read, held-read, names-read, image-read, records-miss, records-hit, miss-commit, record-stands, length-recordBlocks, recordBlocks as storedBlocks}

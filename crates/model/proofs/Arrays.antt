@@ -5,8 +5,7 @@ use mathlib.Core.Bool.{cond}
 use mathlib.Core.List.{List, [], _∷_, map}
 use lib.ListN.{length, getD, set, replicate, length-set, length-map, length-replicate}
 use lib.Dec.{ltb, leb}
-use Rattle.model.specs.Lists.{below}
-use Rattle.model.specs.Bytes.{Bytes, number, part}
+use Rattle.model.specs.Lists.{below, Each}
 use Rattle.model.specs.Card.{newTail, noHolder, noTransaction, lists, taken, withBlock, withName, freshCore, withRunning, freshCard, emptyCard, downCard, coreOf, holderOf, withCore}
 use Rattle.model.specs.Command.{World, Outcome}
 use Rattle.model.specs.Format.{formatted}
@@ -14,6 +13,11 @@ use Rattle.model.specs.Write.{writer, writerName, ruleFor, takesBlock, n
 use Rattle.model.specs.Commit.{closedCard, closed, coreStored, stored}
 use Rattle.model.specs.Checkpoint.{committedOf, oldest, storedHome, released, retiredCard, storedMaster, checkpointed}
 use Rattle.model.specs.Recovery.{emptiedTail, broughtUp, shapeOn, blocksLeft, recoverStep, recovered}
+use Rattle.model.proofs.Lists.{length-below}
+use Rattle.model.proofs.Command.{of-cond}
+use Rattle.model.specs.Tape.{CHECKPOINT, CLOSE, CUT, Command, FORMAT, RECOVER, STORE, WRITE}
+use Rattle.model.specs.Step.{doneBy}
+use Rattle.model.specs.Shape.{newShape}
 use Rattle.model.specs.declared.Phase.{Phase}
 use Rattle.model.specs.declared.Phase.the-variants.{Up, Down}
 use Rattle.model.specs.declared.Shape.{Shape}
@@ -23,8 +27,6 @@ use Rattle.model.specs.declared.Transaction.{Transaction}
 use Rattle.model.specs.declared.Core.{Core}
 use Rattle.model.specs.declared.Card.{Card}
 use Rattle.model.specs.declared.Committed.{Committed}
-use Rattle.model.proofs.Lists.{Each, length-below}
-use Rattle.model.proofs.Command.{Row, rowOf, of-cond, of-command}
 
 pub record FitsTransaction (t : Transaction) : Type 0 where
   pub blocks : length (t .blocks) ≡ 8
@@ -149,7 +151,7 @@ unfolding checkpointed storedHome storedMaster
 checkpointed-arrays c w a =
     let e = oldest (committedOf w c) in
     let f = core-fits (w .card) a c in
-    of-cond (λ (o : Outcome). Arrays (o .world .card)) (ltb ((coreOf (w .card) c) .homed) (e .count))
+    of-cond (λ (o : Outcome World). Arrays (o .world .card)) (ltb ((coreOf (w .card) c) .homed) (e .count))
     (core-kept (w .card) a c _ (record { running = f .running; closed = f .closed }))
     (retired-arrays (w .card) a c e)
 
@@ -159,15 +161,12 @@ unfolding recoverStep broughtUp
 recoverStep-arrays [] w a = fresh-arrays Up (shapeOn (w .disk)) (map (emptiedTail (w .disk)) (below 8)) (length-map (below 8) (emptiedTail (w .disk)) ∙ length-below 8)
 recoverStep-arrays (b ∷ bs) w a = record { tails = a .tails; cores = a .cores; holders = a .holders; each = a .each }
 
-pub row-arrays : (k : ℕ) (a : Bytes) (w : World) → Arrays (w .card) → Arrays ((rowOf k a w) .done .world .card)
-unfolding rowOf formatted written closed stored recovered downCard
-row-arrays k a w f =
-    let c = getD a 0 0 in
-    of-command (λ (r : Row). Arrays (r .done .world .card)) k
-    (fresh-arrays Up (record { cores = c; blocks = getD a 1 0; journal = getD a 2 0 }) (replicate 8 (newTail 1 0)) (length-replicate 8 (newTail 1 0)))
-    (λ h. written-arrays (w .card) f c (number 0 (part 1 2 a)))
-    (closed-arrays (w .card) f c)
-    (core-kept (w .card) f c (coreStored (coreOf (w .card) c)) (stored-fits (coreOf (w .card) c) (core-fits (w .card) f c)))
-    (checkpointed-arrays c w f)
-    (empty-arrays Down)
-    (recoverStep-arrays (blocksLeft w) w f)
+pub done-arrays : (k : Command) (w : World) → Arrays (w .card) → Arrays ((doneBy k w) .world .card)
+unfolding doneBy formatted written closed stored recovered downCard
+done-arrays (FORMAT c b j) w f = fresh-arrays Up (newShape c b j) (replicate 8 (newTail 1 0)) (length-replicate 8 (newTail 1 0))
+done-arrays (WRITE c b o v) w f = written-arrays (w .card) f c b
+done-arrays (CLOSE c) w f = closed-arrays (w .card) f c
+done-arrays (STORE c) w f = core-kept (w .card) f c (coreStored (coreOf (w .card) c)) (stored-fits (coreOf (w .card) c) (core-fits (w .card) f c))
+done-arrays (CHECKPOINT c) w f = checkpointed-arrays c w f
+done-arrays CUT w f = empty-arrays Down
+done-arrays RECOVER w f = recoverStep-arrays (blocksLeft w) w f

@@ -5,7 +5,7 @@ use mathlib.Core.Path.{_≡_, refl}
 use mathlib.Core.List.{List, [], _∷_, map}
 use Rattle.model.specs.Bytes.{Bytes}
 use Rattle.model.specs.Cases.{Case, outcomeOf, cases}
-use Rattle.model.specs.Tape.{Line}
+use Rattle.model.specs.Printing.{Line}
 use Rattle.model.proofs.Computes.{computes}
 
 pub nine-cases : map (λ (c : Case). outcomeOf (c .tape)) cases ≡ cases

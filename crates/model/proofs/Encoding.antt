@@ -10,7 +10,7 @@ use lib.ListN.{length, take, drop, getD, length-map, length-drop, take-append-dr
 use lib.Seq.{getD-drop, ext-getD, length-take-le}
 use lib.Dec.{eqb, ltb}
 use borrow.Author.Tests.{le-leb, eq-eqb, leb-true, ltb-true, eqb-true}
-use Rattle.model.specs.Lists.{below, all}
+use Rattle.model.specs.Lists.{below, all, Each}
 use Rattle.model.specs.Bytes.{Bytes, bytes, number, part, be4, block}
 use Rattle.model.specs.Shape.{between}
 use Rattle.model.specs.Card.{newTail, newName}
@@ -18,7 +18,7 @@ use Rattle.model.specs.Layout.{mark, maxNumber, hasHead, pairWords, pair
 use Rattle.model.specs.declared.Shape.{Shape}
 use Rattle.model.specs.declared.Tail.{Tail}
 use Rattle.model.specs.declared.Name.{Name}
-use Rattle.model.proofs.Lists.{cases, and-left, and-right, all-mem, mem-all, length-below, map-below, getD-map-below, mem-below, Each, each-getD, getD-each, mem-each, each-take, getD-mem}
+use Rattle.model.proofs.Lists.{cases, and-left, and-right, all-mem, mem-all, length-below, map-below, getD-map-below, mem-below, each-getD, getD-each, mem-each, each-take, getD-mem}
 use Rattle.model.proofs.Limits.{InRange, between-known, test-range}
 use Rattle.model.proofs.Words.{IsByte, IsWord, word-of, length-block, bytes-number}
 

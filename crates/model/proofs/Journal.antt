@@ -22,7 +22,8 @@ use Rattle.model.specs.declared.Name.{Name}
 use Rattle.model.specs.declared.Committed.{Committed}
 use Rattle.model.specs.declared.Found.{Found}
 use Rattle.model.specs.declared.Found.the-variants.{Whole, Miss}
-use Rattle.model.proofs.Lists.{cases, and-left, and-right, Each, each-append, each-getD}
+use Rattle.model.specs.Lists.{Each}
+use Rattle.model.proofs.Lists.{cases, and-left, and-right, each-append, each-getD}
 use Rattle.model.proofs.Store.{length-store, block-stored, block-other}
 use Rattle.model.proofs.Words.{IsByte}
 use Rattle.model.proofs.Limits.{InRange}

@@ -9,7 +9,7 @@ use mathlib.Core.Logic.{_⊎_, inl, inr}
 use mathlib.Core.List.{List, [], _∷_, _++_, map, flatMap, append-assoc, List·Memᴰ, List·Memᴰ·head, List·Memᴰ·tail, List·Memᴰ·not-nil, List·Memᴰ·cases-cons, List·Memᴰ·append-cases, List·Memᴰ·eq-of-singleton, Memᴰ·append-left, Memᴰ·append-right, map-append}
 use lib.ListN.{length, take, getD, replicate, length-append, length-map, List·getD-append}
 use lib.Seq.{getD-at}
-use Rattle.model.specs.Lists.{below, all, any}
+use Rattle.model.specs.Lists.{below, all, any, Each}
 
 -- ---- Bool: both cases with what is known in each, two tests that go together, and, or
 pub cases : {A : Type 0} (t : Bool) → (t ≡ true → A) → (t ≡ false → A) → A
@@ -184,10 +184,6 @@ module _ {A : Type 0} where
       ]
 
   -- ---- each element of a list has the property
-  abbrev pub Each : (A → Type 0) → List A → Type 0
-  Each P [] = Unit {0}
-  Each P (x ∷ xs) = P x × Each P xs
-
   pub each-append : (P : A → Type 0) (xs ys : List A) → Each P xs → Each P ys → Each P (xs ++ ys)
   each-append P [] ys a b = b
   each-append P (x ∷ xs) ys a b = (a .0, each-append P xs ys (a .1) b)

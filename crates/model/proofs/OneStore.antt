@@ -9,18 +9,30 @@ use lib.ListN.{length, getD, length-map, length-take}
 use lib.Dec.{ltb, leb, eqb}
 use borrow.Author.Tests.{ltb-true, leb-true, leb-false, eqb-true, not-false}
 use Rattle.model.specs.Bytes.{Bytes, be4, blockAt, store}
-use Rattle.model.specs.Shape.{inRange, homeBlock, journalBlock}
+use Rattle.model.specs.Shape.{inRange, homeBlock, journalBlock, newShape}
 use Rattle.model.specs.Card.{taken, listed, shapeOf, tailOf, coreOf, committedCount}
 use Rattle.model.specs.Layout.{mark, isMaster, shapeIn}
-use Rattle.model.specs.Journal.{journal, imageOf}
+use Rattle.model.specs.Journal.{imageOf}
 use Rattle.model.specs.Valid.{blocksHeld}
-use Rattle.model.specs.Command.{World, Outcome, wrongLength, noCore}
+use Rattle.model.specs.Command.{World, Outcome, wrongLength, noCore, Clear, refusedWith, Decided, refused, carried-out}
 use Rattle.model.specs.Format.{formatConditions, formatted, format}
 use Rattle.model.specs.Write.{written}
 use Rattle.model.specs.Commit.{closed, copyBlock, heldCopies, closedNumber, storeConditions, stored, nextStored, nextPosition}
 use Rattle.model.specs.Checkpoint.{committedOf, oldest, checkpointConditions, storedHome, storedMaster, retiredCard, checkpointed}
 use Rattle.model.specs.Recovery.{shapeOn, tailOn, committedOn, validOn, recoverConditions, blocksLeft, imageFound, newestImage, emptiedTail, recoverStep, recovered}
-use Rattle.model.specs.Tape.{step, commandByte, operandsAt, commandAt}
+use Rattle.model.specs.Step.{step, conditionsOf, doneBy}
+use Rattle.model.proofs.Limits.{InRange, clamped-range, range-test}
+use Rattle.model.specs.Lists.{Each}
+use Rattle.model.proofs.Lists.{cases, and-left, and-right, mem-below, length-below, mem-each}
+use Rattle.model.proofs.Store.{length-blockAt}
+use Rattle.model.proofs.Encoding.{length-master, length-descriptor, length-commit, length-escaped}
+use Rattle.model.proofs.Journal.{journal-low}
+use Rattle.model.proofs.Records.{known-below, journal-known, journals-known, oldest-mem, length-imageOf, IfFound, newest-holds}
+use Rattle.model.proofs.Select.{select-mem}
+use Rattle.model.proofs.Valid.{valid-within}
+use Rattle.model.proofs.Command.{clear-refusal, unless-done, of-cond, step-decided}
+use Rattle.model.proofs.Arrays.{FitsTransaction, FitsCore, Arrays, core-fits}
+use Rattle.model.specs.Tape.{CHECKPOINT, CLOSE, CUT, Command, FORMAT, RECOVER, STORE, WRITE}
 use Rattle.model.specs.declared.Shape.{Shape}
 use Rattle.model.specs.declared.Transaction.{Transaction}
 use Rattle.model.specs.declared.Core.{Core}
@@ -28,16 +40,6 @@ use Rattle.model.specs.declared.Card.{Card}
 use Rattle.model.specs.declared.Committed.{Committed}
 use Rattle.model.specs.declared.Found.{Found}
 use Rattle.model.specs.declared.Found.the-variants.{Whole, Miss}
-use Rattle.model.proofs.Limits.{InRange, clamped-range, range-test}
-use Rattle.model.proofs.Lists.{cases, and-left, and-right, mem-below, length-below, Each, mem-each}
-use Rattle.model.proofs.Store.{length-blockAt}
-use Rattle.model.proofs.Encoding.{length-master, length-descriptor, length-commit, length-escaped}
-use Rattle.model.proofs.Journal.{journal-low}
-use Rattle.model.proofs.Records.{known-below, journal-known, journals-known, oldest-mem, length-imageOf, IfFound, newest-holds}
-use Rattle.model.proofs.Select.{select-mem}
-use Rattle.model.proofs.Valid.{valid-within}
-use Rattle.model.proofs.Command.{Clear, clear-refusal, refusedWith, unless-done, Decided, refused, carried-out, byCommand, each-command, of-cond, Row, rowOf, command-decided}
-use Rattle.model.proofs.Arrays.{FitsTransaction, FitsCore, Arrays, core-fits}
 
 -- ---- shapes within the limits
 pub shape-limits : (x : Card) → InRange (shapeOf x)
@@ -64,7 +66,7 @@ pub data Stored (s : Shape) : ℕ → Type 0 where
   home : {b : ℕ} → b < s .blocks → Stored s (homeBlock b)
   position : {c : ℕ} → c < s .cores → (p : ℕ) → Stored s (journalBlock s c p)
 
-pub data OneStore (s : Shape) (d : Bytes) (o : Outcome) : Type 0 where
+pub data OneStore (s : Shape) (d : Bytes) (o : Outcome World) : Type 0 where
   none-stored : o .world .disk ≡ d → o .stores ≡ 0 → OneStore s d o
   one-stored : {k : ℕ} → Stored s k → (b : Bytes) → length b ≡ 128 → o .world .disk ≡ store d k b → o .stores ≡ 1 → OneStore s d o
 
@@ -168,45 +170,61 @@ module _ (w : World) where
       recoverStep-store (recover-limits cl) (right-lengths w (unfold recoverConditions in cl .0) .0) (blocksLeft w) (λ b m. left-below w m)
 
 -- ---- every command but FORMAT
+abbrev pub isFormat : Command → Bool
+isFormat (FORMAT c b j) = true
+isFormat (WRITE c b o v) = false
+isFormat (CLOSE c) = false
+isFormat (STORE c) = false
+isFormat (CHECKPOINT c) = false
+isFormat CUT = false
+isFormat RECOVER = false
+
 -- the shape that a command stores by: that of the card, and for RECOVER that of the disk's master
-unfoldable pub storedShape : ℕ → World → Shape
-storedShape k w =
-    let s = shapeOf (w .card) in
-    byCommand k s s s s s s (shapeOn (w .disk))
+unfoldable pub storedShape : Command → World → Shape
+storedShape (FORMAT c b j) w = shapeOf (w .card)
+storedShape (WRITE c b o v) w = shapeOf (w .card)
+storedShape (CLOSE c) w = shapeOf (w .card)
+storedShape (STORE c) w = shapeOf (w .card)
+storedShape (CHECKPOINT c) w = shapeOf (w .card)
+storedShape CUT w = shapeOf (w .card)
+storedShape RECOVER w = shapeOn (w .disk)
 
-pub row-store : (k : ℕ) (a : Bytes) (w : World) → Arrays (w .card) → eqb k 1 ≡ false → Clear ((rowOf k a w) .conditions)
-    → OneStore (storedShape k w) (w .disk) ((rowOf k a w) .done)
-unfolding rowOf storedShape written closed
-row-store k a w f h =
-    let c = getD a 0 0 in
-    each-command (λ (r : Row) (s : Shape). Clear (r .conditions) → OneStore s (w .disk) (r .done)) k
-    (λ e. absurd (true≢false (sym e ∙ h))) (λ e cl. none-stored refl refl) (λ cl. none-stored refl refl)
-    (store-store c w f) (checkpoint-store c w) (λ cl. none-stored refl refl) (recover-store w)
+pub done-store : (k : Command) (w : World) → Arrays (w .card) → isFormat k ≡ false → Clear (conditionsOf k w) → OneStore (storedShape k w) (w .disk) (doneBy k w)
+unfolding conditionsOf doneBy storedShape written closed
+done-store (FORMAT c b j) w f h cl = absurd (true≢false h)
+done-store (WRITE c b o v) w f h cl = none-stored refl refl
+done-store (CLOSE c) w f h cl = none-stored refl refl
+done-store (STORE c) w f h cl = store-store c w f cl
+done-store (CHECKPOINT c) w f h cl = checkpoint-store c w cl
+done-store CUT w f h cl = none-stored refl refl
+done-store RECOVER w f h cl = recover-store w cl
 
-pub row-limits : (k : ℕ) (a : Bytes) (w : World) → Clear ((rowOf k a w) .conditions) → InRange (storedShape k w)
-unfolding rowOf storedShape
-row-limits k a w =
-    let l = shape-limits (w .card) in
-    each-command (λ (r : Row) (s : Shape). Clear (r .conditions) → InRange s) k (λ e cl. l) (λ e cl. l) (λ cl. l) (λ cl. l) (λ cl. l) (λ cl. l) (recover-limits w)
+pub stored-limits : (k : Command) (w : World) → Clear (conditionsOf k w) → InRange (storedShape k w)
+unfolding conditionsOf storedShape
+stored-limits (FORMAT c b j) w cl = shape-limits (w .card)
+stored-limits (WRITE c b o v) w cl = shape-limits (w .card)
+stored-limits (CLOSE c) w cl = shape-limits (w .card)
+stored-limits (STORE c) w cl = shape-limits (w .card)
+stored-limits (CHECKPOINT c) w cl = shape-limits (w .card)
+stored-limits CUT w cl = shape-limits (w .card)
+stored-limits RECOVER w cl = recover-limits w cl
 
 one-refused : (s : Shape) (w : World) (n : ℕ) → OneStore s (w .disk) (refusedWith n w)
 one-refused s w n = none-stored refl refl
 
-decided-store : {ts : List (Bool × ℕ)} {w : World} {done o : Outcome} (s : Shape) → Decided ts w done o → (Clear ts → OneStore s (w .disk) done) → OneStore s (w .disk) o
+decided-store : {ts : List (Bool × ℕ)} {w : World} {done o : Outcome World} (s : Shape) → Decided ts w done o → (Clear ts → OneStore s (w .disk) done) → OneStore s (w .disk) o
 decided-store {w = w} s (refused n p f e) h = rw e (one-refused s w n)
 decided-store s (carried-out c e) h = rw e (h c)
 
 -- a command, refused or carried out, stores one block at most
-pub command-store : (t : Bytes) (at : ℕ) (w : World) → Arrays (w .card) → eqb (commandByte t at) 1 ≡ false
-    → OneStore (storedShape (commandByte t at) w) (w .disk) (commandAt step t at w)
-command-store t at w f h =
-    decided-store (storedShape (commandByte t at) w) (command-decided t at w) (λ cl. row-store (commandByte t at) (operandsAt t at) w f h (cl .1 .1 .1))
+pub step-store : (k : Command) (w : World) → Arrays (w .card) → isFormat k ≡ false → OneStore (storedShape k w) (w .disk) (step k w)
+step-store k w f h = decided-store (storedShape k w) (step-decided k w) (done-store k w f h)
 
 -- FORMAT carried out
-pub format-done : (c b j : ℕ) (w : World) → Clear (formatConditions c b j w) → format c b j w ≡ formatted (record { cores = c; blocks = b; journal = j })
+pub format-done : (c b j : ℕ) (w : World) → Clear (formatConditions c b j w) → format c b j w ≡ formatted (newShape c b j)
 unfolding format
 format-done c b j w cl = unless-done (formatConditions c b j w) w _ (clear-refusal (formatConditions c b j w) cl)
 
-pub format-limits : (c b j : ℕ) (w : World) → Clear (formatConditions c b j w) → InRange (record { cores = c; blocks = b; journal = j })
+pub format-limits : (c b j : ℕ) (w : World) → Clear (formatConditions c b j w) → InRange (newShape c b j)
 unfolding formatConditions
-format-limits c b j w cl = range-test (record { cores = c; blocks = b; journal = j }) (not-false (inRange c b j) (cl .1 .1 .0))
+format-limits c b j w cl = range-test (newShape c b j) (not-false (inRange c b j) (cl .1 .1 .0))

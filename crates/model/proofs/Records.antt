@@ -8,7 +8,7 @@ use mathlib.Core.List.{List, [], _∷_, List·Memᴰ, List·Memᴰ·head, Memᴰ
 use lib.ListN.{length, getD, length-map}
 use lib.Dec.{ltb, leb}
 use borrow.Author.Tests.{ltb-true}
-use Rattle.model.specs.Lists.{below, all}
+use Rattle.model.specs.Lists.{below, all, Each}
 use Rattle.model.specs.Bytes.{Bytes}
 use Rattle.model.specs.Shape.{journalBlock}
 use Rattle.model.specs.Layout.{Held, pairsIn, hasHead, maxNumber, blockCount, heldIn, distinct, isHeld, isDescriptor}
@@ -22,7 +22,7 @@ use Rattle.model.specs.declared.Committed.{Committed}
 use Rattle.model.specs.declared.Found.{Found}
 use Rattle.model.specs.declared.Found.the-variants.{Whole, Miss}
 use Rattle.model.proofs.Limits.{InRange}
-use Rattle.model.proofs.Lists.{and-left, and-right, all-mem, getD-mem, mem-getD, mem-flatMap, mem-below, length-below, Each}
+use Rattle.model.proofs.Lists.{and-left, and-right, all-mem, getD-mem, mem-getD, mem-flatMap, mem-below, length-below}
 use Rattle.model.proofs.Store.{length-blockAt}
 use Rattle.model.proofs.Encoding.{length-unescaped}
 use Rattle.model.proofs.Journal.{journal-low, Known, records-known}

@@ -9,26 +9,27 @@ use mathlib.Core.List.{List, [], _∷_}
 use lib.ListN.{length, getD, replicate, length-take, length-drop, length-replicate}
 use lib.Dec.{ltb, eqb}
 use borrow.Author.Tests.{ltb-false, leb-false, eqb-true}
-use Rattle.model.specs.Bytes.{Bytes, number, part, blockAt, store, zeroDisk, zeroMemory}
-use Rattle.model.specs.Shape.{homeBlock}
+use Rattle.model.specs.Bytes.{Bytes, blockAt, store, zeroDisk, zeroMemory}
+use Rattle.model.specs.Shape.{homeBlock, newShape}
 use Rattle.model.specs.Card.{taken, shapeOf, coreOf, blankCard}
-use Rattle.model.specs.Command.{World, Outcome, noCore, noBlock}
-use Rattle.model.specs.Format.{formatConditions, formatted}
+use Rattle.model.specs.Command.{World, Outcome, noCore, noBlock, Clear, Decided, refused, carried-out}
+use Rattle.model.specs.Format.{formatted}
 use Rattle.model.specs.Write.{writeConditions, loadsImage, ruleFor, writtenMemory, written}
 use Rattle.model.specs.Commit.{copyBlock, copied, closeConditions, closed, stored}
 use Rattle.model.specs.Checkpoint.{committedOf, oldest, storedHome, storedMaster, checkpointed}
 use Rattle.model.specs.Recovery.{blocksLeft, recoverStep, recovered}
-use Rattle.model.specs.Tape.{step, operandLengths, operandLength, commandByte, operandsAt, endsEarly, commandAt, Point}
-use Rattle.model.specs.declared.Shape.{Shape}
-use Rattle.model.specs.declared.Phase.the-variants.{Blank}
+use Rattle.model.specs.Tape.{Point, CHECKPOINT, CLOSE, CUT, Command, FORMAT, RECOVER, Read, STORE, WRITE, early, readAt, unknown, whole}
 use Rattle.model.proofs.Limits.{InRange}
-use Rattle.model.proofs.Lists.{cases, Each}
+use Rattle.model.specs.Lists.{Each}
 use Rattle.model.proofs.Store.{length-replaced, length-store, length-blockAt}
 use Rattle.model.proofs.Encoding.{length-master}
-use Rattle.model.proofs.Command.{Clear, Decided, refused, carried-out, of-cond, of-command, Row, row, rowOf, command-decided}
-use Rattle.model.proofs.Tape.{Runs, at-end, one-more}
-use Rattle.model.proofs.Arrays.{Arrays, core-fits, empty-arrays, row-arrays}
-use Rattle.model.proofs.OneStore.{shape-limits, right-lengths, few-taken, OneStore, none-stored, one-stored, stored-low, row-store, row-limits, format-limits}
+use Rattle.model.proofs.Command.{of-cond, command-decided}
+use Rattle.model.proofs.Tape.{Runs, at-end, one-more, OfData, length-data, whole-data}
+use Rattle.model.proofs.Arrays.{Arrays, core-fits, empty-arrays, done-arrays}
+use Rattle.model.proofs.OneStore.{shape-limits, right-lengths, few-taken, OneStore, none-stored, one-stored, stored-low, format-limits, done-store, isFormat, stored-limits}
+use Rattle.model.specs.Step.{conditionsOf, conditionsOn, doneBy, doneOn, stepAt}
+use Rattle.model.specs.declared.Shape.{Shape}
+use Rattle.model.specs.declared.Phase.the-variants.{Blank}
 
 pub record Sized (w : World) : Type 0 where
   pub disk : length (w .disk) ≡ 32896
@@ -36,7 +37,7 @@ pub record Sized (w : World) : Type 0 where
   pub arrays : Arrays (w .card)
 
 -- ---- the disk
-one-length : {s : Shape} {d : Bytes} {o : Outcome} → InRange s → length d ≡ 32896 → OneStore s d o → length (o .world .disk) ≡ 32896
+one-length : {s : Shape} {d : Bytes} {o : Outcome World} → InRange s → length d ≡ 32896 → OneStore s d o → length (o .world .disk) ≡ 32896
 one-length l n (none-stored e z) = ap length e ∙ n
 one-length {d = d} l n (one-stored {k} p b h e z) = ap length e ∙ (length-store d k b (omega (arith, stored-low l p)) h ∙ n)
 
@@ -76,7 +77,7 @@ length-written c b o v w z cl =
 
 checkpointed-memory : (c : ℕ) (w : World) → (checkpointed c w) .world .memory ≡ w .memory
 unfolding checkpointed storedHome storedMaster
-checkpointed-memory c w = of-cond (λ (o : Outcome). o .world .memory ≡ w .memory) (ltb ((coreOf (w .card) c) .homed) ((oldest (committedOf w c)) .count)) refl refl
+checkpointed-memory c w = of-cond (λ (o : Outcome World). o .world .memory ≡ w .memory) (ltb ((coreOf (w .card) c) .homed) ((oldest (committedOf w c)) .count)) refl refl
 
 recoverStep-memory : (bs : List ℕ) (w : World) → (recoverStep bs w) .world .memory ≡ w .memory
 unfolding recoverStep
@@ -88,62 +89,50 @@ unfolding zeroMemory
 length-zeroMemory = length-replicate {A = ℕ} 16384 0
 
 -- ---- every command
--- the data of a WRITE whose operands are all there
-write-data : (k : ℕ) (a : Bytes) → operandLength k ≤ length a → eqb k 2 ≡ true → length (part 4 4 a) ≡ 4
-unfolding operandLength operandLengths part
-write-data k a h e = let l : 8 ≤ length a = rw (eqb-true k 2 e) at h in simp (length-take, length-drop) (omega arith)
+done-memory : (k : Command) (w : World) → OfData (λ (v : Bytes). length v ≡ 4) k → Sized w → Clear (conditionsOf k w) → length ((doneBy k w) .world .memory) ≡ 16384
+unfolding conditionsOf doneBy formatted stored recovered
+done-memory (FORMAT c b j) w four z cl = length-zeroMemory
+done-memory (WRITE c b o v) w four z cl = length-written c b o v w four cl
+done-memory (CLOSE c) w four z cl = length-closed c w (z .arrays) cl
+done-memory (STORE c) w four z cl = z .memory
+done-memory (CHECKPOINT c) w four z cl = rw (checkpointed-memory c w) (z .memory)
+done-memory CUT w four z cl = length-zeroMemory
+done-memory RECOVER w four z cl = rw (recoverStep-memory (blocksLeft w) w) (z .memory)
 
-format-row : (k : ℕ) (a : Bytes) (w : World) → eqb k 1 ≡ true
-    → rowOf k a w
-    ≡ row (formatConditions (getD a 0 0) (getD a 1 0) (getD a 2 0) w) (formatted (record { cores = getD a 0 0; blocks = getD a 1 0; journal = getD a 2 0 }))
-unfolding rowOf
-format-row k a w e = rw e
+stored-disk : (k : Command) (w : World) → Sized w → isFormat k ≡ false → Clear (conditionsOf k w) → length ((doneBy k w) .world .disk) ≡ 32896
+stored-disk k w z h cl = one-length (stored-limits k w cl) (z .disk) (done-store k w (z .arrays) h cl)
 
-module _ (k : ℕ) (a : Bytes) (w : World) (whole : operandLength k ≤ length a) (z : Sized w) where
-  row-memory : Clear ((rowOf k a w) .conditions) → length ((rowOf k a w) .done .world .memory) ≡ 16384
-  unfolding rowOf formatted stored recovered
-  row-memory =
-      let c = getD a 0 0 in
-      of-command (λ (r : Row). Clear (r .conditions) → length (r .done .world .memory) ≡ 16384) k
-      (λ cl. length-zeroMemory)
-      (λ e. length-written c (number 0 (part 1 2 a)) (getD a 3 0) (part 4 4 a) w (write-data k a whole e))
-      (length-closed c w (z .arrays))
-      (λ cl. z .memory)
-      (λ cl. rw (checkpointed-memory c w) (z .memory))
-      (λ cl. length-zeroMemory)
-      (λ cl. rw (recoverStep-memory (blocksLeft w) w) (z .memory))
+done-disk : (k : Command) (w : World) → Sized w → Clear (conditionsOf k w) → length ((doneBy k w) .world .disk) ≡ 32896
+done-disk (FORMAT c b j) w z cl = unfold doneBy in formatted-disk (newShape c b j) (format-limits c b j w (unfold conditionsOf in cl))
+done-disk (WRITE c b o v) w z cl = stored-disk (WRITE c b o v) w z refl cl
+done-disk (CLOSE c) w z cl = stored-disk (CLOSE c) w z refl cl
+done-disk (STORE c) w z cl = stored-disk (STORE c) w z refl cl
+done-disk (CHECKPOINT c) w z cl = stored-disk (CHECKPOINT c) w z refl cl
+done-disk CUT w z cl = stored-disk CUT w z refl cl
+done-disk RECOVER w z cl = stored-disk RECOVER w z refl cl
 
-  row-disk : Clear ((rowOf k a w) .conditions) → length ((rowOf k a w) .done .world .disk) ≡ 32896
-  row-disk cl =
-      cases (eqb k 1)
-      (λ e. let q = format-row k a w e in
-      rw q (formatted-disk _ (format-limits (getD a 0 0) (getD a 1 0) (getD a 2 0) w (rw q at cl))))
-      (λ e. one-length (row-limits k a w cl) (z .disk) (row-store k a w (z .arrays) e cl))
+pub done-sized : (k : Command) (w : World) → OfData (λ (v : Bytes). length v ≡ 4) k → Sized w → Clear (conditionsOf k w) → Sized ((doneBy k w) .world)
+done-sized k w four z cl = record { disk = done-disk k w z cl; memory = done-memory k w four z cl; arrays = done-arrays k w (z .arrays) }
 
-  pub row-sized : Clear ((rowOf k a w) .conditions) → Sized ((rowOf k a w) .done .world)
-  row-sized cl = record { disk = row-disk cl; memory = row-memory cl; arrays = row-arrays k a w (z .arrays) }
+decided-sized : {ts : List (Bool × ℕ)} {w : World} {done o : Outcome World} → Decided ts w done o → Sized w → (Clear ts → Sized (done .world)) → Sized (o .world)
+decided-sized {w = w} (refused n p f e) z h = subst (λ (o : Outcome World). Sized (o .world)) (sym e) z
+decided-sized (carried-out c e) z h = subst (λ (o : Outcome World). Sized (o .world)) (sym e) (h c)
 
-decided-sized : {ts : List (Bool × ℕ)} {w : World} {done o : Outcome} → Decided ts w done o → Sized w → (Clear ts → Sized (done .world)) → Sized (o .world)
-decided-sized {w = w} (refused n p f e) z h = subst (λ (o : Outcome). Sized (o .world)) (sym e) z
-decided-sized (carried-out c e) z h = subst (λ (o : Outcome). Sized (o .world)) (sym e) (h c)
+read-sized : (r : Read) (w : World) → ((k : Command) → r ≡ whole k → OfData (λ (v : Bytes). length v ≡ 4) k) → Sized w → Clear (conditionsOn r w) → Sized ((doneOn r w) .world)
+unfolding conditionsOn doneOn
+read-sized (whole k) w four z cl = done-sized k w (four k refl) z cl
+read-sized unknown w four z cl = z
+read-sized early w four z cl = z
 
--- operands that do not end early are all there
-operands-whole : (t : Bytes) (at : ℕ) → endsEarly t at ≡ false → operandLength (commandByte t at) ≤ length (operandsAt t at)
-unfolding endsEarly operandsAt part
-operands-whole t at h = let l = ltb-false (length t) (at + 1 + operandLength (commandByte t at)) h in simp (length-take, length-drop) (omega arith)
-
-pub command-sized : (t : Bytes) (at : ℕ) (w : World) → Sized w → Sized ((commandAt step t at w) .world)
-command-sized t at w z =
-    let k = commandByte t at in
-    let a = operandsAt t at in
-    decided-sized (command-decided t at w) z (λ cl. row-sized k a w (operands-whole t at (cl .1 .1 .0)) z (cl .1 .1 .1))
+pub command-sized : (t : Bytes) (at : ℕ) (w : World) → Sized w → Sized ((stepAt t at w) .world)
+command-sized t at w z = decided-sized (command-decided t at w) z (read-sized (readAt t at) w (λ k e. whole-data t at (λ (v : Bytes). length v ≡ 4) k e (length-data t at k e)) z)
 
 -- ---- a whole tape
-pub run-sized : (t : Bytes) {at n : ℕ} {w : World} {ps : List Point} → Runs step t at n w ps → Sized w → Each (λ (p : Point). Sized (p .before) × Sized (p .outcome .world)) ps
+pub run-sized : (t : Bytes) {at n : ℕ} {w : World} {ps : List (Point World)} → Runs stepAt t at n w ps → Sized w → Each (λ (p : Point World). Sized (p .before) × Sized (p .outcome .world)) ps
 run-sized t (at-end h) z = tt
 run-sized t (one-more {at} {w = w} {p = p} h e r) z =
-    let y : Sized (p .outcome .world) = subst (λ (p : Point). Sized (p .outcome .world)) (sym e) (command-sized t at w z) in
-    ((subst (λ (p : Point). Sized (p .before)) (sym e) z, y), run-sized t r y)
+    let y : Sized (p .outcome .world) = subst (λ (p : Point World). Sized (p .outcome .world)) (sym e) (command-sized t at w z) in
+    ((subst (λ (p : Point World). Sized (p .before)) (sym e) z, y), run-sized t r y)
 
 -- 'The tape starts on a blank card, over slices of the stated lengths and any content.'
 pub blank-sized : (d m : Bytes) → length d ≡ 32896 → length m ≡ 16384 → Sized (record { card = blankCard; disk = d; memory = m })

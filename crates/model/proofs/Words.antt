@@ -7,7 +7,8 @@ use mathlib.Core.Path.{_≡_, refl, ap, _∙_, sym}
 use mathlib.Core.List.{List, [], _∷_, _++_, append-assoc, append-nil, flatMap}
 use lib.ListN.{length, getD, replicate, length-append, length-replicate}
 use Rattle.model.specs.Bytes.{Bytes, bytes, number, part, be4, words, padded, block}
-use Rattle.model.proofs.Lists.{Each, each-append, each-replicate}
+use Rattle.model.specs.Lists.{Each}
+use Rattle.model.proofs.Lists.{each-append, each-replicate}
 
 -- ---- numbers
 abbrev pub IsByte : ℕ → Type 0

@@ -3,7 +3,9 @@ use Prim.Native.Nat.{ℕ}
 use mathlib.Core.List.{List, [], _∷_}
 use Rattle.model.specs.Bytes.{Bytes}
 use Rattle.model.specs.Card.{coreOf}
-use Rattle.model.specs.Tape.{Line, Page, step, run, printed, worldAfter, blankWorld}
+use Rattle.model.specs.Tape.{run, worldAfter}
+use Rattle.model.specs.Step.{stepAt}
+use Rattle.model.specs.Printing.{Line, Page, printed, blankWorld}
 
 pub record Case : Type 0 where
   pub tape : Bytes
@@ -18,7 +20,7 @@ case tape lines homes next = record { tape = tape; prints = record { lines = lin
 
 -- what the definitions make of a tape
 unfoldable pub outcomeOf : Bytes → Case
-outcomeOf t = record { tape = t; prints = printed step t blankWorld; next = (coreOf ((worldAfter blankWorld (run step t blankWorld)) .card) 0) .next }
+outcomeOf t = record { tape = t; prints = printed stepAt t blankWorld; next = (coreOf ((worldAfter blankWorld (run stepAt t blankWorld)) .card) 0) .next }
 
 unfoldable pub cases : List Case
 cases =

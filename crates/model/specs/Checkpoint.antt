@@ -65,7 +65,7 @@ abbrev pub homedCore : Core → Core
 homedCore k = record { next = k .next; used = k .used; stored = k .stored; homed = k .homed + 1; running = k .running; closed = k .closed }
 
 -- a home store: 'A block's home image comes from the journal, never from later memory.'
-unfoldable pub storedHome : ℕ → Committed → World → Outcome
+unfoldable pub storedHome : ℕ → Committed → World → Outcome World
 storedHome c e w =
     let x = w .card in
     let s = shapeOf x in
@@ -99,15 +99,15 @@ retiredCard c e x =
     (set (x .cores) c (retiredCore (coreOf x c) e))
     (released (nameOf e) (x .holders))
 
-unfoldable pub storedMaster : ℕ → Committed → World → Outcome
+unfoldable pub storedMaster : ℕ → Committed → World → Outcome World
 storedMaster c e w =
     let x = retiredCard c e (w .card) in
     storing w x 0 (masterBlock (shapeOf x) (tailOf x))
 
-unfoldable pub checkpointed : ℕ → World → Outcome
+unfoldable pub checkpointed : ℕ → World → Outcome World
 checkpointed c w =
     let e = oldest (committedOf w c) in
     cond (ltb ((coreOf (w .card) c) .homed) (e .count)) (storedHome c e w) (storedMaster c e w)
 
-unfoldable pub checkpoint : ℕ → World → Outcome
+unfoldable pub checkpoint : ℕ → World → Outcome World
 checkpoint c w = unless (checkpointConditions c w) w (checkpointed c w)

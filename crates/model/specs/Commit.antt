@@ -48,10 +48,10 @@ closedCard x c =
       holders = x .holders;
     }
 
-unfoldable pub closed : ℕ → World → Outcome
+unfoldable pub closed : ℕ → World → Outcome World
 closed c w = unstored w (closedCard (w .card) c) (copied c 0 (taken ((coreOf (w .card) c) .running)) (w .memory))
 
-unfoldable pub close : ℕ → World → Outcome
+unfoldable pub close : ℕ → World → Outcome World
 close c w = unless (closeConditions c w) w (closed c w)
 
 -- ---- STORE
@@ -85,11 +85,11 @@ coreStored k =
 unfoldable pub storeConditions : ℕ → World → List (Bool × ℕ)
 storeConditions c w = notUp w ((noCore w c, 5) ∷ (not ((coreOf (w .card) c) .closed .live), 30) ∷ [])
 
-unfoldable pub stored : ℕ → World → Outcome
+unfoldable pub stored : ℕ → World → Outcome World
 stored c w =
     let x = w .card in
     let k = coreOf x c in
     storing w (withCore x c (coreStored k)) (journalBlock (shapeOf x) c (nextPosition x c)) (nextStored c k (w .memory))
 
-unfoldable pub storeNext : ℕ → World → Outcome
+unfoldable pub storeNext : ℕ → World → Outcome World
 storeNext c w = unless (storeConditions c w) w (stored c w)

@@ -4,7 +4,7 @@ use mathlib.Core.List.{List, [], _∷_}
 use mathlib.Core.Bool.{Bool, not}
 use lib.ListN.{replicate}
 use Rattle.model.specs.Bytes.{store, zeroDisk, zeroMemory}
-use Rattle.model.specs.Shape.{inRange, checkedAnswer}
+use Rattle.model.specs.Shape.{newShape, inRange, checkedAnswer}
 use Rattle.model.specs.Card.{isBlank, newTail, freshCard}
 use Rattle.model.specs.Layout.{masterBlock}
 use Rattle.model.specs.Command.{World, Outcome, unless, wrongLength}
@@ -16,7 +16,7 @@ unfoldable pub formatConditions : ℕ → ℕ → ℕ → World → List (Bool �
 formatConditions c b j w = (wrongLength w, 1) ∷ (not (isBlank (w .card .phase)), 21) ∷ (not (inRange c b j), checkedAnswer OutOfRange) ∷ []
 
 -- FORMAT counts no store, and zeroes memory too
-unfoldable pub formatted : Shape → Outcome
+unfoldable pub formatted : Shape → Outcome World
 formatted s =
     record {
       answer = 0;
@@ -29,5 +29,5 @@ formatted s =
       stores = 0;
     }
 
-unfoldable pub format : ℕ → ℕ → ℕ → World → Outcome
-format c b j w = unless (formatConditions c b j w) w (formatted (record { cores = c; blocks = b; journal = j }))
+unfoldable pub format : ℕ → ℕ → ℕ → World → Outcome World
+format c b j w = unless (formatConditions c b j w) w (formatted (newShape c b j))

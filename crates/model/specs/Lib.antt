@@ -8,11 +8,13 @@ pub mod Journal
 pub mod Shrink
 pub mod Valid
 pub mod Command
+pub mod Tape
 pub mod Format
 pub mod Write
 pub mod Commit
 pub mod Checkpoint
 pub mod Recovery
 pub mod Reading
-pub mod Tape
+pub mod Step
+pub mod Printing
 pub mod Cases

@@ -23,3 +23,8 @@ module _ {A : Type 0} where
   unfoldable pub select : (A → Bool) → List A → List A
   select p [] = []
   select p (x ∷ xs) = cond (p x) (x ∷ select p xs) (select p xs)
+
+  -- of each element a fact
+  abbrev pub Each : (A → Type 0) → List A → Type 0
+  Each P [] = Unit {0}
+  Each P (x ∷ xs) = P x × Each P xs

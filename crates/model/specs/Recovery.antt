@@ -24,7 +24,7 @@ use Rattle.model.specs.declared.Found.the-variants.{Whole, Miss}
 unfoldable pub cutConditions : World → List (Bool × ℕ)
 cutConditions w = (wrongLength w, 1) ∷ (isBlank (w .card .phase), 20) ∷ []
 
-unfoldable pub cut : World → Outcome
+unfoldable pub cut : World → Outcome World
 cut w = unless (cutConditions w) w (unstored w downCard zeroMemory)
 
 -- ---- what the master and the journals of a disk give
@@ -83,12 +83,12 @@ unfoldable pub broughtUp : Bytes → Card
 broughtUp d = freshCard Up (shapeOn d) (map (emptiedTail d) (below 8))
 
 -- a home store of the lowest block left, or the master store
-unfoldable pub recoverStep : List ℕ → World → Outcome
+unfoldable pub recoverStep : List ℕ → World → Outcome World
 recoverStep [] w = storing w (broughtUp (w .disk)) 0 (masterBlock (shapeOn (w .disk)) (emptiedTail (w .disk)))
 recoverStep (b ∷ bs) w = storing w (recoveredTo (w .card) (b + 1)) (homeBlock b) (newestImage (w .disk) b)
 
-unfoldable pub recovered : World → Outcome
+unfoldable pub recovered : World → Outcome World
 recovered w = recoverStep (blocksLeft w) w
 
-unfoldable pub recover : World → Outcome
+unfoldable pub recover : World → Outcome World
 recover w = unless (recoverConditions w) w (recovered w)

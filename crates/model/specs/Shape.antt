@@ -6,6 +6,9 @@ use Rattle.model.specs.declared.Shape.{Shape}
 use Rattle.model.specs.declared.Checked.{Checked}
 use Rattle.model.specs.declared.Checked.the-variants.{Fits, OutOfRange}
 
+abbrev pub newShape : ℕ → ℕ → ℕ → Shape
+newShape c b j = record { cores = c; blocks = b; journal = j }
+
 unfoldable pub between : ℕ → ℕ → ℕ → Bool
 between low x high = leb low x && leb x high
 
@@ -15,7 +18,7 @@ inRange c b j = between 1 c 8 && between 1 b 64 && between 4 j 24
 
 -- what the constructor of a shape answers
 unfoldable pub checked : ℕ → ℕ → ℕ → Checked
-checked c b j = cond (inRange c b j) (Fits (record { cores = c; blocks = b; journal = j })) OutOfRange
+checked c b j = cond (inRange c b j) (Fits (newShape c b j)) OutOfRange
 
 -- its refusal: '4 C, B or J out of range'; 0 for none
 abbrev pub checkedAnswer : Checked → ℕ

@@ -115,8 +115,8 @@ writtenMemory w c b o v =
     let m = cond (loadsImage (ruleFor (w .card) c b)) (store (w .memory) b (blockAt (w .disk) (homeBlock b))) (w .memory) in
     replaced (128 * b + o) 4 m v
 
-unfoldable pub written : ℕ → ℕ → ℕ → Bytes → World → Outcome
+unfoldable pub written : ℕ → ℕ → ℕ → Bytes → World → Outcome World
 written c b o v w = unstored w (writtenCard (w .card) c b) (writtenMemory w c b o v)
 
-unfoldable pub write : ℕ → ℕ → ℕ → Bytes → World → Outcome
+unfoldable pub write : ℕ → ℕ → ℕ → Bytes → World → Outcome World
 write c b o v w = unless (writeConditions c b o w) w (written c b o v w)
