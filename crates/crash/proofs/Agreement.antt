@@ -10,36 +10,38 @@ use lib.ListN.{getD}
 use lib.Dec.{eqb}
 use borrow.Author.Tests.{eqb-true, ne-eqb}
 use Rattle.model.specs.Lists.{select}
-use Rattle.model.specs.Bytes.{Bytes}
 use Rattle.model.specs.Card.{isDown}
-use Rattle.model.specs.declared.Phase.{Phase}
-use Rattle.model.specs.declared.Shape.{Shape}
 use Rattle.model.proofs.Lists.{cases}
-use Rattle.crash.specs.Book.{Book, emptyBook, keptWrites, image, blank, hasRunning}
-use Rattle.crash.specs.Service.{Service, emptyService, noted, cutService, fed}
-use Rattle.crash.specs.Ledger.{Ledger, freshLedger, blankLedger, withBook, closeLedger, cutLedger, firstNumber, recoverLedger, entered}
-use Rattle.crash.specs.Claims.{downLedger}
+use Rattle.crash.specs.Book.{emptyBook, keptWrites, image, blank, hasRunning}
+use Rattle.crash.specs.Service.{Service, emptyService, noted, cutService, fed, served, withNoted}
+use Rattle.crash.specs.Ledger.{Ledger, freshLedger, blankLedger, withBook, closeLedger, cutLedger, firstNumber, recoverLedger, entered, carriedOut}
 use Rattle.crash.proofs.Rename.{Renamed, SameWrites, empty-renamed, close-renamed, noted-renamed, same-image, kept-saved, running-renamed}
 use Rattle.crash.proofs.Tests.{clash}
+use Rattle.model.specs.Tape.{CHECKPOINT, CLOSE, CUT, Command, FORMAT, RECOVER, Read, STORE, WRITE, early, heard, unknown, whole}
+use Rattle.crash.specs.Claims.{Start, from-blank, from-down, startLedger, startService}
+use Rattle.model.specs.Shape.{newShape}
+use Rattle.model.specs.declared.Phase.{Phase}
+use Rattle.model.specs.declared.Shape.{Shape}
 
 -- a blank card is as one just come up, with nothing written
 pub data Agrees (v : Service) (l : Ledger) : Type 0 where
   not-down : (shift : ℕ → ℕ) → isDown (l .phase) ≡ false → Renamed shift (v .book) (l .book) → SameWrites (v .saved) (l .saved) → Agrees v l
   down : isDown (l .phase) ≡ true → v .book ≡ emptyBook (λ (c : ℕ). 1) → SameWrites (v .saved) (keptWrites (l .book) ++ l .saved) → Agrees v l
 
--- the phase that each command needs to be carried out, as far as the books need it
-pub record Suits (k : ℕ) (p : Phase) : Type 0 where
-  pub before-cut : 2 ≤ k → k ≤ 5 → isDown p ≡ false
-  pub after-cut : k ≡ 7 → isDown p ≡ true
+-- the phase in which a command is carried out, as far as the books need it
+abbrev pub PhaseFor : Command → Phase → Type 0
+PhaseFor (FORMAT c b j) p = Unit {0}
+PhaseFor (WRITE c b o v) p = isDown p ≡ false
+PhaseFor (CLOSE c) p = isDown p ≡ false
+PhaseFor (STORE c) p = isDown p ≡ false
+PhaseFor (CHECKPOINT c) p = isDown p ≡ false
+PhaseFor CUT p = Unit {0}
+PhaseFor RECOVER p = isDown p ≡ true
 
 -- ---- the starts
 fresh-agrees : (n : ℕ) (s : Shape) → Agrees (emptyService n) (freshLedger s [] (λ (c : ℕ). 1))
 unfolding emptyService freshLedger
 fresh-agrees n s = not-down (λ c. 0) refl (empty-renamed (λ c. 0) (λ c. 1) (λ c. 1) (λ c. refl)) refl
-
-pub blank-agrees : (n : ℕ) → Agrees (emptyService n) blankLedger
-unfolding emptyService blankLedger
-blank-agrees n = not-down (λ c. 0) refl (empty-renamed (λ c. 0) (λ c. 1) (λ c. 1) (λ c. refl)) refl
 
 empty-kept : (n : ℕ → ℕ) → keptWrites (emptyBook n) ≡ []
 unfolding keptWrites select emptyBook
@@ -50,21 +52,12 @@ pub cut-twice : (v : Service) → cutService (cutService v) ≡ cutService v
 unfolding cutService
 cut-twice v = rw (empty-kept (λ (c : ℕ). 1))
 
-pub down-agrees : (n : ℕ) (s : Shape) → Agrees (emptyService n) (downLedger s)
-unfolding emptyService downLedger cutLedger freshLedger
-down-agrees n s = down refl refl (rw (empty-kept (λ (c : ℕ). 1)) refl)
+pub start-agrees : (s : Start) → Agrees (startService s) (startLedger s)
+unfolding startService startLedger emptyService blankLedger cutLedger freshLedger
+start-agrees (from-blank d m) = not-down (λ c. 0) refl (empty-renamed (λ c. 0) (λ c. 1) (λ c. 1) (λ c. refl)) refl
+start-agrees (from-down s m) = down refl refl (rw (empty-kept (λ (c : ℕ). 1)) refl)
 
 -- ---- the commands
-noted-other : (k : ℕ) (a : Bytes) (b : Book) → (2 ≤ k → k ≤ 5 → ⊥) → noted k a b ≡ b
-unfolding noted
-noted-other k a b h =
-    rw (
-      ne-eqb k 2 (λ e. h (omega arith) (omega arith)),
-      ne-eqb k 3 (λ e. h (omega arith) (omega arith)),
-      ne-eqb k 4 (λ e. h (omega arith) (omega arith)),
-      ne-eqb k 5 (λ e. h (omega arith) (omega arith)),
-    ) refl
-
 module _ (v : Service) (l : Ledger) where
   cut-agrees : Agrees v l → Agrees (cutService v) (cutLedger l)
   unfolding cutService cutLedger
@@ -79,37 +72,39 @@ module _ (v : Service) (l : Ledger) where
       not-down (λ c. n c - 1) refl (rw e (empty-renamed (λ c. n c - 1) (λ c. 1) n (λ c. omega arith))) s
   recover-agrees d (down p e s) (b ∷ bs) = down refl e s
 
-  close-agrees : (a : Bytes) → isDown (l .phase) ≡ false → Agrees v l
-      → Agrees (record { blocks = v .blocks; saved = v .saved; book = noted 3 a (v .book) }) (cond (hasRunning (l .book) (getD a 0 0)) (closeLedger (getD a 0 0) l) l)
+  close-agrees : (c : ℕ) → isDown (l .phase) ≡ false → Agrees v l → Agrees (withNoted (CLOSE c) v) (cond (hasRunning (l .book) c) (closeLedger c l) l)
   unfolding closeLedger noted
-  close-agrees a d (not-down shift p r s) =
-      let c = getD a 0 0 in
+  close-agrees c d (not-down shift p r s) =
       cases (hasRunning (v .book) c)
       (λ e. rw (running-renamed r c, e) (not-down shift p (close-renamed r c) s))
       (λ e. rw (running-renamed r c, e) (not-down shift p r s))
-  close-agrees a d (down p e s) = clash p d
+  close-agrees c d (down p e s) = clash p d
 
-  noted-agrees : (k : ℕ) (a : Bytes) → (2 ≤ k → k ≤ 5 → isDown (l .phase) ≡ false) → Agrees v l
-      → Agrees (record { blocks = v .blocks; saved = v .saved; book = noted k a (v .book) }) (withBook l (noted k a (l .book)))
-  noted-agrees k a h (not-down shift p r s) = not-down shift p (noted-renamed r k a) s
-  noted-agrees k a h (down p e s) =
-      let other : (2 ≤ k → k ≤ 5 → ⊥) = λ x y. clash p (h x y) in
-      rw (noted-other k a (v .book) other, noted-other k a (l .book) other) (down p e s)
+  noted-agrees : (k : Command) → isDown (l .phase) ≡ false → Agrees v l → Agrees (withNoted k v) (withBook l (noted k (l .book)))
+  noted-agrees k d (not-down shift p r s) = not-down shift p (noted-renamed r k) s
+  noted-agrees k d (down p e s) = clash p d
 
-  -- answered 0
-  carried-agrees : (k : ℕ) (a : Bytes) → Suits k (l .phase) → Agrees v l → Agrees (fed k a 0 v) (entered k a 0 l)
+  served-agrees : (k : Command) → PhaseFor k (l .phase) → Agrees v l → Agrees (served k v) (carriedOut k l)
+  unfolding served carriedOut
+  served-agrees (FORMAT c b j) h g = fresh-agrees b (newShape c b j)
+  served-agrees (WRITE c b o d) h g = noted-agrees (WRITE c b o d) h g
+  served-agrees (CLOSE c) h g = close-agrees c h g
+  served-agrees (STORE c) h g = noted-agrees (STORE c) h g
+  served-agrees (CHECKPOINT c) h g = noted-agrees (CHECKPOINT c) h g
+  served-agrees CUT h g = cut-agrees g
+  served-agrees RECOVER h g = recover-agrees h g (l .left)
+
+  fed-agrees : (k : Command) (answer : ℕ) → (answer ≡ 0 → PhaseFor k (l .phase)) → Agrees v l → Agrees (fed k answer v) (entered k answer l)
   unfolding fed entered
-  carried-agrees k a h g =
-      cases (eqb k 1) (λ e. rw (eqb-true k 1 e) (fresh-agrees _ _))
-      (λ n₁. cases (eqb k 3) (λ e. rw (eqb-true k 3 e) (close-agrees a (h .before-cut (omega (arith, eqb-true k 3 e)) (omega (arith, eqb-true k 3 e))) g))
-      (λ n₃. cases (eqb k 6) (λ e. rw (eqb-true k 6 e) (cut-agrees g))
-      (λ n₆. cases (eqb k 7) (λ e. rw (eqb-true k 7 e, noted-other 7 a (v .book) (λ x y. omega arith)) (recover-agrees (h .after-cut (eqb-true k 7 e)) g (l .left)))
-      (λ n₇. rw (n₁, n₃, n₆, n₇) (noted-agrees k a (h .before-cut) g)))))
+  fed-agrees k zero h g = served-agrees k (h refl) g
+  fed-agrees k (suc n) h g = g
 
-pub fed-agrees : (k : ℕ) (a : Bytes) (answer : ℕ) (v : Service) (l : Ledger) → (answer ≡ 0 → Suits k (l .phase)) → Agrees v l → Agrees (fed k a answer v) (entered k a answer l)
-unfolding fed entered
-fed-agrees k a zero v l h g = carried-agrees v l k a (h refl) g
-fed-agrees k a (suc n) v l h g = g
+  pub heard-agrees : (r : Read) (answer : ℕ) → ((k : Command) → r ≡ whole k → answer ≡ 0 → PhaseFor k (l .phase)) → Agrees v l
+      → Agrees (heard fed r answer v) (heard entered r answer l)
+  unfolding heard
+  heard-agrees (whole k) answer h g = fed-agrees k answer (h k refl) g
+  heard-agrees unknown answer h g = g
+  heard-agrees early answer h g = g
 
 -- ---- the areas
 pub area-same : (v : Service) (l : Ledger) → isDown (l .phase) ≡ false → Agrees v l → (b : ℕ) → image blank (v .saved) b ≡ image blank (l .saved) b

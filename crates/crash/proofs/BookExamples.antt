@@ -4,68 +4,59 @@
 use Prim.Native.Nat.{ℕ}
 use mathlib.Core.Path.{_≡_, refl}
 use mathlib.Core.List.{List, [], _∷_, _++_, map}
-use Rattle.model.specs.Bytes.{Bytes}
 use Rattle.model.specs.Card.{newName}
-use Rattle.model.specs.declared.Name.{Name}
 use Rattle.model.proofs.Computes.{computes}
 use Rattle.crash.specs.Book.{Write, emptyBook, change, raise, begin, holderIn, meets, ruled, holderAfter, note, wrote, close, store, checkpoint, committedIn, namesIn, kept, keptWrites, image, blank}
-use Rattle.crash.specs.Service.{Service, emptyService, noted, cutService, fed}
+use Rattle.crash.specs.Service.{Service, emptyService, noted, cutService, fed, served}
+use Rattle.model.specs.Tape.{CHECKPOINT, CLOSE, CUT, Command, STORE, WRITE}
+use Rattle.model.specs.declared.Name.{Name}
 
--- ---- commands that were carried out: byte and operands
-pub record Command : Type 0 where
-  pub byte : ℕ
-  pub operands : Bytes
-
+-- ---- commands that were carried out
+-- four bytes x into block 0
 abbrev pub write : ℕ → ℕ → ℕ → Command
-write c o x = record { byte = 2; operands = c ∷ 0 ∷ 0 ∷ o ∷ x ∷ x ∷ x ∷ x ∷ [] }
-
-abbrev pub of-core : ℕ → ℕ → Command
-of-core k c = record { byte = k; operands = c ∷ [] }
-
-abbrev pub alone : ℕ → Command
-alone k = record { byte = k; operands = [] }
+write c o x = WRITE c 0 o (x ∷ x ∷ x ∷ x ∷ [])
 
 -- CLOSE and the three STOREs that commit a transaction of one block
 abbrev pub commits : ℕ → List Command
-commits c = of-core 3 c ∷ of-core 4 c ∷ of-core 4 c ∷ of-core 4 c ∷ []
+commits c = CLOSE c ∷ STORE c ∷ STORE c ∷ STORE c ∷ []
 
-abbrev served : Service → List Command → Service
-served v [] = v
-served v (k ∷ ks) = served (fed (k .byte) (k .operands) 0 v) ks
+abbrev fedAll : Service → List Command → Service
+fedAll v [] = v
+fedAll v (k ∷ ks) = fedAll (fed k 0 v) ks
 
 -- who wrote what the book has kept
 abbrev keptBy : List Command → List Name
-keptBy ks = map (λ (w : Write). w .writer) ((served (emptyService 1) ks) .saved)
+keptBy ks = map (λ (w : Write). w .writer) ((fedAll (emptyService 1) ks) .saved)
 
 unfoldable pub books : Unit {0}
-unfolding computes emptyBook change raise begin holderIn meets ruled holderAfter note wrote close store checkpoint committedIn namesIn kept keptWrites image blank emptyService noted cutService fed
+unfolding computes emptyBook change raise begin holderIn meets ruled holderAfter note wrote close store checkpoint committedIn namesIn kept keptWrites image blank emptyService noted cutService served fed
 books = tt
 
 -- Core 1 writes into core 0's block, core 0 commits, core 2 takes the block and commits: core 1 is lost, and so all are.
-pub committed-holder-is-named : keptBy (write 0 0 1 ∷ write 1 4 2 ∷ commits 0 ++ write 2 8 3 ∷ commits 2 ++ alone 6 ∷ []) ≡ []
+pub committed-holder-is-named : keptBy (write 0 0 1 ∷ write 1 4 2 ∷ commits 0 ++ write 2 8 3 ∷ commits 2 ++ CUT ∷ []) ≡ []
 unfolding books
 committed-holder-is-named = refl
 
 -- A running holder names the writer too: core 0 commits alone and is not kept.
-pub running-holder-names : keptBy (write 0 0 1 ∷ write 1 4 2 ∷ commits 0 ++ alone 6 ∷ []) ≡ []
+pub running-holder-names : keptBy (write 0 0 1 ∷ write 1 4 2 ∷ commits 0 ++ CUT ∷ []) ≡ []
 unfolding books
 running-holder-names = refl
 
 -- Both committed, both are kept, in the order issued (the newest first), and a second cut adds nothing.
-pub both-kept : keptBy (write 0 0 1 ∷ write 1 4 2 ∷ commits 0 ++ of-core 3 1 ∷ of-core 4 1 ∷ of-core 4 1 ∷ alone 6 ∷ alone 6 ∷ []) ≡ newName 1 1 ∷ newName 0 1 ∷ []
+pub both-kept : keptBy (write 0 0 1 ∷ write 1 4 2 ∷ commits 0 ++ CLOSE 1 ∷ STORE 1 ∷ STORE 1 ∷ CUT ∷ CUT ∷ []) ≡ newName 1 1 ∷ newName 0 1 ∷ []
 unfolding books
 both-kept = refl
 
 -- Core 0's first transaction depends on one that is lost, its second on none: the later one is kept without the earlier.
-pub later-kept-alone : keptBy (write 0 0 1 ∷ write 1 4 2 ∷ commits 0 ++ record { byte = 2; operands = 0 ∷ 0 ∷ 1 ∷ 0 ∷ 3 ∷ 3 ∷ 3 ∷ 3 ∷ [] } ∷ commits 0 ++ alone 6 ∷ []) ≡ newName 0 2 ∷ []
+pub later-kept-alone : keptBy (write 0 0 1 ∷ write 1 4 2 ∷ commits 0 ++ WRITE 0 1 0 (3 ∷ 3 ∷ 3 ∷ 3 ∷ []) ∷ commits 0 ++ CUT ∷ []) ≡ newName 0 2 ∷ []
 unfolding books
 later-kept-alone = refl
 
 -- After the one home store of two checkpoints core 0's transaction is not retired yet, and the next writer names it.
-pub home-store-retires-none : ((served (emptyService 1) (write 0 0 1 ∷ commits 0 ++ of-core 5 0 ∷ write 1 4 2 ∷ [])) .book .entry (newName 1 1)) .names ≡ newName 0 1 ∷ []
+pub home-store-retires-none : ((fedAll (emptyService 1) (write 0 0 1 ∷ commits 0 ++ CHECKPOINT 0 ∷ write 1 4 2 ∷ [])) .book .entry (newName 1 1)) .names ≡ newName 0 1 ∷ []
 unfolding books
 home-store-retires-none = refl
 
-pub master-store-retires : ((served (emptyService 1) (write 0 0 1 ∷ commits 0 ++ of-core 5 0 ∷ of-core 5 0 ∷ write 1 4 2 ∷ [])) .book .entry (newName 1 1)) .names ≡ []
+pub master-store-retires : ((fedAll (emptyService 1) (write 0 0 1 ∷ commits 0 ++ CHECKPOINT 0 ∷ CHECKPOINT 0 ∷ write 1 4 2 ∷ [])) .book .entry (newName 1 1)) .names ≡ []
 unfolding books
 master-store-retires = refl

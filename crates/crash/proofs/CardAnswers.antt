@@ -20,12 +20,9 @@ use Rattle.model.specs.Command.{World, refusal, notUp, noCore, noBlock}
 use Rattle.model.specs.Write.{writer, ruleFor, takesBlock, passesTwelve, listsFull, closedBlocks, journalFull, writeConditions}
 use Rattle.model.specs.Commit.{closeConditions, storeConditions}
 use Rattle.model.specs.Checkpoint.{checkpointConditions}
-use Rattle.model.specs.declared.Shape.{Shape}
-use Rattle.model.specs.declared.Name.{Name}
-use Rattle.model.specs.declared.Transaction.{Transaction}
 use Rattle.model.proofs.Lists.{cases, or-none}
 use Rattle.crash.specs.Book.{absent, running, isRunning, Entry, Book, begin, staged, taking, naming, holderIn, wrote}
-use Rattle.crash.specs.Ledger.{Ledger, namesCount, holderNames, recordBlocks, notUpFor, writeRefusals, closeRefusals, storeRefusals, checkpointRefusals}
+use Rattle.crash.specs.Ledger.{Ledger, namesCount, holderNames, recordBlocks, notUpFor, writeRefusals, closeRefusals, storeRefusals, checkpointRefusals, blocksAfter, journalPasses, namesPass, numberPasses}
 use Rattle.crash.proofs.BookEntries.{change-at, records-snoc, nextName}
 use Rattle.crash.proofs.BookSteps.{begun, meeting}
 use Rattle.crash.proofs.Relation.{Matches, Up}
@@ -34,6 +31,9 @@ use Rattle.crash.proofs.ReadMaster.{shape-up}
 use Rattle.crash.proofs.ReadCheckpoint.{none-committed, oldest-valid, oldest-shares}
 use Rattle.crash.proofs.CardRules.{entry-free, entry-own, entry-running, entry-closed, entry-holder, live-runs, writer-name, writer-matches, met-none, met-own, met-running, met-closed, rule-met, writer-after, holder-matches}
 use Rattle.crash.proofs.CardCut.{right-length}
+use Rattle.model.specs.declared.Shape.{Shape}
+use Rattle.model.specs.declared.Name.{Name}
+use Rattle.model.specs.declared.Transaction.{Transaction}
 
 -- ---- conditions one by one
 -- the same conditions, each as far as none before it holds
@@ -185,7 +185,7 @@ module _ {l : Ledger} {w : World} (u : Up l w) (c : ℕ) (in-range : c < l .shap
 pub write-answers : {l : Ledger} {w : World} → Up l w → (c b o : ℕ) (v : Bytes)
     → (b < l .shape .blocks → (n : Name) → holderIn (l .book) b (l .book .writes) ≡ some n → (l .book .entry n) .stage ≢ absent)
     → refusal (writeConditions c b o w) ≡ refusal (writeRefusals c b o v l)
-unfolding writeConditions writeRefusals noBlock namesCount
+unfolding writeConditions writeRefusals noBlock namesCount namesPass blocksAfter journalPasses numberPasses
 write-answers {l} {w} u c b o v opens =
     let k₂ = wrote c b o v (l .book) in
     let t = nextName c (l .book) in

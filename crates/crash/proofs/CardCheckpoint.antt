@@ -21,12 +21,6 @@ use Rattle.model.specs.Layout.{masterBlock}
 use Rattle.model.specs.Journal.{journalAt}
 use Rattle.model.specs.Command.{World, Outcome, storing}
 use Rattle.model.specs.Checkpoint.{homedCore, storedHome, released, retiredCore, retiredCard, storedMaster, checkpointed}
-use Rattle.model.specs.declared.Name.{Name}
-use Rattle.model.specs.declared.Tail.{Tail}
-use Rattle.model.specs.declared.Core.{Core}
-use Rattle.model.specs.declared.Holder.{Holder}
-use Rattle.model.specs.declared.Card.{Card}
-use Rattle.model.specs.declared.Committed.{Committed}
 use Rattle.model.proofs.Encoding.{master-same}
 use Rattle.model.proofs.Lists.{cases, getD-mem, flatMap-below, flatMap-first}
 use Rattle.model.proofs.Journal.{journal-wrap}
@@ -42,6 +36,12 @@ use Rattle.crash.proofs.ReadMaster.{shape-up, master-block, tail-read}
 use Rattle.crash.proofs.ReadRecords.{readRecord, IsRead, length-record}
 use Rattle.crash.proofs.ReadCheckpoint.{oldest-of, oldest-is}
 use Rattle.crash.proofs.CardFrames.{core-set, core-other, record-same, contents-same, low-stored, low-other, low-journal, low-size, low-bytes, home-stands, core-up}
+use Rattle.model.specs.declared.Name.{Name}
+use Rattle.model.specs.declared.Tail.{Tail}
+use Rattle.model.specs.declared.Core.{Core}
+use Rattle.model.specs.declared.Holder.{Holder}
+use Rattle.model.specs.declared.Card.{Card}
+use Rattle.model.specs.declared.Committed.{Committed}
 
 -- ---- the ledger with one stage and the oldest numbers changed
 module _ (l : Ledger) (t : Name) (g : Stage) (o : ℕ → ℕ) where
@@ -428,7 +428,7 @@ module _ {l : Ledger} {w : World} (u : Up l w) (c : ℕ) (in-range : c < l .shap
       more-now = omega (arith, homed-now)
 
       home-store : (checkpointed c w) .world .disk ≡ storeBlock (w .disk) (homeBlock (getD ((l .book .entry t) .blocks) m 0)) (getD (l .images t) m [])
-      home-store = rw (← homed-now) (ap (λ (z : Outcome). z .world .disk) (home-done more-now))
+      home-store = rw (← homed-now) (ap (λ (z : Outcome World). z .world .disk) (home-done more-now))
 
       pub home-stored : blockAt ((checkpointed c w) .world .disk) (homeBlock (getD ((l .book .entry t) .blocks) m 0)) ≡ getD (l .images t) m []
       home-stored = rw (home-store, ← homed-now) (low-stored (u .fine) (u .disk) (homeBlock (b more-now)) (omega (arith, home-low more-now)) (image more-now) (image-block more-now))

@@ -8,22 +8,19 @@ use native.Mathlib.Decide.{ℕ-discrete}
 use mathlib.Core.Path.{_≡_, refl, ap, _∙_, sym, subst}
 use mathlib.Core.Logic.{_≢_}
 use mathlib.Core.Bool.{true}
-use mathlib.Core.List.{List, [], _∷_, List·Memᴰ}
+use mathlib.Core.List.{List, [], _∷_, map, List·Memᴰ, List·Memᴰ·head, List·Memᴰ·tail}
 use mathlib.Core.Option.{some}
 use lib.ListN.{length, getD, length-set}
 use lib.Seq.{getD-set-same, getD-set-other}
 use Rattle.model.specs.Bytes.{Bytes, blockAt, store}
 use Rattle.model.specs.Card.{newName, freshCore, taken, listed, tailOf, coreOf, holderOf}
 use Rattle.model.specs.Command.{World}
-use Rattle.model.specs.Commit.{copyBlock, copied, closed as closedOutcome, closedCore, closedCard}
-use Rattle.model.specs.declared.Name.{Name}
-use Rattle.model.specs.declared.Core.{Core}
-use Rattle.model.specs.declared.Holder.{Holder}
+use Rattle.model.specs.Commit.{copyBlock, copied, closed as closedOutcome, closedCore, closedCard, stored}
 use Rattle.model.proofs.Lists.{getD-mem, getD-map}
 use Rattle.model.proofs.Store.{length-store, length-blockAt, block-stored, block-other}
 use Rattle.model.proofs.Sizes.{length-copied}
 use Rattle.crash.specs.Book.{absent, running, closed, isRunning, Entry, staged, close, holderIn}
-use Rattle.crash.specs.Ledger.{Ledger, closeLedger, imageNow, recordBlocks}
+use Rattle.crash.specs.Ledger.{Ledger, closeLedger, imageNow, recordBlocks, copiesStored}
 use Rattle.crash.specs.Claims.{IsBytes}
 use Rattle.crash.proofs.Tests.{clash}
 use Rattle.crash.proofs.BookEntries.{other-number, other-core, change-at, raise-at, raise-other, records-snoc, nextName, oldestName}
@@ -33,6 +30,9 @@ use Rattle.crash.proofs.Relation.{sumNext, Fine, contents, JournalStand
 use Rattle.crash.proofs.LedgerStages.{running-present}
 use Rattle.crash.proofs.LedgerSteps.{sum-low}
 use Rattle.crash.proofs.CardFrames.{SameClosed, record-same, contents-same, none-stored, journal-stays, core-stays}
+use Rattle.model.specs.declared.Name.{Name}
+use Rattle.model.specs.declared.Core.{Core}
+use Rattle.model.specs.declared.Holder.{Holder}
 
 -- ---- copies
 module _ (c : ℕ) (eight : c < 8) where
@@ -86,6 +86,18 @@ module _ (c : ℕ) (eight : c < 8) where
       rw e
       (copied-in bs (suc i) (store m (copyBlock c i) (blockAt m (b % 64))) (length-store m (copyBlock c i) (blockAt m (b % 64)) f z ∙ n) (omega arith) j (omega arith)
       ∙ block-other m (copyBlock c i) (blockAt m (b % 64)) f z (getD bs j 0 % 64) (images-apart (getD bs j 0 % 64) i (omega arith)))
+
+  -- where the images are those that f gives, they are stored one after the other
+  copies-stored : (f : ℕ → Bytes) (bs : List ℕ) (i : ℕ) (m : Bytes) → length m ≡ 16384 → i + length bs ≤ 8 → ((b : ℕ) → List·Memᴰ b bs → blockAt m (b % 64) ≡ f b)
+      → copied c i bs m ≡ copiesStored c i (map f bs) m
+  unfolding copied copiesStored
+  copies-stored f [] i m n h e = refl
+  copies-stored f (b ∷ bs) i m n h e =
+      let z = length-image m b n in
+      let g = fits m i n (omega arith) in
+      copies-stored f bs (suc i) (store m (copyBlock c i) (blockAt m (b % 64))) (length-store m (copyBlock c i) (blockAt m (b % 64)) g z ∙ n) (omega arith)
+      (λ j q. block-other m (copyBlock c i) (blockAt m (b % 64)) g z (j % 64) (images-apart (j % 64) i (omega arith)) ∙ e j (List·Memᴰ·tail q))
+      ∙ ap (λ (y : Bytes). copiesStored c (suc i) (map f bs) (store m (copyBlock c i) y)) (e b (List·Memᴰ·head refl))
 
 -- copies of different cores
 cores-copies : (a c i j : ℕ) → i < 8 → j < 8 → a ≢ c → copyBlock a i ≢ copyBlock c j
@@ -212,18 +224,26 @@ module _ {l : Ledger} {w : World} (u : Up l w) (c : ℕ) (in-range : c < l .shap
       let h : suc (l .closes) ≤ sumNext (l₂ .book) (l .shape .cores) = unfold closeLedger in fine .closes in
       omega (arith, u .fine .range .few-cores, sum-low (l₂ .book) (l .shape .cores) (unfold closeLedger in λ a g. fine .ranks a g .top))
 
-  copied-image : (i : ℕ) → i < length ((l .book .entry t) .blocks) → blockAt m₂ (copyBlock c i) ≡ getD (l₂ .images t) i []
-  copied-image i h =
-      let bs = (l .book .entry t) .blocks in
-      let b = getD bs i 0 in
-      let m : List·Memᴰ b bs = getD-mem bs i 0 h in
+  -- the images of its blocks are the current ones
+  current-image : (b : ℕ) → List·Memᴰ b ((l .book .entry t) .blocks) → blockAt (w .memory) (b % 64) ≡ imageNow l b
+  current-image b m =
       let g : b < l .shape .blocks = u .fine .limits t (running-present _ runs) .blocks b m in
       let e : b % 64 ≡ b = omega (arith, u .fine .range .few-blocks) in
       let held : (holderOf (w .card) b) .held ≡ true = ap (λ (h : Holder). h .held) (u .holders b g ∙ ap holderAs (holds b m)) in
+      rw e (u .images b g held)
+
+  copied-image : (i : ℕ) → i < length ((l .book .entry t) .blocks) → blockAt m₂ (copyBlock c i) ≡ getD (l₂ .images t) i []
+  copied-image i h =
+      let bs = (l .book .entry t) .blocks in
       rw (close-images l c, matches .blocks)
       ((rw zero-add at (copied-in c eight bs 0 (w .memory) (u .memory) (omega (arith, few, ap length (matches .blocks))) i h))
-      ∙ rw e (u .images b g held)
+      ∙ current-image (getD bs i 0) (getD-mem bs i 0 h)
       ∙ sym (getD-map (imageNow l) bs i 0 [] h))
+
+  pub memory-closed : m₂ ≡ copiesStored c 0 (map (imageNow l) ((l .book .entry t) .blocks)) (w .memory)
+  memory-closed =
+      rw (matches .blocks)
+      (copies-stored c eight (imageNow l) ((l .book .entry t) .blocks) 0 (w .memory) (u .memory) (omega (arith, few, ap length (matches .blocks))) current-image)
 
   abbrev x₂ : Core
   x₂ = closedCore x ((w .card .closes + 1) % 2 ^ 64)

@@ -26,7 +26,7 @@ use Rattle.model.proofs.Journal.{journal-low, home-apart}
 use Rattle.model.proofs.Select.{select-mem}
 use Rattle.crash.specs.Book.{Write, emptyBook, keptWrites, image, blank}
 use Rattle.crash.specs.Ledger.{freshLedger, unretired, validIn, blocksIn}
-use Rattle.crash.specs.Claims.{IsBytes, downStart, downLedger}
+use Rattle.crash.specs.Claims.{IsBytes, from-down, startWorld, startLedger}
 use Rattle.crash.proofs.Tests.{clash}
 use Rattle.crash.proofs.BlockBytes.{bytes-store, zero-bytes}
 use Rattle.crash.proofs.Relation.{Up, target, DownBy, IsBlock}
@@ -122,8 +122,8 @@ fresh-gives s saved first d h =
     }
 
 -- ---- a card that is down over a formatted disk
-pub down-start : (s : Shape) (m : Bytes) → inRange (s .cores) (s .blocks) (s .journal) ≡ true → IsBytes m → length m ≡ 16384 → DownBy (downLedger s) (downStart s m)
-unfolding downLedger
+pub down-start : (s : Shape) (m : Bytes) → inRange (s .cores) (s .blocks) (s .journal) ≡ true → IsBytes m → length m ≡ 16384 → DownBy (startLedger (from-down s m)) (startWorld (from-down s m))
+unfolding startLedger startWorld
 down-start s m h b n =
     let r = range-test s h in
     let u = format-up s r in

@@ -19,9 +19,6 @@ use Rattle.model.specs.Layout.{masterBlock, isCommit}
 use Rattle.model.specs.Journal.{journal, journalAt}
 use Rattle.model.specs.Command.{World, Outcome, storing}
 use Rattle.model.specs.Recovery.{tailOn, blocksLeft, recoveredTo, emptiedTail, broughtUp, recoverStep, recovered}
-use Rattle.model.specs.declared.Phase.the-variants.{Up as PhaseUp, Down as PhaseDown}
-use Rattle.model.specs.declared.Shape.{Shape}
-use Rattle.model.specs.declared.Tail.{Tail}
 use Rattle.model.proofs.Encoding.{master-same}
 use Rattle.model.proofs.Lists.{cases, mem-below, length-below, getD-map-below}
 use Rattle.model.proofs.Select.{select-mem, select-same}
@@ -37,6 +34,9 @@ use Rattle.crash.proofs.ReadNewest.{newest-image}
 use Rattle.crash.proofs.CardFrames.{low-stored, low-other, low-journal, low-size, low-bytes, home-stands}
 use Rattle.crash.proofs.CardFresh.{ComeUp, fresh-up}
 use Rattle.crash.proofs.CardCut.{stands-phased, target-phased, newest-phased, held-low}
+use Rattle.model.specs.declared.Phase.the-variants.{Up as PhaseUp, Down as PhaseDown}
+use Rattle.model.specs.declared.Shape.{Shape}
+use Rattle.model.specs.declared.Tail.{Tail}
 
 -- ---- ascending lists: those left after the first are those above it
 abbrev Ascending : List ℕ → Type 0
@@ -115,7 +115,7 @@ module _ {l : Ledger} {w : World} (v : DownBy l w) where
     recover-home =
         let x = target l b in
         let i = target-block l (v .fine) b in
-        subst (λ (o : Outcome). DownBy (recoverLedger (b ∷ bs) l) (o .world)) (sym home-outcome)
+        subst (λ (o : Outcome World). DownBy (recoverLedger (b ∷ bs) l) (o .world)) (sym home-outcome)
         (record {
           phase = v .phase;
           ledger = refl;
@@ -204,8 +204,8 @@ module _ {l : Ledger} {w : World} (v : DownBy l w) where
   recovered-bytes = go (l .left) refl
     where
       go : (bs : List ℕ) → l .left ≡ bs → ((recovered w) .world .disk ≡ recoverStored bs l (w .disk)) × ((recovered w) .stores ≡ 1)
-      go [] e = (ap (λ (o : Outcome). o .world .disk) (master-outcome e), ap (λ (o : Outcome). o .stores) (master-outcome e))
-      go (b ∷ bs) e = (ap (λ (o : Outcome). o .world .disk) (home-outcome e), ap (λ (o : Outcome). o .stores) (home-outcome e))
+      go [] e = (ap (λ (o : Outcome World). o .world .disk) (master-outcome e), ap (λ (o : Outcome World). o .stores) (master-outcome e))
+      go (b ∷ bs) e = (ap (λ (o : Outcome World). o .world .disk) (home-outcome e), ap (λ (o : Outcome World). o .stores) (home-outcome e))
 
   pub recover-up : isUp ((recovered w) .world .card .phase) ≡ eqb (length (l .left)) 0
   recover-up = go (l .left) refl

@@ -16,13 +16,8 @@ use Rattle.model.specs.Card.{newName, noHolder, newHolder, withName, withRunnin
 use Rattle.model.specs.Command.{World}
 use Rattle.model.specs.Write.{writerName, ruleFor, takesBlock, isNamedBack, loadsImage, writerAfter, writtenCard, writtenMemory, written}
 use Rattle.model.specs.Commit.{copyBlock}
-use Rattle.model.specs.declared.Name.{Name}
-use Rattle.model.specs.declared.Transaction.{Transaction}
-use Rattle.model.specs.declared.Core.{Core}
-use Rattle.model.specs.declared.Holder.{Holder}
-use Rattle.model.specs.declared.Card.{Card}
 use Rattle.model.proofs.Lists.{cases}
-use Rattle.model.proofs.Store.{length-replaced, length-store, length-blockAt, block-stored, block-other}
+use Rattle.model.proofs.Store.{length-replaced, length-store, length-blockAt, block-stored, block-other, ext-blocks}
 use Rattle.crash.specs.Book.{absent, running, isRunning, counted, Book, holderIn, running-holder, holderAfter, wrote}
 use Rattle.crash.specs.Ledger.{Ledger, withBook, imageNow, recordBlocks}
 use Rattle.crash.specs.Claims.{IsBytes}
@@ -34,6 +29,12 @@ use Rattle.crash.proofs.Relation.{Fine, Limits, JournalStands, Matches,
 use Rattle.crash.proofs.LedgerStages.{running-present, present-open, running-next}
 use Rattle.crash.proofs.CardFrames.{SameClosed, core-set, core-other, none-stored, journal-stays, core-stays}
 use Rattle.crash.proofs.CardRules.{writer-name, Met, met-none, met-own, met-running, met-closed, rule-met, writer-after, holder-after}
+use Rattle.model.specs.Tape.{run}
+use Rattle.model.specs.declared.Name.{Name}
+use Rattle.model.specs.declared.Transaction.{Transaction}
+use Rattle.model.specs.declared.Core.{Core}
+use Rattle.model.specs.declared.Holder.{Holder}
+use Rattle.model.specs.declared.Card.{Card}
 
 -- ---- the card afterwards
 -- what WRITE leaves of a card
@@ -235,6 +236,19 @@ module _ {l : Ledger} {w : World} (u : Up l w) (c : ℕ) (in-range : c < l .shap
   memory-size : length m₂ ≡ 16384
   unfolding writtenMemory
   memory-size = length-replaced (128 * b + o) 4 loaded v (omega (arith, is-loaded .size, small)) four ∙ is-loaded .size
+
+  -- so it is memory with the block's image written into
+  pub memory-written : m₂ ≡ store (w .memory) b (replaced o 4 (imageNow l b) v)
+  memory-written =
+      let x = replaced o 4 (imageNow l b) v in
+      let z : length x ≡ 128 = subst (λ (y : Bytes). length y ≡ 128) memory-own (length-blockAt 128 m₂ memory-size b (omega (arith, small))) in
+      let f : 128 * b + 128 ≤ length (w .memory) = omega (arith, u .memory, small) in
+      ext-blocks 128 m₂ (store (w .memory) b x) memory-size (length-store (w .memory) b x f z ∙ u .memory)
+      (λ k h.
+      elim (ℕ-discrete k b) [
+        | yes e ↦ subst (λ (j : ℕ). blockAt m₂ j ≡ blockAt (store (w .memory) b x) j) (sym e) (memory-own ∙ sym (block-stored (w .memory) b x f z))
+        | no ne ↦ memory-other k ne ∙ sym (block-other (w .memory) b x f z k ne)
+      ])
 
   memory-bytes : IsBytes m₂
   unfolding writtenMemory

@@ -41,6 +41,7 @@ pub mod Rename
 pub mod Agreement
 pub mod Given
 pub mod Points
+pub mod UpSteps
 pub mod Theorem
 -- Of single sentences: names, and computed runs.
 pub mod NamesOnce

@@ -13,19 +13,20 @@ use Rattle.model.specs.Card.{newName, sameName, isBlank}
 use Rattle.model.specs.Command.{World}
 use Rattle.model.specs.Journal.{journal, namesOf}
 use Rattle.model.specs.Recovery.{shapeOn, tailOn}
-use Rattle.model.specs.Tape.{Point, step, run}
-use Rattle.model.specs.declared.Name.{Name}
-use Rattle.model.specs.declared.Shape.{Shape}
-use Rattle.model.specs.declared.Committed.{Committed}
+use Rattle.model.specs.Tape.{Point, run, CHECKPOINT, CLOSE, CUT, Command, FORMAT, RECOVER, Read, STORE, WRITE, early, heard, unknown, whole}
 use Rattle.model.proofs.Lists.{cases, and-both, and-left, and-right, or-none, any-append, all-map, mem-all}
 use Rattle.model.proofs.Valid.{sameName-refl}
 use Rattle.crash.specs.Book.{Stage, Entry, Book, emptyBook, change, staged, taking, naming, hasRunning, hasClosed, hasCommitted, begin, holderIn, Meeting, no-holder, own, running-holder, closed-holder, meets, ruled, note, wrote, close, store, checkpoint}
-use Rattle.crash.specs.Service.{Service, emptyService, noted, cutService, fed}
-use Rattle.crash.specs.Ledger.{Ledger, Stored, freshLedger, blankLedger, closeLedger, cutLedger, recoverLedger, entered, storedOf, storedSince}
-use Rattle.crash.specs.Claims.{fedPoint, readAs, JournalsRead, LedgerKept, blankStart, downStart, OnRuns, downLedger}
+use Rattle.crash.specs.Service.{Service, emptyService, noted, cutService, fed, served}
+use Rattle.crash.specs.Ledger.{Ledger, Stored, freshLedger, blankLedger, closeLedger, cutLedger, recoverLedger, entered, storedOf, storedSince, carriedOut}
+use Rattle.crash.specs.Claims.{fedPoint, readAs, JournalsRead, LedgerKept, OnRuns, Start, StartFits, from-blank, from-down, enteredPoint, startLedger, startWorld}
 use Rattle.crash.proofs.BookEntries.{sameName-false, change-each}
 use Rattle.crash.proofs.Tests.{clash}
 use Rattle.crash.proofs.Theorem.{demands}
+use Rattle.model.specs.Step.{stepAt}
+use Rattle.model.specs.declared.Name.{Name}
+use Rattle.model.specs.declared.Shape.{Shape}
+use Rattle.model.specs.declared.Committed.{Committed}
 
 -- no name stands twice
 unfoldable pub once : List Name → Bool
@@ -44,12 +45,12 @@ ReadOnce w =
     isBlank (w .card .phase) ≡ false → (c : ℕ) → c < s .cores → all (λ (e : Committed). once (namesOf s d e)) (journal s d c (tailOn d c) (s .journal)) ≡ true
 
 -- at every point of a run, and at its end
-abbrev pub OnceAlong : Ledger → World → List Point → Type 0
+abbrev pub OnceAlong : Ledger → World → List (Point World) → Type 0
 OnceAlong l w [] = NamesOnce (l .book) × ReadOnce w
 OnceAlong l w (p ∷ ps) =
-    NamesOnce (l .book) × ReadOnce (p .before) × OnceAlong (entered (p .byte) (p .operands) (p .outcome .answer) l) (p .outcome .world) ps
+    NamesOnce (l .book) × ReadOnce w × OnceAlong (enteredPoint p l) (p .outcome .world) ps
 
-abbrev pub OnceServed : Service → List Point → Type 0
+abbrev pub OnceServed : Service → List (Point World) → Type 0
 OnceServed v [] = NamesOnce (v .book)
 OnceServed v (p ∷ ps) = NamesOnce (v .book) × OnceServed (fedPoint p v) ps
 
@@ -120,38 +121,58 @@ empty-once : (first : ℕ → ℕ) → NamesOnce (emptyBook first)
 unfolding emptyBook once
 empty-once first t = refl
 
-noted-once : (k : ℕ) (a : Bytes) (b : Book) → NamesOnce b → NamesOnce (noted k a b)
+noted-once : (k : Command) (b : Book) → NamesOnce b → NamesOnce (noted k b)
 unfolding noted
-noted-once k a b h =
-    let c = getD a 0 0 in
-    by-test NamesOnce (eqb k 2) (wrote-once c b h _ _ _)
-    (by-test NamesOnce (eqb k 3) (by-test NamesOnce (hasRunning b c) (close-once c b h) h)
-    (by-test NamesOnce (eqb k 4) (by-test NamesOnce (hasClosed b c) (store-once c b h) h)
-    (by-test NamesOnce (eqb k 5) (by-test NamesOnce (hasCommitted b c) (checkpoint-once c b h) h) h)))
+noted-once (FORMAT c n j) b h = h
+noted-once (WRITE c n o v) b h = wrote-once c b h n o v
+noted-once (CLOSE c) b h = by-test NamesOnce (hasRunning b c) (close-once c b h) h
+noted-once (STORE c) b h = by-test NamesOnce (hasClosed b c) (store-once c b h) h
+noted-once (CHECKPOINT c) b h = by-test NamesOnce (hasCommitted b c) (checkpoint-once c b h) h
+noted-once CUT b h = h
+noted-once RECOVER b h = h
 
--- ---- the service book and the ledger, fed any command with any answer
-fed-once : (k : ℕ) (a : Bytes) (n : ℕ) (v : Service) → NamesOnce (v .book) → NamesOnce ((fed k a n v) .book)
-unfolding fed emptyService cutService
-fed-once k a zero v h =
-    let P : Service → Type 0 = λ v. NamesOnce (v .book) in
-    by-test P (eqb k 1) (empty-once _) (by-test P (eqb k 6) (empty-once _) (noted-once k a (v .book) h))
-fed-once k a (suc n) v h = h
+served-once : (k : Command) (v : Service) → NamesOnce (v .book) → NamesOnce ((served k v) .book)
+unfolding served emptyService cutService
+served-once (FORMAT c b j) v h = empty-once _
+served-once (WRITE c b o d) v h = noted-once (WRITE c b o d) (v .book) h
+served-once (CLOSE c) v h = noted-once (CLOSE c) (v .book) h
+served-once (STORE c) v h = noted-once (STORE c) (v .book) h
+served-once (CHECKPOINT c) v h = noted-once (CHECKPOINT c) (v .book) h
+served-once CUT v h = empty-once _
+served-once RECOVER v h = h
 
 recover-once : (bs : List ℕ) (l : Ledger) → NamesOnce (l .book) → NamesOnce ((recoverLedger bs l) .book)
 unfolding recoverLedger freshLedger
 recover-once [] l h = empty-once _
 recover-once (b ∷ bs) l h = h
 
-entered-once : (k : ℕ) (a : Bytes) (n : ℕ) (l : Ledger) → NamesOnce (l .book) → NamesOnce ((entered k a n l) .book)
-unfolding entered freshLedger closeLedger cutLedger
-entered-once k a zero l h =
-    let P : Ledger → Type 0 = λ l. NamesOnce (l .book) in
-    let c = getD a 0 0 in
-    by-test P (eqb k 1) (empty-once _)
-    (by-test P (eqb k 3) (by-test P (hasRunning (l .book) c) (close-once c (l .book) h) h)
-    (by-test P (eqb k 6) h
-    (by-test P (eqb k 7) (recover-once (l .left) l h) (noted-once k a (l .book) h))))
-entered-once k a (suc n) l h = h
+carried-once : (k : Command) (l : Ledger) → NamesOnce (l .book) → NamesOnce ((carriedOut k l) .book)
+unfolding carriedOut freshLedger closeLedger cutLedger
+carried-once (FORMAT c b j) l h = empty-once _
+carried-once (WRITE c b o v) l h = noted-once (WRITE c b o v) (l .book) h
+carried-once (CLOSE c) l h = by-test (λ (l : Ledger). NamesOnce (l .book)) (hasRunning (l .book) c) (close-once c (l .book) h) h
+carried-once (STORE c) l h = noted-once (STORE c) (l .book) h
+carried-once (CHECKPOINT c) l h = noted-once (CHECKPOINT c) (l .book) h
+carried-once CUT l h = h
+carried-once RECOVER l h = recover-once (l .left) l h
+
+-- a refused command changes nothing, nor does what is no command
+module _ {S : Type 0} (book : S → Book) (f : Command → ℕ → S → S) (h : (k : Command) (n : ℕ) (s : S) → NamesOnce (book s) → NamesOnce (book (f k n s))) where
+  heard-once : (r : Read) (n : ℕ) (s : S) → NamesOnce (book s) → NamesOnce (book (heard f r n s))
+  unfolding heard
+  heard-once (whole k) n s g = h k n s g
+  heard-once unknown n s g = g
+  heard-once early n s g = g
+
+fed-once : (k : Command) (n : ℕ) (v : Service) → NamesOnce (v .book) → NamesOnce ((fed k n v) .book)
+unfolding fed
+fed-once k zero v h = served-once k v h
+fed-once k (suc n) v h = h
+
+entered-once : (k : Command) (n : ℕ) (l : Ledger) → NamesOnce (l .book) → NamesOnce ((entered k n l) .book)
+unfolding entered
+entered-once k zero l h = carried-once k l h
+entered-once k (suc n) l h = h
 
 -- ---- the journals: each is read as the ledger's transactions
 stored-once : (l : Ledger) (c : ℕ) → NamesOnce (l .book) → all (λ (r : Stored). once (r .names)) (storedSince l c) ≡ true
@@ -174,35 +195,29 @@ journals-once l d h r =
     ∙ stored-once l c h)
 
 -- ---- along a run
-along : (n : ℕ) (l : Ledger) (w : World) (ps : List Point) → NamesOnce (l .book) → LedgerKept n l w ps → OnceAlong l w ps
-along n l w [] h k = (h, λ b. journals-once l (w .disk) h (k .1 b))
+along : (n : ℕ) (l : Ledger) (w : World) (ps : List (Point World)) → NamesOnce (l .book) → LedgerKept n l w ps → OnceAlong l w ps
+along n l w [] h k = (h, λ b. journals-once l (w .disk) h (k .journals b))
 along n l w (p ∷ ps) h k = (
   h,
-  λ b. journals-once l (p .before .disk) h (k .0 .journals b),
-  along (p .stores) (entered (p .byte) (p .operands) (p .outcome .answer) l) (p .outcome .world) ps (entered-once (p .byte) (p .operands) (p .outcome .answer) l h) (k .2),
+  λ b. journals-once l (w .disk) h (k .0 .between .journals b),
+  along (p .stores) (enteredPoint p l) (p .outcome .world) ps (unfold enteredPoint in heard-once (λ (l : Ledger). l .book) entered entered-once (p .read) (p .outcome .answer) l h) (k .1),
 )
 
-served : (v : Service) (ps : List Point) → NamesOnce (v .book) → OnceServed v ps
+served-along : (v : Service) (ps : List (Point World)) → NamesOnce (v .book) → OnceServed v ps
 unfolding fedPoint
-served v [] h = h
-served v (p ∷ ps) h = (h, served (fedPoint p v) ps (fed-once (p .byte) (p .operands) (p .outcome .answer) v h))
+served-along v [] h = h
+served-along v (p ∷ ps) h = (h, served-along (fedPoint p v) ps (heard-once (λ (v : Service). v .book) fed fed-once (p .read) (p .outcome .answer) v h))
 
 -- the service book needs no run: any points do
-pub service-once : (n : ℕ) (ps : List Point) → OnceServed (emptyService n) ps
+pub service-once : (n : ℕ) (ps : List (Point World)) → OnceServed (emptyService n) ps
 unfolding emptyService
-service-once n ps = served (emptyService n) ps (empty-once _)
+service-once n ps = served-along (emptyService n) ps (empty-once _)
 
-blank-once : NamesOnce (blankLedger .book)
-unfolding blankLedger
-blank-once = empty-once _
-
-down-once : (s : Shape) → NamesOnce ((downLedger s) .book)
-unfolding downLedger cutLedger freshLedger
-down-once s = empty-once _
+start-once : (s : Start) → NamesOnce ((startLedger s) .book)
+unfolding startLedger blankLedger cutLedger freshLedger
+start-once (from-blank d m) = empty-once _
+start-once (from-down s m) = empty-once _
 
 -- In every run, from a blank card and from one that is down over a formatted disk: no list has a name twice.
-pub names-once : OnRuns step (OnceAlong blankLedger) (λ (s : Shape). OnceAlong (downLedger s))
-names-once = (
-  λ t d m bt bd bm ld lm. along 0 blankLedger (blankStart d m) (run step t (blankStart d m)) blank-once (demands .0 t d m bt bd bm ld lm),
-  λ t m s r bt bm lm. along 0 (downLedger s) (downStart s m) (run step t (downStart s m)) (down-once s) (demands .1 t m s r bt bm lm),
-)
+pub names-once : OnRuns StartFits startWorld stepAt (λ (s : Start) (ps : List (Point World)). OnceAlong (startLedger s) (startWorld s) ps)
+names-once t b s h = along 0 (startLedger s) (startWorld s) (run stepAt t (startWorld s)) (start-once s) (demands t b s h)

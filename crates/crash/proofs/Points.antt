@@ -1,154 +1,157 @@
 -- Along a tape: if each command keeps a relation `At` of ledger and world and answers what the ledger says, then at every
 -- point of every run the claims hold. The ledger's go along the points; demand 3 holds because service book and ledger
 -- keep the same writes and the last RECOVER leaves the area that they give.
-use Prim.Native.Nat.{ℕ, zero, suc, _+_, _-_, _*_, min, _≤_, _<_}
+use Prim.Native.Nat.{ℕ, zero, suc, _+_, _*_, _<_}
 use native.Mathlib.Omega.{arith}
 use mathlib.Core.Path.{_≡_, refl, sym, ap, _∙_, subst}
-use mathlib.Core.Bool.{Bool, true, false, not, cond}
+use mathlib.Core.Logic.{_≢_}
+use mathlib.Core.Bool.{Bool, true, false, true≢false, cond}
 use mathlib.Core.List.{List, [], _∷_, _++_, flatMap, append-nil}
-use lib.ListN.{length, getD, take, drop, length-take, length-drop}
+use lib.ListN.{length, take, drop}
 use lib.Seq.{take-add, drop-drop}
-use lib.Dec.{ltb, eqb}
-use borrow.Author.Tests.{eqb-true, ne-eqb, lt-ltb, le-ltb, ltb-true, ltb-false, not-false}
 use Rattle.model.specs.Lists.{below}
 use Rattle.model.specs.Bytes.{Bytes, part, blockAt}
-use Rattle.model.specs.Shape.{between, inRange, homeBlock}
+use Rattle.model.specs.Shape.{homeBlock}
 use Rattle.model.specs.Card.{isBlank, isUp, isDown}
-use Rattle.model.specs.Command.{World, Outcome, refusal, wrongLength}
-use Rattle.model.specs.Reading.{readConditions, readNumber}
-use Rattle.model.specs.Tape.{Step, step, operandLength, commandByte, operandsAt, isUnknown, endsEarly, commandAt, Point}
-use Rattle.model.specs.declared.Phase.{Phase}
-use Rattle.model.specs.declared.Shape.{Shape}
-use Rattle.model.specs.declared.Phase.the-variants.{Blank, Up, Down}
+use Rattle.model.specs.Command.{Outcome, refusal, refusedWith, World, wrongLength}
+use Rattle.model.specs.Tape.{Command, FORMAT, WRITE, CLOSE, STORE, CHECKPOINT, CUT, RECOVER, Read, whole, unknown, early, isUnknown, isEarly, readAt, operandsAt, TapeStep, Point, obeyed, commandAt, heard, commandByte, operandLength}
+use Rattle.model.specs.Reading.{readConditions, readNumber, readBlock}
+use Rattle.model.specs.Step.{conditionsOf, doneBy, step, stepAt}
 use Rattle.model.proofs.Lists.{cases, flatMap-append, flatMap-below}
-use Rattle.model.proofs.Command.{unless-done, unless-refused, refusedWith, refusal-passed}
-use Rattle.model.proofs.Tape.{pointAt, Runs, at-end, one-more, run-runs}
+use Rattle.model.proofs.Command.{unless-done, refusal-passed, step-answer, step-refused, step-done}
+use Rattle.model.proofs.Tape.{OfData, whole-data, length-data, whole-injective, Runs, at-end, one-more, run-runs}
 use Rattle.crash.specs.Book.{keptWrites, image, blank, hasRunning}
-use Rattle.crash.specs.Service.{Service, bookArea, fed, emptyService, cutService}
-use Rattle.crash.specs.Ledger.{Ledger, freshLedger, blankLedger, recoverLedger, entered, writeRefusals, closeRefusals, storeRefusals, checkpointRefusals, refusalsOf, closeLedger, cutLedger, diskAfter, storeCount}
-use Rattle.crash.specs.Claims.{IsBytes, answerOf, JournalsRead, PointKept, LedgerKept, ComesUp, AreaKept, homeArea, fedPoint, blankStart, downStart, downLedger, Claim, Demands}
-use Rattle.crash.proofs.Agreement.{Agrees, Suits, blank-agrees, down-agrees, fed-agrees, area-same}
+use Rattle.crash.specs.Service.{Service, emptyService, cutService, served, fed, bookArea}
+use Rattle.crash.specs.Ledger.{Ledger, freshLedger, blankLedger, closeLedger, cutLedger, recoverLedger, carriedOut, entered, writeRefusals, closeRefusals, storeRefusals, checkpointRefusals, refusalsOf, answerOf}
+use Rattle.crash.specs.Claims.{IsBytes, Start, StartFits, startWorld, startService, startLedger, from-blank, from-down, homeArea, fedPoint, AreaKept, Claim, enteredPoint, Between, DoneAs, PointKept, LedgerKept, Demands, ReadsNow, ReadingsKept, Readings}
+use Rattle.crash.proofs.Agreement.{Agrees, PhaseFor, start-agrees, heard-agrees, area-same}
 use Rattle.crash.proofs.BlockBytes.{bytes-take, bytes-drop}
 use Rattle.crash.proofs.Tests.{clash}
+use Rattle.model.specs.declared.Phase.{Phase}
+use Rattle.model.specs.declared.Phase.the-variants.{Blank, Up, Down}
 
--- ---- a command of the tape as a point: 2 and 3 by what stands on the tape
-module _ (t : Bytes) (at : ℕ) (on-tape : at < length t) where
-  unknown-is : isUnknown t at ≡ not (between 1 (commandByte t at) 7)
-  unfolding isUnknown
-  unknown-is = rw (lt-ltb at (length t) on-tape)
+-- ---- the data of a WRITE that stands on a tape: four bytes
+abbrev pub HasData : Command → Type 0
+HasData k = OfData (λ (v : Bytes). (length v ≡ 4) × IsBytes v) k
 
-  -- the operands end early exactly where fewer bytes follow
-  early-is : endsEarly t at ≡ ltb (length (operandsAt t at)) (operandLength (commandByte t at))
-  unfolding endsEarly operandsAt part
-  early-is =
-      let n = operandLength (commandByte t at) in
-      let l : length (take n (drop (at + 1) t)) ≡ min n (length t - (at + 1)) = length-take n (drop (at + 1) t) ∙ ap (min n) (length-drop (at + 1) t) in
-      cases (ltb (length t) (at + 1 + n))
-      (λ h. rw h (sym (lt-ltb _ n (omega (arith, l, ltb-true (length t) (at + 1 + n) h)))))
-      (λ h. rw h (sym (le-ltb _ n (omega (arith, l, ltb-false (length t) (at + 1 + n) h)))))
+whole-bytes : (t : Bytes) → IsBytes t → (at : ℕ) (k : Command) → readAt t at ≡ whole k → HasData k
+unfolding operandsAt part
+whole-bytes t b at k e =
+    whole-data t at (λ (v : Bytes). (length v ≡ 4) × IsBytes v) k e
+    (λ two. (length-data t at k e two, bytes-take 4 _ (bytes-drop 4 _ (bytes-take (operandLength (commandByte t at)) _ (bytes-drop (at + 1) t b)))))
 
 -- ---- what each command keeps of a relation of ledger and world
-pub record Kept (At : Ledger → World → Type 0) (l : Ledger) (w : World) (k : ℕ) (a : Bytes) : Type 0 where
-  pub answer : (step k a w) .answer ≡ refusal (refusalsOf k a l)
-  pub next : At (entered k a ((step k a w) .answer) l) ((step k a w) .world)
-  pub disk : (step k a w) .world .disk ≡ cond (eqb ((step k a w) .answer) 0) (diskAfter k a l (w .disk)) (w .disk)
-  pub stores : (step k a w) .stores ≡ cond (eqb ((step k a w) .answer) 0) (storeCount k) 0
-  pub comes-up : k ≡ 7 → (step k a w) .answer ≡ 0 → isUp ((step k a w) .world .card .phase) ≡ eqb (length (l .left)) 0
-  -- the last RECOVER leaves the home area that the kept writes give
-  pub home : k ≡ 7 → (step k a w) .answer ≡ 0 → l .left ≡ [] → (b : ℕ) → b < l .shape .blocks
-      → blockAt ((step k a w) .world .disk) (homeBlock b) ≡ image blank (keptWrites (l .book) ++ l .saved) b
+-- the last RECOVER leaves the home area that the kept writes give
+abbrev pub HomeGiven : Ledger → World → Type 0
+HomeGiven l w = l .left ≡ [] → (b : ℕ) → b < l .shape .blocks → blockAt (w .disk) (homeBlock b) ≡ image blank (keptWrites (l .book) ++ l .saved) b
+
+-- a command carried out
+pub record Carried (At : Ledger → World → Type 0) (l : Ledger) (w : World) (k : Command) : Type 0 where
+  pub next : At (carriedOut k l) ((doneBy k w) .world)
+  pub done : DoneAs k l w (doneBy k w)
+  pub home : k ≡ RECOVER → HomeGiven l ((doneBy k w) .world)
 
 pub record Relates (At : Ledger → World → Type 0) : Type 0 where
   pub sizes : (l : Ledger) (w : World) → At l w → wrongLength w ≡ false
-  pub phase : (l : Ledger) (w : World) → At l w → w .card .phase ≡ l .phase
-  pub journals : (l : Ledger) (w : World) → At l w → isBlank (w .card .phase) ≡ false → JournalsRead l (w .disk)
-  pub keeps : (l : Ledger) (w : World) → At l w → (k : ℕ) (a : Bytes) → between 1 k 7 ≡ true → length a ≡ operandLength k → IsBytes a → Kept At l w k a
+  pub between : (l : Ledger) (w : World) → At l w → Between l w
+  pub reads : (l : Ledger) (w : World) → At l w → ReadsNow readBlock l w
+  pub answers : (l : Ledger) (w : World) → At l w → (k : Command) → refusal (conditionsOf k w) ≡ refusal (refusalsOf k l)
+  pub carries : (l : Ledger) (w : World) → At l w → (k : Command) → HasData k → refusal (refusalsOf k l) ≡ 0 → Carried At l w k
 
-module _ (At : Ledger → World → Type 0) (r : Relates At) where
-  -- a point and the relation after it
-  pub record Goes (l : Ledger) (p : Point) : Type 0 where
-    pub kept : PointKept l p
-    pub next : At (entered (p .byte) (p .operands) (p .outcome .answer) l) (p .outcome .world)
-    pub home : p .byte ≡ 7 → p .outcome .answer ≡ 0 → l .left ≡ [] → (b : ℕ) → b < l .shape .blocks
-        → blockAt (p .outcome .world .disk) (homeBlock b) ≡ image blank (keptWrites (l .book) ++ l .saved) b
-
-  module _ (t : Bytes) (bytes : IsBytes t) (at n : ℕ) (on-tape : at < length t) (l : Ledger) (w : World) (here : At l w) where
-    abbrev pub k : ℕ
-    k = commandByte t at
-
-    abbrev pub a : Bytes
-    a = operandsAt t at
-
-    abbrev pub p : Point
-    p = pointAt step t at n w
-
-    -- a command refused with 2 or 3
-    refused : (m : ℕ) → p .outcome ≡ refusedWith (suc (suc m)) w → answerOf l p ≡ suc (suc m) → Goes l p
-    refused m o e =
-        let i : p .outcome .answer ≡ suc (suc m) = ap (λ (x : Outcome). x .answer) o in
-        let u : p .outcome .world ≡ w = ap (λ (x : Outcome). x .world) o in
-        record {
-          kept =
-              record {
-                answer = i ∙ sym e;
-                phase = r .phase l w here;
-                journals = r .journals l w here;
-                disk = rw (i, ne-eqb (suc (suc m)) 0 (omega arith)) (ap (λ (x : World). x .disk) u);
-                stores = rw (i, ne-eqb (suc (suc m)) 0 (omega arith)) (ap (λ (x : Outcome). x .stores) o);
-                comes-up = λ s z. absurd (zero-suc (sym z ∙ i));
-              };
-          next = rw (i, u) (unfold entered in here);
-          home = λ s z. absurd (zero-suc (sym z ∙ i));
-        }
-      where
-        zero-suc : {m : ℕ} → 0 ≡ suc (suc m) → ⊥
-        zero-suc h = omega arith
-
-    -- one that reaches the card
-    reaches : p .outcome ≡ step k a w → not (between 1 k 7) ≡ false → ltb (length a) (operandLength k) ≡ false → Goes l p
-    unfolding answerOf refusal
-    reaches o known whole =
-        let size : length a ≡ operandLength k =
-        unfold operandsAt part in
-        omega (arith, ltb-false (length (operandsAt t at)) (operandLength (commandByte t at)) whole, length-take (operandLength k) (drop (at + 1) t)) in
-        let b : IsBytes a = unfold operandsAt part in bytes-take (operandLength k) (drop (at + 1) t) (bytes-drop (at + 1) t bytes) in
-        let g : Kept At l w k a = r .keeps l w here k a (not-false _ known) size b in
-        record {
-          kept =
-              record {
-                answer = ap (λ (x : Outcome). x .answer) o ∙ g .answer ∙ sym (rw (known, whole));
-                phase = r .phase l w here;
-                journals = r .journals l w here;
-                disk = subst (λ (x : Outcome). x .world .disk ≡ cond (eqb (x .answer) 0) (diskAfter k a l (w .disk)) (w .disk)) (sym o) (g .disk);
-                stores = subst (λ (x : Outcome). x .stores ≡ cond (eqb (x .answer) 0) (storeCount k) 0) (sym o) (g .stores);
-                comes-up = λ s z. ap (λ (x : Outcome). isUp (x .world .card .phase)) o ∙ g .comes-up s (sym (ap (λ (x : Outcome). x .answer) o) ∙ z);
-              };
-          next = subst (λ (x : Outcome). At (entered k a (x .answer) l) (x .world)) (sym o) (g .next);
-          home = λ s z f b q. ap (λ (x : Outcome). blockAt (x .world .disk) (homeBlock b)) o ∙ g .home s (sym (ap (λ (x : Outcome). x .answer) o) ∙ z) f b q;
-        }
-
-    pub goes : Goes l p
-    unfolding commandAt answerOf refusal
-    goes =
-        let z = r .sizes l w here in
-        let u = unknown-is t at on-tape in
-        let e = early-is t at on-tape in
-        cases (not (between 1 k 7))
-        (λ x. refused 0 (unless-refused _ w (step k a w) 2 (rw (z, u, x)) (omega arith)) (rw x))
-        (λ x. cases (ltb (length a) (operandLength k))
-        (λ y. refused 1 (unless-refused _ w (step k a w) 3 (rw (z, u, x, e, y)) (omega arith)) (rw (x, y)))
-        (λ y. reaches (unless-done _ w (step k a w) (rw (z, u, x, e, y))) x y))
+module _ (At : Ledger → World → Type 0) where
+  -- what came of what stands at an offset, and the relation after it
+  pub record Goes (l : Ledger) (w : World) (r : Read) (o : Outcome World) : Type 0 where
+    pub answer : o .answer ≡ answerOf r l
+    pub refused : o .answer ≢ 0 → o ≡ refusedWith (o .answer) w
+    pub done : (k : Command) → r ≡ whole k → o .answer ≡ 0 → DoneAs k l w o
+    pub next : At (heard entered r (o .answer) l) (o .world)
+    pub home : r ≡ whole RECOVER → o .answer ≡ 0 → HomeGiven l (o .world)
 
   -- a card each of whose commands goes so
-  abbrev pub Going : Step → Type 0
-  Going f = (t : Bytes) → IsBytes t → (at n : ℕ) → at < length t → (l : Ledger) (w : World) → At l w → Goes l (pointAt f t at n w)
+  abbrev pub Going : TapeStep World → Type 0
+  Going f = (t : Bytes) → IsBytes t → (at : ℕ) (l : Ledger) (w : World) → At l w → Goes l w (readAt t at) (f t at w)
 
-  -- Demands 1 and 2 and the course of recovery, at every point of a run.
-  ledger-kept : (f : Step) → Going f → (t : Bytes) → IsBytes t → {at n : ℕ} {l : Ledger} {w : World} {ps : List Point} → At l w → Runs f t at n w ps → LedgerKept n l w ps
-  ledger-kept f go t b {l = l} {w = w} here (at-end h) = (r .phase l w here, r .journals l w here)
-  ledger-kept f go t b {at} {n} {l} {w} here (one-more h e rest) =
-      let g : Goes l _ = subst (Goes l) (sym e) (go t b at n h l w here) in
-      (g .kept, ap (λ (p : Point). p .stores) e ∙ ap (λ (p : Point). n + p .outcome .stores) (sym e), ledger-kept f go t b (g .next) rest)
+  module _ (r : Relates At) (l : Ledger) (w : World) (here : At l w) where
+    unknown-goes : Goes l w unknown (refusedWith 2 w)
+    unfolding answerOf heard
+    unknown-goes = record { answer = refl; refused = λ n. refl; done = λ k e. absurd (true≢false (ap isUnknown e)); next = here; home = λ e. absurd (true≢false (ap isUnknown e)) }
+
+    early-goes : Goes l w early (refusedWith 3 w)
+    unfolding answerOf heard
+    early-goes = record { answer = refl; refused = λ n. refl; done = λ k e. absurd (true≢false (ap isEarly e)); next = here; home = λ e. absurd (true≢false (ap isEarly e)) }
+
+    module _ (k : Command) (fits : HasData k) where
+      answer-same : (step k w) .answer ≡ refusal (refusalsOf k l)
+      answer-same = step-answer k w ∙ r .answers l w here k
+
+      refused-goes : (n : ℕ) → (step k w) .answer ≡ suc n → Goes l w (whole k) (step k w)
+      unfolding answerOf heard entered
+      refused-goes n e =
+          let o : step k w ≡ refusedWith ((step k w) .answer) w = step-refused k w (omega (arith, e)) .2 in
+          record {
+            answer = answer-same;
+            refused = λ z. o;
+            done = λ m q z. absurd (omega (arith, e, z));
+            next = rw e (subst (At l) (sym (ap (λ (o : Outcome World). o .world) o)) here);
+            home = λ q z. absurd (omega (arith, e, z));
+          }
+
+      done-goes : (step k w) .answer ≡ 0 → Goes l w (whole k) (step k w)
+      unfolding answerOf heard entered
+      done-goes e =
+          let o : step k w ≡ doneBy k w = step-done k w e .1 in
+          let c = r .carries l w here k fits (sym answer-same ∙ e) in
+          record {
+            answer = answer-same;
+            refused = λ z. absurd (z e);
+            done = λ m q z. subst (λ (x : Outcome World). DoneAs m l w x) (sym o) (subst (λ (m : Command). DoneAs m l w (doneBy k w)) (whole-injective q) (c .done));
+            next = rw e (subst (At (carriedOut k l)) (sym (ap (λ (o : Outcome World). o .world) o)) (c .next));
+            home = λ q z. subst (λ (x : Outcome World). HomeGiven l (x .world)) (sym o) (c .home (whole-injective q));
+          }
+
+      whole-goes : Goes l w (whole k) (step k w)
+      whole-goes = by-answer ((step k w) .answer) refl
+        where
+          by-answer : (n : ℕ) → (step k w) .answer ≡ n → Goes l w (whole k) (step k w)
+          by-answer zero e = done-goes e
+          by-answer (suc n) e = refused-goes n e
+
+    obeyed-goes : (x : Read) → ((k : Command) → x ≡ whole k → HasData k) → Goes l w x (obeyed step x w)
+    unfolding obeyed
+    obeyed-goes (whole k) h = whole-goes k (h k refl)
+    obeyed-goes unknown h = unknown-goes
+    obeyed-goes early h = early-goes
+
+  -- the model's card does
+  pub goes : (r : Relates At) → Going stepAt
+  unfolding stepAt commandAt refusal
+  goes r t b at l w here =
+      subst (Goes l w (readAt t at))
+      (sym (unless-done ((wrongLength w, 1) ∷ []) w (obeyed step (readAt t at) w) (rw (r .sizes l w here))))
+      (obeyed-goes r l w here (readAt t at) (whole-bytes t b at))
+
+  -- so does every card that is the same function
+  pub same-goes : (r : Relates At) (f : TapeStep World) → ((t : Bytes) (at : ℕ) (w : World) → f t at w ≡ stepAt t at w) → Going f
+  same-goes r f same t b at l w here = subst (Goes l w (readAt t at)) (sym (same t at w)) (goes r t b at l w here)
+
+  module _ (r : Relates At) (f : TapeStep World) (go : Going f) where
+    -- Demands 1 and 2 and the course of recovery, at every point of a run.
+    ledger-kept : (t : Bytes) → IsBytes t → {at n : ℕ} {l : Ledger} {w : World} {ps : List (Point World)} → At l w → Runs f t at n w ps → LedgerKept n l w ps
+    unfolding enteredPoint
+    ledger-kept t b {l = l} {w = w} here (at-end h) = r .between l w here
+    ledger-kept t b {at} {n} {l} {w} here (one-more {p = p} {ps = ps} h e rest) =
+        let g = go t b at l w here in
+        (subst (PointKept n l w) (sym e)
+        (record { before = refl; between = r .between l w here; answer = g .answer; refused = g .refused; done = g .done; stores = refl }),
+        ledger-kept t b (subst (λ (p : Point World). At (heard entered (p .read) (p .outcome .answer) l) (p .outcome .world)) (sym e) (g .next)) rest)
+
+    -- What reading gives, at every point of a run.
+    readings-kept : (t : Bytes) → IsBytes t → {at n : ℕ} {l : Ledger} {w : World} {ps : List (Point World)} → At l w → Runs f t at n w ps → ReadingsKept readBlock l w ps
+    unfolding enteredPoint
+    readings-kept t b {l = l} {w = w} here (at-end h) = r .reads l w here
+    readings-kept t b {at} {n} {l} {w} here (one-more {p = p} {ps = ps} h e rest) =
+        let g = go t b at l w here in
+        (r .reads l w here, readings-kept t b (subst (λ (p : Point World). At (heard entered (p .read) (p .outcome .answer) l) (p .outcome .world)) (sym e) (g .next)) rest)
 
 -- ---- the home area by its blocks
 area-blocks : (d : Bytes) (n : ℕ) → part 128 (128 * n) d ≡ flatMap (λ (b : ℕ). blockAt d (homeBlock b)) (below n)
@@ -160,39 +163,25 @@ area-blocks d (suc n) =
     rw (e, take-add (128 * n) 128 (drop 128 d), drop-drop (128 * n) 128 d, f, flatMap-append (λ (b : ℕ). blockAt d (homeBlock b)) (below n) (n ∷ []), append-nil (take 128 (drop (128 * (1 + n)) d)))
     (ap (λ (x : Bytes). x ++ take 128 (drop (128 * (1 + n)) d)) (area-blocks d n))
 
--- ---- an answer 0 suits the phase
+-- ---- an answer 0 tells the phase
 module _ (l : Ledger) where
-  up-suits : (rest : List (Bool × ℕ)) → refusal ((isBlank (l .phase), 20) ∷ (isDown (l .phase), 22) ∷ rest) ≡ 0 → isDown (l .phase) ≡ false
-  up-suits rest z = refusal-passed _ 22 rest (omega arith) (refusal-passed _ 20 _ (omega arith) z .1) .0
+  up-phase : (rest : List (Bool × ℕ)) → refusal ((isBlank (l .phase), 20) ∷ (isDown (l .phase), 22) ∷ rest) ≡ 0 → isDown (l .phase) ≡ false
+  up-phase rest z = refusal-passed _ 22 rest (omega arith) (refusal-passed _ 20 _ (omega arith) z .1) .0
 
   down-only : (p : Phase) → isBlank p ≡ false → isUp p ≡ false → isDown p ≡ true
   down-only Blank b u = clash refl b
   down-only Up b u = clash refl u
   down-only Down b u = refl
 
-  down-suits : refusal ((isBlank (l .phase), 20) ∷ (isUp (l .phase), 23) ∷ []) ≡ 0 → isDown (l .phase) ≡ true
-  down-suits z = let y = refusal-passed _ 20 _ (omega arith) z in down-only (l .phase) (y .0) (refusal-passed _ 23 [] (omega arith) (y .1) .0)
-
-  -- the commands from WRITE to CHECKPOINT are carried out only while the card is not down
-  four-suits : (a : Bytes) (k : ℕ) → 2 ≤ k → k ≤ 5 → refusal (refusalsOf k a l) ≡ 0 → isDown (l .phase) ≡ false
+  answered-phase : (k : Command) → refusal (refusalsOf k l) ≡ 0 → PhaseFor k (l .phase)
   unfolding refusalsOf writeRefusals closeRefusals storeRefusals checkpointRefusals
-  four-suits a zero h i z = absurd (omega arith)
-  four-suits a (suc zero) h i z = absurd (omega arith)
-  four-suits a (suc (suc zero)) h i z = up-suits _ z
-  four-suits a (suc (suc (suc zero))) h i z = up-suits _ z
-  four-suits a (suc (suc (suc (suc zero)))) h i z = up-suits _ z
-  four-suits a (suc (suc (suc (suc (suc zero))))) h i z = up-suits _ z
-  four-suits a (suc (suc (suc (suc (suc (suc k)))))) h i z = absurd (omega arith)
-
-  recover-suits : (a : Bytes) (k : ℕ) → k ≡ 7 → refusal (refusalsOf k a l) ≡ 0 → isDown (l .phase) ≡ true
-  unfolding refusalsOf
-  recover-suits a k e z = down-suits (rw e at z)
-
-  suits : (p : Point) → p .outcome .answer ≡ answerOf l p → p .outcome .answer ≡ 0 → Suits (p .byte) (l .phase)
-  unfolding answerOf
-  suits p h z =
-      let y = refusal-passed _ 3 _ (omega arith) (refusal-passed _ 2 _ (omega arith) (sym h ∙ z) .1) .1 in
-      record { before-cut = λ a b. four-suits (p .operands) (p .byte) a b y; after-cut = λ e. recover-suits (p .operands) (p .byte) e y }
+  answered-phase (FORMAT c b j) z = tt
+  answered-phase (WRITE c b o v) z = up-phase _ z
+  answered-phase (CLOSE c) z = up-phase _ z
+  answered-phase (STORE c) z = up-phase _ z
+  answered-phase (CHECKPOINT c) z = up-phase _ z
+  answered-phase CUT z = tt
+  answered-phase RECOVER z = let y = refusal-passed _ 20 _ (omega arith) z in down-only (l .phase) (y .0) (refusal-passed _ 23 [] (omega arith) (y .1) .0)
 
 -- ---- demand 3
 -- service book and ledger count the same home blocks
@@ -201,15 +190,23 @@ unfolding recoverLedger freshLedger
 recover-shape l [] = refl
 recover-shape l (b ∷ bs) = refl
 
-fed-blocks : (k : ℕ) (a : Bytes) (n : ℕ) (v : Service) (l : Ledger) → v .blocks ≡ l .shape .blocks → (fed k a n v) .blocks ≡ (entered k a n l) .shape .blocks
-unfolding fed entered emptyService cutService freshLedger cutLedger closeLedger
-fed-blocks k a (suc n) v l e = e
-fed-blocks k a zero v l e =
-    cases (eqb k 1) (λ h. rw (eqb-true k 1 h) refl)
-    (λ n₁. cases (eqb k 3) (λ h. rw (eqb-true k 3 h) (cases (hasRunning (l .book) (getD a 0 0)) (λ r. rw r e) (λ r. rw r e)))
-    (λ n₃. cases (eqb k 6) (λ h. rw (eqb-true k 6 h) e)
-    (λ n₆. cases (eqb k 7) (λ h. rw (eqb-true k 7 h) (e ∙ sym (recover-shape l (l .left))))
-    (λ n₇. rw (n₁, n₃, n₆, n₇) e))))
+module _ (v : Service) (l : Ledger) (same : v .blocks ≡ l .shape .blocks) where
+  served-blocks : (k : Command) → (served k v) .blocks ≡ (carriedOut k l) .shape .blocks
+  unfolding served carriedOut emptyService cutService freshLedger cutLedger closeLedger
+  served-blocks (FORMAT c b j) = refl
+  served-blocks (WRITE c b o d) = same
+  served-blocks (CLOSE c) = cases (hasRunning (l .book) c) (λ e. rw e same) (λ e. rw e same)
+  served-blocks (STORE c) = same
+  served-blocks (CHECKPOINT c) = same
+  served-blocks CUT = same
+  served-blocks RECOVER = same ∙ sym (recover-shape l (l .left))
+
+  heard-blocks : (r : Read) (n : ℕ) → (heard fed r n v) .blocks ≡ (heard entered r n l) .shape .blocks
+  unfolding heard fed entered
+  heard-blocks (whole k) zero = served-blocks k
+  heard-blocks (whole k) (suc n) = same
+  heard-blocks unknown n = same
+  heard-blocks early n = same
 
 module _ (At : Ledger → World → Type 0) (r : Relates At) where
   -- a card that is down is read with 22
@@ -222,68 +219,66 @@ module _ (At : Ledger → World → Type 0) (r : Relates At) where
       not-blank Up d = refl
       not-blank Down d = refl
 
-  recover-enters : (a : Bytes) (l : Ledger) → entered 7 a 0 l ≡ recoverLedger (l .left) l
-  unfolding entered
-  recover-enters a l = refl
-
-  module _ (v : Service) (l : Ledger) (p : Point) (g : Goes At r l p) (agrees : Agrees v l) (c : ComesUp p) where
-    after-is : entered (p .byte) (p .operands) (p .outcome .answer) l ≡ recoverLedger (l .left) l
-    after-is = rw (c .is-recover, c .is-done) (recover-enters (p .operands) l)
-
-    agrees-after : Agrees (fedPoint p v) (recoverLedger (l .left) l)
-    unfolding fedPoint
+  module _ (v : Service) (l : Ledger) (w : World) (x : Read) (o : Outcome World) (g : Goes At l w x o) (agrees : Agrees v l) where
+    pub agrees-after : Agrees (heard fed x (o .answer) v) (heard entered x (o .answer) l)
+    unfolding answerOf
     agrees-after =
-        rw after-is at (fed-agrees (p .byte) (p .operands) (p .outcome .answer) v l (λ z. suits l p (g .kept .answer) z) agrees)
+        heard-agrees v l x (o .answer)
+        (λ k e z. answered-phase l k (sym (subst (λ (y : Read). o .answer ≡ answerOf y l) e (g .answer)) ∙ z)) agrees
 
-    next-after : At (recoverLedger (l .left) l) (p .outcome .world)
-    next-after = rw after-is at (g .next)
+    module _ (is-recover : x ≡ whole RECOVER) (is-done : o .answer ≡ 0) (is-up : readNumber 0 (o .world) ≢ 22) where
+      after-is : heard entered x (o .answer) l ≡ recoverLedger (l .left) l
+      unfolding heard entered carriedOut
+      after-is = rw (is-recover, is-done) refl
 
-    -- while a home store is left, the card stays down
-    none-left : (bs : List ℕ) → l .left ≡ bs → l .left ≡ []
-    unfolding recoverLedger
-    none-left [] e = e
-    none-left (b ∷ bs) e =
-        let n : At (recoverLedger (b ∷ bs) l) (p .outcome .world) = rw e at next-after in
-        let d : isDown (p .outcome .world .card .phase) ≡ true = ap isDown (r .phase _ _ n) in
-        absurd (c .is-up (down-reads _ _ n d))
+      next-after : At (recoverLedger (l .left) l) (o .world)
+      next-after = subst (λ (l : Ledger). At l (o .world)) after-is (g .next)
 
-    area-at : v .blocks ≡ l .shape .blocks → homeArea (v .blocks) (p .outcome .world) ≡ bookArea (fedPoint p v)
-    unfolding homeArea bookArea recoverLedger freshLedger fedPoint
-    area-at same =
-        let e = none-left (l .left) refl in
-        let s : Agrees (fedPoint p v) (recoverLedger [] l) = rw e at agrees-after in
-        let after : (fedPoint p v) .blocks ≡ l .shape .blocks = fed-blocks (p .byte) (p .operands) (p .outcome .answer) v l same ∙ ap (λ (x : Ledger). x .shape .blocks) after-is ∙ recover-shape l (l .left) in
-        ap (λ (n : ℕ). part 128 (128 * n) (p .outcome .world .disk)) same
-        ∙ area-blocks (p .outcome .world .disk) (l .shape .blocks)
-        ∙ flatMap-below (λ (b : ℕ). blockAt (p .outcome .world .disk) (homeBlock b)) (image blank ((fedPoint p v) .saved)) (l .shape .blocks)
-        (λ b h. g .home (c .is-recover) (c .is-done) e b h ∙ sym (area-same (fedPoint p v) (recoverLedger [] l) refl s b))
-        ∙ ap (λ (n : ℕ). flatMap (image blank ((fedPoint p v) .saved)) (below n)) (sym after)
+      -- while a home store is left, the card stays down
+      none-left : (bs : List ℕ) → l .left ≡ bs → l .left ≡ []
+      unfolding recoverLedger
+      none-left [] e = e
+      none-left (b ∷ bs) e =
+          let n : At (recoverLedger (b ∷ bs) l) (o .world) = rw e at next-after in
+          let d : isDown (o .world .card .phase) ≡ true = ap isDown (r .between _ _ n .phase) in
+          absurd (is-up (down-reads _ _ n d))
+
+      area-at : v .blocks ≡ l .shape .blocks → homeArea (v .blocks) (o .world) ≡ bookArea (heard fed x (o .answer) v)
+      unfolding homeArea bookArea recoverLedger freshLedger
+      area-at same =
+          let v₂ = heard fed x (o .answer) v in
+          let e = none-left (l .left) refl in
+          let a : Agrees v₂ (recoverLedger [] l) = subst (λ (bs : List ℕ). Agrees v₂ (recoverLedger bs l)) e (subst (Agrees v₂) after-is agrees-after) in
+          let after : v₂ .blocks ≡ l .shape .blocks = heard-blocks v l same x (o .answer) ∙ ap (λ (l : Ledger). l .shape .blocks) after-is ∙ recover-shape l (l .left) in
+          ap (λ (n : ℕ). part 128 (128 * n) (o .world .disk)) same
+          ∙ area-blocks (o .world .disk) (l .shape .blocks)
+          ∙ flatMap-below (λ (b : ℕ). blockAt (o .world .disk) (homeBlock b)) (image blank (v₂ .saved)) (l .shape .blocks)
+          (λ b h. g .home is-recover is-done e b h ∙ sym (area-same v₂ (recoverLedger [] l) refl a b))
+          ∙ ap (λ (n : ℕ). flatMap (image blank (v₂ .saved)) (below n)) (sym after)
 
   -- At every point of a run where the card comes up, the home area is the book's area.
-  area-kept : (f : Step) → Going At r f → (t : Bytes) → IsBytes t → {at n : ℕ} {v : Service} {l : Ledger} {w : World} {ps : List Point} → At l w → Agrees v l
+  area-kept : (f : TapeStep World) → Going At f → (t : Bytes) → IsBytes t → {at n : ℕ} {v : Service} {l : Ledger} {w : World} {ps : List (Point World)} → At l w → Agrees v l
       → v .blocks ≡ l .shape .blocks → Runs f t at n w ps → AreaKept v ps
   unfolding fedPoint
   area-kept f go t b here agrees same (at-end h) = tt
   area-kept f go t b {at} {n} {v} {l} {w} here agrees same (one-more {p = p} h e rest) =
-      let g : Goes At r l p = subst (Goes At r l) (sym e) (go t b at n h l w here) in (
-        λ c. area-at v l p g agrees c same,
-        area-kept f go t b (g .next) (fed-agrees (p .byte) (p .operands) (p .outcome .answer) v l (λ z. suits l p (g .kept .answer) z) agrees)
-            (fed-blocks (p .byte) (p .operands) (p .outcome .answer) v l same) rest,
+      let g : Goes At l w (p .read) (p .outcome) = subst (λ (p : Point World). Goes At l w (p .read) (p .outcome)) (sym e) (go t b at l w here) in (
+        λ c. area-at v l w (p .read) (p .outcome) g agrees (c .is-recover) (c .is-done) (c .is-up) same,
+        area-kept f go t b (g .next) (agrees-after v l w (p .read) (p .outcome) g agrees) (heard-blocks v l same (p .read) (p .outcome .answer)) rest,
       )
 
--- ---- from both starts
-module _ (At : Ledger → World → Type 0) (r : Relates At)
-    (from-blank : (d m : Bytes) → IsBytes d → IsBytes m → length d ≡ 32896 → length m ≡ 16384 → At blankLedger (blankStart d m))
-    (from-down : (s : Shape) (m : Bytes) → inRange (s .cores) (s .blocks) (s .journal) ≡ true → IsBytes m → length m ≡ 16384 → At (downLedger s) (downStart s m)) where
-  pub claimed : (f : Step) → Going At r f → Claim f
-  unfolding emptyService blankLedger downLedger cutLedger freshLedger
-  claimed f go = (
-    λ t d m bt bd bm ld lm. area-kept At r f go t bt (from-blank d m bd bm ld lm) (blank-agrees 0) refl (run-runs f t (blankStart d m)),
-    λ t m s h bt bm lm. area-kept At r f go t bt (from-down s m h bm lm) (down-agrees (s .blocks) s) refl (run-runs f t (downStart s m)),
-  )
+-- ---- from every start
+module _ (At : Ledger → World → Type 0) (r : Relates At) (starts : (s : Start) → StartFits s → At (startLedger s) (startWorld s)) (f : TapeStep World) (go : Going At f) where
+  start-blocks : (s : Start) → (startService s) .blocks ≡ (startLedger s) .shape .blocks
+  unfolding startService startLedger emptyService cutLedger freshLedger blankLedger
+  start-blocks (from-blank d m) = refl
+  start-blocks (from-down s m) = refl
 
-  pub demanded : (f : Step) → Going At r f → Demands f
-  demanded f go = (
-    λ t d m bt bd bm ld lm. ledger-kept At r f go t bt (from-blank d m bd bm ld lm) (run-runs f t (blankStart d m)),
-    λ t m s h bt bm lm. ledger-kept At r f go t bt (from-down s m h bm lm) (run-runs f t (downStart s m)),
-  )
+  pub claimed : Claim f
+  claimed t b s h = area-kept At r f go t b (starts s h) (start-agrees s) (start-blocks s) (run-runs f t (startWorld s))
+
+  pub demanded : Demands f
+  demanded t b s h = ledger-kept At r f go t b (starts s h) (run-runs f t (startWorld s))
+
+  pub reading : Readings readBlock f
+  reading t b s h = readings-kept At r f go t b (starts s h) (run-runs f t (startWorld s))

@@ -12,9 +12,8 @@ use lib.ListN.{length, getD}
 use lib.Dec.{eqb, leb, ltb}
 use borrow.Author.Tests.{eqb-true, eqb-false, eq-eqb, ne-eqb, lt-ltb, le-ltb, ltb-true, ltb-false}
 use Rattle.model.specs.Lists.{any, select}
-use Rattle.model.specs.Bytes.{Bytes, number, part}
+use Rattle.model.specs.Bytes.{Bytes}
 use Rattle.model.specs.Card.{newName, sameName}
-use Rattle.model.specs.declared.Name.{Name}
 use Rattle.model.proofs.Lists.{cases, all-map, any-map}
 use Rattle.model.proofs.Select.{select-map}
 use Rattle.model.proofs.Shrink.{shrink-map}
@@ -22,6 +21,8 @@ use Rattle.crash.specs.Book.{running, closed, committed, retired, isRunn
 use Rattle.crash.specs.Service.{noted}
 use Rattle.crash.proofs.Tests.{cond-apply}
 use Rattle.crash.proofs.BookEntries.{nextName, oldestName, uncommittedName}
+use Rattle.model.specs.Tape.{CHECKPOINT, CLOSE, CUT, Command, FORMAT, RECOVER, STORE, WRITE}
+use Rattle.model.specs.declared.Name.{Name}
 
 -- ---- names, entries and writes renamed
 unfoldable pub renamed : (ℕ → ℕ) → Name → Name
@@ -234,14 +235,15 @@ module _ {shift : ℕ → ℕ} {k k′ : Book} (r : Renamed shift k k′) where
   guard-renamed : {p p′ : Bool} {x x′ : Book} → p′ ≡ p → Renamed shift x x′ → Renamed shift (cond p x k) (cond p′ x′ k′)
   guard-renamed {p} e h = rw e (cond-renamed p h r)
 
-  pub noted-renamed : (n : ℕ) (a : Bytes) → Renamed shift (noted n a k) (noted n a k′)
+  pub noted-renamed : (n : Command) → Renamed shift (noted n k) (noted n k′)
   unfolding noted
-  noted-renamed n a =
-      let c = getD a 0 0 in
-      cond-renamed (eqb n 2) (wrote-renamed c (number 0 (part 1 2 a)) (getD a 3 0) (part 4 4 a))
-      (cond-renamed (eqb n 3) (guard-renamed (running-renamed c) (close-renamed c))
-      (cond-renamed (eqb n 4) (guard-renamed (less-renamed (shift c) _ _ _ _ (r .uncommitted c) (r .next c)) (store-renamed c))
-      (cond-renamed (eqb n 5) (guard-renamed (less-renamed (shift c) _ _ _ _ (r .oldest c) (r .uncommitted c)) (checkpoint-renamed c)) r)))
+  noted-renamed (FORMAT c b j) = r
+  noted-renamed (WRITE c b o v) = wrote-renamed c b o v
+  noted-renamed (CLOSE c) = guard-renamed (running-renamed c) (close-renamed c)
+  noted-renamed (STORE c) = guard-renamed (less-renamed (shift c) _ _ _ _ (r .uncommitted c) (r .next c)) (store-renamed c)
+  noted-renamed (CHECKPOINT c) = guard-renamed (less-renamed (shift c) _ _ _ _ (r .oldest c) (r .uncommitted c)) (checkpoint-renamed c)
+  noted-renamed CUT = r
+  noted-renamed RECOVER = r
 
 -- ---- what a cut keeps
 -- writes that are the same but for the names of transactions

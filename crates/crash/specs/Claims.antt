@@ -1,38 +1,72 @@
--- The claims about whole tapes. Each is a predicate of a card, so that it can be proved of ours and refuted of others.
--- They fix answers, stores with their bytes and count, journals, the course of recovery and the home area. Memory and the
--- card's state are fixed by the equation of the code with the model's `step`.
+-- The claims about whole tapes. Each is a predicate of a card, a function of tape, offset and world, so that it can be proved of
+-- ours and refuted of others. They fix answers, stores with their bytes and count, memory, journals, the course of recovery,
+-- what reading gives, and the home area.
 use Prim.Native.Nat.{ℕ, _+_, _*_, _<_}
 use mathlib.Core.Path.{_≡_}
 use mathlib.Core.Logic.{_≢_}
 use mathlib.Core.List.{List, [], _∷_, map, List·Memᴰ}
-use mathlib.Core.Bool.{true, false, cond, not}
+use mathlib.Core.Bool.{true, false}
 use lib.ListN.{length}
-use lib.Dec.{ltb, eqb}
+use lib.Dec.{ltb}
 use Rattle.model.specs.Lists.{below, all}
 use Rattle.model.specs.Bytes.{Bytes, part}
-use Rattle.model.specs.Shape.{between, inRange}
+use Rattle.model.specs.Shape.{inRange}
 use Rattle.model.specs.Card.{isBlank, isUp, blankCard, downCard}
 use Rattle.model.specs.Journal.{journal, nameOf, blocksOf, namesOf, imageOf}
-use Rattle.model.specs.Command.{World, refusal}
+use Rattle.model.specs.Shrink.{Within, DependsOn}
+use Rattle.model.specs.Command.{Outcome, refusedWith, World}
+use Rattle.model.specs.Tape.{Command, RECOVER, whole, TapeStep, Point, run, heard}
 use Rattle.model.specs.Format.{formatted}
 use Rattle.model.specs.Recovery.{shapeOn, tailOn}
 use Rattle.model.specs.Reading.{readNumber}
-use Rattle.model.specs.Tape.{Step, Point, run, operandLength}
 use Rattle.model.specs.declared.Committed.{Committed}
 use Rattle.model.specs.declared.Shape.{Shape}
-use Rattle.model.specs.Shrink.{Within, DependsOn}
 use Rattle.model.specs.declared.Name.{Name}
 use Rattle.crash.specs.Book.{Book, committedIn, kept}
 use Rattle.crash.specs.Service.{Service, emptyService, fed, bookArea}
-use Rattle.crash.specs.Ledger.{Ledger, Stored, freshLedger, blankLedger, cutLedger, entered, storedSince, refusalsOf, diskAfter, storeCount}
+use Rattle.crash.specs.Ledger.{Ledger, Stored, freshLedger, blankLedger, imageNow, cutLedger, entered, storedSince, answerOf, diskAfter, memoryAfter, storeCount}
 
 abbrev pub IsBytes : Bytes → Type 0
 IsBytes s = all (λ (x : ℕ). ltb x 256) s ≡ true
 
+-- ---- the runs that the claims are about
+-- what holds of every run of a card from every start that fits, over any world
+abbrev pub OnRuns : {S W : Type 0} → (S → Type 0) → (S → W) → TapeStep W → (S → List (Point W) → Type 0) → Type 0
+OnRuns {S} Fits start f Holds = (tape : Bytes) → IsBytes tape → (s : S) → Fits s → Holds s (run f tape (start s))
+
+-- the starts: a blank card over disk and memory, and a card that is down over a disk as FORMAT leaves it, and memory
+pub data Start : Type 0 where
+  from-blank : Bytes → Bytes → Start
+  from-down : Shape → Bytes → Start
+
+unfoldable pub startWorld : Start → World
+startWorld (from-blank d m) = record { card = blankCard; disk = d; memory = m }
+startWorld (from-down s m) = record { card = downCard; disk = (formatted s) .world .disk; memory = m }
+
+-- 'over slices of the stated lengths'; a shape that FORMAT takes
+abbrev pub Stated : Start → Type 0
+Stated (from-blank d m) = (length d ≡ 32896) × (length m ≡ 16384)
+Stated (from-down s m) = (inRange (s .cores) (s .blocks) (s .journal) ≡ true) × (length m ≡ 16384)
+
+-- 'and any content'
+pub record StartFits (s : Start) : Type 0 where
+  pub stated : Stated s
+  pub disk : IsBytes ((startWorld s) .disk)
+  pub memory : IsBytes ((startWorld s) .memory)
+
+-- the service book and the ledger there; a card down over a formatted disk is as after a cut
+unfoldable pub startService : Start → Service
+startService (from-blank d m) = emptyService 0
+startService (from-down s m) = emptyService (s .blocks)
+
+unfoldable pub startLedger : Start → Ledger
+startLedger (from-blank d m) = blankLedger
+startLedger (from-down s m) = cutLedger (freshLedger s [] (λ (c : ℕ). 1))
+
 -- ---- demand 3
 -- 'every RECOVER that is carried out and leaves the card up (reading met 22 before it and no longer does)'
-pub record ComesUp (p : Point) : Type 0 where
-  pub is-recover : p .byte ≡ 7
+pub record ComesUp (p : Point World) : Type 0 where
+  pub is-recover : p .read ≡ whole RECOVER
   pub is-done : p .outcome .answer ≡ 0
   pub was-down : readNumber 0 (p .before) ≡ 22
   pub is-up : readNumber 0 (p .outcome .world) ≢ 22
@@ -41,43 +75,22 @@ pub record ComesUp (p : Point) : Type 0 where
 unfoldable pub homeArea : ℕ → World → Bytes
 homeArea n w = part 128 (128 * n) (w .disk)
 
-unfoldable pub fedPoint : Point → Service → Service
-fedPoint p v = fed (p .byte) (p .operands) (p .outcome .answer) v
+unfoldable pub fedPoint : Point World → Service → Service
+fedPoint p v = heard fed (p .read) (p .outcome .answer) v
 
 -- at every point of a run: where the card comes up, the home area is the book's area
-abbrev pub AreaKept : Service → List Point → Type 0
+abbrev pub AreaKept : Service → List (Point World) → Type 0
 AreaKept v [] = Unit {0}
 AreaKept v (p ∷ ps) =
     (ComesUp p → homeArea (v .blocks) (p .outcome .world) ≡ bookArea (fedPoint p v)) × AreaKept (fedPoint p v) ps
 
--- the starts: a blank card over any slices of the stated lengths, and a card that is down over a disk as FORMAT leaves it
-abbrev pub blankStart : Bytes → Bytes → World
-blankStart d m = record { card = blankCard; disk = d; memory = m }
-
-abbrev pub downStart : Shape → Bytes → World
-downStart s m = record { card = downCard; disk = (formatted s) .world .disk; memory = m }
-
--- what holds of every run of a card from either start
-abbrev pub OnRuns : Step → (World → List Point → Type 0) → (Shape → World → List Point → Type 0) → Type 0
-OnRuns f FromBlank FromDown =
-    ((tape d m : Bytes) → IsBytes tape → IsBytes d → IsBytes m → length d ≡ 32896 → length m ≡ 16384
-    → FromBlank (blankStart d m) (run f tape (blankStart d m)))
-    × ((tape m : Bytes) (s : Shape) → inRange (s .cores) (s .blocks) (s .journal) ≡ true → IsBytes tape → IsBytes m → length m ≡ 16384
-    → FromDown s (downStart s m) (run f tape (downStart s m)))
-
 -- Demand 3.
-abbrev pub Claim : Step → Type 0
-Claim f = OnRuns f (λ (w : World). AreaKept (emptyService 0)) (λ (s : Shape) (w : World). AreaKept (emptyService (s .blocks)))
+abbrev pub Claim : TapeStep World → Type 0
+Claim f = OnRuns StartFits startWorld f (λ (s : Start) (ps : List (Point World)). AreaKept (startService s) ps)
 
 -- ---- the ledger: demands 1 and 2, and the course of recovery
--- demand 1: every answer is the first of its conditions that holds, '2 unknown command byte', '3 operands end early'
--- and those of the ledger
-unfoldable pub answerOf : Ledger → Point → ℕ
-answerOf l p =
-    refusal
-    ((not (between 1 (p .byte) 7), 2)
-    ∷ (ltb (length (p .operands)) (operandLength (p .byte)), 3)
-    ∷ refusalsOf (p .byte) (p .operands) l)
+unfoldable pub enteredPoint : Point World → Ledger → Ledger
+enteredPoint p l = heard entered (p .read) (p .outcome .answer) l
 
 -- a record as it is read
 unfoldable pub readAs : Shape → Bytes → Committed → Stored
@@ -90,30 +103,48 @@ pub record JournalsRead (l : Ledger) (d : Bytes) : Type 0 where
   pub tails : (c : ℕ) → c < l .shape .cores → (tailOn d c) .number ≡ l .book .oldest c
   pub records : (c : ℕ) → c < l .shape .cores → map (readAs (l .shape) d) (journal (l .shape) d c (tailOn d c) (l .shape .journal)) ≡ storedSince l c
 
-pub record PointKept (l : Ledger) (p : Point) : Type 0 where
-  pub phase : p .before .card .phase ≡ l .phase
-  pub answer : p .outcome .answer ≡ answerOf l p
-  pub journals : isBlank (p .before .card .phase) ≡ false → JournalsRead l (p .before .disk)
-  -- a refusal stores nothing; a command carried out stores the stated bytes, and counts it
-  pub disk : p .outcome .world .disk ≡ cond (eqb (p .outcome .answer) 0) (diskAfter (p .byte) (p .operands) l (p .before .disk)) (p .before .disk)
-  pub stores : p .outcome .stores ≡ cond (eqb (p .outcome .answer) 0) (storeCount (p .byte)) 0
-  -- 'The card comes up with the one master store that RECOVER's rule puts next after the last home store'
-  pub comes-up : p .byte ≡ 7 → p .outcome .answer ≡ 0 → isUp (p .outcome .world .card .phase) ≡ eqb (length (l .left)) 0
+-- what holds before every command and after the last; so the card comes up 'with the one master store that RECOVER's rule above
+-- puts next after the last home store'
+pub record Between (l : Ledger) (w : World) : Type 0 where
+  pub phase : w .card .phase ≡ l .phase
+  pub journals : isBlank (w .card .phase) ≡ false → JournalsRead l (w .disk)
 
--- at every point of a run, and at its end; the count of stores adds up
-abbrev pub LedgerKept : ℕ → Ledger → World → List Point → Type 0
-LedgerKept n l w [] = (w .card .phase ≡ l .phase) × (isBlank (w .card .phase) ≡ false → JournalsRead l (w .disk))
-LedgerKept n l w (p ∷ ps) =
-    PointKept l p × (p .stores ≡ n + p .outcome .stores)
-    × LedgerKept (p .stores) (entered (p .byte) (p .operands) (p .outcome .answer) l) (p .outcome .world) ps
+-- a command carried out: what it has stored, with the count, and what it has left in memory
+pub record DoneAs (k : Command) (l : Ledger) (w : World) (o : Outcome World) : Type 0 where
+  pub disk : o .world .disk ≡ diskAfter k l (w .disk)
+  pub memory : o .world .memory ≡ memoryAfter k l (w .memory)
+  pub stores : o .stores ≡ storeCount k
 
--- a card down over a formatted disk: as after a cut
-unfoldable pub downLedger : Shape → Ledger
-downLedger s = cutLedger (freshLedger s [] (λ (c : ℕ). 1))
+-- a command of a run in the world w, with n stores before it
+pub record PointKept (n : ℕ) (l : Ledger) (w : World) (p : Point World) : Type 0 where
+  pub before : p .before ≡ w
+  pub between : Between l w
+  pub answer : p .outcome .answer ≡ answerOf (p .read) l
+  -- 'A refusal answers its number alone .. and changes no byte of any lent buffer and nothing in the card's state.'
+  pub refused : p .outcome .answer ≢ 0 → p .outcome ≡ refusedWith (p .outcome .answer) w
+  pub done : (k : Command) → p .read ≡ whole k → p .outcome .answer ≡ 0 → DoneAs k l w (p .outcome)
+  pub stores : p .stores ≡ n + p .outcome .stores
+
+abbrev pub LedgerKept : ℕ → Ledger → World → List (Point World) → Type 0
+LedgerKept n l w [] = Between l w
+LedgerKept n l w (p ∷ ps) = PointKept n l w p × LedgerKept (p .stores) (enteredPoint p l) (p .outcome .world) ps
 
 -- Demands 1 and 2, and recovery.
-abbrev pub Demands : Step → Type 0
-Demands f = OnRuns f (λ (w : World). LedgerKept 0 blankLedger w) (λ (s : Shape) (w : World). LedgerKept 0 (downLedger s) w)
+abbrev pub Demands : TapeStep World → Type 0
+Demands f = OnRuns StartFits startWorld f (λ (s : Start) (ps : List (Point World)). LedgerKept 0 (startLedger s) (startWorld s) ps)
+
+-- ---- reading: 'The library also reads a block of a card that is up.'
+-- a block below B has the area as the card came up with all writes since
+abbrev pub ReadsNow : (ℕ → World → Bytes) → Ledger → World → Type 0
+ReadsNow read l w = isUp (w .card .phase) ≡ true → (b : ℕ) → b < l .shape .blocks → read b w ≡ imageNow l b
+
+-- before every command and after the last
+abbrev pub ReadingsKept : (ℕ → World → Bytes) → Ledger → World → List (Point World) → Type 0
+ReadingsKept read l w [] = ReadsNow read l w
+ReadingsKept read l w (p ∷ ps) = ReadsNow read l w × ReadingsKept read (enteredPoint p l) (p .outcome .world) ps
+
+abbrev pub Readings : (ℕ → World → Bytes) → TapeStep World → Type 0
+Readings read f = OnRuns StartFits startWorld f (λ (s : Start) (ps : List (Point World)). ReadingsKept read (startLedger s) (startWorld s) ps)
 
 -- ---- 'Kept is the largest set .. in which each has all that it depends on there: every other such set lies in it.'
 abbrev pub Lists : Book → Name → Name → Type 0

@@ -7,20 +7,23 @@ use mathlib.Core.Bool.{Bool, cond, not, _&&_, _||_}
 use lib.ListN.{length, getD}
 use lib.Dec.{ltb, leb, eqb}
 use Rattle.model.specs.Lists.{below, all, any, select}
-use Rattle.model.specs.Bytes.{Bytes, number, part, store, zeroDisk}
+use Rattle.model.specs.Bytes.{Bytes, store, zeroDisk, replaced, zeroMemory}
 use Rattle.model.specs.Card.{newTail, newName, sameName, isBlank, isUp, isDown}
-use Rattle.model.specs.Shape.{inRange, homeBlock, journalBlock}
+use Rattle.model.specs.Shape.{inRange, homeBlock, journalBlock, newShape}
 use Rattle.model.specs.Checkpoint.{share}
 use Rattle.model.specs.Layout.{maxNumber, masterBlock, Held, newHeld, descriptorBlock, commitBlock, flagOf, escaped}
 use Rattle.model.specs.Recovery.{tailOn}
-use Rattle.model.specs.declared.Tail.{Tail}
 use Rattle.model.specs.Shrink.{shrink}
+use Rattle.crash.specs.Book.{Book, Write, isClosed, isCommitted, isRetired, counted, emptyBook, hasRunning, hasClosed, hasCommitted, holderIn, Meeting, no-holder, own, running-holder, closed-holder, meets, wrote, close, keptWrites, image, blank}
+use Rattle.crash.specs.Service.{noted}
+use Rattle.model.specs.Tape.{CHECKPOINT, CLOSE, CUT, Command, FORMAT, RECOVER, Read, STORE, WRITE, early, unknown, whole}
+use Rattle.model.specs.Commit.{copyBlock}
+use Rattle.model.specs.Command.{refusal}
+use Rattle.model.specs.declared.Tail.{Tail}
 use Rattle.model.specs.declared.Name.{Name}
 use Rattle.model.specs.declared.Phase.{Phase}
 use Rattle.model.specs.declared.Phase.the-variants.{Blank, Up, Down}
 use Rattle.model.specs.declared.Shape.{Shape}
-use Rattle.crash.specs.Book.{Book, Write, isClosed, isCommitted, isRetired, counted, emptyBook, hasRunning, hasClosed, hasCommitted, holderIn, Meeting, no-holder, own, running-holder, closed-holder, meets, wrote, close, keptWrites, image, blank}
-use Rattle.crash.specs.Service.{noted}
 
 pub record Ledger : Type 0 where
   pub shape : Shape
@@ -138,14 +141,20 @@ unfoldable pub recoverLedger : List ℕ → Ledger → Ledger
 recoverLedger [] l = freshLedger (l .shape) (keptWrites (l .book) ++ l .saved) (firstNumber l)
 recoverLedger (b ∷ bs) l = downWith bs l
 
--- command byte, operands and answer
-unfoldable pub entered : ℕ → Bytes → ℕ → Ledger → Ledger
-entered k a zero l =
-    cond (eqb k 1) (freshLedger (record { cores = getD a 0 0; blocks = getD a 1 0; journal = getD a 2 0 }) [] (λ (c : ℕ). 1))
-    (cond (eqb k 3) (cond (hasRunning (l .book) (getD a 0 0)) (closeLedger (getD a 0 0) l) l)
-    (cond (eqb k 6) (cutLedger l)
-    (cond (eqb k 7) (recoverLedger (l .left) l) (withBook l (noted k a (l .book))))))
-entered k a (suc n) l = l
+-- a command carried out
+unfoldable pub carriedOut : Command → Ledger → Ledger
+carriedOut (FORMAT c b j) l = freshLedger (newShape c b j) [] (λ (i : ℕ). 1)
+carriedOut (WRITE c b o v) l = withBook l (noted (WRITE c b o v) (l .book))
+carriedOut (CLOSE c) l = cond (hasRunning (l .book) c) (closeLedger c l) l
+carriedOut (STORE c) l = withBook l (noted (STORE c) (l .book))
+carriedOut (CHECKPOINT c) l = withBook l (noted (CHECKPOINT c) (l .book))
+carriedOut CUT l = cutLedger l
+carriedOut RECOVER l = recoverLedger (l .left) l
+
+-- a command with its answer: a refused one changes nothing
+unfoldable pub entered : Command → ℕ → Ledger → Ledger
+entered k zero l = carriedOut k l
+entered k (suc n) l = l
 
 -- ---- what the journals hold
 -- a transaction stored whole
@@ -210,18 +219,41 @@ unfoldable pub recoverStored : List ℕ → Ledger → Bytes → Bytes
 recoverStored [] l d = store d 0 (masterBlock (l .shape) (λ (c : ℕ). newTail (firstNumber l c) 0))
 recoverStored (b ∷ bs) l d = store d (homeBlock b) (image blank (keptWrites (l .book) ++ l .saved) b)
 
--- the disk after a command carried out, by command byte and operands
-unfoldable pub diskAfter : ℕ → Bytes → Ledger → Bytes → Bytes
-diskAfter k a l d =
-    let c = getD a 0 0 in
-    cond (eqb k 1) (store zeroDisk 0 (masterBlock (record { cores = c; blocks = getD a 1 0; journal = getD a 2 0 }) (λ (i : ℕ). newTail 1 0)))
-    (cond (eqb k 4) (recordStored c l d)
-    (cond (eqb k 5) (checkpointStored c l d)
-    (cond (eqb k 7) (recoverStored (l .left) l d) d)))
+-- the disk after a command carried out
+unfoldable pub diskAfter : Command → Ledger → Bytes → Bytes
+diskAfter (FORMAT c b j) l d = store zeroDisk 0 (masterBlock (newShape c b j) (λ (i : ℕ). newTail 1 0))
+diskAfter (WRITE c b o v) l d = d
+diskAfter (CLOSE c) l d = d
+diskAfter (STORE c) l d = recordStored c l d
+diskAfter (CHECKPOINT c) l d = checkpointStored c l d
+diskAfter CUT l d = d
+diskAfter RECOVER l d = recoverStored (l .left) l d
 
--- 'Each does at most one store, save FORMAT': STORE, CHECKPOINT and RECOVER do one
-unfoldable pub storeCount : ℕ → ℕ
-storeCount k = cond (eqb k 4 || eqb k 5 || eqb k 7) 1 0
+-- 'Each does at most one store, save FORMAT'
+unfoldable pub storeCount : Command → ℕ
+storeCount (FORMAT c b j) = 0
+storeCount (WRITE c b o v) = 0
+storeCount (CLOSE c) = 0
+storeCount (STORE c) = 1
+storeCount (CHECKPOINT c) = 1
+storeCount CUT = 0
+storeCount RECOVER = 1
+
+-- ---- memory
+-- 'CLOSE copies the transaction's block images, in the order taken, to the first of its core's copies onward': from copy i on
+unfoldable pub copiesStored : ℕ → ℕ → List Bytes → Bytes → Bytes
+copiesStored c i [] m = m
+copiesStored c i (x ∷ xs) m = copiesStored c (suc i) xs (store m (copyBlock c i) x)
+
+-- memory after a command carried out: WRITE leaves there the block with all writes since the card came up; 'FORMAT and CUT zero it.'
+unfoldable pub memoryAfter : Command → Ledger → Bytes → Bytes
+memoryAfter (FORMAT c b j) l m = zeroMemory
+memoryAfter (WRITE c b o v) l m = store m b (replaced o 4 (imageNow l b) v)
+memoryAfter (CLOSE c) l m = copiesStored c 0 (map (imageNow l) ((l .book .entry (newName c (l .book .next c))) .blocks)) m
+memoryAfter (STORE c) l m = m
+memoryAfter (CHECKPOINT c) l m = m
+memoryAfter CUT l m = zeroMemory
+memoryAfter RECOVER l m = m
 
 -- ---- the conditions of the refusals, in the order of section 'Refusals'
 -- '24 a list, the writer's or the holder's, would pass 12 names'
@@ -241,19 +273,36 @@ notUpFor c l rest = (isBlank (l .phase), 20) ∷ (isDown (l .phase), 22) ∷ (le
 unfoldable pub formatRefusals : ℕ → ℕ → ℕ → Ledger → List (Bool × ℕ)
 formatRefusals c b j l = (not (isBlank (l .phase)), 21) ∷ (not (inRange c b j), 4) ∷ []
 
+-- of a WRITE by core c into block b, which makes the book k the book after
+unfoldable pub namesPass : ℕ → ℕ → Book → Book → Bool
+namesPass c b k after =
+    let t = newName c (k .next c) in
+    ltb 12 (namesCount after t) || ltb 12 (holderNames after (meets k t (holderIn k b (k .writes))))
+
+-- the blocks that its transaction then has
+unfoldable pub blocksAfter : ℕ → Book → Book → ℕ
+blocksAfter c k after = length ((after .entry (newName c (k .next c))) .blocks)
+
+-- '26 journal full: blocks of the records of closed unretired transactions, stored yet or not, plus 2 and the blocks of the
+-- running one, would pass J.'
+unfoldable pub journalPasses : ℕ → Shape → Book → Book → Bool
+journalPasses c s k after = ltb (s .journal) (recordBlocks k c (k .oldest c) (k .next c - k .oldest c) + 2 + blocksAfter c k after)
+
+-- '27 a number above 4,000,000,000 would open'
+unfoldable pub numberPasses : ℕ → Book → Bool
+numberPasses c k = not (hasRunning k c) && ltb maxNumber (k .next c)
+
 unfoldable pub writeRefusals : ℕ → ℕ → ℕ → Bytes → Ledger → List (Bool × ℕ)
 writeRefusals c b o v l =
     let k = l .book in
-    let t = newName c (k .next c) in
     let after = wrote c b o v k in
-    let n = length ((after .entry t) .blocks) in
     notUpFor c l
     ((leb (l .shape .blocks) b, 6)
     ∷ (ltb 124 o, 7)
-    ∷ (ltb 12 (namesCount after t) || ltb 12 (holderNames after (meets k t (holderIn k b (k .writes)))), 24)
-    ∷ (ltb 8 n, 25)
-    ∷ (ltb (l .shape .journal) (recordBlocks k c (k .oldest c) (k .next c - k .oldest c) + 2 + n), 26)
-    ∷ (not (hasRunning k c) && ltb maxNumber (k .next c), 27)
+    ∷ (namesPass c b k after, 24)
+    ∷ (ltb 8 (blocksAfter c k after), 25)
+    ∷ (journalPasses c (l .shape) k after, 26)
+    ∷ (numberPasses c k, 27)
     ∷ [])
 
 unfoldable pub closeRefusals : ℕ → Ledger → List (Bool × ℕ)
@@ -279,13 +328,19 @@ checkpointRefusals c l =
     ∷ (sharesLowerIn l t, 33)
     ∷ [])
 
--- by command byte; 'On such a tape no RECOVER meets 8.'
-unfoldable pub refusalsOf : ℕ → Bytes → Ledger → List (Bool × ℕ)
-refusalsOf k a l =
-    let c = getD a 0 0 in
-    cond (eqb k 1) (formatRefusals c (getD a 1 0) (getD a 2 0) l)
-    (cond (eqb k 2) (writeRefusals c (number 0 (part 1 2 a)) (getD a 3 0) (part 4 4 a) l)
-    (cond (eqb k 3) (closeRefusals c l)
-    (cond (eqb k 4) (storeRefusals c l)
-    (cond (eqb k 5) (checkpointRefusals c l)
-    (cond (eqb k 6) ((isBlank (l .phase), 20) ∷ []) ((isBlank (l .phase), 20) ∷ (isUp (l .phase), 23) ∷ []))))))
+-- 'On such a tape no RECOVER meets 8.'
+unfoldable pub refusalsOf : Command → Ledger → List (Bool × ℕ)
+refusalsOf (FORMAT c b j) l = formatRefusals c b j l
+refusalsOf (WRITE c b o v) l = writeRefusals c b o v l
+refusalsOf (CLOSE c) l = closeRefusals c l
+refusalsOf (STORE c) l = storeRefusals c l
+refusalsOf (CHECKPOINT c) l = checkpointRefusals c l
+refusalsOf CUT l = (isBlank (l .phase), 20) ∷ []
+refusalsOf RECOVER l = (isBlank (l .phase), 20) ∷ (isUp (l .phase), 23) ∷ []
+
+-- demand 1: every answer is the first of its conditions that holds: '2 unknown command byte', '3 operands end early' and those
+-- of the ledger
+unfoldable pub answerOf : Read → Ledger → ℕ
+answerOf (whole k) l = refusal (refusalsOf k l)
+answerOf unknown l = 2
+answerOf early l = 3

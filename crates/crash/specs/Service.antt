@@ -5,8 +5,9 @@ use mathlib.Core.Bool.{cond}
 use lib.ListN.{getD}
 use lib.Dec.{eqb}
 use Rattle.model.specs.Lists.{below}
-use Rattle.model.specs.Bytes.{Bytes, number, part}
+use Rattle.model.specs.Bytes.{Bytes}
 use Rattle.crash.specs.Book.{Book, Write, emptyBook, hasRunning, hasClosed, hasCommitted, wrote, close, store, checkpoint, keptWrites, image, blank}
+use Rattle.model.specs.Tape.{CHECKPOINT, CLOSE, CUT, Command, FORMAT, RECOVER, STORE, WRITE}
 
 -- the number of home blocks, from FORMAT's operand; the kept writes so far, the newest first; the book since the last cut
 pub record Service : Type 0 where
@@ -18,26 +19,38 @@ pub record Service : Type 0 where
 unfoldable pub emptyService : ℕ → Service
 emptyService n = record { blocks = n; saved = []; book = emptyBook (λ (c : ℕ). 1) }
 
--- what the commands other than FORMAT, CUT and RECOVER do in a book; one for a transaction that is not there does nothing
-unfoldable pub noted : ℕ → Bytes → Book → Book
-noted k a b =
-    let c = getD a 0 0 in
-    cond (eqb k 2) (wrote c (number 0 (part 1 2 a)) (getD a 3 0) (part 4 4 a) b)
-    (cond (eqb k 3) (cond (hasRunning b c) (close c b) b)
-    (cond (eqb k 4) (cond (hasClosed b c) (store c b) b)
-    (cond (eqb k 5) (cond (hasCommitted b c) (checkpoint c b) b) b)))
+-- what a command does in a book: the transactions, holders and names; one for a transaction that is not there does nothing
+unfoldable pub noted : Command → Book → Book
+noted (FORMAT c b j) k = k
+noted (WRITE c b o v) k = wrote c b o v k
+noted (CLOSE c) k = cond (hasRunning k c) (close c k) k
+noted (STORE c) k = cond (hasClosed k c) (store c k) k
+noted (CHECKPOINT c) k = cond (hasCommitted k c) (checkpoint c k) k
+noted CUT k = k
+noted RECOVER k = k
+
+abbrev pub withNoted : Command → Service → Service
+withNoted k v = record { blocks = v .blocks; saved = v .saved; book = noted k (v .book) }
 
 -- 'CUT adds the writes of the kept transactions, in the order issued, to the kept writes, then strikes out every
 -- transaction, holder and name.'
 unfoldable pub cutService : Service → Service
 cutService v = record { blocks = v .blocks; saved = keptWrites (v .book) ++ v .saved; book = emptyBook (λ (c : ℕ). 1) }
 
--- command byte, operands and answer: 'A refused command changes nothing in it.' 'RECOVER does nothing.'
-unfoldable pub fed : ℕ → Bytes → ℕ → Service → Service
-fed k a zero v =
-    cond (eqb k 1) (emptyService (getD a 1 0))
-    (cond (eqb k 6) (cutService v) (record { blocks = v .blocks; saved = v .saved; book = noted k a (v .book) }))
-fed k a (suc n) v = v
+-- a command carried out; 'RECOVER does nothing.'
+unfoldable pub served : Command → Service → Service
+served (FORMAT c b j) v = emptyService b
+served (WRITE c b o d) v = withNoted (WRITE c b o d) v
+served (CLOSE c) v = withNoted (CLOSE c) v
+served (STORE c) v = withNoted (STORE c) v
+served (CHECKPOINT c) v = withNoted (CHECKPOINT c) v
+served CUT v = cutService v
+served RECOVER v = v
+
+-- a command with its answer: 'A refused command changes nothing in it.'
+unfoldable pub fed : Command → ℕ → Service → Service
+fed k zero v = served k v
+fed k (suc n) v = v
 
 -- 'The book's area is the blank one with the kept writes made in order.': the bytes of its blocks
 unfoldable pub bookArea : Service → Bytes

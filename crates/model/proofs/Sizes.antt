@@ -75,11 +75,11 @@ length-written c b o v w z cl =
     (length-store (w .memory) b (blockAt (w .disk) (homeBlock b)) (omega arith) q ∙ n .1) (n .1) in
     length-replaced (128 * b + o) 4 m v (omega arith) z ∙ e
 
-checkpointed-memory : (c : ℕ) (w : World) → (checkpointed c w) .world .memory ≡ w .memory
+pub checkpointed-memory : (c : ℕ) (w : World) → (checkpointed c w) .world .memory ≡ w .memory
 unfolding checkpointed storedHome storedMaster
 checkpointed-memory c w = of-cond (λ (o : Outcome World). o .world .memory ≡ w .memory) (ltb ((coreOf (w .card) c) .homed) ((oldest (committedOf w c)) .count)) refl refl
 
-recoverStep-memory : (bs : List ℕ) (w : World) → (recoverStep bs w) .world .memory ≡ w .memory
+pub recoverStep-memory : (bs : List ℕ) (w : World) → (recoverStep bs w) .world .memory ≡ w .memory
 unfolding recoverStep
 recoverStep-memory [] w = refl
 recoverStep-memory (b ∷ bs) w = refl

@@ -99,16 +99,20 @@ early-of short none = refl
 early-of true (some k) = refl
 early-of false (some k) = refl
 
+commandIn : Read → Option Command
+commandIn (whole k) = some k
+commandIn unknown = none
+commandIn early = none
+
+pub whole-injective : {k m : Command} → whole k ≡ whole m → k ≡ m
+unfolding commandIn
+whole-injective {k} {m} e = Option·some-injective k m (ap commandIn e)
+
 whole-of : (short : Bool) (o : Option Command) (k : Command) → wholeOrEarly short o ≡ whole k → (o ≡ some k) × (short ≡ false)
-unfolding wholeOrEarly
+unfolding wholeOrEarly commandIn
 whole-of short none k h = absurd (true≢false (ap isUnknown h))
 whole-of true (some x) k h = absurd (true≢false (ap isEarly h))
 whole-of false (some x) k h = (ap commandIn h, refl)
-  where
-    commandIn : Read → Option Command
-    commandIn (whole k) = some k
-    commandIn unknown = none
-    commandIn early = none
 
 module _ (t : Bytes) (at : ℕ) where
   abbrev short : Bool
