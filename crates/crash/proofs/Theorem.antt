@@ -166,7 +166,7 @@ module _ {l : Ledger} {w : World} (u : UpAt l w) where
   close-carried c h =
       let z = in-range-of c _ (omega arith, (omega arith, tt)) h in
       let has-running : hasRunning (l .book) c ≡ true = not-false _ (z .1 .0) in
-      let runs = running-is _ has-running in
+      let runs : (l .book .entry (nextName c (l .book))) .stage ≡ running = running-is _ has-running in
       let free : l .book .uncommitted c ≡ l .book .next c =
       omega (arith, ltb-false (l .book .uncommitted c) (l .book .next c) (z .1 .1 .0), u .up .fine .ranks c (z .0) .mid) in
       plain (other refl) (rw has-running (at-up (close-at u c (z .0) runs free))) (record { disk = refl; memory = close-memory u c (z .0) runs free; stores = refl })

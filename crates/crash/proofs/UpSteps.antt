@@ -10,7 +10,7 @@ use mathlib.Core.Bool.{Bool, true, false, So, cond, not, _&&_, _||_}
 use mathlib.Core.List.{List, [], _∷_, map, List·Memᴰ, _++_, List·Memᴰ·not-nil}
 use lib.ListN.{length, getD, drop, length-take, length-drop}
 use lib.Dec.{eqb, ltb}
-use borrow.Author.Tests.{ne-eqb, eqb-true, eqb-false, ltb-true, ltb-false, leb-false, not-false}
+use borrow.Author.Tests.{ne-eqb, eqb-true, eqb-false, ltb-true, ltb-false, lt-leb, leb-false, not-false}
 use Rattle.model.specs.Lists.{any}
 use Rattle.model.specs.Bytes.{store as storeBlock, replaced, Bytes, blockAt, zeroMemory}
 use Rattle.model.specs.Shape.{homeBlock}
