@@ -140,10 +140,11 @@ module _ (At : Ledger → World → Type 0) where
     unfolding enteredPoint
     ledger-kept t b {l = l} {w = w} here (at-end h) = r .between l w here
     ledger-kept t b {at} {n} {l} {w} here (one-more {p = p} {ps = ps} h e rest) =
-        let g = go t b at l w here in
-        (subst (PointKept n l w) (sym e)
-        (record { before = refl; between = r .between l w here; answer = g .answer; refused = g .refused; done = g .done; stores = refl }),
-        ledger-kept t b (subst (λ (p : Point World). At (heard entered (p .read) (p .outcome .answer) l) (p .outcome .world)) (sym e) (g .next)) rest)
+        let g = go t b at l w here in (
+          subst (PointKept n l w) (sym e)
+              (record { before = refl; between = r .between l w here; answer = g .answer; refused = g .refused; done = g .done; stores = refl }),
+          ledger-kept t b (subst (λ (p : Point World). At (heard entered (p .read) (p .outcome .answer) l) (p .outcome .world)) (sym e) (g .next)) rest,
+        )
 
     -- What reading gives, at every point of a run.
     readings-kept : (t : Bytes) → IsBytes t → {at n : ℕ} {l : Ledger} {w : World} {ps : List (Point World)} → At l w → Runs f t at n w ps → ReadingsKept readBlock l w ps

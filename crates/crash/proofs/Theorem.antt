@@ -24,7 +24,7 @@ use Rattle.model.specs.Recovery.{recovered, blocksLeft}
 use Rattle.model.proofs.Limits.{range-test}
 use Rattle.model.proofs.Lists.{cases}
 use Rattle.model.proofs.Command.{Numbered, refusal-clear, refusal-passed}
-use Rattle.crash.specs.Book.{Write, image, keptWrites, emptyBook, hasRunning}
+use Rattle.crash.specs.Book.{Write, image, keptWrites, emptyBook, hasRunning, running}
 use Rattle.crash.specs.Service.{noted}
 use Rattle.crash.specs.Ledger.{Ledger, freshLedger, blankLedger, refusalsOf, recoverLedger, formatRefusals, writeRefusals, closeRefusals, storeRefusals, checkpointRefusals, notUpFor, storedSince, diskAfter, storeCount, carriedOut, memoryAfter}
 use Rattle.crash.specs.Claims.{JournalsRead, Claim, Demands, DoneAs, Readings, ReadsNow, Start, StartFits, from-blank, from-down, startLedger, startWorld}
@@ -44,6 +44,7 @@ use Rattle.crash.proofs.UpSteps.{UpAt, checkpoint-at, close-at, close-m
 use Rattle.model.proofs.Sizes.{checkpointed-memory, recoverStep-memory}
 use Rattle.model.specs.Step.{conditionsOf, doneBy, stepAt}
 use Rattle.model.specs.Reading.{readBlock}
+use Rattle.crash.proofs.BookEntries.{nextName}
 use Rattle.model.specs.declared.Name.{Name}
 use Rattle.model.specs.declared.Shape.{Shape}
 use Rattle.model.specs.declared.Card.{Card}

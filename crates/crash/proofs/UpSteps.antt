@@ -14,7 +14,7 @@ use borrow.Author.Tests.{ne-eqb, eqb-true, eqb-false, ltb-true, ltb-false, lt-le
 use Rattle.model.specs.Lists.{any}
 use Rattle.model.specs.Bytes.{store as storeBlock, replaced, Bytes, blockAt, zeroMemory}
 use Rattle.model.specs.Shape.{homeBlock}
-use Rattle.model.specs.Card.{sameName, downCard, coreOf, holderOf, taken}
+use Rattle.model.specs.Card.{sameName, downCard, coreOf, holderOf, taken, shapeOf}
 use Rattle.model.specs.Command.{World, refusal, unstored, noBlock}
 use Rattle.model.specs.Write.{written, writtenMemory}
 use Rattle.model.specs.Commit.{closed, stored, copied}
@@ -77,11 +77,16 @@ module _ {l : Ledger} {w : World} (u : UpAt l w) where
   holder-open b n h e =
       List·Memᴰ·not-nil (subst (List·Memᴰ b) (u .up .fine .unopened n e .0) (any-in blockEquality b _ (holder-took (u .inv) b n h)))
 
-  -- what reading a block gives: a held one is read from memory, another from home, and both have the current image
+  -- a block below B is read without a refusal
+  up-number : (b : ℕ) → b < l .shape .blocks → readNumber b w ≡ 0
+  unfolding readNumber readConditions noBlock refusal shapeOf
+  up-number b low = rw (right-length w (u .up .disk .size) (u .up .memory), u .up .phase, shape-up (u .up), lt-leb (l .shape .blocks) b low)
+
+  -- a held one is read from memory, another from home, and both have the current image
   pub up-reads : (b : ℕ) → b < l .shape .blocks → readBlock b w ≡ imageNow l b
-  unfolding readBlock readNumber readConditions noBlock refusal
+  unfolding readBlock
   up-reads b low =
-      rw (right-length w (u .up .disk .size) (u .up .memory), u .up .phase, shape-up (u .up), lt-leb (l .shape .blocks) b low)
+      rw (up-number b low)
       (cases ((holderOf (w .card) b) .held) (λ h. rw h (u .up .images b low h)) (λ h. rw h (from-home (holderIn k b (k .writes)) refl h)))
     where
       from-home : (x : Option Name) → holderIn k b (k .writes) ≡ x → (holderOf (w .card) b) .held ≡ false → blockAt (w .disk) (homeBlock b) ≡ imageNow l b
@@ -210,4 +215,3 @@ pub fresh-at : (s : Shape) (saved : List Write) (first : ℕ → ℕ) (w : World
 unfolding freshLedger
 fresh-at s saved first w up homes =
     record { up = up; home = image blank saved; homes = homes; inv = inv-fresh s saved first; imaged = imaged-fresh s saved first }
-
