@@ -9,9 +9,9 @@ use lib.ListN.{length}
 use borrow.Author.Tests.{leb-false}
 use Rattle.model.specs.Bytes.{Bytes}
 use Rattle.model.specs.Card.{shapeOf}
-use Rattle.model.specs.Command.{World, refusal, notUp, noCore}
+use Rattle.model.specs.Command.{World, refusal, notUp, noCore, Clear}
 use Rattle.model.specs.declared.Card.{Card}
-use Rattle.model.proofs.Command.{Clear, Numbered, refusal-clear}
+use Rattle.model.proofs.Command.{Numbered, refusal-clear}
 use Rattle.model.proofs.OneStore.{shape-limits, right-lengths}
 use Rattle.cells.specs.Answer.{firstOf}
 use Rattle.cells.specs.Cells.{world}

@@ -7,16 +7,16 @@ use mathlib.Core.List.{List, [], _∷_, _++_}
 use lib.ListN.{length}
 use borrow.Author.Tests.{ne-eqb}
 use Rattle.model.specs.Card.{isBlank, isUp, isDown}
-use Rattle.model.specs.Command.{World, Outcome, refusal, unless, notUp, wrongLength}
+use Rattle.model.specs.Command.{World, Outcome, refusal, unless, notUp, wrongLength, Clear, refusedWith}
 use Rattle.model.specs.Layout.{isMaster}
 use Rattle.model.specs.Recovery.{cutConditions, recoverConditions}
 use Rattle.model.specs.Bytes.{blockAt}
-use Rattle.model.specs.declared.Phase.{Phase}
-use Rattle.model.specs.declared.Phase.the-variants.{Blank, Up, Down}
 use Rattle.model.proofs.Lists.{cases}
 use Rattle.model.proofs.OneStore.{right-lengths}
-use Rattle.model.proofs.Command.{Clear, Numbered, refusal-clear, refusedWith, unless-refused, unless-done}
+use Rattle.model.proofs.Command.{Numbered, refusal-clear, unless-refused, unless-done}
 use Rattle.cells.specs.Answer.{firstOf, byPhase, phaseRefusal}
+use Rattle.model.specs.declared.Phase.{Phase}
+use Rattle.model.specs.declared.Phase.the-variants.{Blank, Up, Down}
 
 -- ---- the first of two stages that refuses
 pub first-hit : (n a b : ℕ) → n ≡ a → (n ≡ 0 → ⊥) → n ≡ firstOf a b
@@ -50,13 +50,13 @@ pub refusal-next : (t : Bool) (n : ℕ) (ys : List (Bool × ℕ)) → 0 < n → 
 refusal-next t n ys h = refusal-joined ((t, n) ∷ []) ys (h, tt) ∙ rw refusal-one
 
 -- ---- the code's number is the refusal of the conditions
-module _ (ts : List (Bool × ℕ)) (w : World) (done : Outcome) (n : ℕ) (e : n ≡ refusal ts) where
+module _ (ts : List (Bool × ℕ)) (w : World) (done : Outcome World) (n : ℕ) (e : n ≡ refusal ts) where
   -- refused: its number alone, and nothing changed
   pub was-refused : (n ≡ 0 → ⊥) → refusedWith n w ≡ unless ts w done
   was-refused h = sym (unless-refused ts w done n (sym e) (omega arith))
 
   -- carried out
-  pub was-done : n ≡ 0 → (o : Outcome) → o ≡ done → o ≡ unless ts w done
+  pub was-done : n ≡ 0 → (o : Outcome World) → o ≡ done → o ≡ unless ts w done
   was-done h o q = q ∙ sym (unless-done ts w done (sym e ∙ h))
 
   -- then no condition holds

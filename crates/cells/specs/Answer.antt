@@ -7,29 +7,29 @@ use lib.Dec.{eqb}
 use lib.ListN.{length}
 use Rattle.model.specs.Bytes.{Bytes}
 use Rattle.model.specs.Command.{World, Outcome, wrongLength}
+use Rattle.cells.specs.Cells.{worldIn}
+use Rattle.cells.specs.Changes.{Fits, Frame}
 use Rattle.model.specs.declared.Phase.{Phase}
 use Rattle.model.specs.declared.Phase.the-variants.{Blank, Up, Down}
 use Rattle.cells.specs.declared.Answer.{Answer}
-use Rattle.cells.specs.Cells.{worldIn}
-use Rattle.cells.specs.Changes.{Fits, Frame}
 
 abbrev pub newAnswer : ℕ → ℕ → Answer
 newAnswer n s = record { number = n; stores = s }
 
 -- what a command answered, with cells and slices as it left them
-abbrev pub outcomeIn : Answer → List ℕ → Bytes → Bytes → Outcome
+abbrev pub outcomeIn : Answer → List ℕ → Bytes → Bytes → Outcome World
 outcomeIn r w d m = record { answer = r .number; world = worldIn w d m; stores = r .stores }
 
 -- A command meets its definition: it found the cells v and left w, d and m. Its outcome is the one defined, no bit above a field's
 -- width appears, and a refusal leaves every cell as it was.
-pub record Meets (o : Outcome) (v w : List ℕ) (d m : Bytes) (r : Answer) : Type 0 where
+pub record Meets (o : Outcome World) (v w : List ℕ) (d m : Bytes) (r : Answer) : Type 0 where
   pub outcome : outcomeIn r w d m ≡ o
   pub size : length w ≡ 512
   pub kept : Fits v → Fits w
   pub refused : (r .number ≡ 0 → ⊥) → w ≡ v
 
 -- One store of a command, over the cells v and the disk d: it left w and e. With any memory that is the outcome given.
-pub record Stores (f : World → Outcome) (v w : List ℕ) (d e : Bytes) : Type 0 where
+pub record Stores (f : World → Outcome World) (v w : List ℕ) (d e : Bytes) : Type 0 where
   pub outcome : (m : Bytes) → outcomeIn (newAnswer 0 1) w e m ≡ f (worldIn v d m)
   pub frame : Frame v w 0 512
 

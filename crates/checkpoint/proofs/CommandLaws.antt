@@ -14,15 +14,10 @@ use Rattle.model.specs.Journal.{recordsFrom, journal, nameOf}
 use Rattle.model.specs.Valid.{isIn}
 use Rattle.model.specs.Command.{World, Outcome, refusal, unless}
 use Rattle.model.specs.Checkpoint.{validNow, committedOf, oldest, sharesLower, checkpointConditions, checkpointed, checkpoint}
-use Rattle.model.specs.declared.Card.{Card}
-use Rattle.model.specs.declared.Committed.{Committed}
-use Rattle.model.specs.declared.Found.{Found}
-use Rattle.model.specs.declared.Found.the-variants.{Whole, Miss}
 use Rattle.model.proofs.Lists.{cases, and-left, and-right}
 use Rattle.model.proofs.Command.{unless-same}
 use Rattle.model.proofs.Journal.{records-miss, records-hit}
 use Rattle.cells.specs.Answer.{newAnswer, firstOf, Meets, Stores}
-use Rattle.cells.specs.declared.Answer.{Answer}
 use Rattle.cells.specs.Cells.{cardIn, world, worldIn}
 use Rattle.cells.proofs.RefusalLaws.{first-hit, first-pass, refusal-joined, refusal-next}
 use Rattle.cells.proofs.EntryLaws.{entry, Entered, entered}
@@ -31,6 +26,11 @@ use Rattle.oldest.specs.Oldest.{countAt, Counts, oldestAt, oldestConditions, Is
 use Rattle.oldest.proofs.SharedLaws.{core-low}
 use Rattle.oldest.proofs.OldestLaws.{whole-known, atTail, at-tail, tail-known}
 use Rattle.checkpoint.specs.NextStore.{nextStore, oldestOutcome}
+use Rattle.model.specs.declared.Card.{Card}
+use Rattle.model.specs.declared.Committed.{Committed}
+use Rattle.model.specs.declared.Found.{Found}
+use Rattle.model.specs.declared.Found.the-variants.{Whole, Miss}
+use Rattle.cells.specs.declared.Answer.{Answer}
 
 -- ---- the oldest transaction
 some-there : (e : Committed) (es : List Committed) → eqb (length (e ∷ es)) 0 ≡ false
@@ -152,4 +152,4 @@ module _ (v : List ℕ) (c : ℕ) (d m : Bytes) (n : ℕ) (e : n ≡ refusal (en
             ∙ ap (unless (checkpointConditions c (worldIn v d m)) (worldIn v d m)) store-same
 
         pub oldest-settled : (w : List ℕ) (d₂ : Bytes) (r : Answer) → ((m : Bytes) → Meets (oldestOutcome c t (worldIn v d m)) v w d₂ m r) → Meets (checkpoint c (worldIn v d m)) v w d₂ m r
-        oldest-settled w d₂ r o = subst (λ (k : Outcome). Meets k v w d₂ m r) same-outcome (o m)
+        oldest-settled w d₂ r o = subst (λ (k : Outcome World). Meets k v w d₂ m r) same-outcome (o m)

@@ -6,19 +6,19 @@ use lib.Dec.{ltb}
 use Rattle.model.specs.Card.{coreOf, withLists}
 use Rattle.model.specs.Checkpoint.{freed, released, storedHome, storedMaster}
 use Rattle.model.specs.Command.{World, Outcome, unless}
-use Rattle.model.specs.declared.Name.{Name}
-use Rattle.model.specs.declared.Card.{Card}
-use Rattle.model.specs.declared.Committed.{Committed}
 use Rattle.cells.specs.Cells.{holderIn}
 use Rattle.cells.specs.Changes.{fitsAt}
 use Rattle.oldest.specs.Oldest.{oldestConditions}
+use Rattle.model.specs.declared.Name.{Name}
+use Rattle.model.specs.declared.Card.{Card}
+use Rattle.model.specs.declared.Committed.{Committed}
 
 -- its next store
-unfoldable pub nextStore : ℕ → Committed → World → Outcome
+unfoldable pub nextStore : ℕ → Committed → World → Outcome World
 nextStore c e w = cond (ltb ((coreOf (w .card) c) .homed) (e .count)) (storedHome c e w) (storedMaster c e w)
 
 -- refused, or its next store
-unfoldable pub oldestOutcome : ℕ → Committed → World → Outcome
+unfoldable pub oldestOutcome : ℕ → Committed → World → Outcome World
 oldestOutcome c e w = unless (oldestConditions e w) w (nextStore c e w)
 
 -- the card with no block held by the transaction of this name

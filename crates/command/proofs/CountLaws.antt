@@ -9,18 +9,19 @@ use lib.Seq.{getD-set-same}
 use borrow.Author.Tests.{ne-eqb, eqb-true, eqb-false}
 use Rattle.model.specs.Bytes.{Bytes}
 use Rattle.model.specs.Command.{World, Outcome}
-use Rattle.model.specs.Tape.{step, commandByte, operandsAt, commandAt}
-use Rattle.model.specs.declared.Card.{Card}
-use Rattle.model.proofs.Command.{command-decided, decided-refused, row-answer}
+use Rattle.model.proofs.Command.{command-decided, decided-refused, read-answer}
 use Rattle.model.proofs.Lists.{cases}
 use Rattle.cells.specs.Cells.{cardIn, storesIn, Exact, worldIn, world}
 use Rattle.cells.specs.Answer.{Meets}
-use Rattle.cells.specs.declared.Answer.{Answer}
 use Rattle.cells.proofs.FitsLaws.{fits-set, fits-stores, frame-set}
 use Rattle.cells.proofs.CoreLaws.{stores-unseen}
 use Rattle.cells.proofs.ExactLaws.{fits-exact, exact-fits}
 use Rattle.command.specs.Counting.{counted, Performs}
 use Rattle.command.specs.Counted.{countedIn}
+use Rattle.model.specs.Tape.{readAt}
+use Rattle.model.specs.Step.{stepAt}
+use Rattle.model.specs.declared.Card.{Card}
+use Rattle.cells.specs.declared.Answer.{Answer}
 
 -- ---- the count
 pub counted-most : (n k : ℕ) → 18446744073709551615 - n < k → n < 18446744073709551616 → 18446744073709551615 ≡ counted n k
@@ -51,24 +52,24 @@ module _ (w : List ℕ) (n : ℕ) (a : Answer) where
 
 -- ---- the counted command
 -- a refusal stores nothing
-none-stored : (t : Bytes) (at : ℕ) (w : World) → ((commandAt step t at w) .answer ≡ 0 → ⊥) → (commandAt step t at w) .stores ≡ 0
+none-stored : (t : Bytes) (at : ℕ) (w : World) → ((stepAt t at w) .answer ≡ 0 → ⊥) → (stepAt t at w) .stores ≡ 0
 none-stored t at w h =
-    let p : 0 < (commandAt step t at w) .answer = omega (arith, h) in
-    ap (λ (o : Outcome). o .stores) (decided-refused (command-decided t at w) (row-answer (commandByte t at) (operandsAt t at) w) p .1)
+    let p : 0 < (stepAt t at w) .answer = omega (arith, h) in
+    ap (λ (o : Outcome World). o .stores) (decided-refused (command-decided t at w) (read-answer (readAt t at) w) p .1)
 
 module _ (t : Bytes) (at : ℕ) (v : List ℕ) (l : length v ≡ 512) (d₀ m₀ : Bytes) (n : ℕ) (e : n ≡ storesIn v) (u : List ℕ) (d m : Bytes) (a : Answer)
-    (f : Meets (commandAt step t at (worldIn v d₀ m₀)) v u d m a) (w : List ℕ) (q : w ≡ countedIn u n a) where
-  abbrev o : Outcome
-  o = commandAt step t at (worldIn v d₀ m₀)
+    (f : Meets (stepAt t at (worldIn v d₀ m₀)) v u d m a) (w : List ℕ) (q : w ≡ countedIn u n a) where
+  abbrev o : Outcome World
+  o = stepAt t at (worldIn v d₀ m₀)
 
   number-same : a .number ≡ o .answer
-  number-same = ap (λ (o : Outcome). o .answer) (f .outcome)
+  number-same = ap (λ (o : Outcome World). o .answer) (f .outcome)
 
   stores-same : a .stores ≡ o .stores
-  stores-same = ap (λ (o : Outcome). o .stores) (f .outcome)
+  stores-same = ap (λ (o : Outcome World). o .stores) (f .outcome)
 
   world-same : worldIn u d m ≡ o .world
-  world-same = ap (λ (o : Outcome). o .world) (f .outcome)
+  world-same = ap (λ (o : Outcome World). o .world) (f .outcome)
 
   -- refused
   module _ (h : a .number ≡ 0 → ⊥) where

@@ -1,11 +1,13 @@
 // One command at an offset of a tape: the refusals 1, 2 and 3, which of the seven commands it is, and its stores counted.
 ghost use mathlib.Core.Path.{_≡_};
 ghost use mathlib.Core.List.{[], _∷_};
+ghost use mathlib.Core.Option.{some};
 ghost use lib.ListN.{length, getD};
 ghost use Rattle.model.specs.Bytes.{number, part};
 ghost use Rattle.model.specs.Command.{refusal, wrongLength};
 ghost use Rattle.model.specs.Write.{write};
-ghost use Rattle.model.specs.Tape.{operandLength, step, commandByte, isUnknown, endsEarly, commandAt, nextOffset};
+ghost use Rattle.model.specs.Tape.{Command, operandLength, decoded, isUnknown, isEarly, commandByte, readAt, nextOffset};
+ghost use Rattle.model.specs.Step.{step, stepAt};
 ghost use Rattle.cells.specs.Cells.{world, worldIn};
 ghost use Rattle.cells.specs.Answer.{Meets};
 ghost use Rattle.command.specs.Counting.{counted, Performs};
@@ -36,7 +38,7 @@ pub struct Performed {
 fn tape_refusal(tape: &[u8], at: usize, disk: &[u8], memory: &[u8]) -> u8
     ensures { λ r. ⌜
         ((x : Card) → r ≡ refusal ((wrongLength (world x (now (disk .entry)) (now (memory .entry))), 1)
-        ∷ (isUnknown (now (tape .entry)) at, 2) ∷ (endsEarly (now (tape .entry)) at, 3) ∷ []))
+        ∷ (isUnknown (readAt (now (tape .entry)) at), 2) ∷ (isEarly (readAt (now (tape .entry)) at), 3) ∷ []))
         ⌝ }
 {
     if wrong_length(disk, memory) {
@@ -71,8 +73,9 @@ fn perform_write(w: &mut [u64], operands: &[u8], disk: &[u8], memory: &mut [u8])
 fn perform(w: &mut [u64], k: u8, operands: &[u8], disk: &mut [u8], memory: &mut [u8]) -> Answer
     requires { ⌜ (length (now w) ≡ 512) × (length (now operands) ≡ operandLength k) ⌝ }
     ensures { λ r. ⌜
-        Meets (step k (now (operands .entry)) (worldIn (now (w .entry)) (now (disk .entry)) (now (memory .entry))))
-        (now (w .entry)) (now (w .exit)) (now (disk .exit)) (now (memory .exit)) r
+        ((x : Command) → decoded k (now (operands .entry)) ≡ some x
+        → Meets (step x (worldIn (now (w .entry)) (now (disk .entry)) (now (memory .entry))))
+        (now (w .entry)) (now (w .exit)) (now (disk .exit)) (now (memory .exit)) r)
         ⌝ }
 {
     let c = byte_at(operands, 0);
@@ -98,7 +101,7 @@ fn perform(w: &mut [u64], k: u8, operands: &[u8], disk: &mut [u8], memory: &mut 
 fn command(w: &mut [u64], tape: &[u8], at: usize, disk: &mut [u8], memory: &mut [u8]) -> Performed
     requires { ⌜ length (now w) ≡ 512 ⌝ }
     ensures { λ r. ⌜
-        Meets (commandAt step (now (tape .entry)) at (worldIn (now (w .entry)) (now (disk .entry)) (now (memory .entry))))
+        Meets (stepAt (now (tape .entry)) at (worldIn (now (w .entry)) (now (disk .entry)) (now (memory .entry))))
         (now (w .entry)) (now (w .exit)) (now (disk .exit)) (now (memory .exit)) (r .answer)
         × (r .byte ≡ commandByte (now (tape .entry)) at)
         × (r .next ≡ nextOffset (now (tape .entry)) at)
@@ -152,7 +155,7 @@ pub fn counted_command(
 ) -> Performed
     requires { ⌜ length (now w) ≡ 512 ⌝ }
     ensures { λ r. ⌜
-        Performs (commandAt step (now (tape .entry)) at (worldIn (now (w .entry)) (now (disk .entry)) (now (memory .entry))))
+        Performs (stepAt (now (tape .entry)) at (worldIn (now (w .entry)) (now (disk .entry)) (now (memory .entry))))
         (now (w .entry)) (now (w .exit)) (now (disk .exit)) (now (memory .exit)) (r .answer .number)
         × (r .byte ≡ commandByte (now (tape .entry)) at)
         × (r .next ≡ nextOffset (now (tape .entry)) at)

@@ -11,7 +11,7 @@ use Rattle.model.specs.Lists.{all, Each}
 use Rattle.model.specs.Bytes.{Bytes}
 use Rattle.model.specs.Card.{coreOf}
 use Rattle.model.specs.Command.{Outcome, refusal, First, here, later, Clear, refusedWith, unless, Decided, refused, carried-out, World, wrongLength}
-use Rattle.model.specs.Tape.{Command, FORMAT, WRITE, CLOSE, STORE, CHECKPOINT, CUT, RECOVER, Read, whole, unknown, early, readAt, obeyed, commandAt}
+use Rattle.model.specs.Tape.{Command, FORMAT, WRITE, CLOSE, STORE, CHECKPOINT, CUT, RECOVER, Read, whole, unknown, early, readAt, obeyed, commandAt, isEarly, isUnknown}
 use Rattle.model.specs.Format.{formatConditions, formatted}
 use Rattle.model.specs.Write.{writeConditions, written}
 use Rattle.model.specs.Commit.{closeConditions, closed, storeConditions, stored}
@@ -246,6 +246,21 @@ obeyed-unless early w = unless-joined ((wrongLength w, 1) ∷ []) ((true, 3) ∷
 pub command-unless : (t : Bytes) (at : ℕ) (w : World) → stepAt t at w ≡ unless (conditionsOn (readAt t at) w) w (doneOn (readAt t at) w)
 unfolding stepAt commandAt
 command-unless t at w = obeyed-unless (readAt t at) w
+
+-- 1, 2 and 3 by themselves
+abbrev pub tapeConditions : Bytes → ℕ → World → List (Bool × ℕ)
+tapeConditions t at w = (wrongLength w, 1) ∷ (isUnknown (readAt t at), 2) ∷ (isEarly (readAt t at), 3) ∷ []
+
+read-unless : (r : Read) (w : World)
+    → unless ((wrongLength w, 1) ∷ []) w (obeyed step r w) ≡ unless ((wrongLength w, 1) ∷ (isUnknown r, 2) ∷ (isEarly r, 3) ∷ []) w (obeyed step r w)
+unfolding obeyed unless refusal
+read-unless (whole k) w = unless-joined ((wrongLength w, 1) ∷ []) ((false, 2) ∷ (false, 3) ∷ []) w (step k w) (omega arith, tt)
+read-unless unknown w = unless-joined ((wrongLength w, 1) ∷ []) ((true, 2) ∷ (false, 3) ∷ []) w (refusedWith 2 w) (omega arith, tt)
+read-unless early w = unless-joined ((wrongLength w, 1) ∷ []) ((false, 2) ∷ (true, 3) ∷ []) w (refusedWith 3 w) (omega arith, tt)
+
+pub tape-unless : (t : Bytes) (at : ℕ) (w : World) → stepAt t at w ≡ unless (tapeConditions t at w) w (obeyed step (readAt t at) w)
+unfolding stepAt commandAt
+tape-unless t at w = read-unless (readAt t at) w
 
 -- Demand 1 for one command: the card decides each by its conditions.
 pub command-decided : DecidesEach stepAt

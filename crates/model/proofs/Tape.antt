@@ -1,7 +1,7 @@
 -- What stands at an offset of a tape: the tests that refuse it with 2 or 3, the command's data, where the next one stands.
 -- Then a run by any card over any world, without its bound: each point starts where the last one ended, in the world that it
 -- left, and the stores add up. Offsets grow, so the tape's length bounds the points; after 2 or 3 the tape ends.
-use Prim.Native.Nat.{ℕ, zero, suc, _+_, _≤_, _<_}
+use Prim.Native.Nat.{ℕ, zero, suc, _+_, _≤_, _<_, max}
 use native.Mathlib.Omega.{arith}
 use native.Mathlib.Nat.{le-max-right, max-le}
 use mathlib.Core.Path.{_≡_, refl, sym, ap, _∙_, subst}
@@ -196,6 +196,33 @@ next-within t at h = go (readAt t at) refl
     go (whole k) e = whole-at t at k e .within
     go unknown e = max-le h (omega arith)
     go early e = max-le h (omega arith)
+
+-- after 2 or 3 the tape ends
+pub next-ends : (t : Bytes) (at : ℕ) → at < length t → (isUnknown (readAt t at) ≡ true) ⊎ (isEarly (readAt t at) ≡ true) → length t ≡ nextOffset t at
+unfolding nextOffset offsetPast
+next-ends t at h u = go (readAt t at) u
+  where
+    top : length t ≡ max at (length t)
+    top = let q : max at (length t) ≤ length t = max-le (omega arith) (omega arith) in omega (arith, le-max-right at (length t))
+
+    go : (r : Read) → (isUnknown r ≡ true) ⊎ (isEarly r ≡ true) → length t ≡ offsetPast r t at
+    go (whole k) (inl e) = absurd (true≢false (sym e))
+    go (whole k) (inr e) = absurd (true≢false (sym e))
+    go unknown e = top
+    go early e = top
+
+-- a command that is known and whole
+pub read-whole : (t : Bytes) (at : ℕ) → isUnknown (readAt t at) ≡ false → isEarly (readAt t at) ≡ false → (k : Command) × (readAt t at ≡ whole k)
+read-whole t at u e = go (readAt t at) refl u e
+  where
+    go : (r : Read) → readAt t at ≡ r → isUnknown r ≡ false → isEarly r ≡ false → (k : Command) × (readAt t at ≡ whole k)
+    go (whole k) q u e = (k, q)
+    go unknown q u e = absurd (true≢false u)
+    go early q u e = absurd (true≢false e)
+
+pub next-known : (t : Bytes) (at : ℕ) → isUnknown (readAt t at) ≡ false → isEarly (readAt t at) ≡ false → nextOffset t at ≡ at + 1 + operandLength (commandByte t at)
+unfolding nextOffset offsetPast
+next-known t at u e = let w = read-whole t at u e in rw (w .1) refl
 
 -- ---- a run by any card over any world
 module _ {W : Type 0} where

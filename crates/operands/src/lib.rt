@@ -3,7 +3,7 @@
 ghost use mathlib.Core.Path.{_≡_};
 ghost use Prim.Native.Nat.{_≤_};
 ghost use lib.ListN.{getD};
-ghost use Rattle.model.specs.Tape.{operandLength, isUnknown, endsEarly, nextOffset};
+ghost use Rattle.model.specs.Tape.{operandLength, isUnknown, isEarly, readAt, nextOffset};
 
 // The bytes of the operands of commands 1 to 7; there is no command 0.
 const OPERAND_LENGTHS: [u8; 8] = [0, 3, 8, 1, 1, 1, 0, 0];
@@ -32,7 +32,7 @@ pub fn operand_length(k: u8) -> usize
 
 // Refusal 2, a byte that is no command.
 pub fn is_unknown(tape: &[u8], at: usize) -> bool
-    ensures { λ r. ⌜ r ≡ isUnknown (now (tape .entry)) at ⌝ }
+    ensures { λ r. ⌜ r ≡ isUnknown (readAt (now (tape .entry)) at) ⌝ }
 {
     if tape.len() <= at {
         return false;
@@ -46,7 +46,7 @@ pub fn is_unknown(tape: &[u8], at: usize) -> bool
 
 // Refusal 3, operands that end early.
 pub fn ends_early(tape: &[u8], at: usize) -> bool
-    ensures { λ r. ⌜ r ≡ endsEarly (now (tape .entry)) at ⌝ }
+    ensures { λ r. ⌜ r ≡ isEarly (readAt (now (tape .entry)) at) ⌝ }
 {
     if tape.len() <= at {
         return true;

@@ -10,11 +10,11 @@ use borrow.Author.Tests.{leb-false, eqb-true, ne-eqb}
 use Rattle.model.specs.Bytes.{Bytes, part, blockAt}
 use Rattle.model.specs.Shape.{homeBlock}
 use Rattle.model.specs.Card.{shapeOf, holderOf}
-use Rattle.model.specs.Command.{World, refusal, notUp, noBlock}
+use Rattle.model.specs.Command.{World, refusal, notUp, noBlock, Clear}
 use Rattle.model.specs.Reading.{readConditions, readNumber, readBlock}
 use Rattle.model.specs.declared.Card.{Card}
 use Rattle.model.proofs.Lists.{cases}
-use Rattle.model.proofs.Command.{Clear, refusal-clear}
+use Rattle.model.proofs.Command.{refusal-clear}
 use Rattle.model.proofs.OneStore.{shape-limits, right-lengths}
 use Rattle.cells.specs.Answer.{firstOf}
 use Rattle.cells.specs.Cells.{world}

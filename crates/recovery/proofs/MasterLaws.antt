@@ -10,7 +10,7 @@ use Rattle.model.specs.Shape.{checked}
 use Rattle.model.specs.Card.{shapeOf}
 use Rattle.model.specs.Layout.{mark, shapeIn, isMaster}
 use Rattle.model.specs.Recovery.{shapeOn}
-use Rattle.model.specs.Tape.{homeCount}
+use Rattle.model.specs.Printing.{homeCount}
 use Rattle.model.specs.declared.Card.{Card}
 use Rattle.model.specs.declared.Phase.{Phase}
 use Rattle.model.specs.declared.Phase.the-variants.{Blank, Up, Down}

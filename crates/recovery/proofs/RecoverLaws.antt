@@ -12,7 +12,7 @@ use Rattle.model.specs.Bytes.{Bytes, blockAt, store}
 use Rattle.model.specs.Shape.{homeBlock, clamped}
 use Rattle.model.specs.Card.{newTail, freshCard}
 use Rattle.model.specs.Layout.{isMaster, masterBlock}
-use Rattle.model.specs.Command.{refusal}
+use Rattle.model.specs.Command.{refusal, Clear}
 use Rattle.model.specs.Recovery.{blocksLeft, newestImage, recoveredTo, emptiedTail, broughtUp, recoverConditions, recoverStep, recovered, recover}
 use Rattle.model.specs.declared.Card.{Card}
 use Rattle.model.specs.declared.Tail.{Tail}
@@ -21,7 +21,6 @@ use Rattle.model.specs.declared.Phase.the-variants.{Up}
 use Rattle.model.proofs.Lists.{getD-map-below}
 use Rattle.model.proofs.Limits.{clamped-same}
 use Rattle.model.proofs.OneStore.{right-lengths, left-below}
-use Rattle.model.proofs.Command.{Clear}
 use Rattle.model.proofs.Encoding.{master-same}
 use Rattle.journal.specs.Slots.{entries}
 use Rattle.valid.specs.Newest.{firstOr, heldFrom}

@@ -5,7 +5,7 @@ ghost use lib.ListN.{length};
 ghost use Rattle.model.specs.Bytes.{Bytes, blockAt};
 ghost use Rattle.model.specs.Layout.{isMaster};
 ghost use Rattle.model.specs.Recovery.{shapeOn};
-ghost use Rattle.model.specs.Tape.{homeCount};
+ghost use Rattle.model.specs.Printing.{homeCount};
 ghost use Rattle.cells.specs.Cells.{worldIn};
 use crate::master::disk_shape;
 use model::Phase;

@@ -11,11 +11,11 @@ use borrow.Author.Tests.{leb-false, ltb-false, lt-ltb, le-ltb}
 use Rattle.model.specs.Bytes.{Bytes, part, blockAt, store, replaced}
 use Rattle.model.specs.Shape.{homeBlock}
 use Rattle.model.specs.Card.{shapeOf}
-use Rattle.model.specs.Command.{World, refusal, noCore, noBlock}
+use Rattle.model.specs.Command.{World, refusal, noCore, noBlock, Clear}
 use Rattle.model.specs.Write.{writerName, loadsImage, listsFull, journalFull, writeConditions, writerAfter, writtenCard, writtenMemory, written, write}
 use Rattle.model.specs.declared.Card.{Card}
 use Rattle.model.specs.declared.Rule.{Rule}
-use Rattle.model.proofs.Command.{Clear, Numbered, refusal-clear}
+use Rattle.model.proofs.Command.{Numbered, refusal-clear}
 use Rattle.model.proofs.OneStore.{shape-limits, right-lengths}
 use Rattle.layout.proofs.Blocks.{sets-replaced}
 use Rattle.cells.specs.Answer.{newAnswer, firstOf, Meets}
