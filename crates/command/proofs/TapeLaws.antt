@@ -22,7 +22,7 @@ use Rattle.model.proofs.Command.{tapeConditions, refusal-clear, unless-done, ta
 use Rattle.cells.specs.Answer.{newAnswer, Meets}
 use Rattle.cells.specs.Cells.{world, worldIn}
 use Rattle.cells.proofs.MeetLaws.{meets-refused, meets-same}
-use Rattle.model.specs.Cases.{cases}
+use Rattle.model.proofs.Lists.{cases}
 use Rattle.model.proofs.Tape.{isCommand, next-known, read-whole, whole-at}
 use Rattle.model.specs.declared.Card.{Card}
 use Rattle.cells.specs.declared.Answer.{Answer}

@@ -9,25 +9,25 @@ use lib.Dec.{ltb, eqb}
 use borrow.Author.Tests.{lt-ltb, eq-eqb, ne-eqb, eqb-false, not-true}
 use Rattle.model.specs.Bytes.{Bytes}
 use Rattle.model.specs.Shape.{homeBlock}
-use Rattle.model.specs.Card.{holderOf, coreOf, downCard}
-use Rattle.model.specs.Command.{World, Outcome}
+use Rattle.model.specs.Card.{holderOf, coreOf}
+use Rattle.model.specs.Command.{World, Outcome, Decided, refused, carried-out}
 use Rattle.model.specs.Reading.{readNumber, readBlock}
-use Rattle.model.specs.Tape.{Point, step, commandByte, operandsAt, commandAt, nextOffset, run, worldAfter}
+use Rattle.model.specs.Tape.{Point, commandByte, nextOffset, run, worldAfter, CHECKPOINT, CLOSE, CUT, Command, FORMAT, RECOVER, Read, STORE, WRITE, early, readAt, unknown, whole}
 use Rattle.model.specs.declared.Card.{Card}
 use Rattle.model.specs.Format.{formatted}
 use Rattle.model.specs.Write.{written}
 use Rattle.model.specs.Commit.{closed, stored}
 use Rattle.model.specs.Checkpoint.{committedOf, oldest, storedHome, storedMaster, checkpointed}
 use Rattle.model.specs.Recovery.{blocksLeft, recoverStep, recovered}
-use Rattle.model.proofs.Command.{Decided, refused, carried-out, of-command, Row, rowOf, command-decided}
+use Rattle.model.proofs.Command.{command-decided}
 use Rattle.model.specs.Lists.{all}
+use Rattle.model.specs.Step.{doneBy, doneOn, stepAt}
 use Rattle.model.proofs.Lists.{cases, and-left, and-right, mem-all, mem-getD}
 use Rattle.model.proofs.Store.{length-blockAt}
 use Rattle.model.proofs.Tape.{Runs, at-end, one-more, next-past, next-within, run-runs}
-use Rattle.crash.specs.Service.{emptyService}
-use Rattle.crash.specs.Ledger.{blankLedger}
-use Rattle.crash.specs.Claims.{IsBytes, AreaKept, LedgerKept, downLedger}
-use Rattle.crash.proofs.Theorem.{claim, demands}
+use Rattle.crash.specs.Claims.{IsBytes, AreaKept, LedgerKept, ReadingsKept, Start, StartFits, Stated, startLedger, startService, startWorld}
+use Rattle.crash.proofs.Theorem.{claim, demands, readings}
+use Rattle.crash.proofs.Largest.{largest-kept}
 use Rattle.cells.specs.Cells.{storesIn, Exact, world, worldIn}
 use Rattle.reading.specs.declared.Part.{Part}
 use Rattle.reading.specs.Part.{partOf}
@@ -40,37 +40,37 @@ use Rattle.firmware.specs.declared.session.Stop.{Stop}
 use Rattle.firmware.specs.declared.session.Part as wide
 
 -- ---- a run in which every command was refused
-refused-more : (p : Point) (ps : List Point) → allRefused (p ∷ ps) ≡ true → (p .outcome .answer ≡ 0 → ⊥) × (allRefused ps ≡ true)
+refused-more : (p : Point World) (ps : List (Point World)) → allRefused (p ∷ ps) ≡ true → (p .outcome .answer ≡ 0 → ⊥) × (allRefused ps ≡ true)
 unfolding allRefused all
 refused-more p ps h =
     let a : Bool = not (eqb (p .outcome .answer) 0) in
-    let b : Bool = all (λ (q : Point). not (eqb (q .outcome .answer) 0)) ps in
+    let b : Bool = all (λ (q : Point World). not (eqb (q .outcome .answer) 0)) ps in
     (eqb-false (p .outcome .answer) 0 (not-true (eqb (p .outcome .answer) 0) (and-left a b h)), and-right a b h)
 
 -- ---- a run from an offset on
 module _ (t : Bytes) where
-  record Further (at n : ℕ) (w : World) (ps : List Point) : Type 0 where
-    pub rest : List Point
-    pub runs : Runs step t (nextOffset t at) (n + (commandAt step t at w) .stores) ((commandAt step t at w) .world) rest
-    pub world-after : worldAfter w ps ≡ worldAfter ((commandAt step t at w) .world) rest
-    pub total : storesAfter n ps ≡ storesAfter (n + (commandAt step t at w) .stores) rest
-    pub held : allRefused ps ≡ true → ((commandAt step t at w) .answer ≡ 0 → ⊥) × (allRefused rest ≡ true)
-    pub last : (s : Stop) → stopAfter s ps ≡ stopAfter (newStop at ((commandAt step t at w) .answer) (commandByte t at)) rest
+  record Further (at n : ℕ) (w : World) (ps : List (Point World)) : Type 0 where
+    pub rest : List (Point World)
+    pub runs : Runs stepAt t (nextOffset t at) (n + (stepAt t at w) .stores) ((stepAt t at w) .world) rest
+    pub world-after : worldAfter w ps ≡ worldAfter ((stepAt t at w) .world) rest
+    pub total : storesAfter n ps ≡ storesAfter (n + (stepAt t at w) .stores) rest
+    pub held : allRefused ps ≡ true → ((stepAt t at w) .answer ≡ 0 → ⊥) × (allRefused rest ≡ true)
+    pub last : (s : Stop) → stopAfter s ps ≡ stopAfter (newStop at ((stepAt t at w) .answer) (commandByte t at)) rest
 
-  further : {at n : ℕ} {w : World} {ps : List Point} → Runs step t at n w ps → at < length t → Further at n w ps
+  further : {at n : ℕ} {w : World} {ps : List (Point World)} → Runs stepAt t at n w ps → at < length t → Further at n w ps
   unfolding worldAfter storesAfter stopAfter
   further (at-end h) l = absurd (omega arith)
   further (one-more {at} {n} {w} {p = p} {ps = ps} k e r) l =
       record {
         rest = ps;
-        runs = subst (λ (p : Point). Runs step t (nextOffset t at) (p .stores) (p .outcome .world) ps) e r;
-        world-after = ap (λ (p : Point). worldAfter (p .outcome .world) ps) e;
-        total = ap (λ (p : Point). storesAfter (p .stores) ps) e;
-        held = λ h. let q = refused-more p ps h in (λ z. q .0 (ap (λ (p : Point). p .outcome .answer) e ∙ z), q .1);
-        last = λ s. ap (λ (p : Point). stopAfter (newStop (p .offset) (p .outcome .answer) (p .byte)) ps) e;
+        runs = subst (λ (p : Point World). Runs stepAt t (nextOffset t at) (p .stores) (p .outcome .world) ps) e r;
+        world-after = ap (λ (p : Point World). worldAfter (p .outcome .world) ps) e;
+        total = ap (λ (p : Point World). storesAfter (p .stores) ps) e;
+        held = λ h. let q = refused-more p ps h in (λ z. q .0 (ap (λ (p : Point World). p .outcome .answer) e ∙ z), q .1);
+        last = λ s. ap (λ (p : Point World). stopAfter (newStop (p .offset) (p .outcome .answer) (p .byte)) ps) e;
       }
 
-  ended : {at n : ℕ} {w : World} {ps : List Point} → Runs step t at n w ps → length t ≤ at → (worldAfter w ps ≡ w) × (storesAfter n ps ≡ n) × ((s : Stop) → stopAfter s ps ≡ s)
+  ended : {at n : ℕ} {w : World} {ps : List (Point World)} → Runs stepAt t at n w ps → length t ≤ at → (worldAfter w ps ≡ w) × (storesAfter n ps ≡ n) × ((s : Stop) → stopAfter s ps ≡ s)
   unfolding worldAfter storesAfter stopAfter
   ended (at-end h) l = (refl, refl, λ s. refl)
   ended (one-more k e r) l = absurd (omega arith)
@@ -87,50 +87,60 @@ checkpointed-stores c w =
     let e = oldest (committedOf w c) in
     cases (ltb ((coreOf (w .card) c) .homed) (e .count)) (λ h. rw h (omega arith)) (λ h. rw h (omega arith))
 
-row-stores : (k : ℕ) (a : Bytes) (w : World) → (rowOf k a w) .done .stores ≤ 1
-unfolding rowOf formatted written closed stored recovered
-row-stores k a w =
-    of-command (λ (r : Row). r .done .stores ≤ 1) k (omega arith) (λ h. omega arith) (omega arith) (omega arith) (checkpointed-stores (getD a 0 0) w) (omega arith)
-    (recoverStep-stores (blocksLeft w) w)
+done-stores : (k : Command) (w : World) → (doneBy k w) .stores ≤ 1
+unfolding doneBy formatted written closed stored recovered
+done-stores (FORMAT c b j) w = omega arith
+done-stores (WRITE c b o v) w = omega arith
+done-stores (CLOSE c) w = omega arith
+done-stores (STORE c) w = omega arith
+done-stores (CHECKPOINT c) w = checkpointed-stores c w
+done-stores CUT w = omega arith
+done-stores RECOVER w = recoverStep-stores (blocksLeft w) w
 
-decided-stores : {ts : List (Bool × ℕ)} {w : World} {done o : Outcome} → Decided ts w done o → done .stores ≤ 1 → o .stores ≤ 1
+read-stores : (r : Read) (w : World) → (doneOn r w) .stores ≤ 1
+unfolding doneOn
+read-stores (whole k) w = done-stores k w
+read-stores unknown w = omega arith
+read-stores early w = omega arith
+
+decided-stores : {ts : List (Bool × ℕ)} {w : World} {done o : Outcome World} → Decided ts w done o → done .stores ≤ 1 → o .stores ≤ 1
 decided-stores (refused n p f e) h = rw e (omega arith)
 decided-stores (carried-out c e) h = rw e h
 
-few-stores : (t : Bytes) (at : ℕ) (w : World) → (commandAt step t at w) .stores ≤ 1
-few-stores t at w = decided-stores (command-decided t at w) (row-stores (commandByte t at) (operandsAt t at) w)
+few-stores : (t : Bytes) (at : ℕ) (w : World) → (stepAt t at w) .stores ≤ 1
+few-stores t at w = decided-stores (command-decided t at w) (read-stores (readAt t at) w)
 
-bounded : (t : Bytes) {at n : ℕ} {w : World} {ps : List Point} → Runs step t at n w ps → at ≤ length t → storesAfter n ps + at ≤ n + length t
+bounded : (t : Bytes) {at n : ℕ} {w : World} {ps : List (Point World)} → Runs stepAt t at n w ps → at ≤ length t → storesAfter n ps + at ≤ n + length t
 unfolding storesAfter
 bounded t (at-end h) l = omega arith
 bounded t (one-more {at} {n} {w} {p = p} {ps = ps} k e r) l =
-    let q : p .stores ≡ n + (commandAt step t at w) .stores = ap (λ (p : Point). p .stores) e in
+    let q : p .stores ≡ n + (stepAt t at w) .stores = ap (λ (p : Point World). p .stores) e in
     omega (arith, few-stores t at w, next-past t at k, bounded t r (next-within t at l))
 
-pub run-stores : (t : Bytes) (w : World) → length t < 18446744073709551616 → counted 0 (storesAfter 0 (run step t w)) ≡ storesAfter 0 (run step t w)
+pub run-stores : (t : Bytes) (w : World) → length t < 18446744073709551616 → counted 0 (storesAfter 0 (run stepAt t w)) ≡ storesAfter 0 (run stepAt t w)
 run-stores t w h =
-    let k = storesAfter 0 (run step t w) in
+    let k = storesAfter 0 (run stepAt t w) in
     let e : 0 + k ≡ k = omega arith in
-    sym (counted-sum 0 k (omega (arith, bounded t (run-runs step t w) (omega arith))) (omega arith)) ∙ e
+    sym (counted-sum 0 k (omega (arith, bounded t (run-runs stepAt t w) (omega arith))) (omega arith)) ∙ e
 
 -- what is left of the run over the cells v₀, the disk d₀ and memory m₀: at an offset, over the cells v, d and m, the last command s
 pub record Left (t : Bytes) (v₀ : List ℕ) (d₀ m₀ : Bytes) (at : ℕ) (v : List ℕ) (d m : Bytes) (s : Stop) : Type 0 where
   pub count : ℕ
-  pub points : List Point
-  pub runs : Runs step t at count (worldIn v d m) points
-  pub world-after : worldAfter (worldIn v d m) points ≡ worldAfter (worldIn v₀ d₀ m₀) (run step t (worldIn v₀ d₀ m₀))
-  pub total : storesAfter count points ≡ storesAfter 0 (run step t (worldIn v₀ d₀ m₀))
+  pub points : List (Point World)
+  pub runs : Runs stepAt t at count (worldIn v d m) points
+  pub world-after : worldAfter (worldIn v d m) points ≡ worldAfter (worldIn v₀ d₀ m₀) (run stepAt t (worldIn v₀ d₀ m₀))
+  pub total : storesAfter count points ≡ storesAfter 0 (run stepAt t (worldIn v₀ d₀ m₀))
   pub capped : storesIn v ≡ counted (storesIn v₀) count
   pub exact : Exact v₀ → Exact v
-  pub held : allRefused (run step t (worldIn v₀ d₀ m₀)) ≡ true → (v ≡ v₀) × (allRefused points ≡ true)
-  pub stops : stopAfter s points ≡ stopAfter (newStop 0 0 0) (run step t (worldIn v₀ d₀ m₀))
+  pub held : allRefused (run stepAt t (worldIn v₀ d₀ m₀)) ≡ true → (v ≡ v₀) × (allRefused points ≡ true)
+  pub stops : stopAfter s points ≡ stopAfter (newStop 0 0 0) (run stepAt t (worldIn v₀ d₀ m₀))
 
 pub left-start : (t : Bytes) (v : List ℕ) (d m : Bytes) → Left t v d m 0 v d m (newStop 0 0 0)
 left-start t v d m =
     record {
       count = 0;
-      points = run step t (worldIn v d m);
-      runs = run-runs step t (worldIn v d m);
+      points = run stepAt t (worldIn v d m);
+      runs = run-runs stepAt t (worldIn v d m);
       world-after = refl;
       total = refl;
       capped = counted-none (storesIn v);
@@ -143,7 +153,7 @@ module _ (t : Bytes) (v₀ : List ℕ) (d₀ m₀ : Bytes) (at : ℕ) (v : List 
   pub left-more : at < length t → (u : List ℕ) (e k : Bytes) (r : Reply) → RunsCommand t at v d m u e k r → Left t v₀ d₀ m₀ (r .next) u e k (newStop at (r .number) (r .byte))
   left-more h u e k r c =
       let f = further t (l .runs) h in
-      let o = commandAt step t at (worldIn v d m) in
+      let o = stepAt t at (worldIn v d m) in
       let p = c .performs in
       record {
         count = l .count + o .stores;
@@ -160,11 +170,11 @@ module _ (t : Bytes) (v₀ : List ℕ) (d₀ m₀ : Bytes) (at : ℕ) (v : List 
   pub left-end : length t ≤ at → length t < 18446744073709551616 → DemandsMet t (worldIn v₀ d₀ m₀) → RunsTape t v₀ d₀ m₀ v d m s
   left-end h q x =
       let f = ended t (l .runs) h in
-      let n : storesIn v ≡ counted (storesIn v₀) (storesAfter 0 (run step t (worldIn v₀ d₀ m₀))) = l .capped ∙ ap (counted (storesIn v₀)) (sym (f .1) ∙ l .total) in
+      let n : storesIn v ≡ counted (storesIn v₀) (storesAfter 0 (run stepAt t (worldIn v₀ d₀ m₀))) = l .capped ∙ ap (counted (storesIn v₀)) (sym (f .1) ∙ l .total) in
       record {
         world = sym (f .0) ∙ l .world-after;
         stores = n;
-        from-none = λ z. n ∙ ap (λ (k : ℕ). counted k (storesAfter 0 (run step t (worldIn v₀ d₀ m₀)))) z ∙ run-stores t (worldIn v₀ d₀ m₀) q;
+        from-none = λ z. n ∙ ap (λ (k : ℕ). counted k (storesAfter 0 (run stepAt t (worldIn v₀ d₀ m₀)))) z ∙ run-stores t (worldIn v₀ d₀ m₀) q;
         exact = l .exact;
         refused = λ z. l .held z .0;
         stopped = sym (f .2 s) ∙ l .stops;
@@ -178,18 +188,24 @@ are-bytes s h =
     (λ x m. let g = mem-getD m 0 in lt-ltb x 256 (subst (λ (y : ℕ). y < 256) (g .2) (h (g .0))))
 
 -- ---- the demands, of the run over lent slices
-pub demands-met : (t : Bytes) (x : Card) (d m : Bytes) → IsBytes t → IsBytes d → IsBytes m → DemandsMet t (world x d m)
-demands-met t x d m bt bd bm =
-    record {
-      from-blank = λ e l k.
-          subst (λ (y : Card). AreaKept (emptyService 0) (run step t (world y d m)) × LedgerKept 0 blankLedger (world y d m) (run step t (world y d m)))
-          (sym e) (claim .0 t d m bt bd bm l k, demands .0 t d m bt bd bm l k);
-      from-down = λ s h e f k.
-          subst (λ (y : Card). AreaKept (emptyService (s .blocks)) (run step t (world y d m)) × LedgerKept 0 (downLedger s) (world y d m) (run step t (world y d m)))
-          (sym e)
-          (subst (λ (z : Bytes). AreaKept (emptyService (s .blocks)) (run step t (world downCard z m)) × LedgerKept 0 (downLedger s) (world downCard z m) (run step t (world downCard z m)))
-          (sym f) (claim .1 t m s h bt bm k, demands .1 t m s h bt bm k));
-    }
+module _ (t : Bytes) (w : World) (tape-bytes : IsBytes t) (disk-bytes : IsBytes (w .disk)) (memory-bytes : IsBytes (w .memory)) where
+  -- what is shown of every start holds of a world that is one
+  from-start : (Holds : Start → World → List (Point World) → Type 0)
+      → ((t : Bytes) → IsBytes t → (s : Start) → StartFits s → Holds s (startWorld s) (run stepAt t (startWorld s)))
+      → (s : Start) → Stated s → w ≡ startWorld s → Holds s w (run stepAt t w)
+  from-start Holds shown s h e =
+      subst (λ (w : World). Holds s w (run stepAt t w)) (sym e)
+      (shown t tape-bytes s
+      (record { stated = h; disk = subst (λ (w : World). IsBytes (w .disk)) e disk-bytes; memory = subst (λ (w : World). IsBytes (w .memory)) e memory-bytes }))
+
+  pub demands-met : DemandsMet t w
+  demands-met =
+      record {
+        claim = from-start (λ (s : Start) (w : World) (ps : List (Point World)). AreaKept (startService s) ps) claim;
+        demands = from-start (λ (s : Start) (w : World) (ps : List (Point World)). LedgerKept 0 (startLedger s) w ps) demands;
+        readings = from-start (λ (s : Start) (w : World) (ps : List (Point World)). ReadingsKept readBlock (startLedger s) w ps) readings;
+        largest = largest-kept;
+      }
 
 -- ---- reading into a buffer
 module _ (x : Card) (b : ℕ) (d m : Bytes) where

@@ -8,37 +8,35 @@ use lib.ListN.{length}
 use lib.Dec.{eqb}
 use Rattle.model.specs.Lists.{all}
 use Rattle.model.specs.Bytes.{Bytes}
-use Rattle.model.specs.Shape.{inRange}
-use Rattle.model.specs.Card.{blankCard, downCard}
-use Rattle.model.specs.Format.{formatted}
 use Rattle.model.specs.Command.{World}
 use Rattle.model.specs.Reading.{readBlock}
-use Rattle.model.specs.Tape.{Point, step, commandByte, nextOffset, commandAt, run, worldAfter}
+use Rattle.model.specs.Tape.{Point, commandByte, nextOffset, run, worldAfter}
+use Rattle.model.specs.Step.{stepAt}
 use Rattle.model.specs.declared.Shape.{Shape}
-use Rattle.crash.specs.Service.{emptyService}
-use Rattle.crash.specs.Ledger.{blankLedger}
-use Rattle.crash.specs.Claims.{AreaKept, LedgerKept, downLedger}
+use Rattle.crash.specs.Claims.{AreaKept, LedgerKept, LargestKept, ReadingsKept, Start, Stated, startLedger, startService, startWorld}
+use Rattle.crash.specs.Book.{Book}
 use Rattle.cells.specs.Cells.{storesIn, Exact, worldIn}
 use Rattle.reading.specs.Part.{partOf}
 use Rattle.command.specs.Counting.{counted, Performs}
+use Rattle.crash.proofs.Theorem.{claim, demands, readings}
 use Rattle.firmware.specs.declared.session.Reply.{Reply}
 use Rattle.firmware.specs.declared.session.Stop.{Stop}
 use Rattle.firmware.specs.declared.session.Part.{Part}
 
 -- the stores after the points of a run, with n before
-unfoldable pub storesAfter : ℕ → List Point → ℕ
+unfoldable pub storesAfter : ℕ → List (Point World) → ℕ
 storesAfter n [] = n
 storesAfter n (p ∷ ps) = storesAfter (p .stores) ps
 
 -- every command of a run was refused
-unfoldable pub allRefused : List Point → Bool
-allRefused ps = all (λ (p : Point). not (eqb (p .outcome .answer) 0)) ps
+unfoldable pub allRefused : List (Point World) → Bool
+allRefused ps = all (λ (p : Point World). not (eqb (p .outcome .answer) 0)) ps
 
 -- where a run stopped: its last command's offset, number and byte
 abbrev pub newStop : ℕ → ℕ → ℕ → Stop
 newStop at n k = record { at = at; number = n; byte = k }
 
-unfoldable pub stopAfter : Stop → List Point → Stop
+unfoldable pub stopAfter : Stop → List (Point World) → Stop
 stopAfter s [] = s
 stopAfter s (p ∷ ps) = stopAfter (newStop (p .offset) (p .outcome .answer) (p .byte)) ps
 
@@ -50,18 +48,18 @@ readInto n b w out = cond (eqb n 0) (readBlock b w) out
 unfoldable pub partIn : ℕ → World → Part
 partIn b w = let p = partOf b w in record { number = p .number; slice = p .slice; from = p .from; length = p .length }
 
--- The demands, of the run of a tape from a world: from a blank card over slices of their lengths, and from a card that is
--- down over a disk as FORMAT leaves it.
+-- The demands, of the run of a tape from a world that is one of the starts: a blank card over slices of their lengths, or a card
+-- that is down over a disk as FORMAT leaves it. Kept is the largest such set of every book.
 pub record DemandsMet (t : Bytes) (w : World) : Type 0 where
-  pub from-blank : w .card ≡ blankCard → length (w .disk) ≡ 32896 → length (w .memory) ≡ 16384
-      → AreaKept (emptyService 0) (run step t w) × LedgerKept 0 blankLedger w (run step t w)
-  pub from-down : (s : Shape) → inRange (s .cores) (s .blocks) (s .journal) ≡ true → w .card ≡ downCard → w .disk ≡ (formatted s) .world .disk → length (w .memory) ≡ 16384
-      → AreaKept (emptyService (s .blocks)) (run step t w) × LedgerKept 0 (downLedger s) w (run step t w)
+  pub claim : (s : Start) → Stated s → w ≡ startWorld s → AreaKept (startService s) (run stepAt t w)
+  pub demands : (s : Start) → Stated s → w ≡ startWorld s → LedgerKept 0 (startLedger s) w (run stepAt t w)
+  pub readings : (s : Start) → Stated s → w ≡ startWorld s → ReadingsKept readBlock (startLedger s) w (run stepAt t w)
+  pub largest : (k : Book) → LargestKept k
 
 -- The command at an offset of a tape t, over the cells v, the disk d and memory m, left u, e and k: what it performs, its byte, and
 -- the offset of the next one.
 pub record RunsCommand (t : Bytes) (at : ℕ) (v : List ℕ) (d m : Bytes) (u : List ℕ) (e k : Bytes) (r : Reply) : Type 0 where
-  pub performs : Performs (commandAt step t at (worldIn v d m)) v u e k (r .number)
+  pub performs : Performs (stepAt t at (worldIn v d m)) v u e k (r .number)
   pub byte : r .byte ≡ commandByte t at
   pub next : r .next ≡ nextOffset t at
 
@@ -69,10 +67,10 @@ pub record RunsCommand (t : Bytes) (at : ℕ) (v : List ℕ) (d m : Bytes) (u : 
 -- exactly where none were counted before; cells that are those of their card and count stay so; where every command was
 -- refused, every cell is as it was; where it stopped; and the run meets the demands.
 pub record RunsTape (t : Bytes) (v : List ℕ) (d m : Bytes) (u : List ℕ) (e k : Bytes) (r : Stop) : Type 0 where
-  pub world : worldIn u e k ≡ worldAfter (worldIn v d m) (run step t (worldIn v d m))
-  pub stores : storesIn u ≡ counted (storesIn v) (storesAfter 0 (run step t (worldIn v d m)))
-  pub from-none : storesIn v ≡ 0 → storesIn u ≡ storesAfter 0 (run step t (worldIn v d m))
+  pub world : worldIn u e k ≡ worldAfter (worldIn v d m) (run stepAt t (worldIn v d m))
+  pub stores : storesIn u ≡ counted (storesIn v) (storesAfter 0 (run stepAt t (worldIn v d m)))
+  pub from-none : storesIn v ≡ 0 → storesIn u ≡ storesAfter 0 (run stepAt t (worldIn v d m))
   pub exact : Exact v → Exact u
-  pub refused : allRefused (run step t (worldIn v d m)) ≡ true → u ≡ v
-  pub stopped : r ≡ stopAfter (newStop 0 0 0) (run step t (worldIn v d m))
+  pub refused : allRefused (run stepAt t (worldIn v d m)) ≡ true → u ≡ v
+  pub stopped : r ≡ stopAfter (newStop 0 0 0) (run stepAt t (worldIn v d m))
   pub demands : DemandsMet t (worldIn v d m)
