@@ -29,7 +29,7 @@ loop-again c =
 returns : tie.Need-returns Inv-loop μ-loop
 returns c =
     left-end _ _ _ _ _ _ _ _ _ (c .before .loop .inv .2) (c .loop-test .left) (search needs)
-    (demands-met _ _ _ _
+    (demands-met _ _
     (are-bytes (c .before .before .before .before .before .args .tape .now) (λ i. omega (arith, c .before .before .before .before .shared-slice-known .given i)))
     (are-bytes (c .before .before .before .before .before .args .disk .now) (λ i. omega (arith, c .before .before .before .slice-known .given i)))
     (are-bytes (c .before .before .before .before .before .args .memory .now) (λ i. omega (arith, c .before .before .slice-known2 .given i))))
