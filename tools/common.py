@@ -2,9 +2,11 @@
 import argparse
 import pathlib
 import re
+import signal
 import sys
 
 ROOT = pathlib.Path(__file__).resolve().parent.parent
+signal.signal(signal.SIGPIPE, signal.SIG_DFL)  # a reader that has seen enough is no fault
 
 
 def fail(message):
