@@ -100,6 +100,14 @@ def split(nodes, mark):
     return parts
 
 
+def cut(nodes, mark):
+    """What stands before the first word `mark` of this level and what after it; no second part where it is not there."""
+    if mark not in nodes:
+        return nodes, None
+    at = nodes.index(mark)
+    return nodes[:at], nodes[at + 1 :]
+
+
 def leaves(nodes):
     for node in nodes:
         if isinstance(node, Group):
@@ -137,11 +145,11 @@ class References:
 
     def binder(self, nodes, bound):
         """Names bound by 'names : type', whose type is walked; None for any other nodes."""
-        if ":" not in nodes:
+        names, type_nodes = cut(nodes, ":")
+        if type_nodes is None:
             return None
-        at = nodes.index(":")
-        self.walk(nodes[at + 1 :], bound)
-        return {word for word in nodes[:at] if isinstance(word, str)}
+        self.walk(type_nodes, bound)
+        return {word for word in names if isinstance(word, str)}
 
     def group(self, group, bound):
         """Walks a group; gives the names that it binds for what follows it."""
@@ -157,10 +165,11 @@ class References:
         return binders[0] or set() if len(parts) == 1 else set()
 
     def case(self, nodes, bound):
-        if "↦" not in nodes:
-            return self.walk(nodes, bound)
-        at = nodes.index("↦")
-        return self.walk(nodes[at + 1 :], bound | self.pattern(nodes[:at]))
+        left, right = cut(nodes, "↦")
+        if right is None:
+            self.walk(left, bound)
+        else:
+            self.walk(right, bound | self.pattern(left))
 
     def lambda_binders(self, nodes, bound):
         names = set()
@@ -174,16 +183,17 @@ class References:
 
     def let(self, nodes, at, bound):
         """Walks 'let pattern : type = term in' that begins at `at`; gives where its body begins and the names bound there."""
-        equals, end, depth = nodes.index("=", at), at + 1, 0
-        while nodes[end] != "in" or depth:
+        end, depth = at + 1, 0
+        while end < len(nodes) and (nodes[end] != "in" or depth):
             depth += (nodes[end] in ("let", "unfold")) - (nodes[end] == "in")
             end += 1
-        left = nodes[at + 1 : equals]
-        if ":" in left:
-            self.walk(left[left.index(":") + 1 :], bound)
-            left = left[: left.index(":")]
-        self.walk(nodes[equals + 1 : end], bound)
-        return end + 1, self.pattern(left)
+        left, term = cut(nodes[at + 1 : end], "=")
+        if term is None or end == len(nodes):
+            raise Unread("a 'let' without '=' or 'in'")
+        pattern, type_nodes = cut(left, ":")
+        self.walk(type_nodes or [], bound)
+        self.walk(term, bound)
+        return end + 1, self.pattern(pattern)
 
     def walk(self, nodes, bound):
         """Walks a term: what a group, a λ or a 'let' binds holds to the end of these nodes."""
@@ -193,8 +203,10 @@ class References:
             if isinstance(node, Group):
                 names, at = self.group(node, bound), at + 1
             elif node == "λ":
-                end = nodes.index(".", at)
-                names, at = self.lambda_binders(nodes[at + 1 : end], bound), end + 1
+                binders, body = cut(nodes[at + 1 :], ".")
+                if body is None:
+                    raise Unread("a λ without '.'")
+                names, at = self.lambda_binders(binders, bound), len(nodes) - len(body)
             elif node == "let":
                 at, names = self.let(nodes, at, bound)
             else:
@@ -221,7 +233,7 @@ def without_marks(nodes):
 
 
 def is_signature(nodes):
-    return ":" in nodes and ("=" not in nodes or nodes.index(":") < nodes.index("="))
+    return ":" in cut(nodes, "=")[0]
 
 
 def header_end(item):
@@ -269,8 +281,10 @@ def typed(kind, item, around):
     definition = Definition(header(item)[1], kind, [item], around)
     if kind == "data":
         for constructor in items(item[end:]):
-            nodes = tree(constructor)
-            definition.constructors += [word for word in nodes[: nodes.index(":")] if isinstance(word, str)]
+            names, type_nodes = cut(tree(constructor), ":")
+            if type_nodes is None:
+                raise Unread(f"not known in a data type: {constructor[0].strip()}")
+            definition.constructors += [word for word in names if isinstance(word, str)]
     return definition
 
 
@@ -279,15 +293,13 @@ def typed(kind, item, around):
 
 def of_fields(item, references, bound):
     """A record or a data type: its parameters, its type, then its fields or constructors."""
-    head = header(item)
-    at = head.index(":")
-    bound = references.telescope(head[2:at], bound)
-    references.walk(head[at + 1 :], bound)
+    head, type_nodes = cut(header(item), ":")
+    bound = references.telescope(head[2:], bound)
+    references.walk(type_nodes or [], bound)
     for field in items(item[header_end(item) or len(item) :]):
-        nodes = without_marks(tree(field))
-        if ":" not in nodes:
+        names = references.binder(without_marks(tree(field)), bound)
+        if names is None:
             raise Unread(f"not known in a record or data type: {field[0].strip()}")
-        names = references.binder(nodes, bound)
         bound = bound | names if head[0] == "record" else bound
 
 
@@ -295,10 +307,11 @@ def of_clause(item, references, bound, own):
     """A clause: its patterns, its term, and the definitions of its 'where'."""
     end = header_end(item)
     local = definitions(item[end:]) if end else []
-    nodes = header(item)
-    at = nodes.index("=") if "=" in nodes else 0
-    bound = bound | references.pattern([node for node in nodes[:at] if node not in own]) | {d.name for d in local}
-    references.walk(nodes[at + 1 :], bound)
+    left, right = cut(header(item), "=")
+    if right is None:
+        raise Unread(f"a clause without '=': {item[0].strip()}")
+    bound = bound | references.pattern([node for node in left if node not in own]) | {d.name for d in local}
+    references.walk(right, bound)
     for definition in local:
         of_items(definition, references, bound)
 
@@ -312,9 +325,8 @@ def of_items(definition, references, bound):
         elif definition.kind in ("record", "data"):
             of_fields(item, references, bound)
         elif number == 0:
-            at = nodes.index(":")
-            levels = set(leaves(nodes[1:at]))
-            references.walk(nodes[at + 1 :], bound | levels)
+            left, type_nodes = cut(nodes, ":")
+            references.walk(type_nodes, bound | set(leaves(left[1:])))
         elif nodes[0] == "unfolding":
             references.walk(nodes[1:], bound)
         else:

@@ -170,7 +170,10 @@ class Sources:
         if node.kind == "type":
             return self.types_in(node)
         module = self.module_of(node)
-        words = antt.references_of(self.definition(node), lambda word: self.is_constructor(module, word))
+        try:
+            words = antt.references_of(self.definition(node), lambda word: self.is_constructor(module, word))
+        except antt.Unread as error:
+            raise Missing(f"{self.relative(module.file)}: {node.name}: {error}") from error
         return {found for found in (self.meaning(module, word) for word in words) if found and found != node}
 
     def types_in(self, node):
