@@ -63,15 +63,16 @@ class Sources:
                 raise Missing(f"{self.relative(file)}: {error}") from error
         return self.read[place]
 
-    def modules_of(self, crate):
-        folder = self.root / "crates" / crate / "specs"
-        for file in sorted(folder.rglob("*.antt")):
-            yield self.module((crate, *file.relative_to(folder).with_suffix("").parts))
+    def modules(self):
+        """The modules of all specs/."""
+        for file in sorted(self.root.glob("crates/*/specs/**/*.antt")):
+            crate, _, *path = file.relative_to(self.root / "crates").with_suffix("").parts
+            yield self.module((crate, *path))
 
     def contracts(self, path):
         """A file of src/ as a module, whose definitions are the contracts of its exported functions."""
         file = self.root / path
-        if not file.is_file():
+        if not path.startswith("crates/") or not file.is_file():
             raise Missing(f"no file {path}")
         crate = file.relative_to(self.root / "crates").parts[0]
         place = (crate, file.stem)
@@ -211,8 +212,8 @@ class Sources:
                 found = None
             if found:
                 return found
-        here = [f"{m}.{path[-1]}" for m in self.modules_of(crate) if path[-1] in m.definitions] if path else []
-        raise Missing(f"no definition {text}" + (f"; there is {', '.join(here)}" if here else ""))
+        there = [f"{module}.{path[-1]}" for module in self.modules() if path[-1] in module.definitions] if path else []
+        raise Missing(f"no definition {text}" + (f"; there is {', '.join(there)}" if there else ""))
 
 
 def exported(text):
