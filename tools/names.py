@@ -7,7 +7,7 @@ import re
 
 import antt
 
-# kind: 'definition' or 'contract'; 'type', declared in src/; 'kit', whose name is a module of the kit; 'proof', which nothing may reach
+# kind: "definition", "contract", "type" (declared in src/), "kit" (a module of the kit) or "proof" (nothing may reach one)
 Node = collections.namedtuple("Node", "kind module name")
 
 
@@ -181,7 +181,7 @@ class Sources:
         """The declared types that a type's fields have: of its file, or brought there by a `use`."""
         _, text, lines = self.type_file(node)
         found = set()
-        for name in set(re.findall(r"\b[A-Z]\w*", "\n".join(lines[1:]))):
+        for name in set(re.findall(r"\b[A-Z]\w*", "\n".join(lines))):
             used = re.search(rf"^use ((?:\w+::)+){name};", text, re.M)
             if used:
                 crate, *path = used.group(1).split("::")[:-1]
