@@ -173,9 +173,9 @@ class Sources:
         module = self.module_of(node)
         try:
             words = antt.references_of(self.definition(node), lambda word: self.is_constructor(module, word))
-        except antt.Unread as error:
-            raise Missing(f"{self.relative(module.file)}: {node.name}: {error}") from error
-        return {found for found in (self.meaning(module, word) for word in words) if found and found != node}
+            return {found for found in (self.meaning(module, word) for word in words) if found and found != node}
+        except (antt.Unread, Missing) as error:
+            raise Missing(f"{self.relative(module.file)}, {node.name}: {error}") from error
 
     def types_in(self, node):
         """The declared types that a type's fields have: of its file, or brought there by a `use`."""
