@@ -216,10 +216,11 @@ class References:
             bound = bound | names
 
     def telescope(self, nodes, bound):
-        """Walks parameters; gives all names bound after them."""
+        """Walks parameters; gives all names bound after them. Braces without a type have levels."""
         for node in nodes:
             if isinstance(node, Group):
-                bound = bound | self.group(node, bound)
+                names = self.binder(node.nodes, bound)
+                bound = bound | (set(leaves(node.nodes)) if names is None else names)
         return bound
 
 

@@ -9,6 +9,9 @@ import antt
 
 # kind: "definition", "contract", "type" (declared in src/), "kit" (a module of the kit) or "proof" (nothing may reach one)
 Node = collections.namedtuple("Node", "kind module name")
+PRELUDE = set("⊥ ¬ absurd Unit tt Dec yes no ⊔".split())  # open in every file
+EXPORTED = re.compile(r'^pub extern "C" fn (\w+)', re.M)
+OF_CONTRACTS = set("now ⌜ ⌝".split())
 
 
 def title(node):
@@ -78,9 +81,14 @@ class Sources:
         place = (crate, file.stem)
         if ("contracts", place) not in self.read:
             text = re.sub(r"//.*", "", file.read_text())
-            ghost = [statement for statement in re.findall(r"^ghost use [^;]*;", text, re.M)]
+            ghost = re.findall(r"^ghost use [^;]*;", text, re.M)
             self.read["contracts", place] = Module(place, file, list(exported(text)), antt.imports(ghost))
         return self.read["contracts", place]
+
+    def exporting(self):
+        """The files of src/ that export functions."""
+        files = sorted(self.root.glob("crates/*/src/**/*.rt"))
+        return [str(f.relative_to(self.root)) for f in files if EXPORTED.search(f.read_text())]
 
     def type_file(self, node):
         """The file of src/ that declares a type, and the lines of its declaration."""
@@ -173,9 +181,18 @@ class Sources:
         module = self.module_of(node)
         try:
             words = antt.references_of(self.definition(node), lambda word: self.is_constructor(module, word))
-            return {found for found in (self.meaning(module, word) for word in words) if found and found != node}
+            found = {self.meaning(module, word) or self.unbound(node, word) for word in words}
+            return found - {node, None}
         except (antt.Unread, Missing) as error:
             raise Missing(f"{self.relative(module.file)}, {node.name}: {error}") from error
+
+    def unbound(self, node, word):
+        """What a word means that the file does not define, import or bind: the prelude's, or a sign of contracts."""
+        if word in PRELUDE:
+            return Node("kit", "Prim", word)
+        if node.kind == "contract" and word in OF_CONTRACTS:
+            return None
+        raise Missing(f"{word} is neither defined nor imported")
 
     def types_in(self, node):
         """The declared types that a type's fields have: of its file, or brought there by a `use`."""
@@ -218,7 +235,7 @@ class Sources:
 
 def exported(text):
     """The contracts of the exported functions of a file of src/."""
-    starts = list(re.finditer(r'^pub extern "C" fn (\w+)', text, re.M))
+    starts = list(EXPORTED.finditer(text))
     for start, end in zip(starts, [*(s.start() for s in starts[1:]), len(text)]):
         function = text[start.end() : end]
         parameters = re.findall(r"(\w+)\s*:", balanced(function, function.index("(")))
