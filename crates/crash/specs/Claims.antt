@@ -97,7 +97,7 @@ pub record PointKept (l : Ledger) (p : Point) : Type 0 where
   -- a refusal stores nothing; a command carried out stores the stated bytes, and counts it
   pub disk : p .outcome .world .disk ≡ cond (eqb (p .outcome .answer) 0) (diskAfter (p .byte) (p .operands) l (p .before .disk)) (p .before .disk)
   pub stores : p .outcome .stores ≡ cond (eqb (p .outcome .answer) 0) (storeCount (p .byte)) 0
-  -- 'The card comes up with the one master store that RECOVER's rule puts next after the last home store'
+  -- 'The card comes up with the one master store that RECOVER's rule above puts next after the last home store'
   pub comes-up : p .byte ≡ 7 → p .outcome .answer ≡ 0 → isUp (p .outcome .world .card .phase) ≡ eqb (length (l .left)) 0
 
 -- at every point of a run, and at its end; the count of stores adds up

@@ -32,7 +32,7 @@ unfoldable pub refusal : List (Bool × ℕ) → ℕ
 refusal [] = 0
 refusal (t ∷ ts) = cond (t .0) (t .1) (refusal ts)
 
--- 'A refusal answers its number alone and changes no byte of any lent buffer and nothing in the card's state.'
+-- 'A refusal answers its number alone .. and changes no byte of any lent buffer and nothing in the card's state.'
 unfoldable pub unless : List (Bool × ℕ) → World → Outcome → Outcome
 unless conditions w done = elim (refusal conditions) [ zero ↦ done | suc n ↦ record { answer = suc n; world = w; stores = 0 } ]
 
