@@ -174,7 +174,7 @@ storedOf l t =
 unfoldable pub storedSince : Ledger → ℕ → List Stored
 storedSince l c = map (λ (i : ℕ). storedOf l (newName c (l .book .oldest c + i))) (below (l .book .uncommitted c - l .book .oldest c))
 
--- ---- 'Every store has the stated bytes': what a command carried out stores
+-- ---- the bytes that a command carried out stores
 -- a transaction's blocks with their flags, and the blocks of its record in the order stored: 'descriptor, data in the
 -- order taken, commit'
 unfoldable pub heldOf : Ledger → Name → List Held
@@ -311,7 +311,7 @@ closeRefusals c l = notUpFor c l ((not (hasRunning (l .book) c), 28) ∷ (hasClo
 unfoldable pub storeRefusals : ℕ → Ledger → List (Bool × ℕ)
 storeRefusals c l = notUpFor c l ((not (hasClosed (l .book) c), 30) ∷ [])
 
--- '33 a lower-stamped unretired transaction shares a block (both took it)'
+-- '33 CHECKPOINT, a lower-stamped unretired transaction shares a block (both took it)'
 unfoldable pub sharesLowerIn : Ledger → Name → Bool
 sharesLowerIn l t =
     let k = l .book in

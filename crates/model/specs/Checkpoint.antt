@@ -41,7 +41,7 @@ oldest (e ∷ es) = e
 unfoldable pub share : List ℕ → List ℕ → Bool
 share bs cs = any (λ (b : ℕ). any (eqb b) cs) bs
 
--- '33 a lower-stamped unretired transaction shares a block (both took it)': a committed one, or a closed one
+-- '33 CHECKPOINT, a lower-stamped unretired transaction shares a block (both took it)': a committed one, or a closed one
 unfoldable pub sharesLower : World → Committed → Bool
 sharesLower w e =
     let s = shapeOf (w .card) in

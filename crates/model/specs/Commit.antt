@@ -14,7 +14,7 @@ use Rattle.model.specs.declared.Core.{Core}
 use Rattle.model.specs.declared.Card.{Card}
 
 -- ---- CLOSE
--- 'the 64 block images ..., then the closed copies, eight to a core'; 'the first of its core's copies onward'
+-- 'the 64 block images .., then the closed copies, eight to a core'; 'the first of its core's copies onward'
 unfoldable pub copyBlock : ℕ → ℕ → ℕ
 copyBlock c i = 64 + 8 * c + i
 

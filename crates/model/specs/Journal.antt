@@ -1,4 +1,4 @@
--- What stands in the journals: one record, one journal, all of them. 'A journal is read from its tail.'
+-- What stands in the journals: one record, one journal, all of them. 'A journal is read from its tail'.
 use Prim.Native.Nat.{ℕ, zero, suc, _+_, _-_, _%_}
 use mathlib.Core.List.{List, [], _∷_, map, flatMap}
 use mathlib.Core.Bool.{Bool, cond, _&&_}

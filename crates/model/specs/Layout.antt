@@ -20,7 +20,7 @@ mark = 0xC03B3998
 abbrev pub maxNumber : ℕ
 maxNumber = 4000000000
 
--- 'Every record block: 0-3 mark, 4-7 type, 8-11 number'
+-- 'Every record block: 0-3 mark C03B3998 hex, 4-7 type, 8-11 number'
 unfoldable pub hasHead : ℕ → ℕ → Bytes → Bool
 hasHead type k b = eqb (be4 b 0) mark && eqb (be4 b 4) type && eqb (be4 b 8) k
 
