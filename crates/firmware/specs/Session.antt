@@ -18,7 +18,6 @@ use Rattle.crash.specs.Book.{Book}
 use Rattle.cells.specs.Cells.{storesIn, Exact, worldIn}
 use Rattle.reading.specs.Part.{partOf}
 use Rattle.command.specs.Counting.{counted, Performs}
-use Rattle.crash.proofs.Theorem.{claim, demands, readings}
 use Rattle.firmware.specs.declared.session.Reply.{Reply}
 use Rattle.firmware.specs.declared.session.Stop.{Stop}
 use Rattle.firmware.specs.declared.session.Part.{Part}

@@ -12,6 +12,7 @@ pub mod Shrink
 pub mod Valid
 pub mod Command
 pub mod Tape
+pub mod Encoded
 pub mod Arrays
 pub mod Records
 pub mod OneStore
