@@ -21,7 +21,7 @@ use Rattle.model.specs.declared.Core.{Core}
 use Rattle.model.specs.declared.Holder.{Holder}
 use Rattle.model.specs.declared.Card.{Card}
 use Rattle.model.proofs.Lists.{cases, length-below, map-below, getD-map-below}
-use Rattle.model.specs.Write.{passesTwelve}
+use Rattle.model.specs.Write.{passesNames}
 use Rattle.cells.proofs.Parts.{took-all, took-some, named-all, named-some, name-hit, name-missed, name-room}
 use Rattle.cells.proofs.FitsLaws.{fits-zero, fits-live, fits-byte, fits-name, fits-holder, frame-wider, frame-then, frame-same, frame-set}
 use Rattle.cells.specs.Cells.{byteIn, numberIn, phaseIn, nameIn, holderIn, tailFrom, transactionIn, coreIn, cardIn, tailPlace, holderPlace, corePlace}
@@ -421,7 +421,7 @@ module _ (w : List ℕ) (a i : ℕ) (size : length w ≡ 512) (from : 96 ≤ a) 
           there : a + 4 + i ≡ a + (4 + i)
           there = omega arith
 
-  module _ (e : i ≡ byteIn w (a + 3)) (n : Name) (g : Bool) (q : g ≡ lists (transactionIn w a) n) (r : passesTwelve (transactionIn w a) n ≡ false) (h : g ≡ false) where
+  module _ (e : i ≡ byteIn w (a + 3)) (n : Name) (g : Bool) (q : g ≡ lists (transactionIn w a) n) (r : passesNames (transactionIn w a) n ≡ false) (h : g ≡ false) where
     low-named : i < 12
     low-named = omega (arith, named-read w a, name-room (transactionIn w a) n g q r h)
 

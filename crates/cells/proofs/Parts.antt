@@ -12,7 +12,7 @@ use borrow.Author.Needs.{needs}
 use borrow.Author.Tests.{le-leb, lt-leb, lt-ltb, le-ltb, eq-eqb, ne-eqb, not-true, not-false, leb-false}
 use Rattle.model.specs.Lists.{any}
 use Rattle.model.specs.Card.{sameName, taken, listed, lists, withName}
-use Rattle.model.specs.Write.{passesTwelve}
+use Rattle.model.specs.Write.{passesNames}
 use Rattle.model.specs.declared.Name.{Name}
 use Rattle.model.specs.declared.Transaction.{Transaction}
 use Rattle.model.proofs.Lists.{any-append, mem-any, getD-mem}
@@ -111,11 +111,11 @@ module _ (t : Transaction) where
 
 -- ---- names: 24
 module _ (t : Transaction) (n : Name) (g : Bool) (e : g ≡ lists t n) where
-  pub passes-full : g ≡ false → leb 12 (t .named) ≡ passesTwelve t n
-  unfolding passesTwelve
+  pub passes-full : g ≡ false → leb 12 (t .named) ≡ passesNames t n
+  unfolding passesNames
   passes-full h = rw (← e, h)
 
-  pub name-room : passesTwelve t n ≡ false → g ≡ false → t .named < 12
+  pub name-room : passesNames t n ≡ false → g ≡ false → t .named < 12
   name-room p h = leb-false 12 (t .named) (passes-full h ∙ p)
 
   pub name-stands : g ≡ true → t ≡ withName t n

@@ -9,11 +9,12 @@ use lib.Dec.{eqb}
 use borrow.Author.Tests.{ne-eqb, eqb-true, eqb-false, leb-true}
 use Rattle.model.specs.Bytes.{Bytes}
 use Rattle.model.specs.Card.{shapeOf, tailOf, committedCount}
-use Rattle.model.specs.Layout.{hasHead, maxNumber, isDescriptor}
+use Rattle.model.specs.Layout.{hasHead, isDescriptor}
 use Rattle.model.specs.Journal.{recordsFrom, journal, nameOf}
 use Rattle.model.specs.Valid.{isIn}
 use Rattle.model.specs.Command.{World, Outcome, refusal, unless}
 use Rattle.model.specs.Checkpoint.{validNow, committedOf, oldest, sharesLower, checkpointConditions, checkpointed, checkpoint}
+use Rattle.model.specs.Limits.{maxNumber}
 use Rattle.model.proofs.Lists.{cases, and-left, and-right}
 use Rattle.model.proofs.Command.{unless-same}
 use Rattle.model.proofs.Journal.{records-miss, records-hit}

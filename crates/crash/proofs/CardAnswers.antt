@@ -15,11 +15,11 @@ use borrow.Author.Tests.{lt-ltb, le-ltb, le-leb, lt-leb, leb-false, ltb-false, l
 use Rattle.model.specs.Lists.{any}
 use Rattle.model.specs.Bytes.{Bytes}
 use Rattle.model.specs.Card.{newName, sameName, lists, recordSize, coreOf}
-use Rattle.model.specs.Layout.{maxNumber}
 use Rattle.model.specs.Command.{World, refusal, notUp, noCore, noBlock}
-use Rattle.model.specs.Write.{writer, ruleFor, takesBlock, passesTwelve, listsFull, closedBlocks, journalFull, writeConditions}
+use Rattle.model.specs.Write.{writer, ruleFor, takesBlock, passesNames, listsFull, closedBlocks, journalFull, writeConditions}
 use Rattle.model.specs.Commit.{closeConditions, storeConditions}
 use Rattle.model.specs.Checkpoint.{checkpointConditions}
+use Rattle.model.specs.Limits.{maxNumber}
 use Rattle.model.proofs.Lists.{cases, or-none}
 use Rattle.crash.specs.Book.{absent, running, isRunning, Entry, Book, begin, staged, taking, naming, holderIn, wrote}
 use Rattle.crash.specs.Ledger.{Ledger, namesCount, holderNames, recordBlocks, notUpFor, writeRefusals, closeRefusals, storeRefusals, checkpointRefusals, blocksAfter, journalPasses, namesPass, numberPasses}
@@ -105,8 +105,8 @@ module _ {l : Ledger} {w : World} (u : Up l w) where
 more-test : (n m : ℕ) → ltb n (m + 1) ≡ leb n m
 more-test n m = elim (decLt m n) [ yes lt ↦ le-ltb n (m + 1) (omega arith) ∙ sym (lt-leb n m lt) | no ge ↦ lt-ltb n (m + 1) (omega arith) ∙ sym (le-leb n m (omega arith)) ]
 
-names-pass : {t : Transaction} {e : Entry} → Matches t e → (n : Name) → length (e .names) ≤ 12 → passesTwelve t n ≡ ltb 12 (length ((naming n e) .names))
-unfolding passesTwelve lists
+names-pass : {t : Transaction} {e : Entry} → Matches t e → (n : Name) → length (e .names) ≤ 12 → passesNames t n ≡ ltb 12 (length ((naming n e) .names))
+unfolding passesNames lists
 names-pass {t} {e} m n h =
     cases (any (sameName n) (e .names))
     (λ q. rw (m .names, q) (sym (le-ltb 12 (length (e .names)) h)))

@@ -15,7 +15,7 @@ use lib.Dec.{ltb}
 use borrow.Author.Tests.{ltb-false}
 use Rattle.model.specs.Bytes.{Bytes}
 use Rattle.model.specs.Card.{newName}
-use Rattle.model.specs.Layout.{maxNumber}
+use Rattle.model.specs.Limits.{maxNumber}
 use Rattle.model.specs.declared.Name.{Name}
 use Rattle.model.proofs.Lists.{cases, getD-mem, or-none}
 use Rattle.crash.specs.Book.{absent, running, isRunning, isClosed, Entry, Book, change, staged, begin, holderIn, Meeting, own, running-holder, meets, ruled, note, wrote}

@@ -9,9 +9,10 @@ use borrow.Author.Tests.{le-leb, lt-ltb}
 use Rattle.model.specs.Bytes.{Bytes, blockAt}
 use Rattle.model.specs.Shape.{between, clamped}
 use Rattle.model.specs.Card.{shapeOf}
-use Rattle.model.specs.Layout.{maxNumber, isTail, isMaster, shapeIn, tailIn, masterBlock}
+use Rattle.model.specs.Layout.{isTail, isMaster, shapeIn, tailIn, masterBlock}
 use Rattle.model.specs.Command.{World}
 use Rattle.model.specs.Recovery.{shapeOn, tailOn}
+use Rattle.model.specs.Limits.{maxNumber}
 use Rattle.model.specs.declared.Tail.{Tail}
 use Rattle.model.specs.declared.Shape.{Shape}
 use Rattle.model.proofs.Limits.{clamped-same, InRange}

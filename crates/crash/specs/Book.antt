@@ -5,6 +5,7 @@ use mathlib.Core.Option.{Option, none, some}
 use mathlib.Core.Bool.{Bool, true, false, cond}
 use lib.ListN.{length, replicate}
 use lib.Dec.{eqb, leb, ltb}
+use Rattle.model.specs.Limits.{blockSize}
 use Rattle.model.specs.Lists.{all, any, select}
 use Rattle.model.specs.Bytes.{Bytes, replaced}
 use Rattle.model.specs.Card.{newName, sameName}
@@ -247,4 +248,4 @@ image base (w ∷ ws) b = cond (eqb b (w .block)) (replaced (w .offset) 4 (image
 
 -- 'in the blank one all are zero'
 unfoldable pub blank : ℕ → Bytes
-blank b = replicate 128 0
+blank b = replicate blockSize 0

@@ -8,6 +8,7 @@ use mathlib.Core.List.{List, [], _∷_, map, List·Memᴰ}
 use mathlib.Core.Bool.{true, false}
 use lib.ListN.{length}
 use lib.Dec.{ltb}
+use Rattle.model.specs.Limits.{blockSize, diskSize, memorySize}
 use Rattle.model.specs.Lists.{below, all}
 use Rattle.model.specs.Bytes.{Bytes, part}
 use Rattle.model.specs.Shape.{inRange}
@@ -45,8 +46,8 @@ startWorld (from-down s m) = record { card = downCard; disk = (formatted s) .wor
 
 -- 'over slices of the stated lengths'; a shape that FORMAT takes
 abbrev pub Stated : Start → Type 0
-Stated (from-blank d m) = (length d ≡ 32896) × (length m ≡ 16384)
-Stated (from-down s m) = (inRange (s .cores) (s .blocks) (s .journal) ≡ true) × (length m ≡ 16384)
+Stated (from-blank d m) = (length d ≡ diskSize) × (length m ≡ memorySize)
+Stated (from-down s m) = (inRange (s .cores) (s .blocks) (s .journal) ≡ true) × (length m ≡ memorySize)
 
 -- 'and any content'
 pub record StartFits (s : Start) : Type 0 where
@@ -73,7 +74,7 @@ pub record ComesUp (p : Point World) : Type 0 where
 
 -- 'The home area is the bytes of disk blocks 1 to B'
 unfoldable pub homeArea : ℕ → World → Bytes
-homeArea n w = part 128 (128 * n) (w .disk)
+homeArea n w = part blockSize (blockSize * n) (w .disk)
 
 unfoldable pub fedPoint : Point World → Service → Service
 fedPoint p v = heard fed (p .read) (p .outcome .answer) v

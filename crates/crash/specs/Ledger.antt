@@ -6,12 +6,13 @@ use mathlib.Core.List.{List, [], _∷_, _++_, map}
 use mathlib.Core.Bool.{Bool, cond, not, _&&_, _||_}
 use lib.ListN.{length, getD}
 use lib.Dec.{ltb, leb, eqb}
+use Rattle.model.specs.Limits.{maxNames, maxTaken, maxNumber, maxOffset}
 use Rattle.model.specs.Lists.{below, all, any, select}
 use Rattle.model.specs.Bytes.{Bytes, store, zeroDisk, replaced, zeroMemory}
 use Rattle.model.specs.Card.{newTail, newName, sameName, isBlank, isUp, isDown}
 use Rattle.model.specs.Shape.{inRange, homeBlock, journalBlock, newShape}
 use Rattle.model.specs.Checkpoint.{share}
-use Rattle.model.specs.Layout.{maxNumber, masterBlock, Held, newHeld, descriptorBlock, commitBlock, flagOf, escaped}
+use Rattle.model.specs.Layout.{masterBlock, Held, newHeld, descriptorBlock, commitBlock, flagOf, escaped}
 use Rattle.model.specs.Recovery.{tailOn}
 use Rattle.model.specs.Shrink.{shrink}
 use Rattle.crash.specs.Book.{Book, Write, isClosed, isCommitted, isRetired, counted, emptyBook, hasRunning, hasClosed, hasCommitted, holderIn, Meeting, no-holder, own, running-holder, closed-holder, meets, wrote, close, keptWrites, image, blank}
@@ -277,7 +278,7 @@ formatRefusals c b j l = (not (isBlank (l .phase)), 21) ∷ (not (inRange c b j)
 unfoldable pub namesPass : ℕ → ℕ → Book → Book → Bool
 namesPass c b k after =
     let t = newName c (k .next c) in
-    ltb 12 (namesCount after t) || ltb 12 (holderNames after (meets k t (holderIn k b (k .writes))))
+    ltb maxNames (namesCount after t) || ltb maxNames (holderNames after (meets k t (holderIn k b (k .writes))))
 
 -- the blocks that its transaction then has
 unfoldable pub blocksAfter : ℕ → Book → Book → ℕ
@@ -298,9 +299,9 @@ writeRefusals c b o v l =
     let after = wrote c b o v k in
     notUpFor c l
     ((leb (l .shape .blocks) b, 6)
-    ∷ (ltb 124 o, 7)
+    ∷ (ltb maxOffset o, 7)
     ∷ (namesPass c b k after, 24)
-    ∷ (ltb 8 (blocksAfter c k after), 25)
+    ∷ (ltb maxTaken (blocksAfter c k after), 25)
     ∷ (journalPasses c (l .shape) k after, 26)
     ∷ (numberPasses c k, 27)
     ∷ [])

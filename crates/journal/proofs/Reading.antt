@@ -11,8 +11,9 @@ use lib.Seq.{getD-set-same}
 use lib.Dec.{ltb, leb}
 use borrow.Author.Tests.{lt-ltb, le-ltb, le-leb, lt-leb, ltb-true, leb-true, leb-false, eq-eqb, ne-eqb}
 use Rattle.model.specs.Bytes.{Bytes}
-use Rattle.model.specs.Layout.{isDescriptor, hasHead, maxNumber}
+use Rattle.model.specs.Layout.{isDescriptor, hasHead}
 use Rattle.model.specs.Journal.{recordAt, recordsFrom, journal}
+use Rattle.model.specs.Limits.{maxNumber}
 use Rattle.model.specs.declared.Shape.{Shape}
 use Rattle.model.specs.declared.Tail.{Tail}
 use Rattle.model.specs.declared.Committed.{Committed}

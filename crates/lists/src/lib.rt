@@ -5,7 +5,7 @@ ghost use mathlib.Core.Bool.{false};
 ghost use Prim.Native.Nat.{_<_};
 ghost use lib.ListN.{length};
 ghost use Rattle.model.specs.Card.{withName, withBlock};
-ghost use Rattle.model.specs.Write.{passesTwelve};
+ghost use Rattle.model.specs.Write.{passesNames};
 ghost use Rattle.cells.specs.Cells.{transactionIn};
 ghost use Rattle.cells.specs.Changes.{openedOr, IsPlace, Frame};
 use cells::BLOCKS;
@@ -21,7 +21,7 @@ use model::Name;
 
 // The name added to the list, where it does not stand in it.
 pub fn add_name(w: &mut [u64], at: usize, n: Name)
-    requires { ⌜ (length (now w) ≡ 512) × IsPlace at × (n .core < 8) × (passesTwelve (transactionIn (now w) at) n ≡ false) ⌝ }
+    requires { ⌜ (length (now w) ≡ 512) × IsPlace at × (n .core < 8) × (passesNames (transactionIn (now w) at) n ≡ false) ⌝ }
     ensures { λ _. ⌜
         (transactionIn (now (w .exit)) at ≡ withName (transactionIn (now (w .entry)) at) n)
         × Frame (now (w .entry)) (now (w .exit)) at 24

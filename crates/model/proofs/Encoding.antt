@@ -14,7 +14,8 @@ use Rattle.model.specs.Lists.{below, all, Each}
 use Rattle.model.specs.Bytes.{Bytes, bytes, number, part, be4, block}
 use Rattle.model.specs.Shape.{between}
 use Rattle.model.specs.Card.{newTail, newName}
-use Rattle.model.specs.Layout.{mark, maxNumber, hasHead, pairWords, pairAt, pairsIn, masterWords, masterBlock, shapeIn, tailIn, isTail, isMaster, Held, newHeld, descriptorWords, descriptorBlock, blockCount, heldIn, distinct, isHeld, isDescriptor, commitWords, commitBlock, stampIn, nameCount, namesIn, isListable, isCommit, flagOf, escaped, unescaped}
+use Rattle.model.specs.Layout.{mark, hasHead, pairWords, pairAt, pairsIn, masterWords, masterBlock, shapeIn, tailIn, isTail, isMaster, Held, newHeld, descriptorWords, descriptorBlock, blockCount, heldIn, distinct, isHeld, isDescriptor, commitWords, commitBlock, stampIn, nameCount, namesIn, isListable, isCommit, flagOf, escaped, unescaped}
+use Rattle.model.specs.Limits.{maxNumber}
 use Rattle.model.specs.declared.Shape.{Shape}
 use Rattle.model.specs.declared.Tail.{Tail}
 use Rattle.model.specs.declared.Name.{Name}

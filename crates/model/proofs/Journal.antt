@@ -15,14 +15,16 @@ use lib.Dec.{leb}
 use borrow.Author.Tests.{le-leb, leb-true}
 use Rattle.model.specs.Bytes.{Bytes, blockAt, store, be4, part, number}
 use Rattle.model.specs.Shape.{journalBlock}
-use Rattle.model.specs.Layout.{Held, newHeld, hasHead, descriptorBlock, blockCount, isDescriptor, commitBlock, stampIn, nameCount, isCommit, flagOf, escaped, maxNumber}
-use Rattle.model.specs.Journal.{journalAt, recordAt, recordsFrom, journal, heldBy, namesOf, imageOf}
+use Rattle.model.specs.Layout.{Held, newHeld, hasHead, descriptorBlock, blockCount, isDescriptor, commitBlock, stampIn, nameCount, isCommit, flagOf, escaped}
+use Rattle.model.specs.Journal.{journalAt, recordAt, recordsFrom, heldBy, namesOf, imageOf}
 use Rattle.model.specs.declared.Shape.{Shape}
 use Rattle.model.specs.declared.Name.{Name}
 use Rattle.model.specs.declared.Committed.{Committed}
 use Rattle.model.specs.declared.Found.{Found}
 use Rattle.model.specs.declared.Found.the-variants.{Whole, Miss}
 use Rattle.model.specs.Lists.{Each}
+use Rattle.model.specs.Limits.{maxNumber}
+use Rattle.model.specs.Tape.{whole}
 use Rattle.model.proofs.Lists.{cases, and-left, and-right, each-append, each-getD}
 use Rattle.model.proofs.Store.{length-store, block-stored, block-other}
 use Rattle.model.proofs.Words.{IsByte}

@@ -11,10 +11,11 @@ use borrow.Author.Tests.{ltb-true}
 use Rattle.model.specs.Lists.{below, all, Each}
 use Rattle.model.specs.Bytes.{Bytes}
 use Rattle.model.specs.Shape.{journalBlock}
-use Rattle.model.specs.Layout.{Held, pairsIn, hasHead, maxNumber, blockCount, heldIn, distinct, isHeld, isDescriptor}
+use Rattle.model.specs.Layout.{Held, pairsIn, hasHead, blockCount, heldIn, distinct, isHeld, isDescriptor}
 use Rattle.model.specs.Journal.{nameOf, journalAt, journal, journals, heldBy, blocksOf, took, imageOf}
 use Rattle.model.specs.Valid.{later, newest}
 use Rattle.model.specs.Checkpoint.{oldest}
+use Rattle.model.specs.Limits.{maxNumber}
 use Rattle.model.specs.declared.Shape.{Shape}
 use Rattle.model.specs.declared.Tail.{Tail}
 use Rattle.model.specs.declared.Name.{Name}

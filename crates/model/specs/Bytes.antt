@@ -2,6 +2,7 @@
 use Prim.Native.Nat.{ℕ, zero, suc, _+_, _*_, _-_, _/_, _%_}
 use mathlib.Core.List.{List, [], _∷_, _++_, flatMap}
 use lib.ListN.{length, take, drop, replicate}
+use Rattle.model.specs.Limits.{blockSize, diskSize, memorySize}
 
 abbrev pub Bytes : Type 0
 Bytes = List ℕ
@@ -30,15 +31,15 @@ replaced at n s b = take at s ++ (b ++ drop n (drop at s))
 
 -- 'A block is 128 bytes': block k of a disk, or of memory
 unfoldable pub blockAt : Bytes → ℕ → Bytes
-blockAt d k = part (128 * k) 128 d
+blockAt d k = part (blockSize * k) blockSize d
 
 -- 'A store replaces one disk block': the disk, or memory, with block k replaced
 unfoldable pub store : Bytes → ℕ → Bytes → Bytes
-store d k b = replaced (128 * k) 128 d b
+store d k b = replaced (blockSize * k) blockSize d b
 
 -- 'Unused bytes are zero': a block that begins with the bytes given
 unfoldable pub padded : Bytes → Bytes
-padded s = s ++ replicate (128 - length s) 0
+padded s = s ++ replicate (blockSize - length s) 0
 
 -- four bytes for each number
 unfoldable pub words : List ℕ → Bytes
@@ -50,7 +51,7 @@ block ns = padded (words ns)
 
 -- 'The lent disk slice is exactly 32,896 bytes', 'a lent slice of exactly 16,384 bytes', all zero
 unfoldable pub zeroDisk : Bytes
-zeroDisk = replicate 32896 0
+zeroDisk = replicate diskSize 0
 
 unfoldable pub zeroMemory : Bytes
-zeroMemory = replicate 16384 0
+zeroMemory = replicate memorySize 0

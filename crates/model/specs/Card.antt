@@ -5,6 +5,7 @@ use mathlib.Core.List.{List, map}
 use mathlib.Core.Bool.{Bool, true, false, cond, _&&_}
 use lib.ListN.{take, length, getD, set, replicate}
 use lib.Dec.{eqb}
+use Rattle.model.specs.Limits.{maxCores, maxBlocks, maxNames, maxTaken}
 use Rattle.model.specs.Lists.{any}
 use Rattle.model.specs.Shape.{clamped}
 use Rattle.model.specs.declared.Phase.{Phase}
@@ -46,11 +47,11 @@ sameName a b = eqb (a .core) (b .core) && eqb (a .number) (b .number)
 
 -- ---- transactions
 abbrev pub noTransaction : Transaction
-noTransaction = record { live = false; stamp = 0; count = 0; blocks = replicate 8 0; named = 0; names = replicate 12 (newName 0 0) }
+noTransaction = record { live = false; stamp = 0; count = 0; blocks = replicate maxTaken 0; named = 0; names = replicate maxNames (newName 0 0) }
 
 -- one just opened: no block, no name
 abbrev pub opened : Transaction
-opened = record { live = true; stamp = 0; count = 0; blocks = replicate 8 0; named = 0; names = replicate 12 (newName 0 0) }
+opened = record { live = true; stamp = 0; count = 0; blocks = replicate maxTaken 0; named = 0; names = replicate maxNames (newName 0 0) }
 
 -- the blocks that it took, in the order taken
 unfoldable pub taken : Transaction → List ℕ
@@ -105,11 +106,11 @@ freshCard p s ts =
       recovered = 0;
       tails = ts;
       cores = map (λ (t : Tail). freshCore (t .number)) ts;
-      holders = replicate 64 noHolder;
+      holders = replicate maxBlocks noHolder;
     }
 
 unfoldable pub emptyCard : Phase → Card
-emptyCard p = freshCard p (record { cores = 0; blocks = 0; journal = 0 }) (replicate 8 (newTail 0 0))
+emptyCard p = freshCard p (record { cores = 0; blocks = 0; journal = 0 }) (replicate maxCores (newTail 0 0))
 
 unfoldable pub blankCard : Card
 blankCard = emptyCard Blank

@@ -5,6 +5,7 @@ use mathlib.Core.List.{List, [], _∷_}
 use mathlib.Core.Bool.{Bool, true, false, cond, not, _||_}
 use lib.ListN.{length}
 use lib.Dec.{leb, eqb}
+use Rattle.model.specs.Limits.{diskSize, memorySize}
 use Rattle.model.specs.Lists.{Each}
 use Rattle.model.specs.Bytes.{Bytes, store}
 use Rattle.model.specs.Card.{isBlank, isDown, shapeOf}
@@ -60,7 +61,7 @@ storing w x k b = record { answer = 0; world = record { card = x; disk = store (
 
 -- '1 disk slice not 32,896 bytes, or memory slice not 16,384'
 unfoldable pub wrongLength : World → Bool
-wrongLength w = not (eqb (length (w .disk)) 32896) || not (eqb (length (w .memory)) 16384)
+wrongLength w = not (eqb (length (w .disk)) diskSize) || not (eqb (length (w .memory)) memorySize)
 
 -- 'Order: 1, 2, 3, then 20 to 23, then 4 to 8': what WRITE, CLOSE, STORE, CHECKPOINT and reading meet first
 abbrev pub notUp : World → List (Bool × ℕ) → List (Bool × ℕ)

@@ -4,6 +4,7 @@ use mathlib.Core.List.{List, [], _∷_, map}
 use mathlib.Core.Bool.{Bool, cond, not}
 use lib.ListN.{length, getD, set}
 use lib.Dec.{leb, eqb}
+use Rattle.model.specs.Limits.{maxBlocks, maxTaken}
 use Rattle.model.specs.Lists.{below}
 use Rattle.model.specs.Bytes.{Bytes, blockAt, store}
 use Rattle.model.specs.Shape.{journalBlock}
@@ -16,13 +17,13 @@ use Rattle.model.specs.declared.Card.{Card}
 -- ---- CLOSE
 -- 'the 64 block images .., then the closed copies, eight to a core'; 'the first of its core's copies onward'
 unfoldable pub copyBlock : ℕ → ℕ → ℕ
-copyBlock c i = 64 + 8 * c + i
+copyBlock c i = maxBlocks + maxTaken * c + i
 
 -- 'CLOSE copies the transaction's block images, in the order taken': those of the blocks given, to copy i onward
 -- (a card that no run made may list a block that has no image: its number counts modulo 64)
 unfoldable pub copied : ℕ → ℕ → List ℕ → Bytes → Bytes
 copied c i [] m = m
-copied c i (b ∷ bs) m = copied c (suc i) bs (store m (copyBlock c i) (blockAt m (b % 64)))
+copied c i (b ∷ bs) m = copied c (suc i) bs (store m (copyBlock c i) (blockAt m (b % maxBlocks)))
 
 unfoldable pub closeConditions : ℕ → World → List (Bool × ℕ)
 closeConditions c w =

@@ -3,6 +3,7 @@ use Prim.Native.Nat.{ℕ}
 use mathlib.Core.List.{List, [], _∷_}
 use mathlib.Core.Bool.{Bool, not}
 use lib.ListN.{replicate}
+use Rattle.model.specs.Limits.{maxCores}
 use Rattle.model.specs.Bytes.{store, zeroDisk, zeroMemory}
 use Rattle.model.specs.Shape.{newShape, inRange, checkedAnswer}
 use Rattle.model.specs.Card.{isBlank, newTail, freshCard}
@@ -22,7 +23,7 @@ formatted s =
       answer = 0;
       world =
           record {
-            card = freshCard Up s (replicate 8 (newTail 1 0));
+            card = freshCard Up s (replicate maxCores (newTail 1 0));
             disk = store zeroDisk 0 (masterBlock s (λ (c : ℕ). newTail 1 0));
             memory = zeroMemory;
           };

@@ -4,6 +4,7 @@ use mathlib.Core.List.{List, [], _∷_, _++_, map, flatMap}
 use mathlib.Core.Bool.{Bool, true, cond, not, _&&_}
 use lib.ListN.{drop, length, replicate}
 use lib.Dec.{ltb, leb, eqb}
+use Rattle.model.specs.Limits.{maxNames, maxTaken, maxNumber}
 use Rattle.model.specs.Lists.{below, all}
 use Rattle.model.specs.Bytes.{Bytes, bytes, be4, block}
 use Rattle.model.specs.Shape.{between, inRange}
@@ -15,10 +16,6 @@ use Rattle.model.specs.declared.Name.{Name}
 -- 'mark C03B3998 hex'
 abbrev pub mark : ℕ
 mark = 0xC03B3998
-
--- the highest number of a transaction
-abbrev pub maxNumber : ℕ
-maxNumber = 4000000000
 
 -- 'Every record block: 0-3 mark C03B3998 hex, 4-7 type, 8-11 number'
 unfoldable pub hasHead : ℕ → ℕ → Bytes → Bool
@@ -92,7 +89,7 @@ isHeld s h = ltb (h .block) (s .blocks) && leb (h .flag) 1
 unfoldable pub isDescriptor : Shape → ℕ → Bytes → Bool
 isDescriptor s k b =
     let n = blockCount b in
-    hasHead 1 k b && leb k maxNumber && leb n 8 && all (isHeld s) (heldIn b n) && distinct (heldIn b n)
+    hasHead 1 k b && leb k maxNumber && leb n maxTaken && all (isHeld s) (heldIn b n) && distinct (heldIn b n)
 
 -- ---- 'Commit, type 2: 12-19 stamp, 20-23 name count; from 24, per name, core (4), number (4)'
 unfoldable pub commitWords : ℕ → ℕ → List Name → List ℕ
@@ -118,7 +115,7 @@ isListable s n = ltb (n .core) (s .cores) && leb 1 (n .number)
 unfoldable pub isCommit : Shape → ℕ → Bytes → Bool
 isCommit s k b =
     let n = nameCount b in
-    hasHead 2 k b && leb 1 (stampIn b) && leb n 12 && all (isListable s) (namesIn b n)
+    hasHead 2 k b && leb 1 (stampIn b) && leb n maxNames && all (isListable s) (namesIn b n)
 
 -- ---- 'A data block beginning with the mark has those four bytes zeroed in the journal and flag 1'
 unfoldable pub flagOf : Bytes → ℕ

@@ -1,4 +1,5 @@
 -- Paper 01 as definitions, in its order. All that a reader must believe of the card stands in these files.
+pub mod Limits
 pub mod Lists
 pub mod Bytes
 pub mod Shape

@@ -4,11 +4,12 @@ use mathlib.Core.List.{List, [], _∷_, map}
 use mathlib.Core.Bool.{Bool, cond, not}
 use lib.ListN.{length}
 use lib.Dec.{ltb, leb, eqb}
+use Rattle.model.specs.Limits.{maxCores, maxNumber}
 use Rattle.model.specs.Lists.{below, select}
 use Rattle.model.specs.Bytes.{Bytes, blockAt, zeroMemory}
 use Rattle.model.specs.Shape.{homeBlock}
 use Rattle.model.specs.Card.{isBlank, isUp, newTail, freshCard, downCard}
-use Rattle.model.specs.Layout.{maxNumber, masterBlock, isMaster, shapeIn, tailIn}
+use Rattle.model.specs.Layout.{masterBlock, isMaster, shapeIn, tailIn}
 use Rattle.model.specs.Journal.{journal, journals, blocksOf, imageOf}
 use Rattle.model.specs.Valid.{validSet, blocksHeld, newest}
 use Rattle.model.specs.Command.{World, Outcome, unstored, storing, unless, wrongLength}
@@ -80,7 +81,7 @@ emptiedTail d c =
 
 -- 'Then one master store empties all journals ..' 'The card is up, stamps start again at 1.'
 unfoldable pub broughtUp : Bytes → Card
-broughtUp d = freshCard Up (shapeOn d) (map (emptiedTail d) (below 8))
+broughtUp d = freshCard Up (shapeOn d) (map (emptiedTail d) (below maxCores))
 
 -- a home store of the lowest block left, or the master store
 unfoldable pub recoverStep : List ℕ → World → Outcome World

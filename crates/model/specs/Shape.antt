@@ -2,6 +2,7 @@
 use Prim.Native.Nat.{ℕ, _+_, _*_, _%_}
 use mathlib.Core.Bool.{Bool, cond, _&&_}
 use lib.Dec.{ltb, leb}
+use Rattle.model.specs.Limits.{maxCores, maxBlocks, minJournal, maxJournal}
 use Rattle.model.specs.declared.Shape.{Shape}
 use Rattle.model.specs.declared.Checked.{Checked}
 use Rattle.model.specs.declared.Checked.the-variants.{Fits, OutOfRange}
@@ -14,7 +15,7 @@ between low x high = leb low x && leb x high
 
 -- 'C cores (1 to 8), B home blocks (1 to 64), J journal blocks for each core (4 to 24)'
 unfoldable pub inRange : ℕ → ℕ → ℕ → Bool
-inRange c b j = between 1 c 8 && between 1 b 64 && between 4 j 24
+inRange c b j = between 1 c maxCores && between 1 b maxBlocks && between minJournal j maxJournal
 
 -- what the constructor of a shape answers
 unfoldable pub checked : ℕ → ℕ → ℕ → Checked
@@ -39,4 +40,4 @@ nearest low x high = cond (ltb x low) low (cond (ltb high x) high x)
 
 -- A card value that no run made may hold any numbers; its shape is read within the limits.
 unfoldable pub clamped : Shape → Shape
-clamped s = record { cores = nearest 1 (s .cores) 8; blocks = nearest 1 (s .blocks) 64; journal = nearest 4 (s .journal) 24 }
+clamped s = record { cores = nearest 1 (s .cores) maxCores; blocks = nearest 1 (s .blocks) maxBlocks; journal = nearest minJournal (s .journal) maxJournal }

@@ -3,10 +3,10 @@ use Prim.Native.Nat.{ℕ, _+_, _*_}
 use mathlib.Core.List.{List, [], _∷_}
 use mathlib.Core.Bool.{Bool, true, false, cond, not, _&&_, _||_}
 use lib.Dec.{ltb, leb, eqb}
+use Rattle.model.specs.Limits.{blockSize, maxNames, maxTaken, maxNumber, maxOffset}
 use Rattle.model.specs.Bytes.{Bytes, blockAt, store, replaced}
 use Rattle.model.specs.Shape.{homeBlock}
 use Rattle.model.specs.Card.{newName, sameName, opened, lists, withBlock, withName, withRunning, recordSize, shapeOf, coreOf, holderOf, newHolder, withCore, withHolder}
-use Rattle.model.specs.Layout.{maxNumber}
 use Rattle.model.specs.Command.{World, Outcome, unstored, unless, notUp, noCore, noBlock}
 use Rattle.model.specs.declared.Name.{Name}
 use Rattle.model.specs.declared.Transaction.{Transaction}
@@ -70,14 +70,14 @@ writerAfter x c b =
     cond (takesBlock r) (withBlock t b) t
 
 -- '24 a list, the writer's or the holder's, would pass 12 names'
-unfoldable pub passesTwelve : Transaction → Name → Bool
-passesTwelve t n = not (lists t n) && leb 12 (t .named)
+unfoldable pub passesNames : Transaction → Name → Bool
+passesNames t n = not (lists t n) && leb maxNames (t .named)
 
 unfoldable pub listsFull : Card → ℕ → ℕ → Bool
 listsFull x c b =
     let r = ruleFor x c b in
     let n = (holderOf x b) .name in
-    namesHolder r && passesTwelve (writer x c) n || isNamedBack r && passesTwelve ((coreOf x (n .core)) .running) (writerName x c)
+    namesHolder r && passesNames (writer x c) n || isNamedBack r && passesNames ((coreOf x (n .core)) .running) (writerName x c)
 
 -- '26 journal full: blocks of the records of closed unretired transactions, stored yet or not,
 -- plus 2 and the blocks of the running one, would pass J'
@@ -93,9 +93,9 @@ writeConditions c b o w =
     notUp w
     ((noCore w c, 5)
     ∷ (noBlock w b, 6)
-    ∷ (ltb 124 o, 7)
+    ∷ (ltb maxOffset o, 7)
     ∷ (listsFull x c b, 24)
-    ∷ (takesBlock (ruleFor x c b) && leb 8 ((writer x c) .count), 25)
+    ∷ (takesBlock (ruleFor x c b) && leb maxTaken ((writer x c) .count), 25)
     ∷ (journalFull x c b, 26)
     ∷ (not ((coreOf x c) .running .live) && ltb maxNumber ((coreOf x c) .next), 27)
     ∷ [])
@@ -113,7 +113,7 @@ writtenCard x c b =
 unfoldable pub writtenMemory : World → ℕ → ℕ → ℕ → Bytes → Bytes
 writtenMemory w c b o v =
     let m = cond (loadsImage (ruleFor (w .card) c b)) (store (w .memory) b (blockAt (w .disk) (homeBlock b))) (w .memory) in
-    replaced (128 * b + o) 4 m v
+    replaced (blockSize * b + o) 4 m v
 
 unfoldable pub written : ℕ → ℕ → ℕ → Bytes → World → Outcome World
 written c b o v w = unstored w (writtenCard (w .card) c b) (writtenMemory w c b o v)

@@ -8,6 +8,7 @@ use Rattle.model.specs.Shape.{homeBlock}
 use Rattle.model.specs.Card.{holderOf}
 use Rattle.model.specs.Command.{World}
 use Rattle.model.specs.Reading.{readNumber}
+use Rattle.model.specs.Limits.{blockSize}
 use Rattle.reading.specs.declared.Part.{Part}
 
 abbrev pub newPart : ℕ → ℕ → ℕ → ℕ → Part
@@ -17,7 +18,7 @@ newPart n s a l = record { number = n; slice = s; from = a; length = l }
 unfoldable pub partOf : ℕ → World → Part
 partOf b w =
     cond (eqb (readNumber b w) 0)
-    (cond ((holderOf (w .card) b) .held) (newPart 0 2 (128 * b) 128) (newPart 0 1 (128 * homeBlock b) 128))
+    (cond ((holderOf (w .card) b) .held) (newPart 0 2 (blockSize * b) blockSize) (newPart 0 1 (blockSize * homeBlock b) blockSize))
     (newPart (readNumber b w) 0 0 0)
 
 -- the slice of a number: 1 the disk, 2 memory, any other none

@@ -9,10 +9,11 @@ use borrow.Author.Tests.{lt-ltb, le-ltb, ltb-true}
 use Rattle.model.specs.Lists.{below}
 use Rattle.model.specs.Bytes.{Bytes, part, blockAt}
 use Rattle.model.specs.Card.{newTail}
-use Rattle.model.specs.Layout.{maxNumber, shapeIn, tailIn, unescaped}
+use Rattle.model.specs.Layout.{shapeIn, tailIn, unescaped}
 use Rattle.model.specs.Journal.{journal}
 use Rattle.model.specs.Valid.{validSet, newest}
 use Rattle.model.specs.Recovery.{shapeOn, tailOn, committedOn, validOn, blocksLeft, newestImage, tailPast, emptiedTail}
+use Rattle.model.specs.Limits.{maxNumber}
 use Rattle.model.specs.declared.Card.{Card}
 use Rattle.model.specs.declared.Tail.{Tail}
 use Rattle.model.specs.declared.Shape.{Shape}

@@ -9,9 +9,9 @@ use lib.ListN.{length, take, set, length-take, length-set}
 use borrow.Author.Tests.{lt-leb, le-leb, leb-true, leb-false, not-true, not-false}
 use Rattle.model.specs.Card.{opened, taken, listed, lists, withName, recordSize, shapeOf, coreOf}
 use Rattle.model.specs.Command.{refusal}
-use Rattle.model.specs.Layout.{maxNumber}
+use Rattle.model.specs.Limits.{maxNumber}
 use Rattle.model.specs.Lists.{any}
-use Rattle.model.specs.Write.{writer, takesBlock, namesHolder, passesTwelve, closedBlocks}
+use Rattle.model.specs.Write.{writer, takesBlock, namesHolder, passesNames, closedBlocks}
 use Rattle.model.specs.declared.Shape.{Shape}
 use Rattle.model.specs.declared.Name.{Name}
 use Rattle.model.specs.declared.Transaction.{Transaction}
@@ -31,17 +31,17 @@ module _ (w : List ℕ) (a : ℕ) (n : Name) (k : ℕ) (e : k ≡ length (listed
   unfolding listed
   listed-count = e ∙ length-take ((transactionIn w a) .named) ((transactionIn w a) .names) ∙ ap (min ((transactionIn w a) .named)) (names-long w a)
 
-  pub twelve-not : k < 12 → false ≡ passesTwelve (transactionIn w a) n
-  unfolding passesTwelve
+  pub twelve-not : k < 12 → false ≡ passesNames (transactionIn w a) n
+  unfolding passesNames
   twelve-not h = let z : leb 12 ((transactionIn w a) .named) ≡ false = lt-leb 12 ((transactionIn w a) .named) (omega (arith, listed-count)) in rw (z, and-false)
 
-  pub twelve-full : 12 ≤ k → (g : Bool) → g ≡ lists (transactionIn w a) n → not g ≡ passesTwelve (transactionIn w a) n
-  unfolding passesTwelve
+  pub twelve-full : 12 ≤ k → (g : Bool) → g ≡ lists (transactionIn w a) n → not g ≡ passesNames (transactionIn w a) n
+  unfolding passesNames
   twelve-full h g q = let z : leb 12 ((transactionIn w a) .named) ≡ true = le-leb 12 ((transactionIn w a) .named) (omega (arith, listed-count)) in rw (z, ← q, and-true)
 
 -- ---- the writer: one that opens has no names, no blocks
-opened-lists : (n : Name) → false ≡ passesTwelve opened n
-unfolding passesTwelve lists listed any
+opened-lists : (n : Name) → false ≡ passesNames opened n
+unfolding passesNames lists listed any
 opened-lists n = refl
 
 opened-count : _≡_ {A = ℕ} 0 (length (taken opened))
@@ -53,22 +53,22 @@ module _ (x : Card) (c : ℕ) (l : Bool) (q : l ≡ (coreOf x c) .running .live)
   unfolding writer
   writer-opens = rw (← q, not-true l z)
 
-  pub names-none : (n : Name) → false ≡ passesTwelve (writer x c) n
+  pub names-none : (n : Name) → false ≡ passesNames (writer x c) n
   names-none n = rw writer-opens (opened-lists n)
 
   pub count-none : 0 ≡ length (taken (writer x c))
   count-none = rw writer-opens opened-count
 
 module _ (w : List ℕ) (c : ℕ) (h : c < 8) (p : ℕ) (e : p ≡ runningPlace c) where
-  pub holder-names : (own : Name) (f : Bool) → f ≡ passesTwelve (transactionIn w p) own → f ≡ passesTwelve ((coreOf (cardIn w) c) .running) own
-  holder-names own f s = s ∙ ap (λ (t : Transaction). passesTwelve t own) (running-at w c h p e)
+  pub holder-names : (own : Name) (f : Bool) → f ≡ passesNames (transactionIn w p) own → f ≡ passesNames ((coreOf (cardIn w) c) .running) own
+  holder-names own f s = s ∙ ap (λ (t : Transaction). passesNames t own) (running-at w c h p e)
 
   module _ (l : Bool) (q : l ≡ (coreOf (cardIn w) c) .running .live) (z : not l ≡ false) where
     writer-runs : transactionIn w p ≡ writer (cardIn w) c
     unfolding writer openedOr
     writer-runs = running-at w c h p e ∙ open-live ((coreOf (cardIn w) c) .running) l q (not-false l z)
 
-    pub names-some : (n : Name) (f : Bool) → f ≡ passesTwelve (transactionIn w p) n → f ≡ passesTwelve (writer (cardIn w) c) n
+    pub names-some : (n : Name) (f : Bool) → f ≡ passesNames (transactionIn w p) n → f ≡ passesNames (writer (cardIn w) c) n
     names-some n f s = s ∙ rw writer-runs
 
     pub count-some : (k : ℕ) → k ≡ length (taken (transactionIn w p)) → k ≡ length (taken (writer (cardIn w) c))

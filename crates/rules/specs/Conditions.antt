@@ -4,8 +4,8 @@ use mathlib.Core.Bool.{Bool, cond, not, _&&_, _||_}
 use mathlib.Core.List.{List, [], _∷_}
 use lib.Dec.{ltb, leb}
 use Rattle.model.specs.Card.{recordSize, shapeOf, coreOf, holderOf, withBlock, withName}
-use Rattle.model.specs.Layout.{maxNumber}
-use Rattle.model.specs.Write.{writer, writerName, ruleFor, takesBlock, namesHolder, isNamedBack, passesTwelve, closedBlocks}
+use Rattle.model.specs.Write.{writer, writerName, ruleFor, takesBlock, namesHolder, isNamedBack, passesNames, closedBlocks}
+use Rattle.model.specs.Limits.{maxNumber}
 use Rattle.model.specs.declared.Name.{Name}
 use Rattle.model.specs.declared.Transaction.{Transaction}
 use Rattle.model.specs.declared.Card.{Card}
@@ -38,10 +38,10 @@ afterBy x f = takenBy (f .rule) (namedBy (f .rule) (writer x (f .core)) (f .hold
 -- ---- room
 -- 24 for the writer t, and for the transaction t that holds the block
 unfoldable pub ownFull : Rule → Transaction → Name → Bool
-ownFull r t n = namesHolder r && passesTwelve t n
+ownFull r t n = namesHolder r && passesNames t n
 
 unfoldable pub backFull : Rule → Transaction → Name → Bool
-backFull r t own = isNamedBack r && passesTwelve t own
+backFull r t own = isNamedBack r && passesNames t own
 
 -- '25 a ninth block'
 unfoldable pub ninth : Rule → Transaction → Bool

@@ -6,8 +6,8 @@ ghost use lib.Dec.{ltb, leb};
 ghost use lib.ListN.{length};
 ghost use Rattle.model.specs.Card.{taken, coreOf, shapeOf};
 ghost use Rattle.model.specs.Command.{refusal};
-ghost use Rattle.model.specs.Layout.{maxNumber};
-ghost use Rattle.model.specs.Write.{writer, takesBlock, passesTwelve, closedBlocks};
+ghost use Rattle.model.specs.Write.{writer, takesBlock, passesNames, closedBlocks};
+ghost use Rattle.model.specs.Limits.{maxNumber};
 ghost use Rattle.cells.specs.Cells.{transactionIn, cardIn};
 ghost use Rattle.rules.specs.Conditions.{Bounded, ownFull, backFull, sizeAfter, foundConditions};
 use crate::Found;
@@ -28,9 +28,9 @@ use model::Name;
 use model::Shape;
 
 // Whether the list of the transaction at a place would pass 12 names with this one.
-fn passes_twelve(w: &[u64], at: usize, n: Name) -> bool
+fn passes_names(w: &[u64], at: usize, n: Name) -> bool
     requires { ⌜ (length (now w) ≡ 512) × (at + 24 ≤ 512) ⌝ }
-    ensures { λ r. ⌜ r ≡ passesTwelve (transactionIn (now (w .entry)) at) n ⌝ }
+    ensures { λ r. ⌜ r ≡ passesNames (transactionIn (now (w .entry)) at) n ⌝ }
 {
     if name_count(w, at) < 12 {
         return false;
@@ -50,7 +50,7 @@ fn own_full(w: &[u64], f: Found, live: bool) -> bool
     if !live {
         return false;
     }
-    passes_twelve(w, running_place(f.core), f.holder)
+    passes_names(w, running_place(f.core), f.holder)
 }
 
 // Refusal 24 for the holder's list.
@@ -62,7 +62,7 @@ fn back_full(w: &[u64], f: Found) -> bool
     if !is_named_back(rule) {
         return false;
     }
-    passes_twelve(w, running_place(f.holder.core), f.own)
+    passes_names(w, running_place(f.holder.core), f.own)
 }
 
 // How many blocks the writer of core c has; one that opens has none.

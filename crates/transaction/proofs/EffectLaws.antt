@@ -8,7 +8,7 @@ use lib.Dec.{eqb}
 use lib.Seq.{getD-set-other}
 use borrow.Author.Tests.{leb-false, eq-eqb, eqb-true, not-false}
 use Rattle.model.specs.Card.{newName, sameName, freshCore, withName, withRunning, withCore, coreOf, holderOf}
-use Rattle.model.specs.Write.{writer, writerName, isRunning, ruleFor, takesBlock, namesHolder, isNamedBack, passesTwelve, writerAfter, writtenCard}
+use Rattle.model.specs.Write.{writer, writerName, isRunning, ruleFor, takesBlock, namesHolder, isNamedBack, passesNames, writerAfter, writtenCard}
 use Rattle.model.specs.declared.Name.{Name}
 use Rattle.model.specs.declared.Transaction.{Transaction}
 use Rattle.model.specs.declared.Card.{Card}
@@ -45,9 +45,9 @@ module _ (g a p : Bool) (q : g ≡ a) where
 
 -- ---- the holder's list
 module _ (v : List ℕ) (n own : Name) (h : n .core < 8) (p : ℕ) (e : p ≡ runningPlace (n .core)) (r : Rule) (g : Bool) (q : g ≡ isNamedBack r) where
-  pub back-room : backFull r ((coreOf (cardIn v) (n .core)) .running) own ≡ false → not g ≡ false → passesTwelve (transactionIn v p) own ≡ false
+  pub back-room : backFull r ((coreOf (cardIn v) (n .core)) .running) own ≡ false → not g ≡ false → passesNames (transactionIn v p) own ≡ false
   unfolding backFull
-  back-room m z = ap (λ (t : Transaction). passesTwelve t own) (running-at v (n .core) h p e) ∙ room-left g _ _ q m z
+  back-room m z = ap (λ (t : Transaction). passesNames t own) (running-at v (n .core) h p e) ∙ room-left g _ _ q m z
 
   pub back-done : (w : List ℕ) → transactionIn w p ≡ withName (transactionIn v p) own → Frame v w p 24 → not g ≡ false → cardIn w ≡ namedBack r (cardIn v) (n .core) own
   unfolding namedBack
@@ -56,7 +56,7 @@ module _ (v : List ℕ) (n own : Name) (h : n .core < 8) (p : ℕ) (e : p ≡ ru
       (running-after (n .core) h p e v w b _ (s ∙ ap (λ (t : Transaction). withName t own) (running-at v (n .core) h p e))) z
 
 -- ---- the writer
-pub own-room : (r : Rule) (t : Transaction) (n : Name) (g : Bool) → g ≡ namesHolder r → ownFull r t n ≡ false → not g ≡ false → passesTwelve t n ≡ false
+pub own-room : (r : Rule) (t : Transaction) (n : Name) (g : Bool) → g ≡ namesHolder r → ownFull r t n ≡ false → not g ≡ false → passesNames t n ≡ false
 unfolding ownFull
 own-room r t n g q m z = room-left g _ _ q m z
 
