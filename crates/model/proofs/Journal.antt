@@ -24,7 +24,6 @@ use Rattle.model.specs.declared.Found.{Found}
 use Rattle.model.specs.declared.Found.the-variants.{Whole, Miss}
 use Rattle.model.specs.Lists.{Each}
 use Rattle.model.specs.Limits.{maxNumber}
-use Rattle.model.specs.Tape.{whole}
 use Rattle.model.proofs.Lists.{cases, and-left, and-right, each-append, each-getD}
 use Rattle.model.proofs.Store.{length-store, block-stored, block-other}
 use Rattle.model.proofs.Words.{IsByte}
