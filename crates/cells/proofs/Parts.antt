@@ -88,10 +88,6 @@ module _ (t : Transaction) where
   unfolding listed
   named-some n h = sym (length-take (t .named) (t .names) ∙ omega arith)
 
-  pub few-listed : length (t .names) ≡ 12 → length (listed t) ≤ 12
-  unfolding listed
-  few-listed n = simp length-take (omega arith)
-
   -- a search through the names
   module _ (n : Name) where
     pub none-listed : any (sameName n) (take 0 (listed t)) ≡ false
