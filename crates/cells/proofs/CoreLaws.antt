@@ -14,7 +14,9 @@ use Rattle.model.proofs.Lists.{map-below}
 use Rattle.cells.specs.Cells.{byteIn, phaseIn, holderIn, transactionIn, coreIn, cardIn, tailPlace, holderPlace, corePlace}
 use Rattle.cells.specs.Changes.{withNumbers, withClosed, withCloses, Frame}
 use Rattle.cells.proofs.FitsLaws.{fits-next, fits-count, frame-set, frame-then, frame-wider}
-use Rattle.cells.proofs.CellLaws.{length-tabled, same-card, same-shape, same-core, tail-same, core-same, core-at, core-put, transaction-low, transaction-high}
+use Rattle.cells.proofs.ReadLaws.{length-tabled, core-at}
+use Rattle.cells.proofs.TransactionLaws.{transaction-low, transaction-high}
+use Rattle.cells.proofs.CellLaws.{same-card, same-shape, same-core, tail-same, core-same, core-put}
 
 -- ---- a core of the card, replaced
 module _ (v : List ℕ) (c : ℕ) (h : c < 8) (k : Core) where

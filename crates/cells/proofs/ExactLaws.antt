@@ -20,7 +20,9 @@ use Rattle.model.specs.declared.Holder.{Holder}
 use Rattle.model.specs.declared.Card.{Card}
 use Rattle.model.proofs.Lists.{cases, both-ways, getD-map-below}
 use Rattle.cells.proofs.FitsLaws.{in-place, fits-zero, fits-phase, fits-in-number, fits-in-position, fits-in-holder, fits-in-core, fits-set}
-use Rattle.cells.proofs.CellLaws.{length-tabled, same-transaction, same-tail, same-core, same-card, same-shape, name-put, name-read, block-read, holder-cell, holder-read, core-at}
+use Rattle.cells.proofs.ReadLaws.{length-tabled, name-put, name-read, block-read, holder-read, core-at}
+use Rattle.cells.proofs.TransactionLaws.{same-transaction}
+use Rattle.cells.proofs.CellLaws.{same-tail, same-core, same-card, same-shape, holder-cell}
 use Rattle.cells.specs.Cells.{phaseIn, nameIn, holderIn, tailFrom, transactionIn, coreIn, cardIn, storesIn, corePlace, tailPlace, holderPlace, phaseCell, nameCell, holderCell, headerCell, tailCell, transactionCell, coreCell, cellOf, cellsOf, Exact}
 use Rattle.cells.specs.Sized.{SizedName, SizedTransaction, SizedCore, SizedTail, SizedHolder, Sized}
 use Rattle.cells.specs.Changes.{fitsHeader, fitsTransaction, fitsCore, fitsAt, Fits}

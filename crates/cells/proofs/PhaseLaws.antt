@@ -16,7 +16,8 @@ use Rattle.cells.specs.Cells.{phaseIn, cardIn, cellsOf, corePlace, tailP
 use Rattle.cells.specs.Changes.{withNumbers, withTail, upWith, fitsAt, Fits, Frame}
 use Rattle.cells.proofs.Parts.{filled, filled-none, filled-more, filled-all}
 use Rattle.cells.proofs.FitsLaws.{fits-zero, fits-phase, fits-field, frame-same, frame-set, frame-then, frame-wider}
-use Rattle.cells.proofs.CellLaws.{length-tabled, same-card, same-shape}
+use Rattle.cells.proofs.ReadLaws.{length-tabled}
+use Rattle.cells.proofs.CellLaws.{same-card, same-shape}
 use Rattle.cells.proofs.ExactLaws.{blank-read, blank-cells, down-read, down-cells}
 use Rattle.cells.proofs.CoreLaws.{tails-kept, cores-kept, holders-kept}
 

@@ -13,7 +13,8 @@ use Rattle.layout.proofs.Loops.{Filled, filled-all}
 use Rattle.cells.specs.Cells.{byteIn, numberIn, phaseIn, holderIn, tailFrom, cardIn, tailPlace, holderPlace, corePlace}
 use Rattle.cells.specs.Changes.{withTail, Frame}
 use Rattle.cells.proofs.FitsLaws.{fits-number, fits-position, frame-then, frame-set}
-use Rattle.cells.proofs.CellLaws.{tabled-set, same-tail, tail-same, core-same, same-card, same-shape}
+use Rattle.cells.proofs.ReadLaws.{tabled-set}
+use Rattle.cells.proofs.CellLaws.{same-tail, tail-same, core-same, same-card, same-shape}
 
 module _ (w : List ℕ) where
   tail-from : (c : ℕ) → c < 8 → tailOf (cardIn w) c ≡ tailFrom w (tailPlace c)

@@ -25,7 +25,7 @@ use Rattle.cells.proofs.FitsLaws.{frame-wider}
 use Rattle.cells.specs.Answer.{Stores}
 use Rattle.oldest.proofs.SharedLaws.{shape-range}
 use Rattle.checkpoint.specs.NextStore.{nextStore}
-use Rattle.checkpoint.proofs.RetireLaws.{homed-is}
+use Rattle.cells.proofs.ReadLaws.{homed-there}
 
 -- ---- a home store
 pub home-put : (s : Shape) (d : Bytes) (e : Committed) (i b : ℕ) → b ≡ getD (blocksOf s d e) i 0 → (at : Image) → at ≡ imageAt s d e i
@@ -73,7 +73,7 @@ moved-past x e s p t q = q ∙ rw p
 -- ---- the one or the other
 module _ (v : List ℕ) (c : ℕ) (h : c < 8) (p : ℕ) (i : p ≡ corePlace c) (n : ℕ) (q : n ≡ byteIn v (p + 3)) (e : Committed) (w : List ℕ) (d k : Bytes) where
   homed-here : n ≡ (coreOf (cardIn v) c) .homed
-  homed-here = homed-is v c h p i n q
+  homed-here = homed-there v c h p i n q
 
   pub next-home : n < e .count → Stores (storedHome c e) v w d k → Stores (nextStore c e) v w d k
   unfolding nextStore

@@ -19,10 +19,9 @@ use Rattle.layout.proofs.Blocks.{block-lent}
 use Rattle.cells.specs.Cells.{byteIn, transactionIn, cardIn, runningPlace, closedPlace, worldIn}
 use Rattle.cells.specs.Changes.{Frame}
 use Rattle.cells.specs.Answer.{newAnswer, Meets}
-use Rattle.cells.proofs.CellLaws.{block-read}
+use Rattle.cells.proofs.ReadLaws.{block-read, running-there, running-live, closed-live}
 use Rattle.cells.proofs.EntryLaws.{entry, entry-hit, entry-pass, Entered, entered}
 use Rattle.cells.proofs.MeetLaws.{meets-refused, meets-done}
-use Rattle.close.proofs.ReadLaws.{running-there, closed-there}
 
 -- ---- refusals
 -- what CLOSE asks of the core
@@ -47,7 +46,7 @@ module _ (v : List ℕ) (c : ℕ) (d m : Bytes) (n : ℕ) (e : n ≡ refusal (en
 
     module _ (a : ℕ) (q : a ≡ runningPlace c) (g : Bool) (r : g ≡ (transactionIn v a) .live) where
       runs : g ≡ (coreOf (cardIn v) c) .running .live
-      runs = r ∙ ap (λ (t : Transaction). t .live) (running-there v c few a q)
+      runs = running-live v c few a q g r
 
       pub close-none : not g ≡ true → 28 ≡ refusal (closeConditions c (worldIn v d m))
       unfolding closeConditions refusal
@@ -55,7 +54,7 @@ module _ (v : List ℕ) (c : ℕ) (d m : Bytes) (n : ℕ) (e : n ≡ refusal (en
 
       module _ (b : ℕ) (s : b ≡ closedPlace c) (k : Bool) (t : k ≡ (transactionIn v b) .live) where
         is-closed : k ≡ (coreOf (cardIn v) c) .closed .live
-        is-closed = t ∙ ap (λ (t : Transaction). t .live) (closed-there v c few b s)
+        is-closed = closed-live v c few b s k t
 
         pub close-early : not g ≡ false → k ≡ true → 29 ≡ refusal (closeConditions c (worldIn v d m))
         unfolding closeConditions refusal

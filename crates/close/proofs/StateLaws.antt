@@ -15,10 +15,11 @@ use Rattle.model.proofs.Lists.{cases, map-below}
 use Rattle.cells.specs.Cells.{byteIn, numberIn, nameIn, transactionIn, cardIn, corePlace, runningPlace, closedPlace}
 use Rattle.cells.specs.Changes.{withNumbers, withClosed, fitsAt, Fits, Frame}
 use Rattle.cells.proofs.FitsLaws.{running-place, closed-place, fits-at, fits-stamp, fits-closes, fits-set, frame-same, frame-set, frame-then, frame-wider}
-use Rattle.cells.proofs.CellLaws.{same-transaction, running-put}
+use Rattle.cells.proofs.TransactionLaws.{same-transaction}
+use Rattle.cells.proofs.CellLaws.{running-put}
 use Rattle.cells.proofs.CoreLaws.{core-of-with, with-core-twice, closed-put, closes-put}
 use Rattle.close.specs.Frozen.{frozen, countedClose}
-use Rattle.close.proofs.ReadLaws.{next-there, used-there, homed-there, running-there}
+use Rattle.cells.proofs.ReadLaws.{next-there, used-there, homed-there, running-there}
 
 -- ---- a transaction copied, cell by cell
 transaction-moved : (v w : List ℕ) (a b : ℕ) → ((k : ℕ) → k < 24 → getD w (b + k) 0 ≡ getD v (a + k) 0) → transactionIn w b ≡ transactionIn v a

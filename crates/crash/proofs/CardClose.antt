@@ -31,7 +31,7 @@ use Rattle.crash.proofs.BookSteps.{Restages, restages-records, close-re
 use Rattle.crash.proofs.BlockBytes.{bytes-store, bytes-blockAt}
 use Rattle.crash.proofs.Relation.{sumNext, Fine, contents, JournalStands, DiskStands, Matches, CoreUp, holderAs, Up}
 use Rattle.crash.proofs.LedgerStages.{running-present}
-use Rattle.crash.proofs.LedgerSteps.{sum-low}
+use Rattle.crash.proofs.LedgerRanks.{sum-low}
 use Rattle.crash.proofs.CardFrames.{SameClosed, record-same, contents-same, none-stored, journal-stays, core-stays}
 
 -- ---- copies

@@ -25,7 +25,7 @@ use Rattle.crash.specs.Claims.{IsBytes}
 use Rattle.crash.proofs.Relation.{Fine, contents, JournalStands, DiskStands, Up, target, Newest, DownBy}
 use Rattle.crash.proofs.Tests.{clash, any-in, in-any, blockEquality}
 use Rattle.crash.proofs.BlockBytes.{zero-bytes}
-use Rattle.crash.proofs.LedgerSteps.{fine-cut, phased}
+use Rattle.crash.proofs.LedgerFresh.{fine-cut, phased}
 
 -- ---- the ledger in another phase, with other blocks left
 pub target-phased : (p : Phase) (bs : List ℕ) (l : Ledger) (b : ℕ) → target (phased p bs l) b ≡ target l b

@@ -25,7 +25,7 @@ use Rattle.crash.specs.Ledger.{freshLedger, recordBlocks}
 use Rattle.crash.specs.Claims.{IsBytes}
 use Rattle.crash.proofs.Tests.{impossible}
 use Rattle.crash.proofs.Relation.{WriteFits, contents, JournalStands, DiskStands, CoreUp, Up}
-use Rattle.crash.proofs.LedgerSteps.{fine-fresh}
+use Rattle.crash.proofs.LedgerFresh.{fine-fresh}
 
 -- the journals hold nothing
 module _ (s : Shape) (saved : List Write) (first : ℕ → ℕ) (c : ℕ) where

@@ -29,7 +29,7 @@ use Rattle.crash.specs.Book.{keptWrites, blank}
 use Rattle.crash.specs.Ledger.{Ledger, blocksIn, firstNumber, recoverLedger, recoverStored}
 use Rattle.crash.proofs.Tests.{impossible}
 use Rattle.crash.proofs.Relation.{IsBlock, Fine, Up, target, DownBy}
-use Rattle.crash.proofs.LedgerSteps.{image-block, blank-block, fine-home, phased, kept-fits}
+use Rattle.crash.proofs.LedgerFresh.{image-block, blank-block, fine-home, phased, kept-fits}
 use Rattle.crash.proofs.ReadMaster.{shape-read, master-block}
 use Rattle.crash.proofs.ReadRecords.{length-readList, few-records, journal-read}
 use Rattle.crash.proofs.ReadValid.{own-tails, blocks-on}

@@ -28,7 +28,8 @@ use Rattle.crash.proofs.BookEntries.{oldestName, uncommittedName}
 use Rattle.crash.proofs.Relation.{Fine, Up}
 use Rattle.crash.proofs.LedgerStages.{closed-present, unretired-rank, closing-stage}
 use Rattle.crash.proofs.ReadMaster.{shape-up}
-use Rattle.crash.proofs.ReadRecords.{readRecord, readList, IsRead, length-readList, readList-has, readList-first, readList-is, journal-read}
+use Rattle.crash.proofs.RecordFormat.{readRecord, readList}
+use Rattle.crash.proofs.ReadRecords.{IsRead, length-readList, readList-has, readList-first, readList-is, journal-read}
 use Rattle.crash.proofs.ReadValid.{journals-are, listed-journals, valid-same}
 
 -- ---- what is read

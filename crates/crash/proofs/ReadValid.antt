@@ -31,7 +31,8 @@ use Rattle.crash.proofs.Tests.{clash, any-in, in-any, nameEquality}
 use Rattle.crash.proofs.Relation.{Fine, JournalStands, DiskStands}
 use Rattle.crash.proofs.LedgerStages.{closed-present, committed-rank}
 use Rattle.crash.proofs.ReadMaster.{shape-read, tail-read}
-use Rattle.crash.proofs.ReadRecords.{readList, IsRead, readList-has, readList-is, journal-read, few-records}
+use Rattle.crash.proofs.RecordFormat.{readList}
+use Rattle.crash.proofs.ReadRecords.{IsRead, readList-has, readList-is, journal-read, few-records}
 
 -- ---- the ledger's valid set
 abbrev belowOldest : Book → Name → Bool

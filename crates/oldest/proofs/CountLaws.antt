@@ -12,7 +12,6 @@ use Rattle.model.specs.Card.{shapeOf, tailOf, coreOf, committedCount}
 use Rattle.model.specs.Journal.{journal, recordAt}
 use Rattle.model.specs.declared.Shape.{Shape}
 use Rattle.model.specs.declared.Tail.{Tail}
-use Rattle.model.specs.declared.Transaction.{Transaction}
 use Rattle.model.specs.declared.Card.{Card}
 use Rattle.model.specs.declared.Found.{Found}
 use Rattle.model.specs.declared.Found.the-variants.{Miss}
@@ -21,18 +20,14 @@ use Rattle.layout.proofs.Loops.{Filled, filled-more}
 use Rattle.journal.specs.Slots.{tailIn}
 use Rattle.journal.specs.Walk.{Reads}
 use Rattle.cells.specs.Cells.{numberIn, transactionIn, cardIn, corePlace, closedPlace}
-use Rattle.cells.proofs.CellLaws.{next-read, closed-read}
+use Rattle.cells.proofs.ReadLaws.{next-there, closed-live}
 use Rattle.oldest.specs.Oldest.{countAt, counts, Counts, oldestAt}
 use Rattle.oldest.proofs.SharedLaws.{shape-range, core-low}
 
 -- ---- one count
-module _ (w : List ℕ) (c : ℕ) (h : c < 8) (p : ℕ) (e : p ≡ corePlace c) where
-  pub next-is : (n : ℕ) → n ≡ numberIn w p → n ≡ (coreOf (cardIn w) c) .next
-  next-is n q = q ∙ ap (numberIn w) e ∙ next-read w c h
-
 module _ (w : List ℕ) (c : ℕ) (h : c < 8) (p : ℕ) (e : p ≡ corePlace c) (next : ℕ) (n : next ≡ numberIn w p) (t : Tail) (q : t ≡ tailOf (cardIn w) c) where
   next-here : next ≡ (coreOf (cardIn w) c) .next
-  next-here = next-is w c h p e next n
+  next-here = next-there w c h p e next n
 
   tail-here : t .number ≡ (tailOf (cardIn w) c) .number
   tail-here = ap (λ (a : Tail). a .number) q
@@ -43,7 +38,7 @@ module _ (w : List ℕ) (c : ℕ) (h : c < 8) (p : ℕ) (e : p ≡ corePlace c) 
 
   module _ (b : ℕ) (i : b ≡ closedPlace c) (g : Bool) (j : g ≡ (transactionIn w b) .live) (r : ℕ) where
     closed-here : g ≡ (coreOf (cardIn w) c) .closed .live
-    closed-here = j ∙ ap (λ (a : ℕ). (transactionIn w a) .live) i ∙ ap (λ (a : Transaction). a .live) (closed-read w c h)
+    closed-here = closed-live w c h b i g j
 
     pub count-closed : g ≡ true → r ≡ min (next - t .number - 1) 12 → r ≡ countAt (cardIn w) c
     unfolding countAt committedCount

@@ -20,10 +20,11 @@ use Rattle.model.specs.declared.Rule.{Rule}
 use Rattle.model.proofs.Lists.{cases}
 use Rattle.cells.specs.Cells.{byteIn, transactionIn, cardIn, corePlace, runningPlace, closedPlace}
 use Rattle.cells.specs.Changes.{openedOr}
-use Rattle.cells.proofs.CellLaws.{used-read, running-read, closed-read, blocks-long, names-long, open-live}
+use Rattle.cells.proofs.ReadLaws.{used-there, running-read, running-there, closed-there, closed-live, blocks-long, names-long}
+use Rattle.cells.proofs.TransactionLaws.{open-live}
 use Rattle.rules.specs.Conditions.{ownFull, backFull, ninth, sizeAfter, namedBy, takenBy, afterBy, foundConditions}
 use Rattle.rules.specs.declared.Found.{Found}
-use Rattle.rules.proofs.RuleLaws.{cond-not, cond-done, running-at}
+use Rattle.rules.proofs.RuleLaws.{cond-not, cond-done}
 
 -- ---- 24, the list of a transaction
 module _ (w : List ℕ) (a : ℕ) (n : Name) (k : ℕ) (e : k ≡ length (listed (transactionIn w a))) where
@@ -61,12 +62,12 @@ module _ (x : Card) (c : ℕ) (l : Bool) (q : l ≡ (coreOf x c) .running .live)
 
 module _ (w : List ℕ) (c : ℕ) (h : c < 8) (p : ℕ) (e : p ≡ runningPlace c) where
   pub holder-names : (own : Name) (f : Bool) → f ≡ passesTwelve (transactionIn w p) own → f ≡ passesTwelve ((coreOf (cardIn w) c) .running) own
-  holder-names own f s = s ∙ ap (λ (t : Transaction). passesTwelve t own) (running-at w c h p e)
+  holder-names own f s = s ∙ ap (λ (t : Transaction). passesTwelve t own) (running-there w c h p e)
 
   module _ (l : Bool) (q : l ≡ (coreOf (cardIn w) c) .running .live) (z : not l ≡ false) where
     writer-runs : transactionIn w p ≡ writer (cardIn w) c
     unfolding writer openedOr
-    writer-runs = running-at w c h p e ∙ open-live ((coreOf (cardIn w) c) .running) l q (not-false l z)
+    writer-runs = running-there w c h p e ∙ open-live ((coreOf (cardIn w) c) .running) l q (not-false l z)
 
     pub names-some : (n : Name) (f : Bool) → f ≡ passesTwelve (transactionIn w p) n → f ≡ passesTwelve (writer (cardIn w) c) n
     names-some n f s = s ∙ rw writer-runs
@@ -81,24 +82,15 @@ writer-long w c h =
 
 -- ---- closed ones
 module _ (w : List ℕ) (c : ℕ) (h : c < 8) (a : ℕ) (d : a ≡ corePlace c) (u : ℕ) (s : u ≡ byteIn w (a + 1)) (p : ℕ) (e : p ≡ closedPlace c) (g : Bool) (q : g ≡ (transactionIn w p) .live) where
-  closed-used : u ≡ (coreOf (cardIn w) c) .used
-  closed-used = s ∙ ap (λ (m : ℕ). byteIn w (m + 1)) d ∙ used-read w c h
-
-  closed-at : transactionIn w p ≡ (coreOf (cardIn w) c) .closed
-  closed-at = ap (transactionIn w) e ∙ closed-read w c h
-
-  closed-live : g ≡ (coreOf (cardIn w) c) .closed .live
-  closed-live = q ∙ ap (λ (t : Transaction). t .live) closed-at
-
   pub used-none : not g ≡ true → u ≡ closedBlocks (coreOf (cardIn w) c)
   unfolding closedBlocks
-  used-none z = omega (arith, closed-used, cond-not g _ closed-live (recordSize ((coreOf (cardIn w) c) .closed)) 0 z)
+  used-none z = omega (arith, used-there w c h a d u s, cond-not g _ (closed-live w c h p e g q) (recordSize ((coreOf (cardIn w) c) .closed)) 0 z)
 
   pub used-some : not g ≡ false → (k : ℕ) → k ≡ length (taken (transactionIn w p)) → u + (k + 2) ≡ closedBlocks (coreOf (cardIn w) c)
   unfolding closedBlocks recordSize
   used-some z k r =
-      let size : k + 2 ≡ recordSize ((coreOf (cardIn w) c) .closed) = ap (λ (m : ℕ). m + 2) (r ∙ ap (λ (t : Transaction). length (taken t)) closed-at) in
-      omega (arith, closed-used, cond-done g _ closed-live (recordSize ((coreOf (cardIn w) c) .closed)) 0 (k + 2) size z)
+      let size : k + 2 ≡ recordSize ((coreOf (cardIn w) c) .closed) = ap (λ (m : ℕ). m + 2) (r ∙ ap (λ (t : Transaction). length (taken t)) (closed-there w c h p e)) in
+      omega (arith, used-there w c h a d u s, cond-done g _ (closed-live w c h p e g q) (recordSize ((coreOf (cardIn w) c) .closed)) 0 (k + 2) size z)
 
 -- ---- 26, the record afterwards
 pub journal-test : (j u m a b : ℕ) → u ≡ a → m ≡ b → ltb j (u + m) ≡ ltb j (a + b)
