@@ -1,19 +1,13 @@
 -- CHECKPOINT keeps card and ledger in agreement: the card's oldest record is that of the ledger's oldest committed one.
 -- A home store puts its next image into its home block and touches nothing else; the master store moves the tail past its
 -- record, so the journal holds the same without that record, and its blocks have no holder any more.
-use Prim.Native.Nat.{ℕ, suc, _+_, _-_, _%_, _≤_, _<_}
-use native.Mathlib.Omega.{arith}
+use Rattle.model.proofs.Base.{ℕ, suc, _+_, _-_, _%_, _≤_, _<_, arith, decLt, ℕ-discrete, _≡_, refl, sym, ap, subst, _∙_, _≢_}
+use Rattle.model.proofs.Base.{true, List, [], _++_, flatMap, append-assoc, length, take, getD, length-set, length-map}
+use Rattle.model.proofs.Base.{length-append, List·getD-map, getD-set-same, getD-set-other, eq-eqb, ne-eqb, lt-ltb, le-ltb, below}
+use Rattle.model.proofs.Base.{Bytes}
 use native.Mathlib.Nat.{mod-lt}
-use native.Mathlib.Decide.{decLt, ℕ-discrete}
-use mathlib.Core.Path.{_≡_, refl, ap, _∙_, sym, subst}
-use mathlib.Core.Logic.{_≢_}
-use mathlib.Core.Bool.{true}
-use mathlib.Core.List.{List, [], _++_, flatMap, append-assoc}
-use lib.ListN.{length, take, getD, length-append, length-map, length-set, List·getD-map}
-use lib.Seq.{getD-append-add, getD-set-same, getD-set-other}
-use borrow.Author.Tests.{lt-ltb, le-ltb, eq-eqb, ne-eqb}
-use Rattle.model.specs.Lists.{below}
-use Rattle.model.specs.Bytes.{store as storeBlock, Bytes, blockAt}
+use lib.Seq.{getD-append-add}
+use Rattle.model.specs.Bytes.{store as storeBlock, blockAt}
 use Rattle.model.specs.Shape.{homeBlock}
 use Rattle.model.specs.Card.{newName, newTail, noHolder, freshCore, shapeOf, tailOf, coreOf, holderOf, withCore}
 use Rattle.model.specs.Layout.{masterBlock}

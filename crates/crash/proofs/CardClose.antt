@@ -1,18 +1,11 @@
 -- CLOSE keeps card and ledger in agreement: the running transaction holds the blocks that it took, so their memory
 -- images are the current ones, and these are copied. The first copies of its core change, and no other block of memory.
 -- Its number and its stamp are far from the width of their fields.
-use Prim.Native.Nat.{ℕ, zero, suc, _+_, _-_, _*_, _%_, _^_, _≤_, _<_}
-use native.Mathlib.Omega.{arith}
-use native.Mathlib.Nat.{add-zero, zero-add}
-use native.Mathlib.Decide.{ℕ-discrete}
-use mathlib.Core.Path.{_≡_, refl, ap, _∙_, sym, subst}
-use mathlib.Core.Logic.{_≢_}
-use mathlib.Core.Bool.{true}
-use mathlib.Core.List.{List, [], _∷_, List·Memᴰ}
-use mathlib.Core.Option.{some}
-use lib.ListN.{length, getD, length-set}
-use lib.Seq.{getD-set-same, getD-set-other}
-use Rattle.model.specs.Bytes.{Bytes, blockAt, store}
+use Rattle.model.proofs.Base.{ℕ, zero, suc, _+_, _-_, _*_, _%_, _^_, _≤_, _<_, arith, ℕ-discrete, add-zero, _≡_, refl, sym, ap}
+use Rattle.model.proofs.Base.{subst, _∙_, _≢_, true, some, List, [], _∷_, List·Memᴰ, length, getD, length-set, getD-set-same}
+use Rattle.model.proofs.Base.{getD-set-other, Bytes}
+use native.Mathlib.Nat.{zero-add}
+use Rattle.model.specs.Bytes.{blockAt, store}
 use Rattle.model.specs.Card.{newName, freshCore, taken, listed, tailOf, coreOf, holderOf}
 use Rattle.model.specs.Command.{World}
 use Rattle.model.specs.Commit.{copyBlock, copied, closed as closedOutcome, closedCore, closedCard}

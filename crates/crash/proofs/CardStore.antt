@@ -1,19 +1,11 @@
 -- STORE keeps card and ledger in agreement: what it stores is the next block of the closed transaction's record, and it
 -- stands right after what its journal holds. The journal has room for the record, so nothing live is overwritten; the
 -- block is no commit of a number that is still uncommitted afterwards.
-use Prim.Native.Nat.{ℕ, suc, _+_, _-_, _*_, _≤_, _<_}
-use native.Mathlib.Omega.{arith}
-use native.Mathlib.Decide.{decLt, ℕ-discrete}
-use mathlib.Core.Path.{_≡_, refl, ap, ap₂, _∙_, sym, subst}
-use mathlib.Core.Logic.{_≢_}
-use mathlib.Core.Bool.{true}
-use mathlib.Core.List.{List, [], _∷_, _++_, flatMap, append-assoc, append-nil}
-use lib.ListN.{length, take, getD, length-append, List·getD-append}
-use lib.Seq.{getD-at, take-suc, take-all, length-take-le}
-use lib.Dec.{leb}
-use borrow.Author.Tests.{le-leb, lt-leb, eq-eqb, ne-eqb}
-use Rattle.model.specs.Lists.{below}
-use Rattle.model.specs.Bytes.{store as storeBlock, Bytes, blockAt, part, number}
+use Rattle.model.proofs.Base.{ℕ, suc, _+_, _-_, _*_, _≤_, _<_, arith, decLt, ℕ-discrete, _≡_, refl, sym, ap, ap₂, subst, _∙_, _≢_}
+use Rattle.model.proofs.Base.{true, List, [], _∷_, _++_, flatMap, append-assoc, append-nil, length, take, getD, length-append}
+use Rattle.model.proofs.Base.{List·getD-append, take-all, take-suc, getD-at, leb, eq-eqb, ne-eqb, le-leb, lt-leb, below, Bytes}
+use lib.Seq.{length-take-le}
+use Rattle.model.specs.Bytes.{store as storeBlock, blockAt, part, number}
 use Rattle.model.specs.Shape.{homeBlock, journalBlock}
 use Rattle.model.specs.Card.{newName, recordSize, tailOf, coreOf, withCore}
 use Rattle.model.specs.Layout.{newHeld, flagOf, isCommit}

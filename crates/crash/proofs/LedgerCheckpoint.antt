@@ -1,14 +1,7 @@
 -- The ledger after CHECKPOINT, against the one before: one stage and the oldest numbers changed, so records stay, a journal
 -- and a core agree with it under the new tail, and who held a block of the retired transaction holds it no more.
-use Prim.Native.Nat.{ℕ, _+_, _-_, _≤_, _<_}
-use native.Mathlib.Omega.{arith}
-use mathlib.Core.Path.{_≡_, refl, ap, _∙_, sym}
-use mathlib.Core.Logic.{_≢_}
-use mathlib.Core.Bool.{true, cond, _&&_}
-use mathlib.Core.List.{List, []}
-use mathlib.Core.Option.{Option, none, some}
-use lib.ListN.{length, getD}
-use Rattle.model.specs.Bytes.{Bytes}
+use Rattle.model.proofs.Base.{ℕ, _+_, _-_, _≤_, _<_, arith, _≡_, refl, sym, ap, _∙_, _≢_, true, cond, _&&_, Option, none, some}
+use Rattle.model.proofs.Base.{List, [], length, getD, Bytes}
 use Rattle.model.specs.Card.{newName, sameName, noHolder}
 use Rattle.model.specs.Journal.{journalAt}
 use Rattle.model.specs.declared.Name.{Name}

@@ -1,14 +1,9 @@
 -- The ledger of a card that has just come up is in order, and stays so over CUT and a home store of RECOVER, which leave
 -- its transactions as they are. Current images are blocks of bytes, and every write that is kept fits the disk.
-use Prim.Native.Nat.{ℕ, _+_, _≤_, _<_}
-use native.Mathlib.Omega.{arith}
-use mathlib.Core.Path.{_≡_, refl, _∙_}
-use mathlib.Core.Logic.{inl, inr}
-use mathlib.Core.List.{List, [], _∷_, _++_, List·Memᴰ, List·Memᴰ·head, List·Memᴰ·tail, List·Memᴰ·not-nil, List·Memᴰ·append-cases}
-use lib.ListN.{length, length-replicate}
-use lib.Dec.{eqb}
-use Rattle.model.specs.Lists.{all}
-use Rattle.model.specs.Bytes.{Bytes, replaced}
+use Rattle.model.proofs.Base.{ℕ, _+_, _≤_, _<_, arith, _≡_, refl, _∙_, inl, inr, List, [], _∷_, _++_, List·Memᴰ, List·Memᴰ·head}
+use Rattle.model.proofs.Base.{List·Memᴰ·tail, List·Memᴰ·not-nil, List·Memᴰ·append-cases, length, length-replicate, eqb, all}
+use Rattle.model.proofs.Base.{Bytes}
+use Rattle.model.specs.Bytes.{replaced}
 use Rattle.model.specs.declared.Phase.{Phase}
 use Rattle.model.specs.declared.Phase.the-variants.{Down}
 use Rattle.model.specs.declared.Shape.{Shape}

@@ -1,12 +1,8 @@
 -- The stages of a core's transactions stay ranked by number: where no stage of a lower number changes, and where CLOSE, STORE
 -- or CHECKPOINT gives one transaction its next stage and raises the number that counts those past it. The numbers of all
 -- cores together, which bound the count of closes.
-use Prim.Native.Nat.{ℕ, zero, suc, _+_, _≤_, _<_, _*_}
-use native.Mathlib.Omega.{arith}
-use native.Mathlib.Decide.{decLt, ℕ-discrete}
-use mathlib.Core.Path.{_≡_, refl, ap, _∙_}
-use mathlib.Core.Logic.{_⊎_, inl, inr, _≢_}
-use lib.ListN.{length}
+use Rattle.model.proofs.Base.{ℕ, zero, suc, _+_, _*_, _≤_, _<_, arith, decLt, ℕ-discrete, _≡_, refl, ap, _∙_, _≢_, _⊎_, inl, inr}
+use Rattle.model.proofs.Base.{length}
 use Rattle.model.specs.Card.{newName}
 use Rattle.crash.specs.Book.{Stage, absent, running, closed, committed, retired, Book, raise, store, checkpoint}
 use Rattle.crash.proofs.BookEntries.{nextName, uncommittedName, oldestName, other-number, other-core, raise-at, raise-other}

@@ -1,14 +1,8 @@
 -- CLOSE, STORE and CHECKPOINT keep the ledger in order: each gives one transaction its next stage and raises the number that
 -- counts those past it; limits, names and images of all others stay.
-use Prim.Native.Nat.{ℕ, suc, _≤_, _<_}
-use native.Mathlib.Omega.{arith}
-use native.Mathlib.Decide.{ℕ-discrete}
-use mathlib.Core.Path.{_≡_, refl, sym, ap, _∙_, subst}
-use mathlib.Core.Logic.{_≢_}
-use mathlib.Core.Bool.{true}
-use mathlib.Core.List.{List, [], map, Memᴰ·of-map}
-use lib.ListN.{length-map}
-use Rattle.model.specs.Bytes.{Bytes}
+use Rattle.model.proofs.Base.{ℕ, suc, _≤_, _<_, arith, ℕ-discrete, _≡_, refl, sym, ap, subst, _∙_, _≢_, true, List, [], map}
+use Rattle.model.proofs.Base.{length-map, Bytes}
+use mathlib.Core.List.{Memᴰ·of-map}
 use Rattle.model.specs.Card.{newName}
 use Rattle.model.specs.declared.Shape.{Shape}
 use Rattle.model.specs.declared.Name.{Name}

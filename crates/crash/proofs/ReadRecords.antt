@@ -1,19 +1,12 @@
 -- A journal that holds what the ledger says is read as the ledger's transactions stored whole since its tail: their records
 -- stand one after the other, then no commit of the next number stands anywhere, so the reading ends there. `journals-read` is
 -- demand 2 for all journals of a disk.
-use Prim.Native.Nat.{ℕ, zero, suc, _+_, _*_, _-_, _%_, _≤_, _<_}
-use native.Mathlib.Omega.{arith}
-use native.Mathlib.Nat.{add-zero}
-use native.Mathlib.Numerals.{add-one}
-use native.Mathlib.Decide.{ℕ-discrete}
-use mathlib.Core.Path.{_≡_, refl, sym, ap, _∙_, subst}
-use mathlib.Core.Bool.{true, false}
-use mathlib.Core.List.{List, [], _∷_, _++_, map, flatMap, append-assoc, List·Memᴰ, List·Memᴰ·head, List·Memᴰ·tail, List·Memᴰ·not-nil, List·Memᴰ·cases-cons}
-use mathlib.Core.Logic.{inl, inr}
-use lib.ListN.{length, getD, length-append, length-map, List·getD-append, List·getD-map}
-use lib.Seq.{getD-append-add, ext-getD}
-use Rattle.model.specs.Lists.{below}
-use Rattle.model.specs.Bytes.{Bytes, number}
+use Rattle.model.proofs.Base.{ℕ, zero, suc, _+_, _-_, _*_, _%_, _≤_, _<_, arith, ℕ-discrete, add-one, add-zero, _≡_, refl, sym}
+use Rattle.model.proofs.Base.{ap, subst, _∙_, inl, inr, true, false, List, [], _∷_, _++_, map, flatMap, append-assoc, List·Memᴰ}
+use Rattle.model.proofs.Base.{List·Memᴰ·head, List·Memᴰ·tail, List·Memᴰ·not-nil, List·Memᴰ·cases-cons, length, getD, length-map}
+use Rattle.model.proofs.Base.{length-append, List·getD-map, List·getD-append, ext-getD, below, Bytes}
+use lib.Seq.{getD-append-add}
+use Rattle.model.specs.Bytes.{number}
 use Rattle.model.specs.Card.{newName}
 use Rattle.model.specs.Layout.{Held, newHeld, isCommit}
 use Rattle.model.specs.Journal.{journalAt, recordAt, recordsFrom, journal, nameOf, heldBy, blocksOf, namesOf, imageOf}

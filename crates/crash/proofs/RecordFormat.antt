@@ -1,16 +1,9 @@
 -- The record of a closed transaction of the ledger keeps the rules of the format, and is read back as what the ledger has
 -- for it: blocks, names, stamp and images. Each of its blocks is 128 bytes; none is a commit of a higher number.
-use Prim.Native.Nat.{ℕ, zero, suc, _+_, _-_, _%_, _≤_, _<_}
-use native.Mathlib.Omega.{arith}
-use mathlib.Core.Path.{_≡_, refl, sym, ap, _∙_}
-use mathlib.Core.Bool.{true, not, false}
-use mathlib.Core.List.{List, [], _∷_, _++_, map, List·Memᴰ}
-use lib.ListN.{length, getD, length-map, List·getD-map}
-use lib.Seq.{ext-getD}
-use lib.Dec.{ltb, eqb}
-use borrow.Author.Tests.{le-leb, lt-ltb, ltb-true, ne-eqb}
-use Rattle.model.specs.Lists.{below}
-use Rattle.model.specs.Bytes.{Bytes, be4, part, number}
+use Rattle.model.proofs.Base.{ℕ, zero, suc, _+_, _-_, _%_, _≤_, _<_, arith, _≡_, refl, sym, ap, _∙_, true, false, not, List, []}
+use Rattle.model.proofs.Base.{_∷_, _++_, map, List·Memᴰ, length, getD, length-map, List·getD-map, ext-getD, eqb, ltb, ne-eqb}
+use Rattle.model.proofs.Base.{lt-ltb, ltb-true, le-leb, below, Bytes}
+use Rattle.model.specs.Bytes.{be4, part, number}
 use Rattle.model.specs.Card.{newName}
 use Rattle.model.specs.Layout.{Held, newHeld, distinct, isHeld, isListable, flagOf, mark, hasHead, escaped, descriptorBlock, commitBlock, isCommit}
 use Rattle.model.specs.Journal.{journal}
