@@ -1,14 +1,7 @@
 -- The card where the cells of one part changed: the frame of a core, of its running transaction or of a holder gives a card
 -- in which that part alone is another.
-use Prim.Native.Nat.{ℕ, _+_, _-_, _%_, _≤_, _<_}
-use native.Mathlib.Omega.{arith}
-use mathlib.Core.Path.{_≡_, refl, sym, ap, _∙_}
-use mathlib.Core.List.{List, map}
-use lib.Dec.{ltb}
-use lib.ListN.{length, getD, set}
-use lib.Seq.{getD-set-same, getD-set-other}
-use borrow.Author.Tests.{ne-eqb, ltb-true, ltb-false}
-use Rattle.model.specs.Lists.{below}
+use Rattle.model.proofs.Base.{ℕ, _+_, _-_, _%_, _≤_, _<_, arith, _≡_, refl, sym, ap, _∙_, List, map, length, getD, set}
+use Rattle.model.proofs.Base.{getD-set-same, getD-set-other, ltb, ne-eqb, ltb-true, ltb-false, below}
 use Rattle.model.specs.Card.{newTail, noHolder, newHolder, withRunning, coreOf, freshCore, withCore, withHolder}
 use Rattle.model.specs.declared.Phase.{Phase}
 use Rattle.model.specs.declared.Shape.{Shape}

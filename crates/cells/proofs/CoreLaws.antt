@@ -1,11 +1,7 @@
 -- The card where the cells of one part changed: a core's numbers or its closed transaction, a field of the header, the holders.
-use Prim.Native.Nat.{ℕ, _+_, _%_, _≤_, _<_}
-use native.Mathlib.Omega.{arith}
-use mathlib.Core.Path.{_≡_, refl, sym, ap, _∙_}
-use mathlib.Core.List.{List, map}
-use lib.ListN.{length, getD, set, length-set}
-use lib.Seq.{getD-set-same, getD-set-other, set-set}
-use Rattle.model.specs.Lists.{below}
+use Rattle.model.proofs.Base.{ℕ, _+_, _%_, _≤_, _<_, arith, _≡_, refl, sym, ap, _∙_, List, map, length, getD, set, length-set}
+use Rattle.model.proofs.Base.{getD-set-same, getD-set-other, below}
+use lib.Seq.{set-set}
 use Rattle.model.specs.Card.{freshCore, coreOf, withCore, withLists}
 use Rattle.model.specs.Recovery.{recoveredTo}
 use Rattle.model.specs.declared.Core.{Core}

@@ -1,14 +1,8 @@
 -- Cells and cards: cells fit exactly if they are those of their card, and a card within its widths is the card of its cells.
-use Prim.Native.Nat.{ℕ, zero, suc, _+_, _-_, _*_, _/_, _%_, _≤_, _<_}
-use native.Mathlib.Omega.{arith}
-use mathlib.Core.Path.{_≡_, refl, sym, ap, ap₂, _∙_, subst}
-use mathlib.Core.Bool.{Bool, true, false, false≢true, cond, not}
-use mathlib.Core.List.{List, map}
-use lib.Dec.{eqb, ltb, leb}
-use lib.ListN.{length, getD, set, replicate, length-replicate, getD-replicate}
-use lib.Seq.{ext-getD}
-use borrow.Author.Tests.{lt-ltb, le-ltb, le-leb, eq-eqb, ne-eqb, ltb-true, ltb-false, leb-true, eqb-true, eqb-false}
-use Rattle.model.specs.Lists.{below}
+use Rattle.model.proofs.Base.{ℕ, zero, suc, _+_, _-_, _*_, _/_, _%_, _≤_, _<_, arith, _≡_, refl, sym, ap, ap₂, subst, _∙_, Bool}
+use Rattle.model.proofs.Base.{true, false, cond, not, false≢true, List, map, length, getD, set, replicate, length-replicate}
+use Rattle.model.proofs.Base.{getD-replicate, ext-getD, eqb, ltb, leb, eq-eqb, ne-eqb, eqb-true, eqb-false, lt-ltb, le-ltb}
+use Rattle.model.proofs.Base.{ltb-true, ltb-false, le-leb, leb-true, below}
 use Rattle.model.specs.Card.{newTail, newName, freshCore, noHolder, newHolder, tailOf, coreOf, holderOf, freshCard, emptyCard, blankCard, downCard}
 use Rattle.model.specs.declared.Phase.{Phase}
 use Rattle.model.specs.declared.Phase.the-variants.{Blank, Up, Down}

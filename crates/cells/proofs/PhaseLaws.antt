@@ -1,10 +1,9 @@
--- The card as each phase begins: every cell zeroed, then the phase put, or shape and tails.
-use Prim.Native.Nat.{ℕ, zero, suc, _+_, _%_, _≤_, _<_}
-use native.Mathlib.Omega.{arith}
-use mathlib.Core.Path.{_≡_, refl, sym, ap, _∙_, subst}
-use mathlib.Core.List.{List, [], _∷_, map, map-id}
-use lib.ListN.{length, getD, set, replicate, length-set, length-replicate, getD-replicate, List·getD-eq-default}
-use lib.Seq.{getD-set-same, getD-set-other}
+-- Cells zeroed are the blank card; with the phase put they are the card that is down; with shape and tails put, core by
+-- core, the card that has come up. Each is framed.
+use Rattle.model.proofs.Base.{ℕ, zero, suc, _+_, _%_, _≤_, _<_, arith, _≡_, refl, sym, ap, subst, _∙_, List, [], _∷_, map, length}
+use Rattle.model.proofs.Base.{getD, set, replicate, length-set, length-replicate, getD-replicate, getD-set-same, getD-set-other}
+use mathlib.Core.List.{map-id}
+use lib.ListN.{List·getD-eq-default}
 use Rattle.model.specs.Card.{freshCore, freshCard, emptyCard, blankCard, downCard, coreOf, withLists, withCore}
 use Rattle.model.specs.declared.Phase.the-variants.{Up}
 use Rattle.model.specs.declared.Shape.{Shape}

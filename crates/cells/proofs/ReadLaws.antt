@@ -1,15 +1,8 @@
 -- What the cells say: header, a transaction, names and holders are read as the code reads them, and each field of a core
 -- at its cell. `X-there` reads a core of the card at the place that the code computed.
-use Prim.Native.Nat.{ℕ, _+_, _-_, _*_, _/_, _%_, _≤_, _<_}
-use native.Mathlib.Omega.{arith}
-use mathlib.Core.Path.{_≡_, refl, sym, ap, _∙_}
-use mathlib.Core.Bool.{Bool, not}
-use mathlib.Core.List.{List, map}
-use lib.Dec.{eqb}
-use lib.ListN.{length, getD, set, length-map, length-set}
-use lib.Seq.{getD-set-same, getD-set-other, ext-getD}
-use borrow.Author.Tests.{ne-eqb, eqb-true, eqb-false}
-use Rattle.model.specs.Lists.{below}
+use Rattle.model.proofs.Base.{ℕ, _+_, _-_, _*_, _/_, _%_, _≤_, _<_, arith, _≡_, refl, sym, ap, _∙_, Bool, not, List, map, length}
+use Rattle.model.proofs.Base.{getD, set, length-set, length-map, getD-set-same, getD-set-other, ext-getD, eqb, ne-eqb, eqb-true}
+use Rattle.model.proofs.Base.{eqb-false, below}
 use Rattle.model.specs.Shape.{clamped}
 use Rattle.model.specs.Card.{newName, noHolder, newHolder, shapeOf, taken, listed, coreOf, holderOf, freshCore}
 use Rattle.model.specs.declared.Phase.the-variants.{Blank, Up, Down}

@@ -1,11 +1,7 @@
--- A tail read and replaced, and the array of all.
-use Prim.Native.Nat.{ℕ, _+_, _%_, _≤_, _<_}
-use native.Mathlib.Omega.{arith}
-use mathlib.Core.Path.{_≡_, sym, ap, _∙_}
-use mathlib.Core.List.{List, map}
-use lib.ListN.{length, getD, set, length-set}
-use lib.Seq.{getD-set-same, getD-set-other}
-use Rattle.model.specs.Lists.{below}
+-- A tail is read at its two cells, eight in turn are the card's tails; two cells put are the card with that tail replaced,
+-- framed.
+use Rattle.model.proofs.Base.{ℕ, _+_, _%_, _≤_, _<_, arith, _≡_, sym, ap, _∙_, List, map, length, getD, set, length-set}
+use Rattle.model.proofs.Base.{getD-set-same, getD-set-other, below}
 use Rattle.model.specs.Card.{newTail, tailOf}
 use Rattle.model.specs.declared.Tail.{Tail}
 use Rattle.model.proofs.Lists.{map-below, getD-map-below}

@@ -1,15 +1,8 @@
 -- A transaction in its cells: the same cells give the same one; a name or a block added, the place cleared, a transaction
 -- opened there, each with its frame; a search through its names.
-use Prim.Native.Nat.{ℕ, zero, _+_, _-_, _%_, _≤_, _<_}
-use native.Mathlib.Omega.{arith}
-use mathlib.Core.Path.{_≡_, sym, ap, _∙_}
-use mathlib.Core.Bool.{Bool, true, false, not}
-use mathlib.Core.List.{List, map}
-use lib.Dec.{eqb, ltb}
-use lib.ListN.{length, take, getD, set, length-set}
-use lib.Seq.{getD-set-same, getD-set-other}
-use borrow.Author.Tests.{eqb-true, eqb-false, ltb-true}
-use Rattle.model.specs.Lists.{below, any}
+use Rattle.model.proofs.Base.{ℕ, zero, _+_, _-_, _%_, _≤_, _<_, arith, _≡_, sym, ap, _∙_, Bool, true, false, not, List, map}
+use Rattle.model.proofs.Base.{length, take, getD, set, length-set, getD-set-same, getD-set-other, eqb, ltb, eqb-true, eqb-false}
+use Rattle.model.proofs.Base.{ltb-true, below, any}
 use Rattle.model.specs.Card.{newName, noTransaction, opened, sameName, listed, lists, withName, withBlock}
 use Rattle.model.specs.declared.Name.{Name}
 use Rattle.model.specs.declared.Transaction.{Transaction}

@@ -1,14 +1,8 @@
--- CHECKPOINT: the cells after a transaction is retired.
-use Prim.Native.Nat.{ℕ, _+_, _-_, _≤_, _<_}
-use native.Mathlib.Omega.{arith}
-use mathlib.Core.Path.{_≡_, refl, sym, ap, _∙_}
-use mathlib.Core.Bool.{Bool, true, false}
-use mathlib.Core.List.{List, map-map}
-use lib.Dec.{eqb}
-use lib.ListN.{length, getD, set, length-set}
-use lib.Seq.{getD-set-same, getD-set-other}
-use borrow.Author.Tests.{eqb-true, eqb-false, ne-eqb}
-use Rattle.model.specs.Lists.{below}
+-- Each holder's cell freed where it bears the name gives the card with the transaction released; its core with its numbers
+-- lowered is the retired one; with the tail moved they are the card after a transaction is retired, framed.
+use Rattle.model.proofs.Base.{ℕ, _+_, _-_, _≤_, _<_, arith, _≡_, refl, sym, ap, _∙_, Bool, true, false, List, length, getD, set}
+use Rattle.model.proofs.Base.{length-set, getD-set-same, getD-set-other, eqb, ne-eqb, eqb-true, eqb-false, below}
+use mathlib.Core.List.{map-map}
 use Rattle.model.specs.Card.{newName, sameName, newHolder, shapeOf, coreOf, withLists, withCore}
 use Rattle.model.specs.Checkpoint.{homedCore, freed, released, movedTail, retiredCore, retiredCard}
 use Rattle.model.specs.declared.Name.{Name}

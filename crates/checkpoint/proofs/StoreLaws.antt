@@ -1,11 +1,7 @@
--- CHECKPOINT: a block stored home, and the master.
-use Prim.Native.Nat.{ℕ, _+_, _≤_, _<_}
-use native.Mathlib.Omega.{arith}
-use mathlib.Core.Path.{_≡_, refl, _∙_}
-use mathlib.Core.List.{List}
-use lib.ListN.{getD, set}
-use borrow.Author.Tests.{lt-ltb, le-ltb}
-use Rattle.model.specs.Bytes.{Bytes, blockAt, store}
+-- A home store puts the image of the next block home and counts it; the master store puts the tails, the core's own past its
+-- record. Which of the two is next goes by the count of those stored home.
+use Rattle.model.proofs.Base.{ℕ, _+_, _≤_, _<_, arith, _≡_, refl, _∙_, List, getD, set, lt-ltb, le-ltb, Bytes}
+use Rattle.model.specs.Bytes.{blockAt, store}
 use Rattle.model.specs.Shape.{clamped, homeBlock}
 use Rattle.model.specs.Card.{newTail, shapeOf, tailOf, coreOf, withCore}
 use Rattle.model.specs.Layout.{masterBlock, unescaped}

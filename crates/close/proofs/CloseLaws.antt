@@ -1,14 +1,10 @@
--- CLOSE: its refusals, the copies and their flags, and what the code leaves where it is carried out.
-use Prim.Native.Nat.{ℕ, _+_, _*_, _-_, _%_, _≤_, _<_}
-use native.Mathlib.Omega.{arith}
-use native.Mathlib.Numerals.{add-one}
-use mathlib.Core.Path.{_≡_, sym, ap, _∙_}
-use mathlib.Core.Bool.{Bool, true, false, not}
-use mathlib.Core.List.{List, [], _∷_, _++_}
-use lib.ListN.{length, take, drop, getD, length-take, drop-of-length-le}
-use lib.Seq.{drop-cons, getD-take}
-use borrow.Author.Tests.{not-true, not-false}
-use Rattle.model.specs.Bytes.{Bytes, blockAt, store}
+-- CLOSE answers 28 and 29 under their conditions; the images copied block by block are the definition's copies, and a copy's
+-- flag says whether it begins with the mark. Refused, or carried out, CLOSE meets its contract.
+use Rattle.model.proofs.Base.{ℕ, _+_, _-_, _*_, _%_, _≤_, _<_, arith, add-one, _≡_, sym, ap, _∙_, Bool, true, false, not, List}
+use Rattle.model.proofs.Base.{[], _∷_, _++_, length, take, drop, getD, length-take, getD-take, not-true, not-false, Bytes}
+use lib.ListN.{drop-of-length-le}
+use lib.Seq.{drop-cons}
+use Rattle.model.specs.Bytes.{blockAt, store}
 use Rattle.model.specs.Card.{taken, coreOf}
 use Rattle.model.specs.Layout.{flagOf}
 use Rattle.model.specs.Command.{refusal}

@@ -1,13 +1,7 @@
--- A core's cells where its running transaction is frozen and closed.
-use Prim.Native.Nat.{ℕ, _+_, _%_, _^_, _≤_, _<_}
-use native.Mathlib.Omega.{arith}
-use mathlib.Core.Path.{_≡_, refl, sym, ap, _∙_}
-use mathlib.Core.Bool.{true, not}
-use mathlib.Core.List.{List}
-use lib.Dec.{eqb}
-use lib.ListN.{length, getD, set, length-set}
-use lib.Seq.{getD-set-same, getD-set-other}
-use borrow.Author.Tests.{eqb-true, eqb-false}
+-- The cells of the running transaction copied, stamped and cleared are the core with it frozen; with its number and the
+-- stamp count raised they are the card after CLOSE, framed.
+use Rattle.model.proofs.Base.{ℕ, _+_, _%_, _^_, _≤_, _<_, arith, _≡_, refl, sym, ap, _∙_, true, not, List, length, getD, set}
+use Rattle.model.proofs.Base.{length-set, getD-set-same, getD-set-other, eqb, eqb-true, eqb-false}
 use Rattle.model.specs.Card.{noTransaction, stamped, coreOf, withCore}
 use Rattle.model.specs.Commit.{closedCard}
 use Rattle.model.specs.declared.Transaction.{Transaction}

@@ -1,10 +1,5 @@
 -- A core's cells where a store is counted: the count of stores done, or the whole record counted and the transaction gone.
-use Prim.Native.Nat.{ℕ, _+_, _%_, _≤_, _<_}
-use native.Mathlib.Omega.{arith}
-use mathlib.Core.Path.{_≡_, sym, ap, _∙_}
-use mathlib.Core.List.{List}
-use lib.ListN.{length}
-use borrow.Author.Tests.{le-leb, lt-leb}
+use Rattle.model.proofs.Base.{ℕ, _+_, _%_, _≤_, _<_, arith, _≡_, sym, ap, _∙_, List, length, le-leb, lt-leb}
 use Rattle.model.specs.Card.{noTransaction, taken, recordSize, coreOf, withCore}
 use Rattle.model.specs.Commit.{coreStored}
 use Rattle.model.specs.declared.Transaction.{Transaction}

@@ -1,13 +1,9 @@
--- STORE: its refusals, what is stored next, and what the code leaves where it is carried out.
-use Prim.Native.Nat.{ℕ, _+_, _*_, _-_, _≤_, _<_, min}
-use native.Mathlib.Omega.{arith}
-use mathlib.Core.Path.{_≡_, sym, ap, _∙_}
-use mathlib.Core.Bool.{Bool, true, false, not}
-use mathlib.Core.List.{List, [], _∷_, _++_, map}
-use lib.ListN.{length, take, drop, getD, length-take}
-use borrow.Author.Tests.{le-leb, lt-leb, ne-eqb, not-true, not-false}
-use Rattle.model.specs.Lists.{below}
-use Rattle.model.specs.Bytes.{Bytes, blockAt}
+-- STORE answers 30 under its condition. What is written next is the descriptor, then each copy escaped, then the commit, and it
+-- stands at the position after what the journal holds. Refused, or carried out, STORE meets its contract.
+use Rattle.model.proofs.Base.{ℕ, _+_, _-_, _*_, _≤_, _<_, min, arith, _≡_, sym, ap, _∙_, Bool, true, false, not, List, [], _∷_}
+use Rattle.model.proofs.Base.{_++_, map, length, take, drop, getD, length-take, ne-eqb, le-leb, lt-leb, not-true, not-false}
+use Rattle.model.proofs.Base.{below, Bytes}
+use Rattle.model.specs.Bytes.{blockAt}
 use Rattle.model.specs.Shape.{clamped, journalBlock}
 use Rattle.model.specs.Card.{taken, listed, shapeOf, tailOf, coreOf, withCore}
 use Rattle.model.specs.Layout.{newHeld, descriptorBlock, commitBlock, escaped}

@@ -1,13 +1,7 @@
--- The counts of committed transactions, and a core's oldest one.
-use Prim.Native.Nat.{ℕ, _+_, _-_, _≤_, _<_, min}
-use native.Mathlib.Omega.{arith}
-use mathlib.Core.Path.{_≡_, sym, ap, _∙_}
-use mathlib.Core.Bool.{Bool, true, false, cond}
-use mathlib.Core.List.{List}
-use lib.ListN.{getD, set}
-use lib.Seq.{getD-take}
-use borrow.Author.Tests.{ne-eqb}
-use Rattle.model.specs.Bytes.{Bytes}
+-- How many transactions of a core are committed: none, or the numbers between its tail and its next, less the closed one. The
+-- counts of all cores; none counted means no oldest one, else it is the record at the tail.
+use Rattle.model.proofs.Base.{ℕ, _+_, _-_, _≤_, _<_, min, arith, _≡_, sym, ap, _∙_, Bool, true, false, cond, List, getD, set}
+use Rattle.model.proofs.Base.{getD-take, ne-eqb, Bytes}
 use Rattle.model.specs.Card.{shapeOf, tailOf, coreOf, committedCount}
 use Rattle.model.specs.Journal.{journal, recordAt}
 use Rattle.model.specs.declared.Shape.{Shape}

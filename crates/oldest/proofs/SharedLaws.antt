@@ -1,14 +1,8 @@
--- A transaction read from its record, and others that share a block with it.
-use Prim.Native.Nat.{ℕ, _+_, _≤_, _<_}
-use native.Mathlib.Omega.{arith}
-use mathlib.Core.Path.{_≡_, sym, ap, _∙_, subst}
-use mathlib.Core.Bool.{Bool, true, false, not}
-use mathlib.Core.List.{List, [], map}
-use lib.ListN.{length, getD, take, List·getD-map}
-use lib.Dec.{eqb}
-use borrow.Author.Tests.{not-true, not-false, lt-ltb, le-ltb, eq-eqb, ne-eqb}
-use Rattle.model.specs.Lists.{below, any}
-use Rattle.model.specs.Bytes.{Bytes}
+-- The blocks of a transaction read from its record; whether a transaction in cells took one; two that share one, asked block by
+-- block. One of lower stamp shares a block: a committed one in its slots, or a core's closed one.
+use Rattle.model.proofs.Base.{ℕ, _+_, _≤_, _<_, arith, _≡_, sym, ap, subst, _∙_, Bool, true, false, not, List, [], map, length}
+use Rattle.model.proofs.Base.{take, getD, List·getD-map, eqb, eq-eqb, ne-eqb, lt-ltb, le-ltb, not-true, not-false, below, any}
+use Rattle.model.proofs.Base.{Bytes}
 use Rattle.model.specs.Card.{taken, shapeOf}
 use Rattle.model.specs.Layout.{Held, newHeld, pairAt, pairsIn, heldIn}
 use Rattle.model.specs.Journal.{journalAt, heldBy, blocksOf}

@@ -1,16 +1,12 @@
--- WRITE: whether there is room, 24 to 27.
-use Prim.Native.Nat.{ℕ, _+_, _≤_, _<_, min}
-use native.Mathlib.Omega.{arith}
-use mathlib.Core.Path.{_≡_, refl, sym, ap, _∙_}
-use mathlib.Core.Bool.{Bool, true, false, cond, not, _&&_, and-false, and-true}
-use mathlib.Core.List.{List}
-use lib.Dec.{ltb, leb}
-use lib.ListN.{length, take, set, length-take, length-set}
-use borrow.Author.Tests.{lt-leb, le-leb, leb-true, leb-false, not-true, not-false}
+-- WRITE answers 24 to 27 exactly under their conditions: a thirteenth name of the writer or of the holder, a ninth block, a
+-- record that the journal has no room for, a number too high. Each is asked of what the WRITE would leave.
+use Rattle.model.proofs.Base.{ℕ, _+_, _≤_, _<_, min, arith, _≡_, refl, sym, ap, _∙_, Bool, true, false, cond, not, _&&_, List}
+use Rattle.model.proofs.Base.{length, take, set, length-set, length-take, ltb, leb, le-leb, lt-leb, leb-true, leb-false, not-true}
+use Rattle.model.proofs.Base.{not-false, any}
+use mathlib.Core.Bool.{and-false, and-true}
 use Rattle.model.specs.Card.{opened, taken, listed, lists, withName, recordSize, shapeOf, coreOf}
 use Rattle.model.specs.Command.{refusal}
 use Rattle.model.specs.Layout.{maxNumber}
-use Rattle.model.specs.Lists.{any}
 use Rattle.model.specs.Write.{writer, takesBlock, namesHolder, passesTwelve, closedBlocks}
 use Rattle.model.specs.declared.Shape.{Shape}
 use Rattle.model.specs.declared.Name.{Name}

@@ -1,11 +1,6 @@
 -- WRITE: the writer's name, whether a name is of a running transaction, and the rule that is met: each return of the code is
 -- one case of `ruleFor`.
-use Prim.Native.Nat.{ℕ, _<_}
-use mathlib.Core.Path.{_≡_, ap, _∙_}
-use mathlib.Core.Bool.{Bool, true, false, cond, not, _&&_}
-use mathlib.Core.List.{List}
-use lib.Dec.{eqb}
-use borrow.Author.Tests.{not-true, not-false}
+use Rattle.model.proofs.Base.{ℕ, _<_, _≡_, ap, _∙_, Bool, true, false, cond, not, _&&_, List, eqb, not-true, not-false}
 use Rattle.model.specs.Card.{newName, sameName, coreOf, holderOf}
 use Rattle.model.specs.Write.{writerName, isRunning, ruleFor}
 use Rattle.model.specs.declared.Name.{Name}

@@ -1,12 +1,7 @@
--- WRITE: the cells afterwards, in their steps.
-use Prim.Native.Nat.{ℕ, _-_, _%_, _<_}
-use native.Mathlib.Omega.{arith}
-use mathlib.Core.Path.{_≡_, refl, sym, ap, _∙_}
-use mathlib.Core.Bool.{Bool, true, false, not, _&&_, false≢true}
-use mathlib.Core.List.{List}
-use lib.Dec.{eqb}
-use lib.Seq.{getD-set-other}
-use borrow.Author.Tests.{leb-false, eq-eqb, eqb-true, not-false}
+-- The cells after WRITE, in their steps: the holder's transaction with the writer's name, the writer's with the holder's name
+-- and the block, the holder of the block. Together they are the card after WRITE; room asked before is room at each step.
+use Rattle.model.proofs.Base.{ℕ, _-_, _%_, _<_, arith, _≡_, refl, sym, ap, _∙_, Bool, true, false, not, _&&_, false≢true, List}
+use Rattle.model.proofs.Base.{getD-set-other, eqb, eq-eqb, eqb-true, leb-false, not-false}
 use Rattle.model.specs.Card.{newName, sameName, freshCore, withName, withRunning, withCore, coreOf, holderOf}
 use Rattle.model.specs.Write.{writer, writerName, isRunning, ruleFor, takesBlock, namesHolder, isNamedBack, passesTwelve, writerAfter, writtenCard}
 use Rattle.model.specs.declared.Name.{Name}
