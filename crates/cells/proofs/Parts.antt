@@ -1,7 +1,7 @@
 -- A test of a list's first elements grows by one element and ends with all; an array filled in a loop is the mapped list. How
 -- many blocks and names a transaction has, a search through its names, and when a thirteenth name does not fit.
 use Rattle.model.proofs.Base.{ℕ, zero, suc, _+_, _≤_, _<_, min, arith, add-one, _≡_, refl, sym, ap, _∙_, Bool, true, false, List}
-use Rattle.model.proofs.Base.{[], _∷_, _++_, map, append-nil, length, take, drop, getD, set, length-map, length-take, take-all}
+use Rattle.model.proofs.Base.{[], _∷_, _++_, map, append-nil, length, take, drop, getD, set, length-take, take-all}
 use Rattle.model.proofs.Base.{take-suc, getD-take, leb, eq-eqb, ne-eqb, lt-ltb, le-ltb, le-leb, lt-leb, leb-false, not-true}
 use Rattle.model.proofs.Base.{not-false, any}
 use lib.ListN.{drop-of-length-le}
@@ -11,14 +11,12 @@ use Rattle.model.specs.Write.{passesTwelve}
 use Rattle.model.specs.declared.Name.{Name}
 use Rattle.model.specs.declared.Transaction.{Transaction}
 use Rattle.model.proofs.Lists.{any-append, mem-any, getD-mem}
+use Rattle.layout.proofs.Pairs.{length-mapped}
 
 -- the value of a test from the fact that the code's branch tells
 pub ruleset tests = (le-leb, lt-leb, lt-ltb, le-ltb, eq-eqb, ne-eqb, not-true, not-false)
 
 -- a field that is an array of structs is known by the list of its elements' images
-pub length-mapped : (A B : Type 0) (f : A → B) (l : List A) (n : ℕ) → length (map f l) ≡ n → length l ≡ n
-length-mapped A B f l n e = sym (length-map l f) ∙ e
-
 pub ruleset facts = (needs, length-mapped)
 
 module _ {A : Type 0} where

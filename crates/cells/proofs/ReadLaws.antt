@@ -4,7 +4,7 @@ use Rattle.model.proofs.Base.{ℕ, _+_, _-_, _*_, _/_, _%_, _≤_, _<_, arith, 
 use Rattle.model.proofs.Base.{getD, set, length-set, length-map, getD-set-same, getD-set-other, ext-getD, eqb, ne-eqb, eqb-true}
 use Rattle.model.proofs.Base.{eqb-false, below}
 use Rattle.model.specs.Shape.{clamped}
-use Rattle.model.specs.Card.{newName, noHolder, newHolder, shapeOf, taken, listed, coreOf, holderOf, freshCore}
+use Rattle.model.specs.Card.{newTail, newName, noHolder, newHolder, shapeOf, tailOf, taken, listed, coreOf, holderOf, freshCore}
 use Rattle.model.specs.declared.Phase.the-variants.{Blank, Up, Down}
 use Rattle.model.specs.declared.Shape.{Shape}
 use Rattle.model.specs.declared.Name.{Name}
@@ -12,7 +12,7 @@ use Rattle.model.specs.declared.Transaction.{Transaction}
 use Rattle.model.specs.declared.Core.{Core}
 use Rattle.model.proofs.Lists.{cases, length-below, getD-map-below}
 use Rattle.cells.proofs.Parts.{took-all, took-some, named-all, named-some}
-use Rattle.cells.specs.Cells.{byteIn, numberIn, phaseIn, nameIn, holderIn, transactionIn, coreIn, cardIn, holderPlace, corePlace, runningPlace, closedPlace}
+use Rattle.cells.specs.Cells.{byteIn, numberIn, phaseIn, nameIn, holderIn, tailFrom, transactionIn, coreIn, cardIn, tailPlace, holderPlace, corePlace, runningPlace, closedPlace}
 
 -- ---- lists given by their index
 module _ {A : Type 0} where
@@ -127,7 +127,11 @@ pub low-core : (k : ℕ) (n : Name) → n ≡ nameIn k → n .core < 8
 unfolding nameIn
 low-core k n e = omega (arith, ap (λ (m : Name). m .core) e)
 
--- ---- a core of the card
+-- ---- a tail and a core of the card
+pub tail-at : (w : List ℕ) (c : ℕ) → c < 8 → tailOf (cardIn w) c ≡ tailFrom w (tailPlace c)
+unfolding tailOf cardIn
+tail-at w c h = getD-map-below _ 8 c (newTail 0 0) h
+
 pub core-at : (w : List ℕ) (c : ℕ) → c < 8 → coreOf (cardIn w) c ≡ coreIn w (corePlace c)
 unfolding coreOf cardIn
 core-at w c h = getD-map-below _ 8 c (freshCore 0) h
