@@ -1,11 +1,7 @@
 -- The card where the cells of one part changed: a core's numbers or its closed transaction, a field of the header, the holders.
-use Prim.Native.Nat.{ℕ, _+_, _%_, _≤_, _<_}
-use native.Mathlib.Omega.{arith}
-use mathlib.Core.Path.{_≡_, refl, sym, ap, _∙_}
-use mathlib.Core.List.{List, map}
-use lib.ListN.{length, getD, set, length-set}
-use lib.Seq.{getD-set-same, getD-set-other, set-set}
-use Rattle.model.specs.Lists.{below}
+use Rattle.model.proofs.Base.{ℕ, _+_, _%_, _≤_, _<_, arith, _≡_, refl, sym, ap, _∙_, List, map, length, getD, set, length-set}
+use Rattle.model.proofs.Base.{getD-set-same, getD-set-other, below}
+use lib.Seq.{set-set}
 use Rattle.model.specs.Card.{freshCore, coreOf, withCore, withLists}
 use Rattle.model.specs.Recovery.{recoveredTo}
 use Rattle.model.specs.declared.Core.{Core}
@@ -14,7 +10,9 @@ use Rattle.model.proofs.Lists.{map-below}
 use Rattle.cells.specs.Cells.{byteIn, phaseIn, holderIn, transactionIn, coreIn, cardIn, tailPlace, holderPlace, corePlace}
 use Rattle.cells.specs.Changes.{withNumbers, withClosed, withCloses, Frame}
 use Rattle.cells.proofs.FitsLaws.{fits-next, fits-count, frame-set, frame-then, frame-wider}
-use Rattle.cells.proofs.CellLaws.{length-tabled, same-card, same-shape, same-core, tail-same, core-same, core-at, core-put, transaction-low, transaction-high}
+use Rattle.cells.proofs.ReadLaws.{length-tabled, core-at}
+use Rattle.cells.proofs.TransactionLaws.{transaction-low, transaction-high}
+use Rattle.cells.proofs.CellLaws.{same-card, same-shape, same-core, tail-same, core-same, core-put}
 
 -- ---- a core of the card, replaced
 module _ (v : List ℕ) (c : ℕ) (h : c < 8) (k : Core) where

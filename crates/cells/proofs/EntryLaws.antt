@@ -1,13 +1,6 @@
--- What WRITE, CLOSE, STORE and CHECKPOINT meet first.
-use Prim.Native.Nat.{ℕ, _<_}
-use native.Mathlib.Omega.{arith}
-use mathlib.Core.Path.{_≡_, sym, _∙_}
-use mathlib.Core.Bool.{Bool, cond}
-use mathlib.Core.List.{List, [], _∷_, _++_}
-use lib.Dec.{leb}
-use lib.ListN.{length}
-use borrow.Author.Tests.{leb-false}
-use Rattle.model.specs.Bytes.{Bytes}
+-- WRITE, CLOSE, STORE and CHECKPOINT meet the same conditions first: a hit is the answer whatever follows, a pass leaves what
+-- follows. Past them disk and memory have their lengths and the core is one of the card.
+use Rattle.model.proofs.Base.{ℕ, _<_, arith, _≡_, sym, _∙_, Bool, cond, List, [], _∷_, _++_, length, leb, leb-false, Bytes}
 use Rattle.model.specs.Card.{shapeOf}
 use Rattle.model.specs.Command.{World, refusal, notUp, noCore, Clear}
 use Rattle.model.specs.declared.Card.{Card}

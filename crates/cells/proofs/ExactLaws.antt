@@ -1,14 +1,8 @@
 -- Cells and cards: cells fit exactly if they are those of their card, and a card within its widths is the card of its cells.
-use Prim.Native.Nat.{ℕ, zero, suc, _+_, _-_, _*_, _/_, _%_, _≤_, _<_}
-use native.Mathlib.Omega.{arith}
-use mathlib.Core.Path.{_≡_, refl, sym, ap, ap₂, _∙_, subst}
-use mathlib.Core.Bool.{Bool, true, false, false≢true, cond, not}
-use mathlib.Core.List.{List, map}
-use lib.Dec.{eqb, ltb, leb}
-use lib.ListN.{length, getD, set, replicate, length-replicate, getD-replicate}
-use lib.Seq.{ext-getD}
-use borrow.Author.Tests.{lt-ltb, le-ltb, le-leb, eq-eqb, ne-eqb, ltb-true, ltb-false, leb-true, eqb-true, eqb-false}
-use Rattle.model.specs.Lists.{below}
+use Rattle.model.proofs.Base.{ℕ, zero, suc, _+_, _-_, _*_, _/_, _%_, _≤_, _<_, arith, _≡_, refl, sym, ap, ap₂, subst, _∙_, Bool}
+use Rattle.model.proofs.Base.{true, false, cond, not, false≢true, List, map, length, getD, set, replicate, length-replicate}
+use Rattle.model.proofs.Base.{getD-replicate, ext-getD, eqb, ltb, leb, eq-eqb, ne-eqb, eqb-true, eqb-false, lt-ltb, le-ltb}
+use Rattle.model.proofs.Base.{ltb-true, ltb-false, le-leb, leb-true, below}
 use Rattle.model.specs.Card.{newTail, newName, freshCore, noHolder, newHolder, tailOf, coreOf, holderOf, freshCard, emptyCard, blankCard, downCard}
 use Rattle.model.specs.declared.Phase.{Phase}
 use Rattle.model.specs.declared.Phase.the-variants.{Blank, Up, Down}
@@ -20,7 +14,9 @@ use Rattle.model.specs.declared.Holder.{Holder}
 use Rattle.model.specs.declared.Card.{Card}
 use Rattle.model.proofs.Lists.{cases, both-ways, getD-map-below}
 use Rattle.cells.proofs.FitsLaws.{in-place, fits-zero, fits-phase, fits-in-number, fits-in-position, fits-in-holder, fits-in-core, fits-set}
-use Rattle.cells.proofs.CellLaws.{length-tabled, same-transaction, same-tail, same-core, same-card, same-shape, name-put, name-read, block-read, holder-cell, holder-read, core-at}
+use Rattle.cells.proofs.ReadLaws.{length-tabled, name-put, name-read, block-read, holder-read, tail-at, core-at}
+use Rattle.cells.proofs.TransactionLaws.{same-transaction}
+use Rattle.cells.proofs.CellLaws.{same-tail, same-core, same-card, same-shape, holder-cell}
 use Rattle.cells.specs.Cells.{phaseIn, nameIn, holderIn, tailFrom, transactionIn, coreIn, cardIn, storesIn, corePlace, tailPlace, holderPlace, phaseCell, nameCell, holderCell, headerCell, tailCell, transactionCell, coreCell, cellOf, cellsOf, Exact}
 use Rattle.cells.specs.Sized.{SizedName, SizedTransaction, SizedCore, SizedTail, SizedHolder, Sized}
 use Rattle.cells.specs.Changes.{fitsHeader, fitsTransaction, fitsCore, fitsAt, Fits}
@@ -279,10 +275,6 @@ module _ (x : Card) (n : ℕ) where
 
 -- ---- the card of cells w
 module _ (w : List ℕ) where
-  tail-at : (c : ℕ) → c < 8 → tailOf (cardIn w) c ≡ tailFrom w (tailPlace c)
-  unfolding tailOf cardIn
-  tail-at c h = getD-map-below _ 8 c (newTail 0 0) h
-
   pub card-sized : Sized (cardIn w)
   unfolding cardIn tailFrom holderIn
   card-sized =
@@ -290,7 +282,7 @@ module _ (w : List ℕ) where
         shape = omega arith;
         recovered = omega arith;
         lengths = (length-tabled _ 8, length-tabled _ 8, length-tabled _ 64);
-        tail = λ c h. subst SizedTail (sym (tail-at c h)) (omega arith);
+        tail = λ c h. subst SizedTail (sym (tail-at w c h)) (omega arith);
         core = λ c h. subst SizedCore (sym (core-at w c h)) (core-sized w (corePlace c));
         holder = λ b h. subst SizedHolder (sym (holder-read w b h)) (holder-sized (eqb (getD w (holderPlace b) 0) 0) _ (name-sized (getD w (holderPlace b) 0 - 1)));
       }
@@ -305,8 +297,8 @@ module _ (w : List ℕ) where
   cell-fits =
       each-cell _
       (phase-fits (getD w 0 0)) (byte-fits (getD w 1 0)) (byte-fits (getD w 2 0)) (byte-fits (getD w 3 0)) (same-fits (getD w 4 0)) (byte-fits (getD w 5 0)) (same-fits (getD w 6 0)) unused-fits
-      (λ c h. fits-in-number c (getD w (tailPlace c) 0) h ∙ number-fits (getD w (tailPlace c) 0) ∙ ap (eqb _) (sym (number-cell (cardIn w) (storesIn w) c h ∙ ap (λ (t : Tail). t .number) (tail-at c h))))
-      (λ c h. fits-in-position c (getD w (tailPlace c + 1) 0) h ∙ byte-fits (getD w (tailPlace c + 1) 0) ∙ ap (eqb _) (sym (position-cell (cardIn w) (storesIn w) c h ∙ ap (λ (t : Tail). t .position) (tail-at c h))))
+      (λ c h. fits-in-number c (getD w (tailPlace c) 0) h ∙ number-fits (getD w (tailPlace c) 0) ∙ ap (eqb _) (sym (number-cell (cardIn w) (storesIn w) c h ∙ ap (λ (t : Tail). t .number) (tail-at w c h))))
+      (λ c h. fits-in-position c (getD w (tailPlace c + 1) 0) h ∙ byte-fits (getD w (tailPlace c + 1) 0) ∙ ap (eqb _) (sym (position-cell (cardIn w) (storesIn w) c h ∙ ap (λ (t : Tail). t .position) (tail-at w c h))))
       (λ b h. fits-in-holder b (getD w (holderPlace b) 0) h ∙ holder-fits (getD w (holderPlace b) 0) ∙ ap (eqb _) (sym (holder-at (cardIn w) (storesIn w) b h ∙ ap holderCell (holder-read w b h))))
       (λ c j h l. fits-in-core c j _ h l ∙ core-fits w (corePlace c) j l ∙ ap (eqb _) (sym (core-cell (cardIn w) (storesIn w) c j h l ∙ ap (λ (k : Core). coreCell k j) (core-at w c h))))
 

@@ -1,13 +1,9 @@
--- Which values fit a cell, by its place; and arrays of cells that differ in some.
-use Prim.Native.Nat.{ℕ, _+_, _-_, _*_, _%_, _≤_, _<_}
-use native.Mathlib.Omega.{arith}
-use mathlib.Core.Path.{_≡_, refl, sym, ap, _∙_}
-use mathlib.Core.Bool.{Bool, true, false, cond}
-use mathlib.Core.List.{List}
-use lib.Dec.{eqb, ltb, leb}
-use lib.ListN.{length, getD, set, length-set}
-use lib.Seq.{getD-set-same, getD-set-other, set-out}
-use borrow.Author.Tests.{lt-ltb, le-ltb, le-leb, eq-eqb, ne-eqb, eqb-true, eqb-false, ltb-true, ltb-false}
+-- Which values fit a cell, by the place of the cell. A frame (only cells a to a + n changed, and what is put fits) may be
+-- widened and composed, holds of no change and of one cell put.
+use Rattle.model.proofs.Base.{ℕ, _+_, _-_, _*_, _%_, _≤_, _<_, arith, _≡_, refl, sym, ap, _∙_, Bool, true, false, cond, List}
+use Rattle.model.proofs.Base.{length, getD, set, length-set, getD-set-same, getD-set-other, eqb, ltb, leb, eq-eqb, ne-eqb}
+use Rattle.model.proofs.Base.{eqb-true, eqb-false, lt-ltb, le-ltb, ltb-true, ltb-false, le-leb}
+use lib.Seq.{set-out}
 use Rattle.model.proofs.Lists.{cases}
 use Rattle.cells.specs.Cells.{corePlace, tailPlace, holderPlace, runningPlace, closedPlace}
 use Rattle.cells.specs.Changes.{IsPlace, fitsHeader, fitsTransaction, fitsCore, fitsAt, Fits, Frame}

@@ -3,6 +3,8 @@ pub mod Parts
 pub mod RefusalLaws
 pub mod EntryLaws
 pub mod FitsLaws
+pub mod ReadLaws
+pub mod TransactionLaws
 pub mod CellLaws
 pub mod CoreLaws
 pub mod ExactLaws

@@ -1,16 +1,12 @@
--- A command over the cells that was refused, or carried out.
-use Prim.Native.Nat.{ℕ}
-use mathlib.Core.Path.{_≡_, refl, _∙_}
-use mathlib.Core.List.{List}
-use mathlib.Core.Bool.{Bool}
-use lib.ListN.{length}
-use Rattle.model.specs.Bytes.{Bytes}
-use Rattle.model.specs.Command.{Outcome, refusal, unless, World}
+-- A refused command meets its contract with the cells as they were; one carried out meets it where cells, disk and memory are
+-- those of its definition and the changed cells are framed.
+use Rattle.model.proofs.Base.{ℕ, _≡_, refl, _∙_, Bool, List, length, Bytes}
+use Rattle.model.specs.Command.{Outcome, refusal, unless}
+use Rattle.cells.specs.declared.Answer.{Answer}
 use Rattle.cells.specs.Answer.{outcomeIn, newAnswer, Meets}
 use Rattle.cells.specs.Cells.{worldIn}
 use Rattle.cells.specs.Changes.{Frame}
 use Rattle.cells.proofs.RefusalLaws.{was-refused, was-done}
-use Rattle.cells.specs.declared.Answer.{Answer}
 
 -- the cells of a changed array
 pub same-long : (v w : List ℕ) (a n : ℕ) → length v ≡ 512 → Frame v w a n → length w ≡ 512

@@ -1,29 +1,22 @@
--- Arrays of known length, the tests of a list's first elements, arrays filled in a loop, a transaction's blocks and names.
-use Prim.Native.Nat.{ℕ, zero, suc, _+_, _≤_, _<_, min}
-use native.Mathlib.Omega.{arith}
-use native.Mathlib.Numerals.{add-one}
-use mathlib.Core.Path.{_≡_, refl, sym, ap, _∙_}
-use mathlib.Core.Bool.{Bool, true, false}
-use mathlib.Core.List.{List, [], _∷_, _++_, map, append-nil}
-use lib.Dec.{leb}
-use lib.ListN.{length, take, drop, getD, set, length-map, length-take, drop-of-length-le}
-use lib.Seq.{take-all, take-suc, getD-take}
+-- A test of a list's first elements grows by one element and ends with all; an array filled in a loop is the mapped list. How
+-- many blocks and names a transaction has, a search through its names, and when a thirteenth name does not fit.
+use Rattle.model.proofs.Base.{ℕ, zero, suc, _+_, _≤_, _<_, min, arith, add-one, _≡_, refl, sym, ap, _∙_, Bool, true, false, List}
+use Rattle.model.proofs.Base.{[], _∷_, _++_, map, append-nil, length, take, drop, getD, set, length-take, take-all}
+use Rattle.model.proofs.Base.{take-suc, getD-take, leb, eq-eqb, ne-eqb, lt-ltb, le-ltb, le-leb, lt-leb, leb-false, not-true}
+use Rattle.model.proofs.Base.{not-false, any}
+use lib.ListN.{drop-of-length-le}
 use borrow.Author.Needs.{needs}
-use borrow.Author.Tests.{le-leb, lt-leb, lt-ltb, le-ltb, eq-eqb, ne-eqb, not-true, not-false, leb-false}
-use Rattle.model.specs.Lists.{any}
 use Rattle.model.specs.Card.{sameName, taken, listed, lists, withName}
 use Rattle.model.specs.Write.{passesNames}
 use Rattle.model.specs.declared.Name.{Name}
 use Rattle.model.specs.declared.Transaction.{Transaction}
 use Rattle.model.proofs.Lists.{any-append, mem-any, getD-mem}
+use Rattle.layout.proofs.Pairs.{length-mapped}
 
 -- the value of a test from the fact that the code's branch tells
 pub ruleset tests = (le-leb, lt-leb, lt-ltb, le-ltb, eq-eqb, ne-eqb, not-true, not-false)
 
 -- a field that is an array of structs is known by the list of its elements' images
-pub length-mapped : (A B : Type 0) (f : A → B) (l : List A) (n : ℕ) → length (map f l) ≡ n → length l ≡ n
-length-mapped A B f l n e = sym (length-map l f) ∙ e
-
 pub ruleset facts = (needs, length-mapped)
 
 module _ {A : Type 0} where
@@ -87,10 +80,6 @@ module _ (t : Transaction) where
   pub named-some : length (t .names) ≡ 12 → t .named ≤ 12 → t .named ≡ length (listed t)
   unfolding listed
   named-some n h = sym (length-take (t .named) (t .names) ∙ omega arith)
-
-  pub few-listed : length (t .names) ≡ 12 → length (listed t) ≤ 12
-  unfolding listed
-  few-listed n = simp length-take (omega arith)
 
   -- a search through the names
   module _ (n : Name) where

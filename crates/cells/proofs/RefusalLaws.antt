@@ -1,11 +1,6 @@
--- Refusals met stage by stage, and the outcome of a command that was refused or carried out.
-use Prim.Native.Nat.{ℕ, _<_}
-use native.Mathlib.Omega.{arith}
-use mathlib.Core.Path.{_≡_, refl, sym, _∙_}
-use mathlib.Core.Bool.{Bool, cond, not}
-use mathlib.Core.List.{List, [], _∷_, _++_}
-use lib.ListN.{length}
-use borrow.Author.Tests.{ne-eqb}
+-- The first condition that holds, stage by stage: two lists joined, one condition, the conditions of each phase. A command is
+-- refused with it, or carried out where there is none, and then none of the conditions holds.
+use Rattle.model.proofs.Base.{ℕ, _<_, arith, _≡_, refl, sym, _∙_, Bool, cond, not, List, [], _∷_, _++_, length, ne-eqb}
 use Rattle.model.specs.Card.{isBlank, isUp, isDown}
 use Rattle.model.specs.Command.{World, Outcome, refusal, unless, notUp, wrongLength, Clear, refusedWith}
 use Rattle.model.specs.Layout.{isMaster}

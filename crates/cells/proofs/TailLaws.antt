@@ -1,32 +1,25 @@
--- A tail read and replaced, and the array of all.
-use Prim.Native.Nat.{ℕ, _+_, _%_, _≤_, _<_}
-use native.Mathlib.Omega.{arith}
-use mathlib.Core.Path.{_≡_, sym, ap, _∙_}
-use mathlib.Core.List.{List, map}
-use lib.ListN.{length, getD, set, length-set}
-use lib.Seq.{getD-set-same, getD-set-other}
-use Rattle.model.specs.Lists.{below}
+-- A tail is read at its two cells, eight in turn are the card's tails; two cells put are the card with that tail replaced,
+-- framed.
+use Rattle.model.proofs.Base.{ℕ, _+_, _%_, _≤_, _<_, arith, _≡_, sym, ap, _∙_, List, map, length, getD, set, length-set}
+use Rattle.model.proofs.Base.{getD-set-same, getD-set-other, below}
 use Rattle.model.specs.Card.{newTail, tailOf}
 use Rattle.model.specs.declared.Tail.{Tail}
-use Rattle.model.proofs.Lists.{map-below, getD-map-below}
+use Rattle.model.proofs.Lists.{map-below}
 use Rattle.layout.proofs.Loops.{Filled, filled-all}
 use Rattle.cells.specs.Cells.{byteIn, numberIn, phaseIn, holderIn, tailFrom, cardIn, tailPlace, holderPlace, corePlace}
 use Rattle.cells.specs.Changes.{withTail, Frame}
 use Rattle.cells.proofs.FitsLaws.{fits-number, fits-position, frame-then, frame-set}
-use Rattle.cells.proofs.CellLaws.{tabled-set, same-tail, tail-same, core-same, same-card, same-shape}
+use Rattle.cells.proofs.ReadLaws.{tabled-set, tail-at}
+use Rattle.cells.proofs.CellLaws.{same-tail, tail-same, core-same, same-card, same-shape}
 
 module _ (w : List ℕ) where
-  tail-from : (c : ℕ) → c < 8 → tailOf (cardIn w) c ≡ tailFrom w (tailPlace c)
-  unfolding tailOf cardIn
-  tail-from c h = getD-map-below _ 8 c (newTail 0 0) h
-
   pub tail-read : (c : ℕ) → c < 8 → (n p : ℕ) → n ≡ numberIn w (tailPlace c) → p ≡ byteIn w (tailPlace c + 1) → newTail n p ≡ tailOf (cardIn w) c
   unfolding tailFrom
-  tail-read c h n p e f = same-tail _ _ _ _ e f ∙ sym (tail-from c h)
+  tail-read c h n p e f = same-tail _ _ _ _ e f ∙ sym (tail-at w c h)
 
   all-tails : map (tailOf (cardIn w)) (below 8) ≡ (cardIn w) .tails
   unfolding cardIn
-  all-tails = map-below _ _ 8 (λ c h. tail-from c h)
+  all-tails = map-below _ _ 8 (λ c h. tail-at w c h)
 
   pub tails-read : (out : List Tail) (c : ℕ) → Filled (tailOf (cardIn w)) 8 out c → 8 ≤ c → out ≡ (cardIn w) .tails
   tails-read out c f h = filled-all (tailOf (cardIn w)) 8 out c f h ∙ all-tails

@@ -12,6 +12,7 @@ use Rattle.model.specs.declared.Tail.{Tail}
 use Rattle.model.specs.declared.Transaction.{Transaction}
 use Rattle.model.specs.declared.Core.{Core}
 use Rattle.model.specs.declared.Card.{Card}
+use Rattle.cells.specs.Cells.{transactionIn, cardIn}
 
 -- ---- cells that are those of their card, cell by cell
 -- whether a value has no bit above its field's width: in a header, a transaction, a core
@@ -54,6 +55,13 @@ pub record Frame (v w : List ℕ) (a n : ℕ) : Type 0 where
   pub low : (i : ℕ) → i < a → getD w i 0 ≡ getD v i 0
   pub high : (i : ℕ) → a + n ≤ i → getD w i 0 ≡ getD v i 0
   pub kept : Fits v → Fits w
+
+-- the card is changed by f, within the n cells from a on; and a transaction, in its place
+abbrev pub Changed : (Card → Card) → List ℕ → List ℕ → ℕ → ℕ → Type 0
+Changed f v w a n = (cardIn w ≡ f (cardIn v)) × Frame v w a n
+
+abbrev pub ChangedAt : ℕ → (Transaction → Transaction) → List ℕ → List ℕ → Type 0
+ChangedAt a f v w = (transactionIn w a ≡ f (transactionIn v a)) × Frame v w a 24
 
 -- the transaction, or one that opens
 unfoldable pub openedOr : Transaction → Transaction

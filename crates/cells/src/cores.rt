@@ -3,8 +3,9 @@ ghost use mathlib.Core.Path.{_≡_};
 ghost use Prim.Native.Nat.{_<_};
 ghost use lib.ListN.{length};
 ghost use Rattle.model.specs.Card.{coreOf, withCore};
-ghost use Rattle.cells.specs.Cells.{cardIn, corePlace};
-ghost use Rattle.cells.specs.Changes.{withNumbers, Frame};
+ghost use Rattle.model.specs.declared.Card.{Card};
+ghost use Rattle.cells.specs.Cells.{corePlace};
+ghost use Rattle.cells.specs.Changes.{withNumbers, Changed};
 use crate::fields::HOMED;
 use crate::fields::STORED;
 use crate::fields::USED;
@@ -14,8 +15,8 @@ use crate::fields::core_place;
 pub fn put_numbers(w: &mut [u64], c: u8, next: u32, used: u8, stored: u8, homed: u8)
     requires { ⌜ (length (now w) ≡ 512) × (c < 8) ⌝ }
     ensures { λ _. ⌜
-        (cardIn (now (w .exit)) ≡ withCore (cardIn (now (w .entry))) c (withNumbers (coreOf (cardIn (now (w .entry))) c) next used stored homed))
-        × Frame (now (w .entry)) (now (w .exit)) (corePlace c) 4
+        Changed (λ (x : Card). withCore x c (withNumbers (coreOf x c) next used stored homed))
+        (now (w .entry)) (now (w .exit)) (corePlace c) 4
         ⌝ }
 {
     let at = core_place(c);

@@ -3,8 +3,9 @@ ghost use mathlib.Core.Path.{_≡_};
 ghost use Prim.Native.Nat.{_+_, _<_};
 ghost use lib.ListN.{length};
 ghost use Rattle.model.specs.Card.{newHolder, holderOf, withHolder};
+ghost use Rattle.model.specs.declared.Card.{Card};
 ghost use Rattle.cells.specs.Cells.{cardIn, holderPlace};
-ghost use Rattle.cells.specs.Changes.{Frame};
+ghost use Rattle.cells.specs.Changes.{Changed};
 use crate::fields::HOLDERS;
 use crate::transactions::cell_of;
 use crate::transactions::name_of;
@@ -42,8 +43,7 @@ pub fn is_held(w: &[u64], b: u8) -> bool
 pub fn hold(w: &mut [u64], b: u8, n: Name)
     requires { ⌜ (length (now w) ≡ 512) × (b < 64) × (n .core < 8) ⌝ }
     ensures { λ _. ⌜
-        (cardIn (now (w .exit)) ≡ withHolder (cardIn (now (w .entry))) b (newHolder n))
-        × Frame (now (w .entry)) (now (w .exit)) (holderPlace b) 1
+        Changed (λ (x : Card). withHolder x b (newHolder n)) (now (w .entry)) (now (w .exit)) (holderPlace b) 1
         ⌝ }
 {
     let cell = cell_of(n);

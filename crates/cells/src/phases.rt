@@ -4,8 +4,9 @@ ghost use mathlib.Core.List.{map};
 ghost use lib.ListN.{length, replicate};
 ghost use Rattle.model.specs.Card.{freshCore, freshCard, blankCard, downCard, withLists};
 ghost use Rattle.model.specs.declared.Phase.the-variants.{Up};
+ghost use Rattle.model.specs.declared.Card.{Card};
 ghost use Rattle.cells.specs.Cells.{cardIn, cellsOf};
-ghost use Rattle.cells.specs.Changes.{upWith, Frame};
+ghost use Rattle.cells.specs.Changes.{upWith, Frame, Changed};
 use crate::cores::put_numbers;
 use crate::fields::PHASE;
 use crate::fields::SHAPE_BLOCKS;
@@ -47,10 +48,7 @@ pub fn go_down(w: &mut [u64])
 // The card up, with this shape.
 fn put_shape(w: &mut [u64], s: Shape)
     requires { ⌜ length (now w) ≡ 512 ⌝ }
-    ensures { λ _. ⌜
-        (cardIn (now (w .exit)) ≡ upWith (cardIn (now (w .entry))) s)
-        × Frame (now (w .entry)) (now (w .exit)) 0 4
-        ⌝ }
+    ensures { λ _. ⌜ Changed (λ (x : Card). upWith x s) (now (w .entry)) (now (w .exit)) 0 4 ⌝ }
 {
     w[PHASE] = 1;
     w[SHAPE_CORES] = s.cores as u64;
@@ -62,9 +60,8 @@ fn put_shape(w: &mut [u64], s: Shape)
 fn begin_all(w: &mut [u64], tails: [Tail; 8])
     requires { ⌜ (length (now w) ≡ 512) × ((cardIn (now w)) .cores ≡ replicate 8 (freshCore 0)) ⌝ }
     ensures { λ _. ⌜
-        (cardIn (now (w .exit))
-        ≡ withLists (cardIn (now (w .entry))) tails (map (λ (t : Tail). freshCore (t .number)) tails) ((cardIn (now (w .entry))) .holders))
-        × Frame (now (w .entry)) (now (w .exit)) 0 512
+        Changed (λ (x : Card). withLists x tails (map (λ (t : Tail). freshCore (t .number)) tails) (x .holders))
+        (now (w .entry)) (now (w .exit)) 0 512
         ⌝ }
 {
     let mut c: u8 = 0;

@@ -3,8 +3,9 @@ ghost use mathlib.Core.Path.{_≡_};
 ghost use Prim.Native.Nat.{_+_, _<_};
 ghost use lib.ListN.{length};
 ghost use Rattle.model.specs.Card.{tailOf};
+ghost use Rattle.model.specs.declared.Card.{Card};
 ghost use Rattle.cells.specs.Cells.{cardIn, tailPlace};
-ghost use Rattle.cells.specs.Changes.{withTail, Frame};
+ghost use Rattle.cells.specs.Changes.{withTail, Changed};
 use crate::fields::POSITION;
 use crate::fields::TAIL_SIZE;
 use crate::fields::TAILS;
@@ -45,8 +46,7 @@ pub fn tails_of(w: &[u64]) -> [Tail; 8]
 pub fn put_tail(w: &mut [u64], c: u8, t: Tail)
     requires { ⌜ (length (now w) ≡ 512) × (c < 8) ⌝ }
     ensures { λ _. ⌜
-        (cardIn (now (w .exit)) ≡ withTail (cardIn (now (w .entry))) c t)
-        × Frame (now (w .entry)) (now (w .exit)) (tailPlace c) 2
+        Changed (λ (x : Card). withTail x c t) (now (w .entry)) (now (w .exit)) (tailPlace c) 2
         ⌝ }
 {
     let at = TAILS + TAIL_SIZE * c as usize;

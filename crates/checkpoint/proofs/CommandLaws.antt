@@ -1,13 +1,7 @@
--- CHECKPOINT's refusals one after another, and the checkpoint of the oldest transaction.
-use Prim.Native.Nat.{ℕ, suc, _+_, _-_, _%_, _≤_, _<_, min}
-use native.Mathlib.Omega.{arith}
-use mathlib.Core.Path.{_≡_, refl, sym, ap, _∙_, subst}
-use mathlib.Core.Bool.{Bool, false, cond, not}
-use mathlib.Core.List.{List, [], _∷_}
-use lib.ListN.{length}
-use lib.Dec.{eqb}
-use borrow.Author.Tests.{ne-eqb, eqb-true, eqb-false, leb-true}
-use Rattle.model.specs.Bytes.{Bytes}
+-- CHECKPOINT answers 31 where no transaction is committed; of the oldest it is refused with 32 or 33, or carried out, and then
+-- meets its contract.
+use Rattle.model.proofs.Base.{ℕ, suc, _+_, _-_, _%_, _≤_, _<_, min, arith, _≡_, refl, sym, ap, subst, _∙_, Bool, false, cond, not}
+use Rattle.model.proofs.Base.{List, [], _∷_, length, eqb, ne-eqb, eqb-true, eqb-false, leb-true, Bytes}
 use Rattle.model.specs.Card.{shapeOf, tailOf, committedCount}
 use Rattle.model.specs.Layout.{hasHead, isDescriptor}
 use Rattle.model.specs.Journal.{recordsFrom, journal, nameOf}

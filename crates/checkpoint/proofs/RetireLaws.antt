@@ -1,14 +1,8 @@
--- CHECKPOINT: the cells after a transaction is retired.
-use Prim.Native.Nat.{ℕ, _+_, _-_, _≤_, _<_}
-use native.Mathlib.Omega.{arith}
-use mathlib.Core.Path.{_≡_, refl, sym, ap, _∙_}
-use mathlib.Core.Bool.{Bool, true, false}
-use mathlib.Core.List.{List, map-map}
-use lib.Dec.{eqb}
-use lib.ListN.{length, getD, set, length-set}
-use lib.Seq.{getD-set-same, getD-set-other}
-use borrow.Author.Tests.{eqb-true, eqb-false, ne-eqb}
-use Rattle.model.specs.Lists.{below}
+-- Each holder's cell freed where it bears the name gives the card with the transaction released; its core with its numbers
+-- lowered is the retired one; with the tail moved they are the card after a transaction is retired, framed.
+use Rattle.model.proofs.Base.{ℕ, _+_, _-_, _≤_, _<_, arith, _≡_, refl, sym, ap, _∙_, Bool, true, false, List, length, getD, set}
+use Rattle.model.proofs.Base.{length-set, getD-set-same, getD-set-other, eqb, ne-eqb, eqb-true, eqb-false, below}
+use mathlib.Core.List.{map-map}
 use Rattle.model.specs.Card.{newName, sameName, newHolder, shapeOf, coreOf, withLists, withCore}
 use Rattle.model.specs.Checkpoint.{homedCore, freed, released, movedTail, retiredCore, retiredCard}
 use Rattle.model.specs.declared.Name.{Name}
@@ -17,12 +11,11 @@ use Rattle.model.specs.declared.Core.{Core}
 use Rattle.model.specs.declared.Card.{Card}
 use Rattle.model.specs.declared.Committed.{Committed}
 use Rattle.model.proofs.Lists.{cases, map-below}
-use Rattle.cells.specs.Cells.{byteIn, numberIn, nameIn, holderIn, coreIn, cardIn, tailPlace, holderPlace, corePlace}
+use Rattle.cells.specs.Cells.{byteIn, numberIn, nameIn, holderIn, cardIn, tailPlace, holderPlace, corePlace}
 use Rattle.cells.specs.Changes.{fitsAt, Fits, Frame, withNumbers, withTail}
 use Rattle.cells.proofs.FitsLaws.{fits-zero, fits-set, frame-then, frame-same, frame-wider}
-use Rattle.cells.proofs.CellLaws.{core-at, used-read}
+use Rattle.cells.proofs.ReadLaws.{next-there, used-there, stored-there}
 use Rattle.cells.proofs.CoreLaws.{holders-put}
-use Rattle.oldest.proofs.CountLaws.{next-is}
 use Rattle.checkpoint.specs.NextStore.{withReleased, Freed}
 
 -- ---- a holder's cell
@@ -97,18 +90,6 @@ module _ (n : Name) (v : List ℕ) where
           }
 
 -- ---- a core's numbers
-module _ (w : List ℕ) (c : ℕ) (h : c < 8) (p : ℕ) (e : p ≡ corePlace c) where
-  pub used-is : (n : ℕ) → n ≡ byteIn w (p + 1) → n ≡ (coreOf (cardIn w) c) .used
-  used-is n q = q ∙ ap (λ (i : ℕ). byteIn w (i + 1)) e ∙ used-read w c h
-
-  pub stored-is : (n : ℕ) → n ≡ byteIn w (p + 2) → n ≡ (coreOf (cardIn w) c) .stored
-  unfolding coreIn
-  stored-is n q = q ∙ ap (λ (i : ℕ). byteIn w (i + 2)) e ∙ sym (ap (λ (k : Core). k .stored) (core-at w c h))
-
-  pub homed-is : (n : ℕ) → n ≡ byteIn w (p + 3) → n ≡ (coreOf (cardIn w) c) .homed
-  unfolding coreIn
-  homed-is n q = q ∙ ap (λ (i : ℕ). byteIn w (i + 3)) e ∙ sym (ap (λ (k : Core). k .homed) (core-at w c h))
-
 same-numbers : (k : Core) (a b d e f g i j : ℕ) → a ≡ b → d ≡ e → f ≡ g → i ≡ j → withNumbers k a d f i ≡ withNumbers k b e g j
 same-numbers k a b d e f g i j p q r s = rw (p, q, r, s)
 
@@ -118,14 +99,14 @@ module _ (v : List ℕ) (c : ℕ) (h : c < 8) (p : ℕ) (q : p ≡ corePlace c) 
   core-retired e used r stored s x z =
       z
       ∙ ap (withCore (cardIn v) c)
-      (same-numbers (coreOf (cardIn v) c) _ _ _ _ _ _ 0 0 (next-is v c h p q next n) (r ∙ ap (λ (i : ℕ). i - (e .count + 2)) (used-is v c h p q b u)) (stored-is v c h p q stored s) refl)
+      (same-numbers (coreOf (cardIn v) c) _ _ _ _ _ _ 0 0 (next-there v c h p q next n) (r ∙ ap (λ (i : ℕ). i - (e .count + 2)) (used-there v c h p q b u)) (stored-there v c h p q stored s) refl)
 
   pub core-homed : (stored : ℕ) → stored ≡ byteIn v (p + 2) → (homed : ℕ) → homed ≡ (coreOf (cardIn v) c) .homed
       → (x : Card) → x ≡ withCore (cardIn v) c (withNumbers (coreOf (cardIn v) c) next b stored (homed + 1)) → x ≡ withCore (cardIn v) c (homedCore (coreOf (cardIn v) c))
   core-homed stored s homed r x z =
       z
       ∙ ap (withCore (cardIn v) c)
-      (same-numbers (coreOf (cardIn v) c) _ _ _ _ _ _ _ _ (next-is v c h p q next n) (used-is v c h p q b u) (stored-is v c h p q stored s) (ap (λ (i : ℕ). i + 1) r))
+      (same-numbers (coreOf (cardIn v) c) _ _ _ _ _ _ _ _ (next-there v c h p q next n) (used-there v c h p q b u) (stored-there v c h p q stored s) (ap (λ (i : ℕ). i + 1) r))
 
 -- ---- the card
 made-retired : (c : ℕ) (e : Committed) (x : Card) (t : Tail) → t ≡ movedTail (shapeOf x) e

@@ -1,11 +1,7 @@
--- CHECKPOINT: a block stored home, and the master.
-use Prim.Native.Nat.{ℕ, _+_, _≤_, _<_}
-use native.Mathlib.Omega.{arith}
-use mathlib.Core.Path.{_≡_, refl, _∙_}
-use mathlib.Core.List.{List}
-use lib.ListN.{getD, set}
-use borrow.Author.Tests.{lt-ltb, le-ltb}
-use Rattle.model.specs.Bytes.{Bytes, blockAt, store}
+-- A home store puts the image of the next block home and counts it; the master store puts the tails, the core's own past its
+-- record. Which of the two is next goes by the count of those stored home.
+use Rattle.model.proofs.Base.{ℕ, _+_, _≤_, _<_, arith, _≡_, refl, _∙_, List, getD, set, lt-ltb, le-ltb, Bytes}
+use Rattle.model.specs.Bytes.{blockAt, store}
 use Rattle.model.specs.Shape.{clamped, homeBlock}
 use Rattle.model.specs.Card.{newTail, shapeOf, tailOf, coreOf, withCore}
 use Rattle.model.specs.Layout.{masterBlock, unescaped}
@@ -25,7 +21,7 @@ use Rattle.cells.proofs.FitsLaws.{frame-wider}
 use Rattle.cells.specs.Answer.{Stores}
 use Rattle.oldest.proofs.SharedLaws.{shape-range}
 use Rattle.checkpoint.specs.NextStore.{nextStore}
-use Rattle.checkpoint.proofs.RetireLaws.{homed-is}
+use Rattle.cells.proofs.ReadLaws.{homed-there}
 
 -- ---- a home store
 pub home-put : (s : Shape) (d : Bytes) (e : Committed) (i b : ℕ) → b ≡ getD (blocksOf s d e) i 0 → (at : Image) → at ≡ imageAt s d e i
@@ -73,7 +69,7 @@ moved-past x e s p t q = q ∙ rw p
 -- ---- the one or the other
 module _ (v : List ℕ) (c : ℕ) (h : c < 8) (p : ℕ) (i : p ≡ corePlace c) (n : ℕ) (q : n ≡ byteIn v (p + 3)) (e : Committed) (w : List ℕ) (d k : Bytes) where
   homed-here : n ≡ (coreOf (cardIn v) c) .homed
-  homed-here = homed-is v c h p i n q
+  homed-here = homed-there v c h p i n q
 
   pub next-home : n < e .count → Stores (storedHome c e) v w d k → Stores (nextStore c e) v w d k
   unfolding nextStore

@@ -8,8 +8,9 @@ ghost use Rattle.model.specs.Card.{shapeOf, coreOf, withCore};
 ghost use Rattle.model.specs.Journal.{blocksOf, imageOf};
 ghost use Rattle.model.specs.Checkpoint.{homedCore, storedHome, storedMaster};
 ghost use Rattle.model.specs.Limits.{maxNumber};
+ghost use Rattle.model.specs.declared.Card.{Card};
 ghost use Rattle.cells.specs.Cells.{cardIn, corePlace};
-ghost use Rattle.cells.specs.Changes.{Frame};
+ghost use Rattle.cells.specs.Changes.{Changed};
 ghost use Rattle.cells.specs.Answer.{Stores};
 ghost use Rattle.oldest.specs.Oldest.{IsRead};
 ghost use Rattle.checkpoint.specs.NextStore.{nextStore};
@@ -43,8 +44,9 @@ fn put_home(s: Shape, e: Committed, i: usize, disk: &mut [u8])
 // Core c after one more home store.
 fn count_home(w: &mut [u64], c: u8, homed: u8)
     requires { ⌜ (length (now w) ≡ 512) × (c < 8) × (homed < 255) × (homed ≡ (coreOf (cardIn (now w)) c) .homed) ⌝ }
-    ensures { λ _. ⌜ (cardIn (now (w .exit)) ≡ withCore (cardIn (now (w .entry))) c (homedCore (coreOf (cardIn (now (w .entry))) c)))
-        × Frame (now (w .entry)) (now (w .exit)) (corePlace c) 4 ⌝ }
+    ensures { λ _. ⌜
+        Changed (λ (x : Card). withCore x c (homedCore (coreOf x c))) (now (w .entry)) (now (w .exit)) (corePlace c) 4
+        ⌝ }
 {
     let at = core_place(c);
     let next = number_in(w, at);

@@ -1,14 +1,10 @@
--- CLOSE: its refusals, the copies and their flags, and what the code leaves where it is carried out.
-use Prim.Native.Nat.{ℕ, _+_, _*_, _-_, _%_, _≤_, _<_}
-use native.Mathlib.Omega.{arith}
-use native.Mathlib.Numerals.{add-one}
-use mathlib.Core.Path.{_≡_, sym, ap, _∙_}
-use mathlib.Core.Bool.{Bool, true, false, not}
-use mathlib.Core.List.{List, [], _∷_, _++_}
-use lib.ListN.{length, take, drop, getD, length-take, drop-of-length-le}
-use lib.Seq.{drop-cons, getD-take}
-use borrow.Author.Tests.{not-true, not-false}
-use Rattle.model.specs.Bytes.{Bytes, blockAt, store}
+-- CLOSE answers 28 and 29 under their conditions; the images copied block by block are the definition's copies, and a copy's
+-- flag says whether it begins with the mark. Refused, or carried out, CLOSE meets its contract.
+use Rattle.model.proofs.Base.{ℕ, _+_, _-_, _*_, _%_, _≤_, _<_, arith, add-one, _≡_, sym, ap, _∙_, Bool, true, false, not, List}
+use Rattle.model.proofs.Base.{[], _∷_, _++_, length, take, drop, getD, length-take, getD-take, not-true, not-false, Bytes}
+use lib.ListN.{drop-of-length-le}
+use lib.Seq.{drop-cons}
+use Rattle.model.specs.Bytes.{blockAt, store}
 use Rattle.model.specs.Card.{taken, coreOf}
 use Rattle.model.specs.Layout.{flagOf}
 use Rattle.model.specs.Command.{refusal}
@@ -19,10 +15,9 @@ use Rattle.layout.proofs.Blocks.{block-lent}
 use Rattle.cells.specs.Cells.{byteIn, transactionIn, cardIn, runningPlace, closedPlace, worldIn}
 use Rattle.cells.specs.Changes.{Frame}
 use Rattle.cells.specs.Answer.{newAnswer, Meets}
-use Rattle.cells.proofs.CellLaws.{block-read}
+use Rattle.cells.proofs.ReadLaws.{block-read, running-there, running-live, closed-live}
 use Rattle.cells.proofs.EntryLaws.{entry, entry-hit, entry-pass, Entered, entered}
 use Rattle.cells.proofs.MeetLaws.{meets-refused, meets-done}
-use Rattle.close.proofs.ReadLaws.{running-there, closed-there}
 
 -- ---- refusals
 -- what CLOSE asks of the core
@@ -47,7 +42,7 @@ module _ (v : List ℕ) (c : ℕ) (d m : Bytes) (n : ℕ) (e : n ≡ refusal (en
 
     module _ (a : ℕ) (q : a ≡ runningPlace c) (g : Bool) (r : g ≡ (transactionIn v a) .live) where
       runs : g ≡ (coreOf (cardIn v) c) .running .live
-      runs = r ∙ ap (λ (t : Transaction). t .live) (running-there v c few a q)
+      runs = running-live v c few a q g r
 
       pub close-none : not g ≡ true → 28 ≡ refusal (closeConditions c (worldIn v d m))
       unfolding closeConditions refusal
@@ -55,7 +50,7 @@ module _ (v : List ℕ) (c : ℕ) (d m : Bytes) (n : ℕ) (e : n ≡ refusal (en
 
       module _ (b : ℕ) (s : b ≡ closedPlace c) (k : Bool) (t : k ≡ (transactionIn v b) .live) where
         is-closed : k ≡ (coreOf (cardIn v) c) .closed .live
-        is-closed = t ∙ ap (λ (t : Transaction). t .live) (closed-there v c few b s)
+        is-closed = closed-live v c few b s k t
 
         pub close-early : not g ≡ false → k ≡ true → 29 ≡ refusal (closeConditions c (worldIn v d m))
         unfolding closeConditions refusal

@@ -1,13 +1,7 @@
--- A core's cells where its running transaction is frozen and closed.
-use Prim.Native.Nat.{ℕ, _+_, _%_, _^_, _≤_, _<_}
-use native.Mathlib.Omega.{arith}
-use mathlib.Core.Path.{_≡_, refl, sym, ap, _∙_}
-use mathlib.Core.Bool.{true, not}
-use mathlib.Core.List.{List}
-use lib.Dec.{eqb}
-use lib.ListN.{length, getD, set, length-set}
-use lib.Seq.{getD-set-same, getD-set-other}
-use borrow.Author.Tests.{eqb-true, eqb-false}
+-- The cells of the running transaction copied, stamped and cleared are the core with it frozen; with its number and the
+-- stamp count raised they are the card after CLOSE, framed.
+use Rattle.model.proofs.Base.{ℕ, _+_, _%_, _^_, _≤_, _<_, arith, _≡_, refl, sym, ap, _∙_, true, not, List, length, getD, set}
+use Rattle.model.proofs.Base.{length-set, getD-set-same, getD-set-other, eqb, eqb-true, eqb-false}
 use Rattle.model.specs.Card.{noTransaction, stamped, coreOf, withCore}
 use Rattle.model.specs.Commit.{closedCard}
 use Rattle.model.specs.declared.Transaction.{Transaction}
@@ -15,10 +9,11 @@ use Rattle.model.proofs.Lists.{cases, map-below}
 use Rattle.cells.specs.Cells.{byteIn, numberIn, nameIn, transactionIn, cardIn, corePlace, runningPlace, closedPlace}
 use Rattle.cells.specs.Changes.{withNumbers, withClosed, fitsAt, Fits, Frame}
 use Rattle.cells.proofs.FitsLaws.{running-place, closed-place, fits-at, fits-stamp, fits-closes, fits-set, frame-same, frame-set, frame-then, frame-wider}
-use Rattle.cells.proofs.CellLaws.{same-transaction, running-put}
+use Rattle.cells.proofs.TransactionLaws.{same-transaction}
+use Rattle.cells.proofs.CellLaws.{running-put}
 use Rattle.cells.proofs.CoreLaws.{core-of-with, with-core-twice, closed-put, closes-put}
 use Rattle.close.specs.Frozen.{frozen, countedClose}
-use Rattle.close.proofs.ReadLaws.{next-there, used-there, homed-there, running-there}
+use Rattle.cells.proofs.ReadLaws.{next-there, used-there, homed-there, running-there}
 
 -- ---- a transaction copied, cell by cell
 transaction-moved : (v w : List ℕ) (a b : ℕ) → ((k : ℕ) → k < 24 → getD w (b + k) 0 ≡ getD v (a + k) 0) → transactionIn w b ≡ transactionIn v a

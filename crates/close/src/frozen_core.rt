@@ -4,8 +4,9 @@ ghost use Prim.Native.Nat.{_<_};
 ghost use lib.ListN.{length};
 ghost use Rattle.model.specs.Card.{coreOf, withCore};
 ghost use Rattle.model.specs.Commit.{closedCard};
-ghost use Rattle.cells.specs.Cells.{transactionIn, cardIn, corePlace, runningPlace, closedPlace};
-ghost use Rattle.cells.specs.Changes.{Frame};
+ghost use Rattle.model.specs.declared.Card.{Card};
+ghost use Rattle.cells.specs.Cells.{transactionIn, corePlace, runningPlace, closedPlace};
+ghost use Rattle.cells.specs.Changes.{Frame, Changed};
 ghost use Rattle.close.specs.Frozen.{frozen, countedClose};
 use cells::CLOSES;
 use cells::HOMED;
@@ -41,8 +42,8 @@ fn copy_running(w: &mut [u64], c: u8)
 fn freeze(w: &mut [u64], c: u8, stamp: u64)
     requires { ⌜ (length (now w) ≡ 512) × (c < 8) ⌝ }
     ensures { λ _. ⌜
-        (cardIn (now (w .exit)) ≡ withCore (cardIn (now (w .entry))) c (frozen (coreOf (cardIn (now (w .entry))) c) stamp))
-        × Frame (now (w .entry)) (now (w .exit)) (corePlace c) 52
+        Changed (λ (x : Card). withCore x c (frozen (coreOf x c) stamp))
+        (now (w .entry)) (now (w .exit)) (corePlace c) 52
         ⌝ }
 {
     let from = running_place(c);
@@ -56,8 +57,8 @@ fn freeze(w: &mut [u64], c: u8, stamp: u64)
 fn count_close(w: &mut [u64], c: u8)
     requires { ⌜ (length (now w) ≡ 512) × (c < 8) ⌝ }
     ensures { λ _. ⌜
-        (cardIn (now (w .exit)) ≡ withCore (cardIn (now (w .entry))) c (countedClose (coreOf (cardIn (now (w .entry))) c)))
-        × Frame (now (w .entry)) (now (w .exit)) (corePlace c) 4
+        Changed (λ (x : Card). withCore x c (countedClose (coreOf x c)))
+        (now (w .entry)) (now (w .exit)) (corePlace c) 4
         ⌝ }
 {
     let at = core_place(c);
@@ -70,10 +71,7 @@ fn count_close(w: &mut [u64], c: u8)
 // The running transaction of core c closed. Its stamp is the count of closes, which goes round only on a card that no run made.
 pub fn close_running(w: &mut [u64], c: u8)
     requires { ⌜ (length (now w) ≡ 512) × (c < 8) ⌝ }
-    ensures { λ _. ⌜
-        (cardIn (now (w .exit)) ≡ closedCard (cardIn (now (w .entry))) c)
-        × Frame (now (w .entry)) (now (w .exit)) 0 512
-        ⌝ }
+    ensures { λ _. ⌜ Changed (λ (x : Card). closedCard x c) (now (w .entry)) (now (w .exit)) 0 512 ⌝ }
 {
     let stamp = std::num::wrapping_add_u64(w[CLOSES], 1);
     freeze(w, c, stamp);

@@ -1,30 +1,13 @@
--- A core's count of stores done, and its cells where a store is counted.
-use Prim.Native.Nat.{ℕ, _+_, _%_, _≤_, _<_}
-use native.Mathlib.Omega.{arith}
-use mathlib.Core.Path.{_≡_, sym, ap, _∙_}
-use mathlib.Core.List.{List}
-use lib.ListN.{length}
-use borrow.Author.Tests.{le-leb, lt-leb}
+-- A core's cells where a store is counted: the count of stores done, or the whole record counted and the transaction gone.
+use Rattle.model.proofs.Base.{ℕ, _+_, _%_, _≤_, _<_, arith, _≡_, sym, ap, _∙_, List, length, le-leb, lt-leb}
 use Rattle.model.specs.Card.{noTransaction, taken, recordSize, coreOf, withCore}
 use Rattle.model.specs.Commit.{coreStored}
-use Rattle.model.specs.declared.Core.{Core}
 use Rattle.model.specs.declared.Transaction.{Transaction}
-use Rattle.cells.specs.Cells.{byteIn, numberIn, transactionIn, coreIn, cardIn, corePlace, closedPlace}
+use Rattle.cells.specs.Cells.{byteIn, numberIn, transactionIn, cardIn, corePlace, closedPlace}
 use Rattle.cells.specs.Changes.{withNumbers, withClosed, Frame}
 use Rattle.cells.proofs.FitsLaws.{frame-then, frame-wider}
-use Rattle.cells.proofs.CellLaws.{core-at}
+use Rattle.cells.proofs.ReadLaws.{next-there, used-there, stored-there, homed-there, closed-there}
 use Rattle.cells.proofs.CoreLaws.{core-of-with, with-core-twice, closed-put}
-use Rattle.close.proofs.ReadLaws.{next-there, used-there, homed-there, closed-there}
-
--- ---- the count of stores done, read at the place of a core's cells
-module _ (w : List ℕ) (c : ℕ) (h : c < 8) where
-  stored-read : byteIn w (corePlace c + 2) ≡ (coreOf (cardIn w) c) .stored
-  unfolding coreIn
-  stored-read = sym (ap (λ (k : Core). k .stored) (core-at w c h))
-
-  module _ (a : ℕ) (e : a ≡ corePlace c) (n : ℕ) where
-    pub stored-there : n ≡ byteIn w (a + 2) → n ≡ (coreOf (cardIn w) c) .stored
-    stored-there q = q ∙ ap (λ (b : ℕ). byteIn w (b + 2)) e ∙ stored-read
 
 -- ---- a store counted
 module _ (v : List ℕ) (c : ℕ) (size : length v ≡ 512) (h : c < 8) (a : ℕ) (e : a ≡ corePlace c) (next : ℕ) (i : next ≡ numberIn v a) (used : ℕ) (j : used ≡ byteIn v (a + 1)) (stored : ℕ) (k : stored ≡ byteIn v (a + 2)) (homed : ℕ) (l : homed ≡ byteIn v (a + 3))

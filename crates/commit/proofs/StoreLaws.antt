@@ -1,13 +1,9 @@
--- STORE: its refusals, what is stored next, and what the code leaves where it is carried out.
-use Prim.Native.Nat.{ℕ, _+_, _*_, _-_, _≤_, _<_, min}
-use native.Mathlib.Omega.{arith}
-use mathlib.Core.Path.{_≡_, refl, sym, ap, _∙_}
-use mathlib.Core.Bool.{Bool, true, false, not}
-use mathlib.Core.List.{List, [], _∷_, _++_, map}
-use lib.ListN.{length, take, drop, getD, length-take}
-use borrow.Author.Tests.{le-leb, lt-leb, ne-eqb, not-true, not-false}
-use Rattle.model.specs.Lists.{below}
-use Rattle.model.specs.Bytes.{Bytes, blockAt}
+-- STORE answers 30 under its condition. What is written next is the descriptor, then each copy escaped, then the commit, and it
+-- stands at the position after what the journal holds. Refused, or carried out, STORE meets its contract.
+use Rattle.model.proofs.Base.{ℕ, _+_, _-_, _*_, _≤_, _<_, min, arith, _≡_, sym, ap, _∙_, Bool, true, false, not, List, [], _∷_}
+use Rattle.model.proofs.Base.{_++_, map, length, take, drop, getD, length-take, ne-eqb, le-leb, lt-leb, not-true, not-false}
+use Rattle.model.proofs.Base.{below, Bytes}
+use Rattle.model.specs.Bytes.{blockAt}
 use Rattle.model.specs.Shape.{clamped, journalBlock}
 use Rattle.model.specs.Card.{taken, listed, shapeOf, tailOf, coreOf, withCore}
 use Rattle.model.specs.Layout.{newHeld, descriptorBlock, commitBlock, escaped}
@@ -25,12 +21,10 @@ use Rattle.layout.proofs.Blocks.{block-lent}
 use Rattle.cells.specs.Cells.{byteIn, numberIn, nameIn, transactionIn, cardIn, corePlace, closedPlace, worldIn}
 use Rattle.cells.specs.Changes.{Frame}
 use Rattle.cells.specs.Answer.{newAnswer, Meets}
-use Rattle.cells.proofs.CellLaws.{count-read, named-read, blocks-long}
+use Rattle.cells.proofs.ReadLaws.{stamp-read, count-read, named-read, blocks-long, next-there, used-there, stored-there, closed-there, closed-live}
 use Rattle.cells.proofs.EntryLaws.{entry, entry-hit, entry-pass, Entered, entered}
 use Rattle.cells.proofs.MeetLaws.{meets-refused, meets-done}
-use Rattle.close.proofs.ReadLaws.{next-there, used-there, closed-there}
 use Rattle.close.proofs.CloseLaws.{taken-at, copyFlag}
-use Rattle.commit.proofs.StateLaws.{stored-there}
 
 -- ---- refusals
 -- what STORE asks of the core
@@ -44,7 +38,7 @@ module _ (v : List ℕ) (c : ℕ) (d m : Bytes) (n : ℕ) (e : n ≡ refusal (en
 
   module _ (h : n ≡ 0) (a : ℕ) (q : a ≡ closedPlace c) (g : Bool) (r : g ≡ (transactionIn v a) .live) where
     is-closed : g ≡ (coreOf (cardIn v) c) .closed .live
-    is-closed = r ∙ ap (λ (t : Transaction). t .live) (closed-there v c ((entered (cardIn v) c d m [] tt (sym e ∙ h)) .few) a q)
+    is-closed = closed-live v c ((entered (cardIn v) c d m [] tt (sym e ∙ h)) .few) a q g r
 
     pub store-none : not g ≡ true → 30 ≡ refusal (storeConditions c (worldIn v d m))
     unfolding storeConditions refusal
@@ -69,10 +63,6 @@ module _ (w : List ℕ) (a : ℕ) where
   pub names-read : (ns : List Name) → ns ≡ map (listedIn w a) (below 12) → ns ≡ (transactionIn w a) .names
   unfolding transactionIn
   names-read ns e = e
-
-  stamp-read : getD w (a + 1) 0 ≡ (transactionIn w a) .stamp
-  unfolding transactionIn
-  stamp-read = refl
 
 -- ---- what is stored next
 took : (t : Transaction) → length (t .blocks) ≡ 8 → length (taken t) ≡ min (t .count) 8

@@ -4,8 +4,9 @@ ghost use Prim.Native.Nat.{_<_};
 ghost use lib.ListN.{length};
 ghost use Rattle.model.specs.Card.{coreOf, withCore};
 ghost use Rattle.model.specs.Commit.{coreStored};
-ghost use Rattle.cells.specs.Cells.{cardIn, corePlace};
-ghost use Rattle.cells.specs.Changes.{Frame};
+ghost use Rattle.model.specs.declared.Card.{Card};
+ghost use Rattle.cells.specs.Cells.{corePlace};
+ghost use Rattle.cells.specs.Changes.{Changed};
 use cells::HOMED;
 use cells::STORED;
 use cells::USED;
@@ -21,8 +22,8 @@ use cells::put_numbers;
 pub fn count_store(w: &mut [u64], c: u8)
     requires { ⌜ (length (now w) ≡ 512) × (c < 8) ⌝ }
     ensures { λ _. ⌜
-        (cardIn (now (w .exit)) ≡ withCore (cardIn (now (w .entry))) c (coreStored (coreOf (cardIn (now (w .entry))) c)))
-        × Frame (now (w .entry)) (now (w .exit)) (corePlace c) 52
+        Changed (λ (x : Card). withCore x c (coreStored (coreOf x c)))
+        (now (w .entry)) (now (w .exit)) (corePlace c) 52
         ⌝ }
 {
     let at = core_place(c);

@@ -1,20 +1,13 @@
 -- Bytes stay bytes where bytes replace them, in a block, on the disk, in a record; and four bytes replaced within a block
 -- of memory change that block alone, as they change its image.
 -- So disk, memory and images are lists of bytes at every point of a run, and a WRITE in memory is the write noted.
-use Prim.Native.Nat.{ℕ, _+_, _*_, _≤_, _<_}
-use native.Mathlib.Omega.{arith}
-use native.Mathlib.Decide.{decLt}
-use mathlib.Core.Path.{_≡_, ap, ap₂, _∙_, sym, subst, refl}
-use mathlib.Core.Logic.{_≢_}
-use mathlib.Core.Bool.{Bool}
-use mathlib.Core.List.{[], _∷_, _++_, append-assoc}
-use lib.ListN.{length, take, drop, length-take, length-drop, take-append-drop, replicate}
+use Rattle.model.proofs.Base.{ℕ, _+_, _*_, _≤_, _<_, arith, decLt, _≡_, refl, sym, ap, ap₂, subst, _∙_, _≢_, Bool, [], _∷_, _++_}
+use Rattle.model.proofs.Base.{append-assoc, length, take, drop, replicate, length-take, length-drop, eqb, ltb, lt-ltb, all, Bytes}
+use lib.ListN.{take-append-drop}
 use lib.Seq.{length-take-le, take-at, drop-at, take-append-le, drop-append-le, take-append-add, drop-append-add}
-use lib.Dec.{ltb, eqb}
-use borrow.Author.Tests.{lt-ltb}
-use Rattle.model.specs.Lists.{all, Each}
-use Rattle.model.specs.Bytes.{Bytes, part, be4, blockAt, replaced, store}
+use Rattle.model.specs.Bytes.{part, be4, blockAt, replaced, store}
 use Rattle.model.specs.Layout.{mark, escaped}
+use Rattle.model.specs.Lists.{Each}
 use Rattle.model.proofs.Lists.{cases, and-left, and-right, and-both, all-append, mem-all, mem-getD, each-getD, each-replicate}
 use Rattle.model.proofs.Store.{length-replaced, part-before, part-after}
 use Rattle.model.proofs.Words.{IsByte}

@@ -1,128 +1,40 @@
 -- CHECKPOINT keeps card and ledger in agreement: the card's oldest record is that of the ledger's oldest committed one.
 -- A home store puts its next image into its home block and touches nothing else; the master store moves the tail past its
 -- record, so the journal holds the same without that record, and its blocks have no holder any more.
-use Prim.Native.Nat.{ℕ, suc, _+_, _-_, _%_, _≤_, _<_}
-use native.Mathlib.Omega.{arith}
+use Rattle.model.proofs.Base.{ℕ, suc, _+_, _-_, _%_, _≤_, _<_, arith, decLt, ℕ-discrete, _≡_, refl, sym, ap, subst, _∙_, _≢_}
+use Rattle.model.proofs.Base.{true, List, [], _++_, flatMap, append-assoc, length, take, getD, length-set, length-map}
+use Rattle.model.proofs.Base.{length-append, List·getD-map, getD-set-same, getD-set-other, eq-eqb, ne-eqb, lt-ltb, le-ltb, below}
+use Rattle.model.proofs.Base.{Bytes}
 use native.Mathlib.Nat.{mod-lt}
-use native.Mathlib.Decide.{decLt, ℕ-discrete}
-use mathlib.Core.Path.{_≡_, refl, ap, _∙_, sym, subst}
-use mathlib.Core.Logic.{_≢_}
-use mathlib.Core.Bool.{true, cond, _&&_}
-use mathlib.Core.List.{List, [], _++_, flatMap, append-assoc}
-use mathlib.Core.Option.{Option, none, some}
-use lib.ListN.{length, take, getD, length-append, length-map, length-set, List·getD-map}
-use lib.Seq.{getD-append-add, getD-set-same, getD-set-other}
-use borrow.Author.Tests.{lt-ltb, le-ltb, eq-eqb, ne-eqb}
-use Rattle.model.specs.Lists.{below}
-use Rattle.model.specs.Bytes.{Bytes, blockAt, store as storeBlock}
+use lib.Seq.{getD-append-add}
+use Rattle.model.specs.Bytes.{store as storeBlock, blockAt}
 use Rattle.model.specs.Shape.{homeBlock}
-use Rattle.model.specs.Card.{newName, newTail, sameName, noHolder, freshCore, shapeOf, tailOf, coreOf, holderOf, withCore}
+use Rattle.model.specs.Card.{newName, newTail, noHolder, freshCore, shapeOf, tailOf, coreOf, holderOf, withCore}
 use Rattle.model.specs.Layout.{masterBlock}
 use Rattle.model.specs.Journal.{journalAt}
 use Rattle.model.specs.Command.{World, Outcome, storing}
 use Rattle.model.specs.Checkpoint.{homedCore, storedHome, released, retiredCore, retiredCard, storedMaster, checkpointed}
-use Rattle.model.proofs.Encoding.{master-same}
-use Rattle.model.proofs.Lists.{cases, getD-mem, flatMap-below, flatMap-first}
-use Rattle.model.proofs.Journal.{journal-wrap}
-use Rattle.model.proofs.Valid.{sameName-refl}
-use Rattle.crash.specs.Book.{Stage, committed, retired, isClosed, isRetired, counted, Entry, Write, Book, raise, holderIn, checkpoint}
-use Rattle.crash.specs.Ledger.{Ledger, withBook, imageNow, recordBlocks, recordOf, tailsPast, checkpointStored}
-use Rattle.crash.proofs.Tests.{clash, impossible}
-use Rattle.crash.proofs.BookEntries.{same-or-not, sameName-false, other-number, other-core, raise-at, raise-other, records-cons, nextName, oldestName, uncommittedName}
-use Rattle.crash.proofs.BookSteps.{Restages, restaged, restages, restages-records, restages-holder, retired-none, retired-other, checkpoint-home, checkpoint-retires}
-use Rattle.crash.proofs.Relation.{IsBlock, Fine, contents, JournalStands, DiskStands, CoreUp, holderAs, Up}
-use Rattle.crash.proofs.LedgerStages.{closed-present}
-use Rattle.crash.proofs.ReadMaster.{shape-up, master-block, tail-read}
-use Rattle.crash.proofs.ReadRecords.{readRecord, IsRead, length-record}
-use Rattle.crash.proofs.ReadCheckpoint.{oldest-of, oldest-is}
-use Rattle.crash.proofs.CardFrames.{core-set, core-other, record-same, contents-same, low-stored, low-other, low-journal, low-size, low-bytes, home-stands, core-up}
 use Rattle.model.specs.declared.Name.{Name}
 use Rattle.model.specs.declared.Tail.{Tail}
 use Rattle.model.specs.declared.Core.{Core}
 use Rattle.model.specs.declared.Holder.{Holder}
 use Rattle.model.specs.declared.Card.{Card}
 use Rattle.model.specs.declared.Committed.{Committed}
-
--- ---- the ledger with one stage and the oldest numbers changed
-module _ (l : Ledger) (t : Name) (g : Stage) (o : ℕ → ℕ) where
-  abbrev advanced : Ledger
-  advanced = withBook l (restaged t g o (l .book .uncommitted) (l .book .next) (l .book))
-
-  one-changed : Restages (l .book) (advanced .book) t g
-  one-changed = restages t g o (l .book .uncommitted) (l .book .next) (l .book)
-
-  record-stays : (v : Name) → recordOf advanced v ≡ recordOf l v
-  record-stays v = record-same l advanced v (one-changed .blocks v) (one-changed .names v) refl refl
-
-  module _ (a : ℕ) (not-closing : uncommittedName a (l .book) ≢ t) (not-current : nextName a (l .book) ≢ t) where
-    closing-stays : advanced .book .entry (uncommittedName a (l .book)) ≡ l .book .entry (uncommittedName a (l .book))
-    closing-stays = one-changed .other (uncommittedName a (l .book)) not-closing
-
-    current-stays : advanced .book .entry (nextName a (l .book)) ≡ l .book .entry (nextName a (l .book))
-    current-stays = one-changed .other (nextName a (l .book)) not-current
-
-    contents-kept : o a ≡ l .book .oldest a → contents advanced a ≡ contents l a
-    contents-kept e =
-        contents-same l advanced a e refl (λ i h. record-stays (newName a i))
-        (rw (closing-stays, record-stays (uncommittedName a (l .book))) refl)
-
-    journal-advanced : (d d₂ : Bytes) (tail tail₂ : Tail) → ((q : ℕ) → journalAt (l .shape) d₂ a q ≡ journalAt (l .shape) d a q)
-        → tail₂ .number ≡ o a → tail₂ .position < l .shape .journal
-        → ((q : ℕ) → q < length (contents advanced a) → journalAt (l .shape) d a (tail₂ .position + q) ≡ getD (contents advanced a) q [])
-        → recordBlocks (l .book) a (o a) (l .book .next a - o a) ≤ recordBlocks (l .book) a (l .book .oldest a) (l .book .next a - l .book .oldest a)
-        → JournalStands l d a tail → JournalStands advanced d₂ a tail₂
-    journal-advanced d d₂ tail tail₂ at n p s fewer j =
-        let total = restages-records one-changed a (o a) (l .book .next a - o a) in
-        record {
-          number = n;
-          position = p;
-          stands = λ q h. at (tail₂ .position + q) ∙ s q h;
-          clear = λ i q h. rw (at q) (j .clear i q h);
-          room = omega (arith, j .room);
-          reserved = rw (current-stays, total) (λ h. omega (arith, j .reserved h));
-        }
-
-    core-advanced : (m : Bytes) (k : Core) (used homed : ℕ) → used ≡ recordBlocks (l .book) a (o a) (l .book .uncommitted a - o a)
-        → (o a < l .book .uncommitted a → (advanced .book .entry (newName a (o a))) .stage ≡ committed homed) → (o a ≡ l .book .uncommitted a → homed ≡ 0)
-        → CoreUp l m a k
-        → CoreUp advanced m a (record { next = k .next; used = used; stored = k .stored; homed = homed; running = k .running; closed = k .closed })
-    core-advanced m k used homed n h z y =
-        record {
-          next = y .next;
-          used = n ∙ sym (restages-records one-changed a (o a) (l .book .uncommitted a - o a));
-          runs = rw current-stays (y .runs);
-          idle = rw current-stays (y .idle);
-          closing = rw closing-stays (y .closing);
-          stored = rw closing-stays (y .stored);
-          copies = rw closing-stays (y .copies);
-          none-closing = y .none-closing;
-          homed = h;
-          none-homed = z;
-        }
-
-    -- a core that keeps its oldest number
-    journal-kept : (d d₂ : Bytes) (tail : Tail) → ((q : ℕ) → journalAt (l .shape) d₂ a q ≡ journalAt (l .shape) d a q) → o a ≡ l .book .oldest a
-        → JournalStands l d a tail → JournalStands advanced d₂ a tail
-    journal-kept d d₂ tail at e j =
-        journal-advanced d d₂ tail tail at (j .number ∙ sym e) (j .position) (rw (contents-kept e) (j .stands)) (rw e (omega arith)) j
-
--- ---- who held a block holds it no more
-abbrev releasedFrom : Name → Holder → Holder
-releasedFrom t h = cond (h .held && sameName (h .name) t) noHolder h
-
-released-holder : {k k₂ : Book} {t : Name} → Restages k k₂ t retired → (b : ℕ) (ws : List Write)
-    → releasedFrom t (holderAs (holderIn k b ws)) ≡ holderAs (holderIn k₂ b ws)
-released-holder {k} {k₂} {t} r b ws = go (holderIn k b ws) refl
-  where
-    go : (h : Option Name) → holderIn k b ws ≡ h → releasedFrom t (holderAs h) ≡ holderAs (holderIn k₂ b ws)
-    go none e = rw (retired-other r b ws (λ q. impossible cc), e)
-    go (some v) e =
-        same-or-not v t
-        (λ q. rw (q, sameName-refl t, retired-none r b ws (e ∙ ap some q)))
-        (λ ne. rw (sameName-false v t ne, retired-other r b ws (λ q. ne (cc)), e))
-
-still-held : (t : Name) (h : Holder) → (releasedFrom t h) .held ≡ true → h .held ≡ true
-still-held t h e = cases (h .held && sameName (h .name) t) (λ z. clash (rw z at e) refl) (λ z. rw z at e)
+use Rattle.model.proofs.Encoding.{master-same}
+use Rattle.model.proofs.Lists.{getD-mem, flatMap-below, flatMap-first}
+use Rattle.model.proofs.Journal.{journal-wrap}
+use Rattle.crash.specs.Book.{committed, retired, isClosed, isRetired, counted, Entry, raise, checkpoint}
+use Rattle.crash.specs.Ledger.{Ledger, withBook, imageNow, recordBlocks, recordOf, tailsPast, checkpointStored}
+use Rattle.crash.proofs.BookEntries.{other-number, other-core, raise-at, raise-other, records-cons, nextName, oldestName, uncommittedName}
+use Rattle.crash.proofs.BookSteps.{restages-holder, checkpoint-home, checkpoint-retires}
+use Rattle.crash.proofs.Relation.{IsBlock, Fine, contents, JournalStands, DiskStands, CoreUp, Up}
+use Rattle.crash.proofs.LedgerStages.{closed-present}
+use Rattle.crash.proofs.ReadMaster.{shape-up, master-block, tail-read}
+use Rattle.crash.proofs.RecordFormat.{readRecord, length-record}
+use Rattle.crash.proofs.ReadRecords.{IsRead}
+use Rattle.crash.proofs.ReadCheckpoint.{oldest-of, oldest-is}
+use Rattle.crash.proofs.CardFrames.{core-set, core-other, low-stored, low-other, low-journal, low-size, low-bytes, home-stands, core-up}
+use Rattle.crash.proofs.LedgerCheckpoint.{advanced, one-changed, record-stays, closing-stays, journal-advanced, core-advanced, journal-kept, releasedFrom, released-holder, still-held}
 
 -- ---- CHECKPOINT
 module _ {l : Ledger} {w : World} (u : Up l w) (c : ℕ) (in-range : c < l .shape .cores) (some-committed : l .book .oldest c < l .book .uncommitted c) where

@@ -1,21 +1,17 @@
 -- CLOSE keeps card and ledger in agreement: the running transaction holds the blocks that it took, so their memory
 -- images are the current ones, and these are copied. The first copies of its core change, and no other block of memory.
 -- Its number and its stamp are far from the width of their fields.
-use Prim.Native.Nat.{ℕ, zero, suc, _+_, _-_, _*_, _%_, _^_, _≤_, _<_}
-use native.Mathlib.Omega.{arith}
-use native.Mathlib.Nat.{add-zero, zero-add}
-use native.Mathlib.Decide.{ℕ-discrete}
-use mathlib.Core.Path.{_≡_, refl, ap, _∙_, sym, subst}
-use mathlib.Core.Logic.{_≢_}
-use mathlib.Core.Bool.{true}
-use mathlib.Core.List.{List, [], _∷_, map, List·Memᴰ, List·Memᴰ·head, List·Memᴰ·tail}
-use mathlib.Core.Option.{some}
-use lib.ListN.{length, getD, length-set}
-use lib.Seq.{getD-set-same, getD-set-other}
-use Rattle.model.specs.Bytes.{Bytes, blockAt, store}
+use Rattle.model.proofs.Base.{ℕ, zero, suc, _+_, _-_, _*_, _%_, _^_, _≤_, _<_, arith, ℕ-discrete, add-zero, _≡_, refl, sym, ap}
+use Rattle.model.proofs.Base.{subst, _∙_, _≢_, true, some, List, [], _∷_, List·Memᴰ, length, getD, length-set, getD-set-same}
+use Rattle.model.proofs.Base.{getD-set-other, Bytes, map, List·Memᴰ·head, List·Memᴰ·tail}
+use native.Mathlib.Nat.{zero-add}
+use Rattle.model.specs.Bytes.{blockAt, store}
 use Rattle.model.specs.Card.{newName, freshCore, taken, listed, tailOf, coreOf, holderOf}
 use Rattle.model.specs.Command.{World}
-use Rattle.model.specs.Commit.{copyBlock, copied, closed as closedOutcome, closedCore, closedCard, stored}
+use Rattle.model.specs.Commit.{copyBlock, copied, closed as closedOutcome, closedCore, closedCard}
+use Rattle.model.specs.declared.Name.{Name}
+use Rattle.model.specs.declared.Core.{Core}
+use Rattle.model.specs.declared.Holder.{Holder}
 use Rattle.model.proofs.Lists.{getD-mem, getD-map}
 use Rattle.model.proofs.Store.{length-store, length-blockAt, block-stored, block-other}
 use Rattle.model.proofs.Sizes.{length-copied}
@@ -28,11 +24,8 @@ use Rattle.crash.proofs.BookSteps.{Restages, restages-records, close-re
 use Rattle.crash.proofs.BlockBytes.{bytes-store, bytes-blockAt}
 use Rattle.crash.proofs.Relation.{sumNext, Fine, contents, JournalStands, DiskStands, Matches, CoreUp, holderAs, Up}
 use Rattle.crash.proofs.LedgerStages.{running-present}
-use Rattle.crash.proofs.LedgerSteps.{sum-low}
+use Rattle.crash.proofs.LedgerRanks.{sum-low}
 use Rattle.crash.proofs.CardFrames.{SameClosed, record-same, contents-same, none-stored, journal-stays, core-stays}
-use Rattle.model.specs.declared.Name.{Name}
-use Rattle.model.specs.declared.Core.{Core}
-use Rattle.model.specs.declared.Holder.{Holder}
 
 -- ---- copies
 module _ (c : ℕ) (eight : c < 8) where

@@ -1,16 +1,9 @@
 -- CUT leaves a card that is down by the ledger's cut: memory is lost, the disk and the transactions stay as they are.
 -- Nothing that recovery reads depends on the phase or on how far recovery is, so journals, the newest images and the
 -- area of the kept writes stay; and recovery, starting over, has all held blocks before it.
-use Prim.Native.Nat.{ℕ, _<_}
-use native.Mathlib.Omega.{arith}
-use mathlib.Core.Path.{_≡_, refl, sym, _∙_, subst}
-use mathlib.Core.Bool.{false}
-use mathlib.Core.List.{List, List·Memᴰ}
-use lib.ListN.{length, length-replicate}
-use lib.Dec.{leb, eqb}
-use borrow.Author.Tests.{eq-eqb, le-leb}
-use Rattle.model.specs.Lists.{below, any, select}
-use Rattle.model.specs.Bytes.{Bytes, blockAt, zeroMemory}
+use Rattle.model.proofs.Base.{ℕ, _<_, arith, _≡_, refl, sym, subst, _∙_, false, List, List·Memᴰ, length, length-replicate, eqb}
+use Rattle.model.proofs.Base.{leb, eq-eqb, le-leb, below, any, select, Bytes}
+use Rattle.model.specs.Bytes.{blockAt, zeroMemory}
 use Rattle.model.specs.Shape.{homeBlock}
 use Rattle.model.specs.Card.{freshCard, emptyCard, downCard}
 use Rattle.model.specs.Command.{World, unstored, wrongLength}
@@ -25,7 +18,7 @@ use Rattle.crash.specs.Claims.{IsBytes}
 use Rattle.crash.proofs.Relation.{Fine, contents, JournalStands, DiskStands, Up, target, Newest, DownBy}
 use Rattle.crash.proofs.Tests.{clash, any-in, in-any, blockEquality}
 use Rattle.crash.proofs.BlockBytes.{zero-bytes}
-use Rattle.crash.proofs.LedgerSteps.{fine-cut, phased}
+use Rattle.crash.proofs.LedgerFresh.{fine-cut, phased}
 
 -- ---- the ledger in another phase, with other blocks left
 pub target-phased : (p : Phase) (bs : List ℕ) (l : Ledger) (b : ℕ) → target (phased p bs l) b ≡ target l b

@@ -1,16 +1,9 @@
 -- What a command leaves alone: the journal of a core and the core itself, where its closed transactions stay, since both
 -- are read through the core's own entries, numbers, stamps and images alone, and nothing of the running one is stored.
 -- A store of the master or of a home block leaves every journal; a card with one core replaced stays in agreement.
-use Prim.Native.Nat.{ℕ, _+_, _-_, _≤_, _<_, _*_}
-use native.Mathlib.Omega.{arith}
-use native.Mathlib.Decide.{ℕ-discrete}
-use mathlib.Core.Path.{_≡_, refl, ap, _∙_, sym}
-use mathlib.Core.Logic.{_⊎_, inl, inr, _≢_}
-use mathlib.Core.Bool.{true, false}
-use mathlib.Core.List.{List, _++_}
-use lib.ListN.{length, take, length-set}
-use lib.Seq.{getD-set-same, getD-set-other}
-use Rattle.model.specs.Bytes.{Bytes, blockAt, store}
+use Rattle.model.proofs.Base.{ℕ, _+_, _-_, _*_, _≤_, _<_, arith, ℕ-discrete, _≡_, refl, sym, ap, _∙_, _≢_, _⊎_, inl, inr, true}
+use Rattle.model.proofs.Base.{false, List, _++_, length, take, length-set, getD-set-same, getD-set-other, Bytes}
+use Rattle.model.specs.Bytes.{blockAt, store}
 use Rattle.model.specs.Shape.{homeBlock, journalBlock}
 use Rattle.model.specs.Card.{newName, freshCore, coreOf, withCore, withRunning, tailOf, holderOf}
 use Rattle.model.specs.Layout.{isCommit}

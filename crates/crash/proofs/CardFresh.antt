@@ -1,14 +1,9 @@
 -- A card that has come up with empty journals agrees with a fresh ledger: the master names the first numbers, no commit
 -- of such a number or a higher one lies in a journal, and there is no transaction, no holder and no image in memory.
 -- FORMAT and the last RECOVER both leave such a card.
-use Prim.Native.Nat.{ℕ, _-_, _≤_, _<_}
-use native.Mathlib.Omega.{arith}
+use Rattle.model.proofs.Base.{ℕ, _-_, _≤_, _<_, arith, _≡_, refl, sym, ap, _∙_, false, List, [], flatMap, List·Memᴰ, length, getD}
+use Rattle.model.proofs.Base.{length-map, length-replicate, List·getD-map, getD-replicate, below}
 use native.Mathlib.Nat.{sub-self}
-use mathlib.Core.Path.{_≡_, refl, sym, ap, _∙_}
-use mathlib.Core.Bool.{false}
-use mathlib.Core.List.{List, [], flatMap, List·Memᴰ}
-use lib.ListN.{length, getD, length-map, length-replicate, getD-replicate, List·getD-map}
-use Rattle.model.specs.Lists.{below}
 use Rattle.model.specs.Bytes.{blockAt}
 use Rattle.model.specs.Card.{newTail, freshCore, freshCard, noHolder, tailOf, coreOf, holderOf}
 use Rattle.model.specs.Layout.{masterBlock, isCommit}
@@ -25,7 +20,7 @@ use Rattle.crash.specs.Ledger.{freshLedger, recordBlocks}
 use Rattle.crash.specs.Claims.{IsBytes}
 use Rattle.crash.proofs.Tests.{impossible}
 use Rattle.crash.proofs.Relation.{WriteFits, contents, JournalStands, DiskStands, CoreUp, Up}
-use Rattle.crash.proofs.LedgerSteps.{fine-fresh}
+use Rattle.crash.proofs.LedgerFresh.{fine-fresh}
 
 -- the journals hold nothing
 module _ (s : Shape) (saved : List Write) (first : ℕ → ℕ) (c : ℕ) where

@@ -1,17 +1,10 @@
 -- RECOVER on a card that is down by the ledger is carried out, and its store is the one that the ledger says. A home store
 -- changes neither journals nor master, so the rest of recovery stays as it was. With no block left the home area is the
 -- target, and the master store empties all journals: no commit has an uncommitted number, so a fresh card has come up.
-use Prim.Native.Nat.{ℕ, zero, suc, _+_, _-_, _≤_, _<_}
-use native.Mathlib.Omega.{arith}
-use native.Mathlib.Decide.{ℕ-discrete}
-use mathlib.Core.Path.{_≡_, refl, sym, ap, _∙_, subst}
-use mathlib.Core.Logic.{inl, inr, _≢_}
-use mathlib.Core.Bool.{Bool, false}
-use mathlib.Core.List.{List, [], _∷_, _++_, map, List·Memᴰ, List·Memᴰ·head, List·Memᴰ·tail, List·Memᴰ·not-nil, List·Memᴰ·append-cases, List·Memᴰ·eq-of-singleton}
-use lib.ListN.{length, length-map}
-use lib.Dec.{leb, eqb}
-use borrow.Author.Tests.{le-leb, lt-leb, leb-true, leb-false, lt-ltb, ne-eqb}
-use Rattle.model.specs.Lists.{below, any, select}
+use Rattle.model.proofs.Base.{ℕ, zero, suc, _+_, _-_, _≤_, _<_, arith, ℕ-discrete, _≡_, refl, sym, ap, subst, _∙_, _≢_, inl, inr}
+use Rattle.model.proofs.Base.{Bool, false, List, [], _∷_, _++_, map, List·Memᴰ, List·Memᴰ·head, List·Memᴰ·tail, List·Memᴰ·not-nil}
+use Rattle.model.proofs.Base.{List·Memᴰ·append-cases, List·Memᴰ·eq-of-singleton, length, length-map, eqb, leb, ne-eqb, lt-ltb}
+use Rattle.model.proofs.Base.{le-leb, lt-leb, leb-true, leb-false, below, any, select}
 use Rattle.model.specs.Bytes.{blockAt, store}
 use Rattle.model.specs.Shape.{homeBlock}
 use Rattle.model.specs.Card.{isUp, newTail, freshCard}
@@ -26,7 +19,7 @@ use Rattle.crash.specs.Book.{keptWrites, blank}
 use Rattle.crash.specs.Ledger.{Ledger, blocksIn, firstNumber, recoverLedger, recoverStored}
 use Rattle.crash.proofs.Tests.{impossible}
 use Rattle.crash.proofs.Relation.{IsBlock, Fine, Up, target, DownBy}
-use Rattle.crash.proofs.LedgerSteps.{image-block, blank-block, fine-home, phased, kept-fits}
+use Rattle.crash.proofs.LedgerFresh.{image-block, blank-block, fine-home, phased, kept-fits}
 use Rattle.crash.proofs.ReadMaster.{shape-read, master-block}
 use Rattle.crash.proofs.ReadRecords.{length-readList, few-records, journal-read}
 use Rattle.crash.proofs.ReadValid.{own-tails, blocks-on}

@@ -1,20 +1,11 @@
 -- The rule that the card finds for a WRITE is what the ledger's writer meets: no holder, itself, a running one, a closed one.
 -- Running ones are the cores' current ones, in the card and in the ledger, and holders agree.
 -- What the rules do to a transaction of the card they do to its entry in the ledger.
-use Prim.Native.Nat.{ℕ, _≤_, _<_}
-use native.Mathlib.Omega.{arith}
-use native.Mathlib.Numerals.{add-one}
-use native.Mathlib.Decide.{ℕ-discrete}
-use mathlib.Core.Path.{_≡_, refl, ap, ap₂, _∙_, sym}
-use mathlib.Core.Logic.{_⊎_, inl, inr, _≢_}
-use mathlib.Core.Bool.{true, false, and-false, and-true}
-use mathlib.Core.List.{List, [], _∷_, _++_}
-use mathlib.Core.Option.{Option, none, some}
-use lib.ListN.{length, length-append, length-set}
+use Rattle.model.proofs.Base.{ℕ, _≤_, _<_, arith, ℕ-discrete, add-one, _≡_, refl, sym, ap, ap₂, _∙_, _≢_, _⊎_, inl, inr, true}
+use Rattle.model.proofs.Base.{false, Option, none, some, List, [], _∷_, _++_, length, length-set, length-append, eq-eqb, ne-eqb}
+use Rattle.model.proofs.Base.{any, Bytes}
+use mathlib.Core.Bool.{and-false, and-true}
 use lib.Seq.{take-suc-set}
-use borrow.Author.Tests.{eq-eqb, ne-eqb}
-use Rattle.model.specs.Lists.{any}
-use Rattle.model.specs.Bytes.{Bytes}
 use Rattle.model.specs.Card.{newName, sameName, opened, taken, listed, lists, withBlock, withName, newHolder, coreOf, holderOf}
 use Rattle.model.specs.Command.{World}
 use Rattle.model.specs.Write.{writer, writerName, isRunning as isRunningIn, ruleFor, writerAfter}

@@ -1,22 +1,14 @@
 -- STORE keeps card and ledger in agreement: what it stores is the next block of the closed transaction's record, and it
 -- stands right after what its journal holds. The journal has room for the record, so nothing live is overwritten; the
 -- block is no commit of a number that is still uncommitted afterwards.
-use Prim.Native.Nat.{ℕ, suc, _+_, _-_, _*_, _≤_, _<_}
-use native.Mathlib.Omega.{arith}
-use native.Mathlib.Decide.{decLt, ℕ-discrete}
-use mathlib.Core.Path.{_≡_, refl, ap, ap₂, _∙_, sym, subst}
-use mathlib.Core.Logic.{_≢_}
-use mathlib.Core.Bool.{true, false}
-use mathlib.Core.List.{List, [], _∷_, _++_, flatMap, append-assoc, append-nil}
-use lib.ListN.{length, take, getD, length-append, List·getD-append}
-use lib.Seq.{getD-at, take-suc, take-all, length-take-le}
-use lib.Dec.{leb}
-use borrow.Author.Tests.{le-leb, lt-leb, eq-eqb, ne-eqb}
-use Rattle.model.specs.Lists.{below}
-use Rattle.model.specs.Bytes.{Bytes, blockAt, part, number, store as storeBlock}
+use Rattle.model.proofs.Base.{ℕ, suc, _+_, _-_, _*_, _≤_, _<_, arith, decLt, ℕ-discrete, _≡_, refl, sym, ap, ap₂, subst, _∙_, _≢_}
+use Rattle.model.proofs.Base.{true, List, [], _∷_, _++_, flatMap, append-assoc, append-nil, length, take, getD, length-append}
+use Rattle.model.proofs.Base.{List·getD-append, take-all, take-suc, getD-at, leb, eq-eqb, ne-eqb, le-leb, lt-leb, below, Bytes}
+use lib.Seq.{length-take-le}
+use Rattle.model.specs.Bytes.{store as storeBlock, blockAt, part, number}
 use Rattle.model.specs.Shape.{homeBlock, journalBlock}
 use Rattle.model.specs.Card.{newName, recordSize, tailOf, coreOf, withCore}
-use Rattle.model.specs.Layout.{newHeld, hasHead, flagOf, escaped, descriptorBlock, commitBlock, isCommit}
+use Rattle.model.specs.Layout.{newHeld, flagOf, isCommit}
 use Rattle.model.specs.Journal.{journalAt}
 use Rattle.model.specs.Command.{World}
 use Rattle.model.specs.Commit.{copyBlock, heldCopies, nextStored, nextPosition, coreStored, stored}
@@ -24,58 +16,17 @@ use Rattle.model.specs.declared.Name.{Name}
 use Rattle.model.specs.declared.Core.{Core}
 use Rattle.model.proofs.Lists.{cases, flatMap-append, map-below, flatMap-below}
 use Rattle.model.proofs.Store.{length-store, block-stored, block-other}
-use Rattle.model.proofs.Words.{each-block}
-use Rattle.model.proofs.Encoding.{length-descriptor, length-commit, length-escaped, descriptor-head, commit-head, head-other, no-commit, escaped-head}
-use Rattle.model.proofs.Journal.{journal-low, home-apart, cores-apart, journal-apart, length-recordBlocks, recordBlocks-each, recordBlocks as storedBlocks}
+use Rattle.model.proofs.Journal.{journal-low, home-apart, cores-apart, journal-apart}
 use Rattle.crash.specs.Book.{closed, committed, isClosed, counted, Entry, Book, raise, staged, store}
 use Rattle.crash.specs.Ledger.{Ledger, withBook, recordBlocks, heldOf, recordOf, recordStored}
 use Rattle.crash.proofs.BookEntries.{other-number, other-core, change-at, raise-at, raise-other, records-snoc, nextName, uncommittedName}
 use Rattle.crash.proofs.BookSteps.{Restages, restaged, restages-records, storedStage, store-restages, store-more, store-last, store-holder}
-use Rattle.crash.proofs.BlockBytes.{bytes-store, each-isBytes, escaped-bytes}
+use Rattle.crash.proofs.BlockBytes.{bytes-store}
 use Rattle.crash.proofs.Relation.{IsBlock, Fine, contents, JournalStands, DiskStands, CoreUp, Up}
 use Rattle.crash.proofs.ReadMaster.{shape-up, tail-read}
-use Rattle.crash.proofs.ReadRecords.{record-sound, length-record, records-flat, length-records, stored-closed}
+use Rattle.crash.proofs.RecordFormat.{length-record, record-each, record-blocks, record-clear}
+use Rattle.crash.proofs.ReadRecords.{records-flat, length-records, stored-closed}
 use Rattle.crash.proofs.CardFrames.{SameClosed, core-set, core-other, record-same, none-stored, journal-stays, core-stays, core-up}
-
--- ---- the blocks of a record, one by one
-module _ (l : Ledger) (t : Name) where
-  record-size : length (recordOf l t) ≡ length (l .images t) + 2
-  unfolding recordOf storedBlocks
-  record-size = length-recordBlocks (t .number) (heldOf l t) (l .stamp t) ((l .book .entry t) .names) (l .images t)
-
-  record-each : (P : ℕ → Bytes → Type 0) → P 0 (descriptorBlock (t .number) (heldOf l t))
-      → ((i : ℕ) → i < length (l .images t) → P (suc i) (escaped (getD (l .images t) i [])))
-      → P (suc (length (l .images t))) (commitBlock (t .number) (l .stamp t) ((l .book .entry t) .names))
-      → (i : ℕ) → i < length (recordOf l t) → P i (getD (recordOf l t) i [])
-  unfolding recordOf storedBlocks
-  record-each P a b c i g =
-      recordBlocks-each (t .number) (heldOf l t) (l .stamp t) ((l .book .entry t) .names) (l .images t) P a b c i
-      (omega (arith, length-recordBlocks (t .number) (heldOf l t) (l .stamp t) ((l .book .entry t) .names) (l .images t)))
-
-module _ {l : Ledger} (f : Fine l) (t : Name) (h : isClosed ((l .book .entry t) .stage) ≡ true) where
-  record-blocks : (i : ℕ) → i < length (recordOf l t) → IsBlock (getD (recordOf l t) i [])
-  unfolding descriptorBlock commitBlock
-  record-blocks =
-      let s = record-sound f t h in
-      let z = f .frozen t h in
-      record-each l t (λ (i : ℕ) (b : Bytes). IsBlock b)
-      (record { size = length-descriptor (t .number) (heldOf l t) (s .few); bytes = each-isBytes _ (each-block _) })
-      (λ i g. let x = z .images i g in
-      record { size = length-escaped (getD (l .images t) i []) (omega (arith, x .size)) ∙ x .size; bytes = escaped-bytes (getD (l .images t) i []) (x .bytes) })
-      (record { size = length-commit (t .number) (l .stamp t) ((l .book .entry t) .names) (s .short); bytes = each-isBytes _ (each-block _) })
-
-  -- none is a commit of a higher number; only the last is a commit
-  record-clear : (i n : ℕ) → i < length (recordOf l t) → t .number ≤ n → (suc i ≡ length (recordOf l t) → t .number < n)
-      → isCommit (l .shape) n (getD (recordOf l t) i []) ≡ false
-  record-clear i n g low last =
-      let s = record-sound f t h in
-      let size = record-size l t in
-      no-commit (l .shape) n (getD (recordOf l t) i [])
-      (record-each l t (λ (j : ℕ) (b : Bytes). (suc j ≡ length (recordOf l t) → t .number < n) → hasHead 2 n b ≡ false)
-      (λ _. head-other 1 (t .number) 2 n _ (descriptor-head s) (λ e _. omega arith))
-      (λ j _ _. escaped-head (getD (l .images t) j []) 2 n)
-      (λ z. head-other 2 (t .number) 2 n _ (commit-head s) (λ _ e. omega (arith, z (omega arith))))
-      i g last)
 
 -- ---- STORE
 held-copies : (l : Ledger) (t : Name) (c : ℕ) (m : Bytes)

@@ -1,16 +1,9 @@
 -- WRITE keeps card and ledger in agreement: by the rule met, the writer's transaction and a running holder's change as
 -- their entries do, and so does the block's holder. The image written is the current one: a held block has it in memory,
 -- a free one is loaded from home. Closed transactions and the disk stay.
-use Prim.Native.Nat.{ℕ, _+_, _-_, _*_, _≤_, _<_}
-use native.Mathlib.Omega.{arith}
-use native.Mathlib.Decide.{ℕ-discrete}
-use mathlib.Core.Path.{_≡_, refl, ap, _∙_, sym, subst}
-use mathlib.Core.Logic.{_⊎_, _≢_}
-use mathlib.Core.Bool.{Bool, true, false, cond}
-use mathlib.Core.Option.{none, some}
-use lib.ListN.{length, length-set}
-use lib.Seq.{getD-set-same, getD-set-other}
-use Rattle.model.specs.Bytes.{Bytes, replaced, blockAt, store}
+use Rattle.model.proofs.Base.{ℕ, _+_, _-_, _*_, _≤_, _<_, arith, ℕ-discrete, _≡_, refl, sym, ap, subst, _∙_, _≢_, _⊎_, Bool, true}
+use Rattle.model.proofs.Base.{false, cond, none, some, length, length-set, getD-set-same, getD-set-other, Bytes}
+use Rattle.model.specs.Bytes.{replaced, blockAt, store}
 use Rattle.model.specs.Shape.{homeBlock}
 use Rattle.model.specs.Card.{newName, noHolder, newHolder, withName, withRunning, tailOf, coreOf, holderOf, withCore, withHolder}
 use Rattle.model.specs.Command.{World}

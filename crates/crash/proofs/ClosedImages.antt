@@ -1,15 +1,8 @@
 -- The images that the ledger notes at CLOSE are those of the histories: `Imaged`, kept by every command.
 -- At CLOSE the running transaction that took a block still holds it, so the block's history up to its last held write is
 -- the whole history. From then on no write is held by it, so that part of the history stays as it is.
-use Prim.Native.Nat.{ℕ, _≤_, _<_}
-use mathlib.Core.Path.{_≡_, refl, sym, _∙_, ap, fun-ext}
-use mathlib.Core.Bool.{false, So}
-use mathlib.Core.Logic.{_⊎_}
-use mathlib.Core.List.{List, [], _∷_, map}
-use mathlib.Core.Option.{some}
-use lib.ListN.{length, getD}
-use lib.Dec.{eqb}
-use Rattle.model.specs.Bytes.{Bytes}
+use Rattle.model.proofs.Base.{ℕ, _≤_, _<_, _≡_, refl, sym, ap, fun-ext, _∙_, _⊎_, false, So, some, List, [], _∷_, map, length}
+use Rattle.model.proofs.Base.{getD, eqb, Bytes}
 use Rattle.model.specs.Card.{sameName}
 use Rattle.model.specs.declared.Name.{Name}
 use Rattle.model.specs.declared.Shape.{Shape}

@@ -1,17 +1,9 @@
 -- What recovery gives: each block gets the image of the highest-stamped valid transaction that took it, or stays as it is.
 -- That is the area as the card came up with the kept writes, since the valid transactions are the kept unretired ones.
 -- Nothing is assumed of how the reader finds that transaction: `NewestHolder` says what it has to be.
-use Prim.Native.Nat.{ℕ, _≤_}
-use native.Mathlib.Omega.{arith}
-use mathlib.Core.Path.{_≡_, refl, sym, _∙_, ap}
-use mathlib.Core.Bool.{Bool, false, So, not, _&&_}
-use mathlib.Core.Logic.{⊎-elim}
-use mathlib.Core.List.{List, [], _∷_, _++_, List·Memᴰ, List·Memᴰ·head, List·Memᴰ·tail, List·Memᴰ·not-nil, List·Memᴰ·cases-cons}
-use mathlib.Core.Option.{Option, none, some}
-use lib.Dec.{eqb, leb}
-use borrow.Author.Tests.{not-true, leb-true, leb-false}
-use Rattle.model.specs.Lists.{select}
-use Rattle.model.specs.Bytes.{Bytes}
+use Rattle.model.proofs.Base.{ℕ, _≤_, arith, _≡_, refl, sym, ap, _∙_, ⊎-elim, Bool, false, not, _&&_, So, Option, none, some}
+use Rattle.model.proofs.Base.{List, [], _∷_, _++_, List·Memᴰ, List·Memᴰ·head, List·Memᴰ·tail, List·Memᴰ·not-nil}
+use Rattle.model.proofs.Base.{List·Memᴰ·cases-cons, eqb, leb, leb-true, leb-false, not-true, select, Bytes}
 use Rattle.model.specs.declared.Name.{Name}
 use Rattle.model.proofs.Lists.{cases, and-left, and-right, and-both}
 use Rattle.crash.specs.Book.{Write, isRetired, kept, keptWrites, image, blank}

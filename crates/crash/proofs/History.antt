@@ -1,13 +1,8 @@
 -- One home block since the card came up: its writes, the newest first, each with its writer and the block's holder after it.
 -- The kept writes are the oldest of them, up to the last that a kept transaction held; the image of the highest-stamped
 -- valid holder has exactly these, and where no holder is valid, home has them already. Nothing is said of bytes.
-use Prim.Native.Nat.{ℕ, _≤_, _<_}
-use native.Mathlib.Omega.{arith}
-use mathlib.Core.Path.{_≡_, refl, _∙_, ap}
-use mathlib.Core.Bool.{Bool, true, false, So, cond}
-use mathlib.Core.Logic.{_⊎_, inl, inr, ⊎-elim}
-use mathlib.Core.List.{List, [], _∷_}
-use mathlib.Core.Option.{Option, none, some}
+use Rattle.model.proofs.Base.{ℕ, _≤_, _<_, arith, _≡_, refl, ap, _∙_, _⊎_, inl, inr, ⊎-elim, Bool, true, false, cond, So, Option}
+use Rattle.model.proofs.Base.{none, some, List, [], _∷_}
 use Rattle.model.proofs.Lists.{cases, both-ways}
 use Rattle.crash.proofs.Tests.{clash, false-of, Equality, impossible}
 

@@ -1,16 +1,9 @@
 -- What holds of a ledger and the home area from one coming up to the next cut: `Inv`.
 -- The history of each block is good, with what the ledger knows of the transactions; a transaction took the blocks that
 -- it held after some write. Where a command only adds to what is known of transactions (`Grows`), good histories stay good.
-use Prim.Native.Nat.{ℕ, _≤_, _<_}
-use native.Mathlib.Omega.{arith}
-use mathlib.Core.Path.{_≡_, refl, subst, fun-ext}
-use mathlib.Core.Bool.{Bool, true, false, So, cond}
-use mathlib.Core.Logic.{inl, inr, ⊎-elim}
-use mathlib.Core.List.{List, [], _∷_, List·Memᴰ}
-use lib.ListN.{take}
-use lib.Dec.{eqb}
-use Rattle.model.specs.Lists.{any}
-use Rattle.model.specs.Bytes.{Bytes, replaced}
+use Rattle.model.proofs.Base.{ℕ, _≤_, _<_, arith, _≡_, refl, subst, fun-ext, inl, inr, ⊎-elim, Bool, true, false, cond, So, List}
+use Rattle.model.proofs.Base.{[], _∷_, List·Memᴰ, take, eqb, any, Bytes}
+use Rattle.model.specs.Bytes.{replaced}
 use Rattle.model.specs.Card.{sameName}
 use Rattle.model.specs.declared.Name.{Name}
 use Rattle.model.proofs.Lists.{cases}

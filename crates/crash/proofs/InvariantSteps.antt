@@ -1,18 +1,10 @@
 -- CLOSE, STORE and CHECKPOINT keep the invariant, as opening a transaction does; it holds of a card that has come up.
 -- Each moves one transaction one stage on (`Moves`) and writes nothing. All but a home store leave alone who has stored
 -- which block home; a home store adds one, whose older holders are retired since 33 did not apply.
-use Prim.Native.Nat.{ℕ, suc, _+_, _≤_, _<_}
-use native.Mathlib.Omega.{arith}
-use mathlib.Core.Path.{_≡_, refl, sym, _∙_, ap, subst}
-use mathlib.Core.Bool.{Bool, false, So, cond, _||_, or-false}
-use mathlib.Core.List.{List, [], _∷_, List·Memᴰ, List·Memᴰ·head, List·Memᴰ·tail}
-use mathlib.Core.Logic.{_≢_}
-use lib.ListN.{length, take, getD}
-use lib.Seq.{take-all, take-suc}
-use lib.Dec.{eqb, leb}
-use borrow.Author.Tests.{le-leb, lt-leb, lt-ltb, eqb-true}
-use Rattle.model.specs.Lists.{any}
-use Rattle.model.specs.Bytes.{Bytes}
+use Rattle.model.proofs.Base.{ℕ, suc, _+_, _≤_, _<_, arith, _≡_, refl, sym, ap, subst, _∙_, _≢_, Bool, false, cond, _||_, So}
+use Rattle.model.proofs.Base.{List, [], _∷_, List·Memᴰ, List·Memᴰ·head, List·Memᴰ·tail, length, take, getD, take-all, take-suc}
+use Rattle.model.proofs.Base.{eqb, leb, eqb-true, lt-ltb, le-leb, lt-leb, any, Bytes}
+use mathlib.Core.Bool.{or-false}
 use Rattle.model.specs.Checkpoint.{share}
 use Rattle.model.specs.declared.Name.{Name}
 use Rattle.model.specs.declared.Shape.{Shape}

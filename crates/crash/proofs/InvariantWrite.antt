@@ -1,16 +1,9 @@
 -- WRITE keeps the invariant, by each of the four rules.
 -- The block's holder after the write has not closed. It is the holder before it, and it and the writer name each other;
 -- or it is the writer, and the holder before it is retired, or closed and then named by the writer.
-use Prim.Native.Nat.{ℕ}
-use mathlib.Core.Path.{_≡_, refl, sym, _∙_, ap}
-use mathlib.Core.Bool.{Bool, false, So, cond, _||_, or-false}
-use mathlib.Core.Logic.{_⊎_, inl, inr, ⊎-elim, ⊎-map, _≢_}
-use mathlib.Core.List.{List, [], _∷_, _++_}
-use mathlib.Core.Option.{Option, none, some}
-use lib.Dec.{eqb}
-use borrow.Author.Tests.{eqb-true}
-use Rattle.model.specs.Lists.{any}
-use Rattle.model.specs.Bytes.{Bytes}
+use Rattle.model.proofs.Base.{ℕ, _≡_, refl, sym, ap, _∙_, _≢_, _⊎_, inl, inr, ⊎-elim, ⊎-map, Bool, false, cond, _||_, So, Option}
+use Rattle.model.proofs.Base.{none, some, List, [], _∷_, _++_, eqb, eqb-true, any, Bytes}
+use mathlib.Core.Bool.{or-false}
 use Rattle.model.specs.Card.{sameName}
 use Rattle.model.specs.declared.Name.{Name}
 use Rattle.model.proofs.Lists.{cases, or-cases, or-left, or-right, any-append}

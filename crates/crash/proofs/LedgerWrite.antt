@@ -26,7 +26,9 @@ use Rattle.crash.proofs.BookEntries.{nextName, same-or-not, change-at, 
 use Rattle.crash.proofs.BookSteps.{begun, begun-by, begun-fields, begun-same, begun-other, begun-running, begun-holder, begun-meets}
 use Rattle.crash.proofs.Relation.{Limits, WriteFits, Fine}
 use Rattle.crash.proofs.LedgerStages.{running-present}
-use Rattle.crash.proofs.LedgerSteps.{ranks-kept, limits-same, same-frozen, sum-same}
+use Rattle.crash.proofs.LedgerFresh.{same-frozen}
+use Rattle.crash.proofs.LedgerRanks.{ranks-kept, sum-same}
+use Rattle.crash.proofs.LedgerSteps.{limits-same}
 
 -- ---- one block more
 snoc-distinct : (xs : List ℕ) (b : ℕ) → ((i j : ℕ) → i < length xs → j < length xs → getD xs i 0 ≡ getD xs j 0 → i ≡ j) → (List·Memᴰ b xs → ⊥)

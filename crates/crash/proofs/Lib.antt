@@ -17,9 +17,12 @@ pub mod CutImages
 -- Layer B: the bytes. The relation of ledger, disk and card; the ledger's order; what is read of the disk; each command.
 pub mod Relation
 pub mod LedgerStages
+pub mod LedgerFresh
+pub mod LedgerRanks
 pub mod LedgerSteps
 pub mod LedgerWrite
 pub mod ReadMaster
+pub mod RecordFormat
 pub mod ReadRecords
 pub mod ReadValid
 pub mod ReadNewest
@@ -30,6 +33,7 @@ pub mod CardRules
 pub mod CardWrite
 pub mod CardClose
 pub mod CardStore
+pub mod LedgerCheckpoint
 pub mod CardCheckpoint
 pub mod CardCut
 pub mod CardFormat

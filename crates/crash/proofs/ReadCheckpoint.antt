@@ -1,17 +1,9 @@
 -- On a card that is up, what CHECKPOINT reads is what the ledger says, and each of its conditions 31 to 33 is the ledger's.
 -- The card's count of committed ones is the ledger's, so the journals are read whole; the closed ones that still store
 -- stand in the card. Every closed unretired transaction is one of these two: so 33 looks at the same transactions.
-use Prim.Native.Nat.{ℕ, _-_, _≤_, _<_}
-use native.Mathlib.Omega.{arith}
-use native.Mathlib.Decide.{decLt, ℕ-discrete}
-use mathlib.Core.Path.{_≡_, refl, sym, ap, ap₂, _∙_, subst}
-use mathlib.Core.Logic.{inl, inr}
-use mathlib.Core.Bool.{Bool, true, false, not, _&&_}
-use mathlib.Core.List.{List·Memᴰ, List·Memᴰ·head}
-use lib.ListN.{length}
-use lib.Dec.{ltb, eqb}
-use borrow.Author.Tests.{ltb-true, lt-ltb, le-ltb, eq-eqb, ne-eqb, not-true}
-use Rattle.model.specs.Lists.{below, any}
+use Rattle.model.proofs.Base.{ℕ, _-_, _≤_, _<_, arith, decLt, ℕ-discrete, _≡_, refl, sym, ap, ap₂, subst, _∙_, inl, inr, Bool}
+use Rattle.model.proofs.Base.{true, false, not, _&&_, List·Memᴰ, List·Memᴰ·head, length, eqb, ltb, eq-eqb, ne-eqb, lt-ltb, le-ltb}
+use Rattle.model.proofs.Base.{ltb-true, not-true, below, any}
 use Rattle.model.specs.Card.{newName, sameName, taken, shapeOf, tailOf, coreOf, committedCount}
 use Rattle.model.specs.Journal.{journals, nameOf, blocksOf}
 use Rattle.model.specs.Valid.{isIn, validSet}
@@ -28,7 +20,8 @@ use Rattle.crash.proofs.BookEntries.{oldestName, uncommittedName}
 use Rattle.crash.proofs.Relation.{Fine, Up}
 use Rattle.crash.proofs.LedgerStages.{closed-present, unretired-rank, closing-stage}
 use Rattle.crash.proofs.ReadMaster.{shape-up}
-use Rattle.crash.proofs.ReadRecords.{readRecord, readList, IsRead, length-readList, readList-has, readList-first, readList-is, journal-read}
+use Rattle.crash.proofs.RecordFormat.{readRecord, readList}
+use Rattle.crash.proofs.ReadRecords.{IsRead, length-readList, readList-has, readList-first, readList-is, journal-read}
 use Rattle.crash.proofs.ReadValid.{journals-are, listed-journals, valid-same}
 
 -- ---- what is read

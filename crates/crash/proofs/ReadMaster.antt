@@ -1,12 +1,8 @@
 -- The master of a disk that holds what the ledger says is read as the ledger's shape and the tails given, since both are
 -- within their limits; so no RECOVER over such a disk meets 8. The card's own shape is read as it is.
 -- A master block has the tails of its cores alone, and is a block of bytes.
-use Prim.Native.Nat.{ℕ, suc, _<_}
-use native.Mathlib.Omega.{arith}
-use mathlib.Core.Path.{_≡_, ap, _∙_}
-use mathlib.Core.Bool.{true}
-use borrow.Author.Tests.{le-leb, lt-ltb}
-use Rattle.model.specs.Bytes.{Bytes, blockAt}
+use Rattle.model.proofs.Base.{ℕ, suc, _<_, arith, _≡_, ap, _∙_, true, lt-ltb, le-leb, Bytes}
+use Rattle.model.specs.Bytes.{blockAt}
 use Rattle.model.specs.Shape.{between, clamped}
 use Rattle.model.specs.Card.{shapeOf}
 use Rattle.model.specs.Layout.{isTail, isMaster, shapeIn, tailIn, masterBlock}

@@ -1,17 +1,10 @@
 -- The image that recovery takes for a block is the target's: the newest valid record of it is that of the ledger's holder.
 -- The reader's choice has the highest stamp of those that took the block, the ledger's holder too, and no two closed
 -- transactions have one stamp. A transaction took a block once, so its place in the record is the ledger's.
-use Prim.Native.Nat.{ℕ, _-_, _≤_, _<_}
-use native.Mathlib.Omega.{arith}
-use mathlib.Core.Path.{_≡_, refl, sym, ap, _∙_}
-use mathlib.Core.Logic.{_⊎_, inl, inr}
-use mathlib.Core.Bool.{true, false}
-use mathlib.Core.List.{List, [], _∷_, List·Memᴰ, List·Memᴰ·head, List·Memᴰ·tail, List·Memᴰ·not-nil, List·Memᴰ·eq-of-singleton, List·Memᴰ·cases-cons, Memᴰ·cast}
-use lib.ListN.{length, getD}
-use lib.Dec.{leb, eqb}
-use borrow.Author.Tests.{leb-true, leb-false, eqb-true, eq-eqb}
-use Rattle.model.specs.Lists.{any}
-use Rattle.model.specs.Bytes.{Bytes}
+use Rattle.model.proofs.Base.{ℕ, _-_, _≤_, _<_, arith, _≡_, refl, sym, ap, _∙_, _⊎_, inl, inr, true, false, List, [], _∷_}
+use Rattle.model.proofs.Base.{List·Memᴰ, List·Memᴰ·head, List·Memᴰ·tail, List·Memᴰ·not-nil, List·Memᴰ·cases-cons}
+use Rattle.model.proofs.Base.{List·Memᴰ·eq-of-singleton, Memᴰ·cast, length, getD, eqb, leb, eq-eqb, eqb-true, leb-true, leb-false}
+use Rattle.model.proofs.Base.{any, Bytes}
 use Rattle.model.specs.Journal.{journals, nameOf, blocksOf, took}
 use Rattle.model.specs.Valid.{validSet, later, newest}
 use Rattle.model.specs.Recovery.{shapeOn, validOn, placeOf, imageFound, newestImage}

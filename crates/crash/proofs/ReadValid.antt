@@ -1,17 +1,9 @@
 -- All journals of a disk that holds what the ledger says, the valid set read from them, and the home blocks that it holds.
 -- Both valid sets are the largest of their kind over the same transactions, with the same names and the same tails:
 -- so the names of the reader's set are the ledger's set, and so are the blocks.
-use Prim.Native.Nat.{ℕ, _-_, _≤_, _<_}
-use native.Mathlib.Omega.{arith}
-use native.Mathlib.Decide.{decLt}
-use mathlib.Core.Path.{_≡_, sym, ap, _∙_, subst, fun-ext}
-use mathlib.Core.Logic.{_⊎_, inl, inr}
-use mathlib.Core.Bool.{Bool, true, false, not, _&&_, _||_}
-use mathlib.Core.List.{map, flatMap, List·Memᴰ, Memᴰ·cast, Memᴰ·map, Memᴰ·of-map}
-use lib.Dec.{ltb, eqb}
-use borrow.Author.Tests.{not-true}
-use Rattle.model.specs.Lists.{below, any, select}
-use Rattle.model.specs.Bytes.{Bytes}
+use Rattle.model.proofs.Base.{ℕ, _-_, _≤_, _<_, arith, decLt, _≡_, sym, ap, subst, fun-ext, _∙_, _⊎_, inl, inr, Bool, true, false}
+use Rattle.model.proofs.Base.{not, _&&_, _||_, map, flatMap, List·Memᴰ, Memᴰ·cast, eqb, ltb, not-true, below, any, select, Bytes}
+use mathlib.Core.List.{Memᴰ·map, Memᴰ·of-map}
 use Rattle.model.specs.Card.{sameName}
 use Rattle.model.specs.Journal.{journal, journals, nameOf, blocksOf, namesOf}
 use Rattle.model.specs.Shrink.{Closed, Within}
@@ -31,7 +23,8 @@ use Rattle.crash.proofs.Tests.{clash, any-in, in-any, nameEquality}
 use Rattle.crash.proofs.Relation.{Fine, JournalStands, DiskStands}
 use Rattle.crash.proofs.LedgerStages.{closed-present, committed-rank}
 use Rattle.crash.proofs.ReadMaster.{shape-read, tail-read}
-use Rattle.crash.proofs.ReadRecords.{readList, IsRead, readList-has, readList-is, journal-read, few-records}
+use Rattle.crash.proofs.RecordFormat.{readList}
+use Rattle.crash.proofs.ReadRecords.{IsRead, readList-has, readList-is, journal-read, few-records}
 
 -- ---- the ledger's valid set
 abbrev belowOldest : Book → Name → Bool

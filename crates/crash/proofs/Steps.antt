@@ -1,11 +1,7 @@
 -- What each command does to a block's history: more is known of its transactions, one more write, one image stored home.
 -- Each keeps the history good. A write is held by one that has not closed, so no image that is fixed changes; a home
 -- store is of a kept transaction, and every older holder is retired.
-use Prim.Native.Nat.{_<_}
-use mathlib.Core.Path.{_≡_, refl, ap}
-use mathlib.Core.Bool.{Bool, false, So, _||_}
-use mathlib.Core.Logic.{inl, inr, ⊎-elim, ⊎-map}
-use mathlib.Core.List.{List, [], _∷_}
+use Rattle.model.proofs.Base.{_<_, _≡_, refl, ap, inl, inr, ⊎-elim, ⊎-map, Bool, false, _||_, So, List, [], _∷_}
 use Rattle.model.proofs.Lists.{cases, or-cases, or-left, or-right}
 use Rattle.crash.proofs.Tests.{clash, Equality, false-of}
 use Rattle.crash.proofs.History.{Event, value, upto, Took, Status, Sound, Older, Link, Own, Next, Chain, Good, older}

@@ -1,10 +1,6 @@
--- CUT: refused, or carried out.
-use Prim.Native.Nat.{ℕ}
-use native.Mathlib.Omega.{arith}
-use mathlib.Core.Path.{_≡_, _∙_}
-use mathlib.Core.List.{List}
-use lib.ListN.{length, replicate}
-use Rattle.model.specs.Bytes.{Bytes, zeroMemory}
+-- CUT is refused with 1 or 20; else the card is down, memory is zeroed and the disk as it was.
+use Rattle.model.proofs.Base.{ℕ, arith, _≡_, _∙_, List, length, replicate, Bytes}
+use Rattle.model.specs.Bytes.{zeroMemory}
 use Rattle.model.specs.Card.{downCard}
 use Rattle.model.specs.Command.{World, unstored, refusal}
 use Rattle.model.specs.Recovery.{cutConditions, cut}

@@ -1,11 +1,8 @@
--- FORMAT: its refusals in two stages, and what the code leaves where it is carried out.
-use Prim.Native.Nat.{ℕ, _<_}
-use native.Mathlib.Omega.{arith}
-use mathlib.Core.Path.{_≡_, refl, sym, ap, _∙_, subst}
-use mathlib.Core.Bool.{Bool, not}
-use mathlib.Core.List.{List, [], _∷_}
-use lib.ListN.{length, getD, replicate, getD-replicate}
-use Rattle.model.specs.Bytes.{Bytes, store}
+-- FORMAT answers 21 where the card is not blank, then 4 where a shape is out of range. Zeroed disk and memory, the first master
+-- and the card come up with first tails are what its definition leaves.
+use Rattle.model.proofs.Base.{ℕ, _<_, arith, _≡_, refl, sym, ap, subst, _∙_, Bool, not, List, [], _∷_, length, getD, replicate}
+use Rattle.model.proofs.Base.{getD-replicate, Bytes}
+use Rattle.model.specs.Bytes.{store}
 use Rattle.model.specs.Shape.{inRange, checked, checkedAnswer, clamped}
 use Rattle.model.specs.Card.{isBlank, newTail, freshCard}
 use Rattle.model.specs.Layout.{masterBlock}

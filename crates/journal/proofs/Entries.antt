@@ -1,17 +1,8 @@
--- The functions over slots and over one transaction: what each answers at its returns.
-use Prim.Native.Nat.{ℕ, zero, suc, _+_, _-_, _/_, _%_, _≤_, _<_, min}
-use native.Mathlib.Omega.{arith}
-use native.Mathlib.Nat.{add-zero}
-use native.Mathlib.Numerals.{add-one}
-use native.Mathlib.Decide.{decLt}
-use mathlib.Core.Path.{_≡_, refl, sym, ap, _∙_}
-use mathlib.Core.Bool.{Bool, true, false, true≢false, cond, not}
-use mathlib.Core.List.{List, [], _∷_, map}
-use lib.ListN.{length, getD, List·getD-map, length-map}
-use lib.Dec.{ltb, eqb}
-use borrow.Author.Tests.{lt-ltb, le-ltb, eq-eqb, ne-eqb, ltb-true}
-use Rattle.model.specs.Lists.{below, any}
-use Rattle.model.specs.Bytes.{Bytes}
+-- Each return of the functions over slots and over one transaction is the definition's value: a slot's position, how many
+-- slots are filled, the transaction in a slot, where a block stands among its blocks and whether it took it.
+use Rattle.model.proofs.Base.{ℕ, zero, suc, _+_, _-_, _/_, _%_, _≤_, _<_, min, arith, decLt, add-one, add-zero, _≡_, refl, sym}
+use Rattle.model.proofs.Base.{ap, _∙_, Bool, true, false, cond, not, true≢false, List, [], _∷_, map, length, getD, length-map}
+use Rattle.model.proofs.Base.{List·getD-map, eqb, ltb, eq-eqb, ne-eqb, lt-ltb, le-ltb, ltb-true, below, any, Bytes}
 use Rattle.model.specs.Layout.{Held, newHeld, pairAt, pairsIn, heldIn, blockCount, nameCount, stampIn}
 use Rattle.model.specs.Journal.{journalAt, heldBy, blocksOf, took}
 use Rattle.model.specs.Recovery.{placeOf}

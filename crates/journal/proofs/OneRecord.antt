@@ -1,11 +1,8 @@
--- One record: the part of the disk that is lent, and what reading a descriptor and then a commit answers.
-use Prim.Native.Nat.{ℕ, _+_, _*_, _-_, _≤_, _<_}
-use native.Mathlib.Omega.{arith}
-use mathlib.Core.Path.{_≡_, refl, sym, ap, _∙_}
-use mathlib.Core.Bool.{Bool, true, false, cond}
-use lib.ListN.{length, take, drop}
-use borrow.Author.Tests.{le-leb, lt-leb}
-use Rattle.model.specs.Bytes.{Bytes, blockAt, part}
+-- The part of the disk that is lent is the journal's block. A descriptor, then a commit, read with their numbers, give the
+-- record at a position; a miss of either, or too few blocks left, gives none.
+use Rattle.model.proofs.Base.{ℕ, _+_, _-_, _*_, _≤_, _<_, arith, _≡_, refl, sym, ap, _∙_, Bool, true, false, cond, length, take}
+use Rattle.model.proofs.Base.{drop, le-leb, lt-leb, Bytes}
+use Rattle.model.specs.Bytes.{blockAt, part}
 use Rattle.model.specs.Shape.{clamped, journalBlock}
 use Rattle.model.specs.Layout.{isDescriptor, blockCount, isCommit, stampIn, nameCount}
 use Rattle.model.specs.Journal.{journalAt, recordAt}

@@ -1,16 +1,7 @@
--- Reading all journals in one loop: what holds before each slot, and that a step keeps it.
-use Prim.Native.Nat.{ℕ, suc, _+_, _*_, _-_, _/_, _%_, _≤_, _<_}
-use native.Mathlib.Omega.{arith}
+-- All journals read in one loop of 96 slots: before each slot, the cores passed have the entries that their journal gives, and
+-- the rest of the current core's is what the walk has yet to read. A step keeps it; at the end all are read.
+use Rattle.model.proofs.Base.{ℕ, suc, _+_, _-_, _*_, _/_, _%_, _≤_, _<_, arith, decLt, ℕ-discrete, _≡_, refl, sym, ap, _∙_, _&&_, List, _∷_, _++_, append-assoc, append-nil, length, getD, set, length-set, getD-set-same, ltb, leb, eq-eqb, ne-eqb, lt-ltb, le-ltb, ltb-true, le-leb, lt-leb, leb-true, leb-false, Bytes}
 use native.Mathlib.Nat.{mod-lt}
-use native.Mathlib.Decide.{decLt, ℕ-discrete}
-use mathlib.Core.Path.{_≡_, refl, sym, ap, _∙_}
-use mathlib.Core.Bool.{_&&_}
-use mathlib.Core.List.{List, [], _∷_, _++_, append-assoc, append-nil}
-use lib.ListN.{length, getD, set, length-set}
-use lib.Seq.{getD-set-same}
-use lib.Dec.{ltb, leb}
-use borrow.Author.Tests.{lt-ltb, le-ltb, le-leb, lt-leb, ltb-true, leb-true, leb-false, eq-eqb, ne-eqb}
-use Rattle.model.specs.Bytes.{Bytes}
 use Rattle.model.specs.Layout.{isDescriptor, hasHead}
 use Rattle.model.specs.Journal.{recordAt, recordsFrom, journal}
 use Rattle.model.specs.Limits.{maxNumber}

@@ -1,16 +1,8 @@
 -- What a slot gives: the record that was read there; a store to one slot leaves the others; the slots of the cores, one
 -- after another, are all slots.
-use Prim.Native.Nat.{ℕ, zero, suc, _+_, _*_, _-_, _/_, _%_, _≤_, _<_, min}
-use native.Mathlib.Omega.{arith}
-use native.Mathlib.Nat.{add-zero}
-use mathlib.Core.Path.{_≡_, refl}
-use mathlib.Core.Logic.{_≢_}
-use mathlib.Core.List.{List, [], _++_, flatMap, append-assoc, append-nil}
-use lib.ListN.{getD, set}
-use lib.Seq.{getD-set-other}
-use borrow.Author.Tests.{le-ltb, eq-eqb, ne-eqb}
-use Rattle.model.specs.Lists.{below}
-use Rattle.model.specs.Bytes.{Bytes}
+use Rattle.model.proofs.Base.{ℕ, zero, suc, _+_, _-_, _*_, _/_, _%_, _≤_, _<_, min, arith, add-zero, _≡_, refl, _≢_, List, []}
+use Rattle.model.proofs.Base.{_++_, append-assoc, append-nil, getD, set, getD-set-other, eq-eqb, ne-eqb, le-ltb, flatMap, below}
+use Rattle.model.proofs.Base.{Bytes}
 use Rattle.model.specs.Layout.{blockCount, nameCount}
 use Rattle.model.specs.Journal.{journalAt, recordAt, journal, journals}
 use Rattle.model.specs.declared.Shape.{Shape}

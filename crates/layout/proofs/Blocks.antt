@@ -1,15 +1,14 @@
--- A block written from its first byte on, byte by byte or word by word, whatever it held before.
-use Prim.Native.Nat.{ℕ, zero, suc, _+_, _*_, _-_, _≤_, _<_}
-use native.Mathlib.Omega.{arith}
-use native.Mathlib.Numerals.{add-one}
-use mathlib.Core.Path.{_≡_, refl, ap, _∙_, sym}
-use mathlib.Core.List.{List, [], _∷_, _++_, append-assoc, flatMap}
-use lib.ListN.{length, take, drop, set, getD, replicate, length-set, length-append, length-take, replicate-append-replicate}
-use lib.Seq.{take-suc-set, take-suc, take-all, take-at, drop-drop, sets, sets-eq}
+-- A block written from its first byte on, byte by byte or word by word, is the block wanted once 128 bytes or 32 words are
+-- written, whatever it held before. A block lent of the disk and written is `store`, a block read is `blockAt`; the first
+-- four bytes replaced are the escaped image.
+use Rattle.model.proofs.Base.{ℕ, zero, suc, _+_, _-_, _*_, _≤_, _<_, arith, add-one, _≡_, refl, sym, ap, _∙_, List, [], _∷_, _++_}
+use Rattle.model.proofs.Base.{append-assoc, length, take, drop, getD, set, replicate, length-set, length-take, length-append}
+use Rattle.model.proofs.Base.{take-all, take-suc, eq-eqb, ne-eqb, flatMap, Bytes}
+use lib.ListN.{replicate-append-replicate}
+use lib.Seq.{take-suc-set, take-at, drop-drop, sets, sets-eq}
 use borrow.Author.Needs.{needs}
-use borrow.Author.Tests.{eq-eqb, ne-eqb}
 use Rattle.model.specs.Layout.{mark, escaped}
-use Rattle.model.specs.Bytes.{Bytes, bytes, be4, part, replaced, words, padded, block, blockAt, store}
+use Rattle.model.specs.Bytes.{bytes, be4, part, replaced, words, padded, block, blockAt, store}
 use Rattle.model.proofs.Store.{length-replaced}
 use Rattle.model.proofs.Words.{length-bytes, length-words, length-block}
 

@@ -1,13 +1,11 @@
--- A slice zeroed from the front, and a block of the disk that a writer was lent.
-use Prim.Native.Nat.{ℕ, _+_, _*_, _-_, _≤_, _<_}
-use native.Mathlib.Omega.{arith}
-use mathlib.Core.Path.{_≡_, refl, ap, _∙_}
-use mathlib.Core.List.{List, _++_, append-nil}
-use lib.ListN.{length, take, drop, replicate, set, length-set}
+-- A slice zeroed from the front is all zeros at its end: the zeroed disk, the zeroed memory. A home block that was lent and
+-- written is a store to it.
+use Rattle.model.proofs.Base.{ℕ, _+_, _-_, _*_, _≤_, _<_, arith, _≡_, refl, ap, _∙_, List, _++_, append-nil, length, take, drop}
+use Rattle.model.proofs.Base.{set, replicate, length-set, Bytes}
 use lib.Seq.{drop-length}
 use borrow.Author.Fill.{fill-none, fill-more}
 use borrow.Author.Needs.{needs}
-use Rattle.model.specs.Bytes.{Bytes, store, zeroDisk, zeroMemory}
+use Rattle.model.specs.Bytes.{store, zeroDisk, zeroMemory}
 use Rattle.model.specs.Shape.{homeBlock}
 use Rattle.layout.proofs.Blocks.{block-lent}
 

@@ -1,16 +1,11 @@
 -- Loops over an index: a test at each index below a count, at some, and an array filled one after another.
 -- Each law has the form in which a loop needs it: none, one more, all.
-use Prim.Native.Nat.{ℕ, suc, _+_, _≤_, _<_}
-use native.Mathlib.Omega.{arith}
-use native.Mathlib.Numerals.{add-one}
-use mathlib.Core.Path.{_≡_, refl, ap, _∙_, sym}
-use mathlib.Core.Bool.{Bool, true, false, false≢true, not, _&&_, _||_, and-true, or-false}
-use mathlib.Core.List.{List, [], _∷_, map, map-append}
-use lib.ListN.{length, take, set, length-set}
-use lib.Seq.{take-suc-set, take-all}
-use borrow.Author.Tests.{not-true, not-false}
+use Rattle.model.proofs.Base.{ℕ, suc, _+_, _≤_, _<_, arith, add-one, _≡_, refl, sym, ap, _∙_, Bool, true, false, not, _&&_, _||_}
+use Rattle.model.proofs.Base.{false≢true, List, [], _∷_, map, map-append, length, take, set, length-set, take-all, not-true}
+use Rattle.model.proofs.Base.{not-false, below, any, all}
+use mathlib.Core.Bool.{and-true, or-false}
+use lib.Seq.{take-suc-set}
 use borrow.Author.Needs.{needs}
-use Rattle.model.specs.Lists.{below, all, any}
 use Rattle.model.proofs.Lists.{cases, all-mem, all-append, any-append, all-map, any-map, mem-any, below-mem}
 use Rattle.layout.specs.Loops.{every, some}
 

@@ -1,12 +1,10 @@
--- Word i of a record block: one of its head, one of a pair, or none. The writers compute it word by word.
-use Prim.Native.Nat.{ℕ, zero, suc, _+_, _-_, _/_, _%_, _^_, _≤_, _<_, min}
-use native.Mathlib.Omega.{arith}
-use mathlib.Core.Path.{_≡_, refl, ap, _∙_, sym}
-use mathlib.Core.List.{List, [], _∷_, _++_, map, flatMap}
-use lib.ListN.{length, take, getD, length-map, length-take, List·getD-append, List·getD-eq-default}
-use lib.Seq.{getD-append-add, getD-take}
-use borrow.Author.Tests.{eq-eqb, ne-eqb}
-use Rattle.model.specs.Lists.{below}
+-- Word i of a descriptor or a commit is one of its head, one of its pairs, or 0 past them, as the writers compute it; and
+-- both have at most 32 words.
+use Rattle.model.proofs.Base.{ℕ, zero, suc, _+_, _-_, _/_, _%_, _^_, _≤_, _<_, min, arith, _≡_, refl, sym, ap, _∙_, List, [], _∷_}
+use Rattle.model.proofs.Base.{_++_, map, length, take, getD, length-map, length-take, List·getD-append, getD-take, eq-eqb, ne-eqb}
+use Rattle.model.proofs.Base.{flatMap, below}
+use lib.ListN.{List·getD-eq-default}
+use lib.Seq.{getD-append-add}
 use Rattle.model.specs.Card.{newName}
 use Rattle.model.specs.Layout.{mark, pairWords, Held, newHeld, descriptorWords, commitWords}
 use Rattle.model.specs.declared.Name.{Name}

@@ -1,12 +1,8 @@
--- What the readers answer at each return.
-use Prim.Native.Nat.{ℕ, zero, suc, _+_, _*_, _≤_, _<_}
-use mathlib.Core.Path.{_≡_, refl, ap, _∙_, sym, ap₂}
-use mathlib.Core.Bool.{Bool, true, false, not, _&&_}
-use mathlib.Core.List.{List, [], _∷_, _++_, map-append}
-use lib.Dec.{eqb}
-use borrow.Author.Tests.{eq-eqb, ne-eqb, not-true, not-false}
-use Rattle.model.specs.Lists.{below, all}
-use Rattle.model.specs.Bytes.{Bytes, be4}
+-- What the readers answer is what the definitions ask: all pairs of a descriptor in range and distinct, all names of a
+-- commit listable, the stamp of its two words.
+use Rattle.model.proofs.Base.{ℕ, zero, suc, _+_, _*_, _≤_, _<_, _≡_, refl, sym, ap, ap₂, _∙_, Bool, true, false, not, _&&_, List}
+use Rattle.model.proofs.Base.{[], _∷_, _++_, map-append, eqb, eq-eqb, ne-eqb, not-true, not-false, below, all, Bytes}
+use Rattle.model.specs.Bytes.{be4}
 use Rattle.model.specs.Card.{newName}
 use Rattle.model.specs.Layout.{Held, newHeld, pairAt, pairsIn, heldIn, distinct, isHeld, blockCount, isListable, namesIn, nameCount, stampIn}
 use Rattle.model.specs.declared.Shape.{Shape}

@@ -1,11 +1,7 @@
 -- Conditions joined by and, and the tests in them, from what calls answered: the rules by which a chain of early
 -- returns is a chain of conditions.
-use Prim.Native.Nat.{ℕ, _≤_, _<_}
-use native.Mathlib.Omega.{arith}
-use mathlib.Core.Path.{_≡_, refl, _∙_, sym}
-use mathlib.Core.Bool.{Bool, true, false, not, cond, _&&_}
-use lib.Dec.{eqb, ltb, leb}
-use borrow.Author.Tests.{not-true, not-false, le-leb, lt-leb, le-ltb, eq-eqb, ne-eqb}
+use Rattle.model.proofs.Base.{ℕ, _≤_, _<_, arith, _≡_, refl, sym, _∙_, Bool, true, false, cond, not, _&&_, eqb, ltb, leb, eq-eqb}
+use Rattle.model.proofs.Base.{ne-eqb, le-ltb, le-leb, lt-leb, not-true, not-false}
 use Rattle.model.proofs.Lists.{and-both}
 
 -- ---- and

@@ -37,7 +37,10 @@ fn descriptor_word(number: u32, count: u8, blocks: [u8; 8], flags: [u8; 8], i: u
 // The descriptor of a transaction that took so many of these blocks.
 pub fn write_descriptor(block: &mut [u8], number: u32, count: u8, blocks: [u8; 8], flags: [u8; 8])
     requires { ⌜ length (now block) ≡ 128 ⌝ }
-    ensures { λ _. ⌜ now (block .exit) ≡ descriptorBlock number (map (λ (i : ℕ). newHeld (getD blocks i 0) (getD flags i 0)) (below (min count 8))) ⌝ }
+    ensures { λ _. ⌜
+        now (block .exit)
+        ≡ descriptorBlock number (map (λ (i : ℕ). newHeld (getD blocks i 0) (getD flags i 0)) (below (min count 8)))
+        ⌝ }
 {
     let mut i: usize = 0;
     while i < 32 {

@@ -6,8 +6,9 @@ ghost use Prim.Native.Nat.{_<_};
 ghost use lib.ListN.{length};
 ghost use Rattle.model.specs.Card.{withName, withBlock};
 ghost use Rattle.model.specs.Write.{passesNames};
+ghost use Rattle.model.specs.declared.Transaction.{Transaction};
 ghost use Rattle.cells.specs.Cells.{transactionIn};
-ghost use Rattle.cells.specs.Changes.{openedOr, IsPlace, Frame};
+ghost use Rattle.cells.specs.Changes.{openedOr, IsPlace, ChangedAt};
 use cells::BLOCKS;
 use cells::COUNT;
 use cells::NAMED;
@@ -22,10 +23,7 @@ use model::Name;
 // The name added to the list, where it does not stand in it.
 pub fn add_name(w: &mut [u64], at: usize, n: Name)
     requires { ⌜ (length (now w) ≡ 512) × IsPlace at × (n .core < 8) × (passesNames (transactionIn (now w) at) n ≡ false) ⌝ }
-    ensures { λ _. ⌜
-        (transactionIn (now (w .exit)) at ≡ withName (transactionIn (now (w .entry)) at) n)
-        × Frame (now (w .entry)) (now (w .exit)) at 24
-        ⌝ }
+    ensures { λ _. ⌜ ChangedAt at (λ (t : Transaction). withName t n) (now (w .entry)) (now (w .exit)) ⌝ }
 {
     if lists_name(w, at, n) {
         return;
@@ -39,10 +37,7 @@ pub fn add_name(w: &mut [u64], at: usize, n: Name)
 // The block taken.
 pub fn add_block(w: &mut [u64], at: usize, b: u8)
     requires { ⌜ (length (now w) ≡ 512) × IsPlace at × ((transactionIn (now w) at) .count < 8) ⌝ }
-    ensures { λ _. ⌜
-        (transactionIn (now (w .exit)) at ≡ withBlock (transactionIn (now (w .entry)) at) b)
-        × Frame (now (w .entry)) (now (w .exit)) at 24
-        ⌝ }
+    ensures { λ _. ⌜ ChangedAt at (λ (t : Transaction). withBlock t b) (now (w .entry)) (now (w .exit)) ⌝ }
 {
     let i = byte_in(w, at + COUNT);
     w[at + BLOCKS + i as usize] = b as u64;
@@ -52,10 +47,7 @@ pub fn add_block(w: &mut [u64], at: usize, b: u8)
 // The transaction at a place, or one that opens.
 pub fn open_at(w: &mut [u64], at: usize)
     requires { ⌜ (length (now w) ≡ 512) × IsPlace at ⌝ }
-    ensures { λ _. ⌜
-        (transactionIn (now (w .exit)) at ≡ openedOr (transactionIn (now (w .entry)) at))
-        × Frame (now (w .entry)) (now (w .exit)) at 24
-        ⌝ }
+    ensures { λ _. ⌜ ChangedAt at openedOr (now (w .entry)) (now (w .exit)) ⌝ }
 {
     if is_live(w, at) {
         return;

@@ -1,12 +1,8 @@
--- What the readers of the master answer at each return.
-use Prim.Native.Nat.{ℕ, _+_, _*_, _≤_, _<_}
-use native.Mathlib.Omega.{arith}
-use mathlib.Core.Path.{_≡_, refl, ap, _∙_, sym}
-use mathlib.Core.Bool.{Bool, true, false, cond, _&&_}
-use lib.Dec.{eqb}
-use borrow.Author.Tests.{eq-eqb, lt-ltb, le-ltb}
-use Rattle.model.specs.Lists.{below, all}
-use Rattle.model.specs.Bytes.{Bytes, be4}
+-- The words of the shape are the shape that is checked; a master is refused where its shape is out of range, else each tail
+-- decides. A tail of a core that the disk has is the one in the block, and its position fits a byte.
+use Rattle.model.proofs.Base.{ℕ, _+_, _*_, _≤_, _<_, arith, _≡_, refl, sym, ap, _∙_, Bool, true, false, cond, _&&_, eqb, eq-eqb}
+use Rattle.model.proofs.Base.{lt-ltb, le-ltb, below, all, Bytes}
+use Rattle.model.specs.Bytes.{be4}
 use Rattle.model.specs.Shape.{inRange, checked}
 use Rattle.model.specs.Card.{newTail}
 use Rattle.model.specs.Layout.{mark, shapeIn, tailIn, isTail, isMaster, pairAt}

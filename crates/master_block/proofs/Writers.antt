@@ -1,11 +1,7 @@
 -- Word i of the master: one of its head, one of a tail, or none, as its writer computes it word by word; and its store.
-use Prim.Native.Nat.{ℕ, _-_, _/_, _≤_, _<_}
-use native.Mathlib.Omega.{arith}
-use mathlib.Core.Path.{_≡_, refl, ap, _∙_, sym}
-use mathlib.Core.List.{List, [], _∷_, _++_, map}
-use lib.ListN.{length, drop, getD, length-map}
-use Rattle.model.specs.Lists.{below}
-use Rattle.model.specs.Bytes.{Bytes, replaced, store}
+use Rattle.model.proofs.Base.{ℕ, _-_, _/_, _≤_, _<_, arith, _≡_, refl, sym, ap, _∙_, List, [], _∷_, _++_, map, length, drop, getD}
+use Rattle.model.proofs.Base.{length-map, below, Bytes}
+use Rattle.model.specs.Bytes.{replaced, store}
 use Rattle.model.specs.Shape.{clamped}
 use Rattle.model.specs.Card.{newTail}
 use Rattle.model.specs.Layout.{mark, masterWords}

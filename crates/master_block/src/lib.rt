@@ -68,7 +68,9 @@ fn write_master(block: &mut [u8], s: Shape, tails: [Tail; 8])
 // The master stored, with these tails.
 pub fn store_master(s: Shape, tails: [Tail; 8], disk: &mut [u8])
     requires { ⌜ length (now disk) ≡ 32896 ⌝ }
-    ensures { λ _. ⌜ now (disk .exit) ≡ store (now (disk .entry)) 0 (masterBlock (clamped s) (λ (c : ℕ). getD tails c (newTail 0 0))) ⌝ }
+    ensures { λ _. ⌜
+        now (disk .exit) ≡ store (now (disk .entry)) 0 (masterBlock (clamped s) (λ (c : ℕ). getD tails c (newTail 0 0)))
+        ⌝ }
 {
     write_master(&mut disk[0..128], s, tails);
 }
@@ -76,7 +78,9 @@ pub fn store_master(s: Shape, tails: [Tail; 8], disk: &mut [u8])
 // The shape that a master gives, if its numbers are within the limits.
 pub fn read_shape(block: &[u8]) -> Checked
     requires { ⌜ length (now block) ≡ 128 ⌝ }
-    ensures { λ r. ⌜ r ≡ checked (be4 (now (block .entry)) 12) (be4 (now (block .entry)) 16) (be4 (now (block .entry)) 20) ⌝ }
+    ensures { λ r. ⌜
+        r ≡ checked (be4 (now (block .entry)) 12) (be4 (now (block .entry)) 16) (be4 (now (block .entry)) 20)
+        ⌝ }
 {
     let cores = get_word(block, 12);
     let blocks = get_word(block, 16);

@@ -253,10 +253,6 @@ head-other type k type₂ k₂ b h ne =
     let x = head-known type k b h in
     cases (hasHead type₂ k₂ b) (λ h₂. let y = head-known type₂ k₂ b h₂ in absurd (ne (sym (x .0) ∙ y .0) (sym (x .1) ∙ y .1))) (λ h₂. h₂)
 
-pub no-descriptor : (s : Shape) (k : ℕ) (b : Bytes) → hasHead 1 k b ≡ false → isDescriptor s k b ≡ false
-unfolding isDescriptor
-no-descriptor s k b h = rw h
-
 pub no-commit : (s : Shape) (k : ℕ) (b : Bytes) → hasHead 2 k b ≡ false → isCommit s k b ≡ false
 unfolding isCommit
 no-commit s k b h = rw h

@@ -355,19 +355,3 @@ module _ (s : Shape) (d : Bytes) (c : ℕ) where
   pub records-all : (most more k p left : ℕ) → left ≤ 2 * most + 1 → most ≤ more → recordsFrom most s d c k p left ≡ recordsFrom more s d c k p left
   records-all most more k p left h m =
       records-take most more k p left m ∙ take-all most (recordsFrom more s d c k p left) (omega (arith, records-length more k p left))
-
--- ---- a journal's reading looks at its own blocks only
-module _ (s : Shape) (d d₂ : Bytes) (c : ℕ) (same : (p : ℕ) → journalAt s d c p ≡ journalAt s d₂ c p) where
-  record-frame : (k p left : ℕ) → recordAt s d c k p left ≡ recordAt s d₂ c k p left
-  unfolding recordAt
-  record-frame k p left = simp same
-
-  pub records-frame : (most k p left : ℕ) → recordsFrom most s d c k p left ≡ recordsFrom most s d₂ c k p left
-  records-frame zero k p left = unfold recordsFrom in refl
-  records-frame (suc most) k p left =
-      found-cases (recordAt s d c k p left)
-      (λ miss. records-miss s d c k p left (suc most) miss ∙ sym (records-miss s d₂ c k p left (suc most) (sym (record-frame k p left) ∙ miss)))
-      (λ e hit.
-      records-hit s d c k p left most e hit
-      ∙ ap (λ (r : List Committed). e ∷ r) (records-frame most (k + 1) ((p + (e .count + 2)) % s .journal) (left - (e .count + 2)))
-      ∙ sym (records-hit s d₂ c k p left most e (sym (record-frame k p left) ∙ hit)))

@@ -93,11 +93,7 @@ ext-blocks (suc n) d e p q h =
     (λ k l. block-suc d k ∙ h (suc k) (omega arith) ∙ sym (block-suc e k)))
     ∙ take-append-drop 128 e
 
--- ---- what is there stored again, and two stores
-pub store-same : (d : Bytes) (k : ℕ) → store d k (blockAt d k) ≡ d
-unfolding store blockAt replaced part
-store-same d k = ap (λ (l : Bytes). take (128 * k) d ++ l) (take-append-drop 128 (drop (128 * k) d)) ∙ take-append-drop (128 * k) d
-
+-- ---- two stores
 module _ (n : ℕ) (d : Bytes) (len : length d ≡ 128 * n) (k : ℕ) (a : Bytes) (ka : k < n) (sa : length a ≡ 128) where
   fits : 128 * k + 128 ≤ length d
   fits = omega arith

@@ -2,8 +2,8 @@
 -- Every record block is such a block, so `word-of` carries all laws on reading what was stored.
 use Prim.Native.Nat.{ℕ, zero, suc, _+_, _*_, _-_, _/_, _%_, _^_, _≤_, _<_}
 use native.Mathlib.Omega.{arith}
-use native.Mathlib.Nat.{div-add-mod', div-lt-iff-lt-mul, zero-lt-suc, suc-add, mul-le-mul-right, mul-assoc, pow-succ', zero-add, add-zero}
-use mathlib.Core.Path.{_≡_, refl, ap, _∙_, sym}
+use native.Mathlib.Nat.{div-add-mod', div-lt-iff-lt-mul, zero-lt-suc, suc-add, zero-add, add-zero}
+use mathlib.Core.Path.{_≡_, refl, ap, _∙_}
 use mathlib.Core.List.{List, [], _∷_, _++_, append-assoc, append-nil, flatMap}
 use lib.ListN.{length, getD, replicate, length-append, length-replicate}
 use Rattle.model.specs.Bytes.{Bytes, bytes, number, part, be4, words, padded, block}
@@ -40,14 +40,6 @@ number-bytes (suc w) n h =
     number-append 0 (bytes w (n / 256)) (n % 256 ∷ [])
     ∙ ap (λ (m : ℕ). m * 256 + n % 256) (number-bytes w (n / 256) (div-lt-iff-lt-mul {k = 256} (zero-lt-suc 255) .1 (omega arith)))
     ∙ div-add-mod' n 256
-
-pub number-low : (acc : ℕ) (xs : Bytes) → Each IsByte xs → number acc xs < suc acc * 256 ^ length xs
-unfolding number
-number-low acc [] f = omega arith
-number-low acc (x ∷ xs) f =
-    let low : suc (acc * 256 + x) * 256 ^ length xs ≤ (suc acc * 256) * 256 ^ length xs = mul-le-mul-right (256 ^ length xs) (omega (arith, f .0)) in
-    let e : (suc acc * 256) * 256 ^ length xs ≡ suc acc * 256 ^ suc (length xs) = mul-assoc (suc acc) 256 (256 ^ length xs) ∙ ap (λ (n : ℕ). suc acc * n) (sym (pow-succ' 256 (length xs))) in
-    omega (arith, number-low (acc * 256 + x) xs (f .1))
 
 bytes-from : (w acc : ℕ) (xs : Bytes) → Each IsByte xs → bytes (length xs + w) (number acc xs) ≡ bytes w acc ++ xs
 unfolding bytes number

@@ -1,18 +1,11 @@
--- The counts of committed transactions, and a core's oldest one.
-use Prim.Native.Nat.{ℕ, _+_, _-_, _≤_, _<_, min}
-use native.Mathlib.Omega.{arith}
-use mathlib.Core.Path.{_≡_, sym, ap, _∙_}
-use mathlib.Core.Bool.{Bool, true, false, cond}
-use mathlib.Core.List.{List}
-use lib.ListN.{getD, set}
-use lib.Seq.{getD-take}
-use borrow.Author.Tests.{ne-eqb}
-use Rattle.model.specs.Bytes.{Bytes}
+-- How many transactions of a core are committed: none, or the numbers between its tail and its next, less the closed one. The
+-- counts of all cores; none counted means no oldest one, else it is the record at the tail.
+use Rattle.model.proofs.Base.{ℕ, _+_, _-_, _≤_, _<_, min, arith, _≡_, sym, ap, _∙_, Bool, true, false, cond, List, getD, set}
+use Rattle.model.proofs.Base.{getD-take, ne-eqb, Bytes}
 use Rattle.model.specs.Card.{shapeOf, tailOf, coreOf, committedCount}
 use Rattle.model.specs.Journal.{journal, recordAt}
 use Rattle.model.specs.declared.Shape.{Shape}
 use Rattle.model.specs.declared.Tail.{Tail}
-use Rattle.model.specs.declared.Transaction.{Transaction}
 use Rattle.model.specs.declared.Card.{Card}
 use Rattle.model.specs.declared.Found.{Found}
 use Rattle.model.specs.declared.Found.the-variants.{Miss}
@@ -21,18 +14,14 @@ use Rattle.layout.proofs.Loops.{Filled, filled-more}
 use Rattle.journal.specs.Slots.{tailIn}
 use Rattle.journal.specs.Walk.{Reads}
 use Rattle.cells.specs.Cells.{numberIn, transactionIn, cardIn, corePlace, closedPlace}
-use Rattle.cells.proofs.CellLaws.{next-read, closed-read}
+use Rattle.cells.proofs.ReadLaws.{next-there, closed-live}
 use Rattle.oldest.specs.Oldest.{countAt, counts, Counts, oldestAt}
 use Rattle.oldest.proofs.SharedLaws.{shape-range, core-low}
 
 -- ---- one count
-module _ (w : List ℕ) (c : ℕ) (h : c < 8) (p : ℕ) (e : p ≡ corePlace c) where
-  pub next-is : (n : ℕ) → n ≡ numberIn w p → n ≡ (coreOf (cardIn w) c) .next
-  next-is n q = q ∙ ap (numberIn w) e ∙ next-read w c h
-
 module _ (w : List ℕ) (c : ℕ) (h : c < 8) (p : ℕ) (e : p ≡ corePlace c) (next : ℕ) (n : next ≡ numberIn w p) (t : Tail) (q : t ≡ tailOf (cardIn w) c) where
   next-here : next ≡ (coreOf (cardIn w) c) .next
-  next-here = next-is w c h p e next n
+  next-here = next-there w c h p e next n
 
   tail-here : t .number ≡ (tailOf (cardIn w) c) .number
   tail-here = ap (λ (a : Tail). a .number) q
@@ -43,7 +32,7 @@ module _ (w : List ℕ) (c : ℕ) (h : c < 8) (p : ℕ) (e : p ≡ corePlace c) 
 
   module _ (b : ℕ) (i : b ≡ closedPlace c) (g : Bool) (j : g ≡ (transactionIn w b) .live) (r : ℕ) where
     closed-here : g ≡ (coreOf (cardIn w) c) .closed .live
-    closed-here = j ∙ ap (λ (a : ℕ). (transactionIn w a) .live) i ∙ ap (λ (a : Transaction). a .live) (closed-read w c h)
+    closed-here = closed-live w c h b i g j
 
     pub count-closed : g ≡ true → r ≡ min (next - t .number - 1) 12 → r ≡ countAt (cardIn w) c
     unfolding countAt committedCount

@@ -1,16 +1,7 @@
--- The oldest transaction, the slots against the model's lists, and the refusals 32 and 33.
-use Prim.Native.Nat.{ℕ, _*_, _-_, _<_, min}
-use native.Mathlib.Omega.{arith}
-use native.Mathlib.Nat.{add-zero}
-use native.Mathlib.Decide.{decLt}
-use mathlib.Core.Path.{_≡_, refl, sym, ap, _∙_, subst}
-use mathlib.Core.Bool.{Bool, true, false, cond, not, _||_}
-use mathlib.Core.List.{List, []}
-use lib.ListN.{length, getD}
-use lib.Dec.{eqb}
-use borrow.Author.Tests.{not-true, not-false, lt-ltb}
-use Rattle.model.specs.Lists.{below, any}
-use Rattle.model.specs.Bytes.{Bytes}
+-- A core's oldest transaction is the record at its tail. It is in the valid set exactly if its slot is filled in what was
+-- struck: else 32; and 33 exactly if one of lower stamp shares a block with it.
+use Rattle.model.proofs.Base.{ℕ, _-_, _*_, _<_, min, arith, decLt, add-zero, _≡_, refl, sym, ap, subst, _∙_, Bool, true, false}
+use Rattle.model.proofs.Base.{cond, not, _||_, List, [], length, getD, eqb, lt-ltb, not-true, not-false, below, any, Bytes}
 use Rattle.model.specs.Card.{shapeOf, tailOf, coreOf, committedCount}
 use Rattle.model.specs.Journal.{recordAt, journal, nameOf}
 use Rattle.model.specs.Valid.{isIn, validSet}

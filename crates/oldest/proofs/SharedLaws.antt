@@ -1,14 +1,8 @@
--- A transaction read from its record, and others that share a block with it.
-use Prim.Native.Nat.{ℕ, _+_, _≤_, _<_}
-use native.Mathlib.Omega.{arith}
-use mathlib.Core.Path.{_≡_, refl, sym, ap, _∙_, subst}
-use mathlib.Core.Bool.{Bool, true, false, not}
-use mathlib.Core.List.{List, [], map}
-use lib.ListN.{length, getD, take, List·getD-map}
-use lib.Dec.{eqb}
-use borrow.Author.Tests.{not-true, not-false, lt-ltb, le-ltb, eq-eqb, ne-eqb}
-use Rattle.model.specs.Lists.{below, any}
-use Rattle.model.specs.Bytes.{Bytes}
+-- The blocks of a transaction read from its record; whether a transaction in cells took one; two that share one, asked block by
+-- block. One of lower stamp shares a block: a committed one in its slots, or a core's closed one.
+use Rattle.model.proofs.Base.{ℕ, _+_, _≤_, _<_, arith, _≡_, sym, ap, subst, _∙_, Bool, true, false, not, List, [], map, length}
+use Rattle.model.proofs.Base.{take, getD, List·getD-map, eqb, eq-eqb, ne-eqb, lt-ltb, le-ltb, not-true, not-false, below, any}
+use Rattle.model.proofs.Base.{Bytes}
 use Rattle.model.specs.Card.{taken, shapeOf}
 use Rattle.model.specs.Layout.{Held, newHeld, pairAt, pairsIn, heldIn}
 use Rattle.model.specs.Journal.{journalAt, heldBy, blocksOf}
@@ -26,7 +20,7 @@ use Rattle.journal.specs.Slots.{entries, Sized}
 use Rattle.valid.specs.Newest.{sharesBelow}
 use Rattle.cells.specs.Cells.{byteIn, transactionIn, cardIn, closedPlace}
 use Rattle.cells.proofs.Parts.{any-hit, any-more, any-none, any-all}
-use Rattle.cells.proofs.CellLaws.{block-read, closed-read}
+use Rattle.cells.proofs.ReadLaws.{stamp-read, block-read, closed-read}
 use Rattle.oldest.specs.Oldest.{IsRead, lowerClosed, closedLower, lowerShares}
 
 -- the shape as it is read is within its limits
@@ -126,10 +120,6 @@ module _ (s : Shape) (d : Bytes) (e : Committed) (cs : List ℕ) where
     more-unshared h n = some-out (sharesAt (blocksOf s d e) cs) i r answered h n
 
 -- ---- those of lower stamp
-stamp-read : (w : List ℕ) (a : ℕ) → getD w (a + 1) 0 ≡ (transactionIn w a) .stamp
-unfolding transactionIn
-stamp-read w a = refl
-
 module _ (s : Shape) (d : Bytes) (e : Committed) (w : List ℕ) (a : ℕ) (g : Bool) (q : g ≡ (transactionIn w a) .live) where
   pub closed-none : not g ≡ true → false ≡ lowerClosed s d e (transactionIn w a)
   unfolding lowerClosed

@@ -1,13 +1,8 @@
--- Reading: the number in two stages, where a block's bytes stand, and that they are the block's.
-use Prim.Native.Nat.{ℕ, _+_, _*_, _-_, _≤_, _<_}
-use native.Mathlib.Omega.{arith}
-use mathlib.Core.Path.{_≡_, refl, sym, _∙_, subst}
-use mathlib.Core.Bool.{Bool, true, false, cond}
-use mathlib.Core.List.{[], _∷_}
-use lib.Dec.{eqb, leb}
-use lib.ListN.{length, take, drop}
-use borrow.Author.Tests.{leb-false, eqb-true, ne-eqb}
-use Rattle.model.specs.Bytes.{Bytes, part, blockAt}
+-- The number of a reading comes in two stages. The part that is answered, of memory or of the disk, stands within its slice, and
+-- its bytes are those of the block (`part-bytes`).
+use Rattle.model.proofs.Base.{ℕ, _+_, _-_, _*_, _≤_, _<_, arith, _≡_, refl, sym, subst, _∙_, Bool, true, false, cond, [], _∷_}
+use Rattle.model.proofs.Base.{length, take, drop, eqb, leb, ne-eqb, eqb-true, leb-false, Bytes}
+use Rattle.model.specs.Bytes.{part, blockAt}
 use Rattle.model.specs.Shape.{homeBlock}
 use Rattle.model.specs.Card.{shapeOf, holderOf}
 use Rattle.model.specs.Command.{World, refusal, notUp, noBlock, Clear}

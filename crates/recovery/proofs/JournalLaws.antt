@@ -1,13 +1,8 @@
--- The journals of a disk: the tails after recovery, the valid set and the newest images from slots.
-use Prim.Native.Nat.{ℕ, suc, _+_, _*_, _≤_, _<_, min}
-use native.Mathlib.Omega.{arith}
-use mathlib.Core.Path.{_≡_, ap, _∙_, subst}
-use mathlib.Core.List.{List, [], map}
-use lib.ListN.{length, getD, take, replicate, getD-replicate}
-use lib.Dec.{ltb}
-use borrow.Author.Tests.{lt-ltb, le-ltb, ltb-true}
-use Rattle.model.specs.Lists.{below}
-use Rattle.model.specs.Bytes.{Bytes, part, blockAt}
+-- The tail after recovery is two above the last one read, at most 4,000,000,001. All journals of a disk are read, and the valid
+-- set, the newest images and the lowest block left follow from the slots.
+use Rattle.model.proofs.Base.{ℕ, suc, _+_, _*_, _≤_, _<_, min, arith, _≡_, ap, subst, _∙_, List, [], map, length, take, getD}
+use Rattle.model.proofs.Base.{replicate, getD-replicate, ltb, lt-ltb, le-ltb, ltb-true, below, Bytes}
+use Rattle.model.specs.Bytes.{part, blockAt}
 use Rattle.model.specs.Card.{newTail}
 use Rattle.model.specs.Layout.{shapeIn, tailIn, unescaped}
 use Rattle.model.specs.Journal.{journal}

@@ -1,11 +1,7 @@
--- The first block of a disk as a master, and the home blocks that a card counts.
-use Prim.Native.Nat.{ℕ}
-use native.Mathlib.Omega.{arith}
-use mathlib.Core.Path.{_≡_, sym, ap, _∙_, subst}
-use mathlib.Core.Bool.{Bool, true, false, cond, not, _&&_}
-use lib.ListN.{length, take}
-use lib.Dec.{eqb}
-use Rattle.model.specs.Bytes.{Bytes, be4, part, blockAt}
+-- The first block is a master or RECOVER answers 8; its shape is the disk's. A card counts no home blocks while blank, its own
+-- while up, while down those of a master that is fit.
+use Rattle.model.proofs.Base.{ℕ, arith, _≡_, sym, ap, subst, _∙_, Bool, true, false, cond, not, _&&_, length, take, eqb, Bytes}
+use Rattle.model.specs.Bytes.{be4, part, blockAt}
 use Rattle.model.specs.Shape.{checked}
 use Rattle.model.specs.Card.{shapeOf}
 use Rattle.model.specs.Layout.{mark, shapeIn, isMaster}

@@ -1,14 +1,8 @@
--- RECOVER: its refusals, and what the code leaves where it is carried out.
-use Prim.Native.Nat.{ℕ, _+_, _%_, _≤_, _<_}
-use native.Mathlib.Omega.{arith}
-use mathlib.Core.Path.{_≡_, refl, sym, ap, _∙_}
-use mathlib.Core.Bool.{true}
-use mathlib.Core.List.{List, [], _∷_, map, List·Memᴰ, List·Memᴰ·head}
-use lib.ListN.{length, getD, set}
-use lib.Seq.{getD-set-same}
-use borrow.Author.Tests.{not-false}
-use Rattle.model.specs.Lists.{below}
-use Rattle.model.specs.Bytes.{Bytes, blockAt, store}
+-- RECOVER stores the newest image of the lowest block left and counts on, or, with none left, stores the master with all
+-- journals emptied and comes up. Refused, or carried out, it meets its contract.
+use Rattle.model.proofs.Base.{ℕ, _+_, _%_, _≤_, _<_, arith, _≡_, refl, sym, ap, _∙_, true, List, [], _∷_, map, List·Memᴰ}
+use Rattle.model.proofs.Base.{List·Memᴰ·head, length, getD, set, getD-set-same, not-false, below, Bytes}
+use Rattle.model.specs.Bytes.{blockAt, store}
 use Rattle.model.specs.Shape.{homeBlock, clamped}
 use Rattle.model.specs.Card.{newTail, freshCard}
 use Rattle.model.specs.Layout.{isMaster, masterBlock}

@@ -1,16 +1,12 @@
--- WRITE: whether there is room, 24 to 27.
-use Prim.Native.Nat.{ℕ, _+_, _≤_, _<_, min}
-use native.Mathlib.Omega.{arith}
-use mathlib.Core.Path.{_≡_, refl, sym, ap, _∙_}
-use mathlib.Core.Bool.{Bool, true, false, cond, not, _&&_, and-false, and-true}
-use mathlib.Core.List.{List}
-use lib.Dec.{ltb, leb}
-use lib.ListN.{length, take, set, length-take, length-set}
-use borrow.Author.Tests.{lt-leb, le-leb, leb-true, leb-false, not-true, not-false}
+-- WRITE answers 24 to 27 exactly under their conditions: a thirteenth name of the writer or of the holder, a ninth block, a
+-- record that the journal has no room for, a number too high. Each is asked of what the WRITE would leave.
+use Rattle.model.proofs.Base.{ℕ, _+_, _≤_, _<_, min, arith, _≡_, refl, sym, ap, _∙_, Bool, true, false, cond, not, _&&_, List}
+use Rattle.model.proofs.Base.{length, take, set, length-set, length-take, ltb, leb, le-leb, lt-leb, leb-true, leb-false, not-true}
+use Rattle.model.proofs.Base.{not-false, any}
+use mathlib.Core.Bool.{and-false, and-true}
 use Rattle.model.specs.Card.{opened, taken, listed, lists, withName, recordSize, shapeOf, coreOf}
 use Rattle.model.specs.Command.{refusal}
 use Rattle.model.specs.Limits.{maxNumber}
-use Rattle.model.specs.Lists.{any}
 use Rattle.model.specs.Write.{writer, takesBlock, namesHolder, passesNames, closedBlocks}
 use Rattle.model.specs.declared.Shape.{Shape}
 use Rattle.model.specs.declared.Name.{Name}
@@ -20,10 +16,11 @@ use Rattle.model.specs.declared.Rule.{Rule}
 use Rattle.model.proofs.Lists.{cases}
 use Rattle.cells.specs.Cells.{byteIn, transactionIn, cardIn, corePlace, runningPlace, closedPlace}
 use Rattle.cells.specs.Changes.{openedOr}
-use Rattle.cells.proofs.CellLaws.{used-read, running-read, closed-read, blocks-long, names-long, open-live}
+use Rattle.cells.proofs.ReadLaws.{used-there, running-read, running-there, closed-there, closed-live, blocks-long, names-long}
+use Rattle.cells.proofs.TransactionLaws.{open-live}
 use Rattle.rules.specs.Conditions.{ownFull, backFull, ninth, sizeAfter, namedBy, takenBy, afterBy, foundConditions}
 use Rattle.rules.specs.declared.Found.{Found}
-use Rattle.rules.proofs.RuleLaws.{cond-not, cond-done, running-at}
+use Rattle.rules.proofs.RuleLaws.{cond-not, cond-done}
 
 -- ---- 24, the list of a transaction
 module _ (w : List ℕ) (a : ℕ) (n : Name) (k : ℕ) (e : k ≡ length (listed (transactionIn w a))) where
@@ -61,12 +58,12 @@ module _ (x : Card) (c : ℕ) (l : Bool) (q : l ≡ (coreOf x c) .running .live)
 
 module _ (w : List ℕ) (c : ℕ) (h : c < 8) (p : ℕ) (e : p ≡ runningPlace c) where
   pub holder-names : (own : Name) (f : Bool) → f ≡ passesNames (transactionIn w p) own → f ≡ passesNames ((coreOf (cardIn w) c) .running) own
-  holder-names own f s = s ∙ ap (λ (t : Transaction). passesNames t own) (running-at w c h p e)
+  holder-names own f s = s ∙ ap (λ (t : Transaction). passesNames t own) (running-there w c h p e)
 
   module _ (l : Bool) (q : l ≡ (coreOf (cardIn w) c) .running .live) (z : not l ≡ false) where
     writer-runs : transactionIn w p ≡ writer (cardIn w) c
     unfolding writer openedOr
-    writer-runs = running-at w c h p e ∙ open-live ((coreOf (cardIn w) c) .running) l q (not-false l z)
+    writer-runs = running-there w c h p e ∙ open-live ((coreOf (cardIn w) c) .running) l q (not-false l z)
 
     pub names-some : (n : Name) (f : Bool) → f ≡ passesNames (transactionIn w p) n → f ≡ passesNames (writer (cardIn w) c) n
     names-some n f s = s ∙ rw writer-runs
@@ -81,24 +78,15 @@ writer-long w c h =
 
 -- ---- closed ones
 module _ (w : List ℕ) (c : ℕ) (h : c < 8) (a : ℕ) (d : a ≡ corePlace c) (u : ℕ) (s : u ≡ byteIn w (a + 1)) (p : ℕ) (e : p ≡ closedPlace c) (g : Bool) (q : g ≡ (transactionIn w p) .live) where
-  closed-used : u ≡ (coreOf (cardIn w) c) .used
-  closed-used = s ∙ ap (λ (m : ℕ). byteIn w (m + 1)) d ∙ used-read w c h
-
-  closed-at : transactionIn w p ≡ (coreOf (cardIn w) c) .closed
-  closed-at = ap (transactionIn w) e ∙ closed-read w c h
-
-  closed-live : g ≡ (coreOf (cardIn w) c) .closed .live
-  closed-live = q ∙ ap (λ (t : Transaction). t .live) closed-at
-
   pub used-none : not g ≡ true → u ≡ closedBlocks (coreOf (cardIn w) c)
   unfolding closedBlocks
-  used-none z = omega (arith, closed-used, cond-not g _ closed-live (recordSize ((coreOf (cardIn w) c) .closed)) 0 z)
+  used-none z = omega (arith, used-there w c h a d u s, cond-not g _ (closed-live w c h p e g q) (recordSize ((coreOf (cardIn w) c) .closed)) 0 z)
 
   pub used-some : not g ≡ false → (k : ℕ) → k ≡ length (taken (transactionIn w p)) → u + (k + 2) ≡ closedBlocks (coreOf (cardIn w) c)
   unfolding closedBlocks recordSize
   used-some z k r =
-      let size : k + 2 ≡ recordSize ((coreOf (cardIn w) c) .closed) = ap (λ (m : ℕ). m + 2) (r ∙ ap (λ (t : Transaction). length (taken t)) closed-at) in
-      omega (arith, closed-used, cond-done g _ closed-live (recordSize ((coreOf (cardIn w) c) .closed)) 0 (k + 2) size z)
+      let size : k + 2 ≡ recordSize ((coreOf (cardIn w) c) .closed) = ap (λ (m : ℕ). m + 2) (r ∙ ap (λ (t : Transaction). length (taken t)) (closed-there w c h p e)) in
+      omega (arith, used-there w c h a d u s, cond-done g _ (closed-live w c h p e g q) (recordSize ((coreOf (cardIn w) c) .closed)) 0 (k + 2) size z)
 
 -- ---- 26, the record afterwards
 pub journal-test : (j u m a b : ℕ) → u ≡ a → m ≡ b → ltb j (u + m) ≡ ltb j (a + b)

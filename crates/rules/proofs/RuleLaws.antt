@@ -1,20 +1,15 @@
--- WRITE: a core of the card at its places, the writer's name, and the rule that it meets.
-use Prim.Native.Nat.{ℕ, _<_}
-use mathlib.Core.Path.{_≡_, ap, _∙_}
-use mathlib.Core.Bool.{Bool, true, false, cond, not, _&&_}
-use mathlib.Core.List.{List}
-use lib.Dec.{eqb}
-use borrow.Author.Tests.{not-true, not-false}
+-- WRITE: the writer's name, whether a name is of a running transaction, and the rule that is met: each return of the code is
+-- one case of `ruleFor`.
+use Rattle.model.proofs.Base.{ℕ, _<_, _≡_, ap, _∙_, Bool, true, false, cond, not, _&&_, List, eqb, not-true, not-false}
 use Rattle.model.specs.Card.{newName, sameName, coreOf, holderOf}
 use Rattle.model.specs.Write.{writerName, isRunning, ruleFor}
 use Rattle.model.specs.declared.Name.{Name}
-use Rattle.model.specs.declared.Transaction.{Transaction}
 use Rattle.model.specs.declared.Holder.{Holder}
 use Rattle.model.specs.declared.Card.{Card}
 use Rattle.model.specs.declared.Rule.{Rule}
 use Rattle.model.specs.declared.Rule.the-variants.{Free, Own, Running, Closed}
-use Rattle.cells.specs.Cells.{numberIn, transactionIn, cardIn, corePlace, runningPlace}
-use Rattle.cells.proofs.CellLaws.{next-read, running-read}
+use Rattle.cells.specs.Cells.{numberIn, cardIn, corePlace}
+use Rattle.cells.proofs.ReadLaws.{next-there}
 use Rattle.rules.specs.Conditions.{foundAt}
 
 -- ---- a test g of the rule, that the code asks for by not g
@@ -32,21 +27,11 @@ module _ (g a : Bool) (q : g ≡ a) where
     pub cond-done : (v : A) → v ≡ x → not g ≡ false → v ≡ cond a x y
     cond-done v e z = e ∙ rw (← q, not-false g z)
 
--- ---- a core of the card, at its places
+-- ---- the writer's name
 module _ (w : List ℕ) (c : ℕ) (h : c < 8) (p : ℕ) where
-  pub next-at : p ≡ corePlace c → (k : ℕ) → k ≡ numberIn w p → k ≡ (coreOf (cardIn w) c) .next
-  next-at e k q = q ∙ ap (numberIn w) e ∙ next-read w c h
-
-  -- the writer's name
   pub name-met : p ≡ corePlace c → (k : ℕ) → k ≡ numberIn w p → newName c k ≡ writerName (cardIn w) c
   unfolding writerName
-  name-met e k q = rw (next-at e k q)
-
-  pub running-at : p ≡ runningPlace c → transactionIn w p ≡ (coreOf (cardIn w) c) .running
-  running-at e = ap (transactionIn w) e ∙ running-read w c h
-
-  pub live-at : p ≡ runningPlace c → (g : Bool) → g ≡ (transactionIn w p) .live → g ≡ (coreOf (cardIn w) c) .running .live
-  live-at e g q = q ∙ ap (λ (t : Transaction). t .live) (running-at e)
+  name-met e k q = rw (next-there w c h p e k q)
 
 -- ---- whether the transaction of a name runs
 module _ (w : List ℕ) (n : Name) (g : Bool) (q : g ≡ (coreOf (cardIn w) (n .core)) .running .live) where
@@ -56,7 +41,7 @@ module _ (w : List ℕ) (n : Name) (g : Bool) (q : g ≡ (coreOf (cardIn w) (n .
 
   pub runs : n .core < 8 → (p : ℕ) → p ≡ corePlace (n .core) → (k : ℕ) → k ≡ numberIn w p → not g ≡ false → eqb k (n .number) ≡ isRunning (cardIn w) n
   unfolding isRunning
-  runs h p e k s z = both-test g _ q _ _ (ap (λ (m : ℕ). eqb m (n .number)) (next-at w (n .core) h p e k s)) z
+  runs h p e k s z = both-test g _ q _ _ (ap (λ (m : ℕ). eqb m (n .number)) (next-there w (n .core) h p e k s)) z
 
 -- ---- the rule
 module _ (x : Card) (h : Holder) (own : Name) where

@@ -1,14 +1,10 @@
--- WRITE: what it meets first, memory afterwards, and the command.
-use Prim.Native.Nat.{ℕ, _+_, _*_, _-_, _≤_, _<_}
-use native.Mathlib.Omega.{arith}
-use native.Mathlib.Numerals.{add-one, add-two, add-three}
-use mathlib.Core.Path.{_≡_, refl, sym, ap, _∙_}
-use mathlib.Core.Bool.{Bool, true, false, cond, not, _||_}
-use mathlib.Core.List.{List, [], _∷_}
-use lib.Dec.{ltb, leb}
-use lib.ListN.{length, take, drop, set, getD}
-use borrow.Author.Tests.{leb-false, ltb-false, lt-ltb, le-ltb}
-use Rattle.model.specs.Bytes.{Bytes, part, blockAt, store, replaced}
+-- WRITE meets entry, block and offset first. Memory afterwards is the image, loaded where the rule says so, with four bytes
+-- replaced. Refused, or carried out, WRITE meets its contract.
+use Rattle.model.proofs.Base.{ℕ, _+_, _-_, _*_, _≤_, _<_, arith, add-one, _≡_, refl, sym, ap, _∙_, Bool, true, false, cond, not}
+use Rattle.model.proofs.Base.{_||_, List, [], _∷_, length, take, drop, getD, set, ltb, leb, lt-ltb, le-ltb, ltb-false, leb-false}
+use Rattle.model.proofs.Base.{Bytes}
+use native.Mathlib.Numerals.{add-two, add-three}
+use Rattle.model.specs.Bytes.{part, blockAt, store, replaced}
 use Rattle.model.specs.Shape.{homeBlock}
 use Rattle.model.specs.Card.{shapeOf}
 use Rattle.model.specs.Command.{World, refusal, noCore, noBlock, Clear}

@@ -1,12 +1,7 @@
--- WRITE: the cells afterwards, in their steps.
-use Prim.Native.Nat.{ℕ, _-_, _%_, _<_}
-use native.Mathlib.Omega.{arith}
-use mathlib.Core.Path.{_≡_, refl, sym, ap, _∙_}
-use mathlib.Core.Bool.{Bool, true, false, not, _&&_, false≢true}
-use mathlib.Core.List.{List}
-use lib.Dec.{eqb}
-use lib.Seq.{getD-set-other}
-use borrow.Author.Tests.{leb-false, eq-eqb, eqb-true, not-false}
+-- The cells after WRITE, in their steps: the holder's transaction with the writer's name, the writer's with the holder's name
+-- and the block, the holder of the block. Together they are the card after WRITE; room asked before is room at each step.
+use Rattle.model.proofs.Base.{ℕ, _-_, _%_, _<_, arith, _≡_, refl, sym, ap, _∙_, Bool, true, false, not, _&&_, false≢true, List}
+use Rattle.model.proofs.Base.{getD-set-other, eqb, eq-eqb, eqb-true, leb-false, not-false}
 use Rattle.model.specs.Card.{newName, sameName, freshCore, withName, withRunning, withCore, coreOf, holderOf}
 use Rattle.model.specs.Write.{writer, writerName, isRunning, ruleFor, takesBlock, namesHolder, isNamedBack, passesNames, writerAfter, writtenCard}
 use Rattle.model.specs.declared.Name.{Name}
@@ -20,7 +15,8 @@ use Rattle.cells.proofs.CellLaws.{running-put}
 use Rattle.cells.proofs.FitsLaws.{frame-then, frame-wider}
 use Rattle.rules.specs.Conditions.{foundAt, ownFull, backFull, ninth, namedBy, takenBy, afterBy}
 use Rattle.rules.specs.declared.Found.{Found}
-use Rattle.rules.proofs.RuleLaws.{running-at, cond-done}
+use Rattle.cells.proofs.ReadLaws.{running-there}
+use Rattle.rules.proofs.RuleLaws.{cond-done}
 use Rattle.rules.proofs.RoomLaws.{named-count}
 use Rattle.transaction.specs.Writing.{Room, namedBack, heldBy}
 
@@ -47,13 +43,13 @@ module _ (g a p : Bool) (q : g ≡ a) where
 module _ (v : List ℕ) (n own : Name) (h : n .core < 8) (p : ℕ) (e : p ≡ runningPlace (n .core)) (r : Rule) (g : Bool) (q : g ≡ isNamedBack r) where
   pub back-room : backFull r ((coreOf (cardIn v) (n .core)) .running) own ≡ false → not g ≡ false → passesNames (transactionIn v p) own ≡ false
   unfolding backFull
-  back-room m z = ap (λ (t : Transaction). passesNames t own) (running-at v (n .core) h p e) ∙ room-left g _ _ q m z
+  back-room m z = ap (λ (t : Transaction). passesNames t own) (running-there v (n .core) h p e) ∙ room-left g _ _ q m z
 
   pub back-done : (w : List ℕ) → transactionIn w p ≡ withName (transactionIn v p) own → Frame v w p 24 → not g ≡ false → cardIn w ≡ namedBack r (cardIn v) (n .core) own
   unfolding namedBack
   back-done w s b z =
       cond-done g _ q _ _ (cardIn w)
-      (running-after (n .core) h p e v w b _ (s ∙ ap (λ (t : Transaction). withName t own) (running-at v (n .core) h p e))) z
+      (running-after (n .core) h p e v w b _ (s ∙ ap (λ (t : Transaction). withName t own) (running-there v (n .core) h p e))) z
 
 -- ---- the writer
 pub own-room : (r : Rule) (t : Transaction) (n : Name) (g : Bool) → g ≡ namesHolder r → ownFull r t n ≡ false → not g ≡ false → passesNames t n ≡ false
@@ -67,7 +63,7 @@ block-room r t g q m z = leb-false 8 (t .count) (room-left g _ _ q m z)
 module _ (v : List ℕ) (f : Found) (h : f .core < 8) (p : ℕ) (e : p ≡ runningPlace (f .core)) (u : List ℕ) (i : transactionIn u p ≡ openedOr (transactionIn v p)) where
   writer-open : transactionIn u p ≡ writer (cardIn v) (f .core)
   unfolding openedOr writer
-  writer-open = i ∙ rw (running-at v (f .core) h p e)
+  writer-open = i ∙ rw (running-there v (f .core) h p e)
 
   pub list-room : ownFull (f .rule) (writer (cardIn v) (f .core)) (f .holder) ≡ false → ownFull (f .rule) (transactionIn u p) (f .holder) ≡ false
   list-room m = rw writer-open m

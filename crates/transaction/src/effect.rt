@@ -5,8 +5,10 @@ ghost use Prim.Native.Nat.{_<_};
 ghost use lib.ListN.{length};
 ghost use Rattle.model.specs.Card.{withRunning, withCore, coreOf};
 ghost use Rattle.model.specs.Write.{writer, writtenCard};
+ghost use Rattle.model.specs.declared.Card.{Card};
+ghost use Rattle.model.specs.declared.Transaction.{Transaction};
 ghost use Rattle.cells.specs.Cells.{transactionIn, cardIn};
-ghost use Rattle.cells.specs.Changes.{IsPlace, Frame};
+ghost use Rattle.cells.specs.Changes.{IsPlace, Changed, ChangedAt};
 ghost use Rattle.rules.specs.Conditions.{foundAt, Bounded, ownFull, backFull, ninth, namedBy, takenBy, afterBy};
 ghost use Rattle.transaction.specs.Writing.{Room, namedBack, heldBy};
 use cells::hold;
@@ -25,8 +27,10 @@ use rules::takes_block;
 fn name_back(w: &mut [u64], f: Found)
     requires { ⌜ (length (now w) ≡ 512) × Bounded f
         × (backFull (f .rule) ((coreOf (cardIn (now w)) (f .holder .core)) .running) (f .own) ≡ false) ⌝ }
-    ensures { λ _. ⌜ (cardIn (now (w .exit)) ≡ namedBack (f .rule) (cardIn (now (w .entry))) (f .holder .core) (f .own))
-        × Frame (now (w .entry)) (now (w .exit)) 0 512 ⌝ }
+    ensures { λ _. ⌜
+        Changed (λ (x : Card). namedBack (f .rule) x (f .holder .core) (f .own))
+        (now (w .entry)) (now (w .exit)) 0 512
+        ⌝ }
 {
     let rule = f.rule;
     if !is_named_back(rule) {
@@ -38,8 +42,7 @@ fn name_back(w: &mut [u64], f: Found)
 // The list of the transaction at a place, naming the holder where the rule asks for it.
 fn name_own(w: &mut [u64], at: usize, rule: Rule, n: Name)
     requires { ⌜ (length (now w) ≡ 512) × IsPlace at × (n .core < 8) × (ownFull rule (transactionIn (now w) at) n ≡ false) ⌝ }
-    ensures { λ _. ⌜ (transactionIn (now (w .exit)) at ≡ namedBy rule (transactionIn (now (w .entry)) at) n)
-        × Frame (now (w .entry)) (now (w .exit)) at 24 ⌝ }
+    ensures { λ _. ⌜ ChangedAt at (λ (t : Transaction). namedBy rule t n) (now (w .entry)) (now (w .exit)) ⌝ }
 {
     if !names_holder(rule) {
         return;
@@ -50,8 +53,7 @@ fn name_own(w: &mut [u64], at: usize, rule: Rule, n: Name)
 // Its blocks, the block taken where the rule asks for it.
 fn block_own(w: &mut [u64], at: usize, rule: Rule, b: u8)
     requires { ⌜ (length (now w) ≡ 512) × IsPlace at × (ninth rule (transactionIn (now w) at) ≡ false) ⌝ }
-    ensures { λ _. ⌜ (transactionIn (now (w .exit)) at ≡ takenBy rule (transactionIn (now (w .entry)) at) b)
-        × Frame (now (w .entry)) (now (w .exit)) at 24 ⌝ }
+    ensures { λ _. ⌜ ChangedAt at (λ (t : Transaction). takenBy rule t b) (now (w .entry)) (now (w .exit)) ⌝ }
 {
     if !takes_block(rule) {
         return;
@@ -64,9 +66,10 @@ fn write_own(w: &mut [u64], f: Found)
     requires { ⌜ (length (now w) ≡ 512) × Bounded f
         × (ownFull (f .rule) (writer (cardIn (now w)) (f .core)) (f .holder) ≡ false)
         × (ninth (f .rule) (writer (cardIn (now w)) (f .core)) ≡ false) ⌝ }
-    ensures { λ _. ⌜ (let x = cardIn (now (w .entry)) in
-        cardIn (now (w .exit)) ≡ withCore x (f .core) (withRunning (coreOf x (f .core)) (afterBy x f)))
-        × Frame (now (w .entry)) (now (w .exit)) 0 512 ⌝ }
+    ensures { λ _. ⌜
+        Changed (λ (x : Card). withCore x (f .core) (withRunning (coreOf x (f .core)) (afterBy x f)))
+        (now (w .entry)) (now (w .exit)) 0 512
+        ⌝ }
 {
     let rule = f.rule;
     let at = running_place(f.core);
@@ -78,8 +81,9 @@ fn write_own(w: &mut [u64], f: Found)
 // The block's holder: the writer where it takes the block.
 fn take_hold(w: &mut [u64], f: Found)
     requires { ⌜ (length (now w) ≡ 512) × Bounded f ⌝ }
-    ensures { λ _. ⌜ (cardIn (now (w .exit)) ≡ heldBy (f .rule) (cardIn (now (w .entry))) (f .block) (f .own))
-        × Frame (now (w .entry)) (now (w .exit)) 0 512 ⌝ }
+    ensures { λ _. ⌜
+        Changed (λ (x : Card). heldBy (f .rule) x (f .block) (f .own)) (now (w .entry)) (now (w .exit)) 0 512
+        ⌝ }
 {
     let rule = f.rule;
     if !takes_block(rule) {
@@ -91,8 +95,9 @@ fn take_hold(w: &mut [u64], f: Found)
 // What a WRITE makes of the cells: the holder's list, the writer, the block's holder.
 pub fn write_state(w: &mut [u64], f: Found)
     requires { ⌜ (length (now w) ≡ 512) × Bounded f × (f ≡ foundAt (cardIn (now w)) (f .core) (f .block)) × Room (cardIn (now w)) f ⌝ }
-    ensures { λ _. ⌜ (cardIn (now (w .exit)) ≡ writtenCard (cardIn (now (w .entry))) (f .core) (f .block))
-        × Frame (now (w .entry)) (now (w .exit)) 0 512 ⌝ }
+    ensures { λ _. ⌜
+        Changed (λ (x : Card). writtenCard x (f .core) (f .block)) (now (w .entry)) (now (w .exit)) 0 512
+        ⌝ }
 {
     name_back(w, f);
     write_own(w, f);

@@ -1,12 +1,6 @@
--- The slots that a command read are the journals; what it made of them is the valid set; what it asked was asked of all.
-use Prim.Native.Nat.{ℕ, _<_}
-use native.Mathlib.Omega.{arith}
-use mathlib.Core.Path.{_≡_, ap, _∙_}
-use mathlib.Core.List.{List, []}
-use lib.ListN.{getD}
-use borrow.Author.Tests.{lt-ltb}
-use Rattle.model.specs.Lists.{any}
-use Rattle.model.specs.Bytes.{Bytes}
+-- For CHECKPOINT and RECOVER: the slots that were read have the entries of the journals, what was struck of them is the valid
+-- set, and 'shares a block with one of lower stamp' asked of the slots was asked of all.
+use Rattle.model.proofs.Base.{ℕ, _<_, arith, _≡_, ap, _∙_, List, [], getD, lt-ltb, any, Bytes}
 use Rattle.model.specs.Journal.{journal, journals}
 use Rattle.model.specs.Valid.{validSet}
 use Rattle.model.specs.declared.Shape.{Shape}

@@ -1,14 +1,8 @@
--- Blocks: two transactions that share one, and the lowest that a set holds from a place on.
-use Prim.Native.Nat.{ℕ, zero, suc, _+_, _≤_, _<_}
-use native.Mathlib.Omega.{arith}
-use native.Mathlib.Decide.{decLt}
-use mathlib.Core.Path.{_≡_, refl, sym, ap, _∙_}
-use mathlib.Core.Bool.{Bool, true, false, true≢false, _||_}
-use mathlib.Core.List.{List, [], _∷_, _++_, map, flatMap, append-assoc, List·Memᴰ, List·Memᴰ·head, List·Memᴰ·tail}
-use lib.Dec.{leb, eqb}
-use borrow.Author.Tests.{lt-ltb, le-ltb, le-leb, leb-true}
-use Rattle.model.specs.Lists.{below, any, select}
-use Rattle.model.specs.Bytes.{Bytes}
+-- 'They share a block' and 'it has a lower stamp and shares one' are what the loops over blocks answer. The lowest block from
+-- a place on that a set holds is found where the first test succeeds.
+use Rattle.model.proofs.Base.{ℕ, zero, suc, _+_, _≤_, _<_, arith, decLt, _≡_, refl, sym, ap, _∙_, Bool, true, false, _||_}
+use Rattle.model.proofs.Base.{true≢false, List, [], _∷_, _++_, map, append-assoc, List·Memᴰ, List·Memᴰ·head, List·Memᴰ·tail, eqb}
+use Rattle.model.proofs.Base.{leb, lt-ltb, le-ltb, le-leb, leb-true, flatMap, below, any, select, Bytes}
 use Rattle.model.specs.Layout.{Held, newHeld, pairAt, pairsIn, heldIn}
 use Rattle.model.specs.Journal.{journalAt, heldBy, blocksOf, took}
 use Rattle.model.specs.Valid.{blocksHeld}

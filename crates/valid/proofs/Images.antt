@@ -1,15 +1,7 @@
--- Images: where one stands, the newest of a block over the slots, and tests of all transactions in a set.
-use Prim.Native.Nat.{ℕ, zero, suc, _+_, _≤_, _<_}
-use native.Mathlib.Omega.{arith}
-use native.Mathlib.Numerals.{add-one}
-use mathlib.Core.Path.{_≡_, refl, sym, ap, _∙_}
-use mathlib.Core.Bool.{Bool, false, cond}
-use mathlib.Core.List.{List, [], _∷_, _++_, map}
-use lib.ListN.{getD}
-use lib.Dec.{leb}
-use borrow.Author.Tests.{lt-ltb, le-ltb, le-leb, lt-leb}
-use Rattle.model.specs.Lists.{below, any}
-use Rattle.model.specs.Bytes.{Bytes}
+-- The image of a transaction stands where the code computed it; the later of two has the higher stamp, of equal ones the last.
+-- After all slots the newest image of a block is the definition's; a test asked of some slot is asked of some transaction.
+use Rattle.model.proofs.Base.{ℕ, zero, suc, _+_, _≤_, _<_, arith, add-one, _≡_, refl, sym, ap, _∙_, Bool, false, cond, List, []}
+use Rattle.model.proofs.Base.{_∷_, _++_, map, getD, leb, lt-ltb, le-ltb, le-leb, lt-leb, below, any, Bytes}
 use Rattle.model.specs.Shape.{clamped, journalBlock}
 use Rattle.model.specs.Layout.{newHeld, pairAt, pairsIn, heldIn}
 use Rattle.model.specs.Journal.{journalAt, heldBy, blocksOf, took}

@@ -1,13 +1,9 @@
--- What callers need: the functions over slots in terms of the model's lists, for RECOVER and for CHECKPOINT.
-use Prim.Native.Nat.{ℕ, zero, suc, _+_, _*_, _<_}
-use mathlib.Core.Path.{_≡_, refl, sym, ap, _∙_, fun-ext}
-use mathlib.Core.Bool.{Bool, true, false, cond, _&&_}
-use mathlib.Core.List.{List, [], _∷_, map, List·Memᴰ, List·Memᴰ·head, List·Memᴰ·tail, map-append}
-use lib.ListN.{length, getD}
-use lib.Dec.{ltb, leb, eqb}
-use borrow.Author.Tests.{ltb-true}
-use Rattle.model.specs.Lists.{below, all, any, select}
-use Rattle.model.specs.Bytes.{Bytes, blockAt}
+-- The functions over slots in terms of the model's lists: an image's bytes, newest images, shared and held blocks hang on no
+-- number; the valid set and the journals hang on the tails of the cores that the disk has; a count is one of whole records.
+use Rattle.model.proofs.Base.{ℕ, zero, suc, _+_, _*_, _<_, _≡_, refl, sym, ap, fun-ext, _∙_, Bool, true, false, cond, _&&_, List}
+use Rattle.model.proofs.Base.{[], _∷_, map, map-append, List·Memᴰ, List·Memᴰ·head, List·Memᴰ·tail, length, getD, eqb, ltb, leb}
+use Rattle.model.proofs.Base.{ltb-true, below, any, all, select, Bytes}
+use Rattle.model.specs.Bytes.{blockAt}
 use Rattle.model.specs.Layout.{hasHead, stampIn, nameCount, namesIn, isListable, isCommit, unescaped}
 use Rattle.model.specs.Journal.{journalAt, journal, journals, namesOf, blocksOf, heldBy, took, imageOf}
 use Rattle.model.specs.Shrink.{strike, shrinkIn, shrink}

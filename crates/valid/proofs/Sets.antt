@@ -1,17 +1,11 @@
 -- Sets as slots and as lists: which transactions a set has, a name looked up by its slot, one round of striking, and how
 -- many are left.
-use Prim.Native.Nat.{ℕ, zero, suc, _+_, _*_, _-_, _/_, _%_, _≤_, _<_, min}
-use native.Mathlib.Omega.{arith}
-use native.Mathlib.Decide.{decLt}
-use mathlib.Core.Path.{_≡_, refl, sym, ap, _∙_, fun-ext}
-use mathlib.Core.Logic.{inl, inr}
-use mathlib.Core.Bool.{Bool, true, false, cond, not, _&&_}
-use mathlib.Core.List.{List, [], _∷_, _++_, map, List·Memᴰ, List·Memᴰ·head, List·Memᴰ·not-nil, List·Memᴰ·append-cases, List·Memᴰ·eq-of-singleton, Memᴰ·append-left, Memᴰ·append-right}
-use lib.ListN.{length, getD, length-append}
-use lib.Dec.{ltb, eqb}
-use borrow.Author.Tests.{lt-ltb, le-ltb, ltb-true, ltb-false, eqb-true, eqb-false, not-true, not-false}
-use Rattle.model.specs.Lists.{below, all, select}
-use Rattle.model.specs.Bytes.{Bytes}
+use Rattle.model.proofs.Base.{ℕ, zero, suc, _+_, _-_, _*_, _/_, _%_, _≤_, _<_, min, arith, decLt, _≡_, refl, sym, ap, fun-ext}
+use Rattle.model.proofs.Base.{_∙_, inl, inr, Bool, true, false, cond, not, _&&_, List, [], _∷_, _++_, map, List·Memᴰ}
+use Rattle.model.proofs.Base.{List·Memᴰ·head, List·Memᴰ·not-nil, List·Memᴰ·append-cases, List·Memᴰ·eq-of-singleton, length, getD}
+use Rattle.model.proofs.Base.{length-append, eqb, ltb, eqb-true, eqb-false, lt-ltb, le-ltb, ltb-true, ltb-false, not-true}
+use Rattle.model.proofs.Base.{not-false, below, all, select, Bytes}
+use mathlib.Core.List.{Memᴰ·append-left, Memᴰ·append-right}
 use Rattle.model.specs.Card.{newName, sameName}
 use Rattle.model.specs.Layout.{pairAt, pairsIn, namesIn, blockCount, nameCount}
 use Rattle.model.specs.Journal.{journalAt, nameOf, namesOf}

@@ -1,14 +1,6 @@
 -- Shrinking by recursion: any fuel that is enough leaves the same set, so one round first changes nothing.
-use Prim.Native.Nat.{ℕ, zero, suc, _≤_, _<_}
-use native.Mathlib.Omega.{arith}
-use mathlib.Core.Path.{_≡_, refl, sym, ap, _∙_}
-use mathlib.Core.Bool.{Bool, true}
-use mathlib.Core.List.{List, [], _∷_}
-use lib.ListN.{length}
-use lib.Dec.{eqb}
-use borrow.Author.Tests.{eqb-true, eqb-false, eq-eqb}
-use Rattle.model.specs.Lists.{select}
-use Rattle.model.specs.Bytes.{Bytes}
+use Rattle.model.proofs.Base.{ℕ, zero, suc, _≤_, _<_, arith, _≡_, refl, sym, ap, _∙_, Bool, true, List, [], _∷_, length, eqb}
+use Rattle.model.proofs.Base.{eq-eqb, eqb-true, eqb-false, select, Bytes}
 use Rattle.model.specs.Shrink.{strike, shrinkIn, shrink}
 use Rattle.model.specs.Valid.{namesMet, validSet}
 use Rattle.model.specs.declared.Shape.{Shape}

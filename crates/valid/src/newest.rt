@@ -57,7 +57,10 @@ fn later_of(s: Shape, disk: &[u8], e: Committed, b: u8, best: Image) -> Image
 
 fn later_in(s: Shape, disk: &[u8], set: &[u16; 96], i: usize, b: u8, best: Image) -> Image
     requires { ⌜ InRange s × (length (now disk) ≡ 32896) × (i < 96) × (best .block < 257) ⌝ }
-    ensures { λ r. ⌜ (r ≡ laterFound s (now (disk .entry)) b (foundAt s (now (disk .entry)) [] (now (set .entry)) i) best) × (r .block < 257) ⌝ }
+    ensures { λ r. ⌜
+        (r ≡ laterFound s (now (disk .entry)) b (foundAt s (now (disk .entry)) [] (now (set .entry)) i) best)
+        × (r .block < 257)
+        ⌝ }
 {
     let Found::Whole(e) = entry_at(s, disk, set, i) else {
         return best;
@@ -68,7 +71,11 @@ fn later_in(s: Shape, disk: &[u8], set: &[u16; 96], i: usize, b: u8, best: Image
 // The newest image of block b in a set, the one at home where no transaction of it took the block. No public entry.
 pub fn newest_image(s: Shape, disk: &[u8], set: &[u16; 96], b: u8) -> Image
     requires { ⌜ InRange s × (length (now disk) ≡ 32896) ⌝ }
-    ensures { λ r. ⌜ (r ≡ foundImage s (now (disk .entry)) b (newest s (now (disk .entry)) b Miss (entries s (now (disk .entry)) [] (now (set .entry))))) × (r .block < 257) ⌝ }
+    ensures { λ r. ⌜
+        (r ≡ foundImage s (now (disk .entry)) b
+        (newest s (now (disk .entry)) b Miss (entries s (now (disk .entry)) [] (now (set .entry)))))
+        × (r .block < 257)
+        ⌝ }
 {
     let mut best = Image {
         stamp: 0,
@@ -86,7 +93,9 @@ pub fn newest_image(s: Shape, disk: &[u8], set: &[u16; 96], b: u8) -> Image
 // Whether the transaction in slot i took block b.
 fn slot_took(s: Shape, disk: &[u8], set: &[u16; 96], i: usize, b: u8) -> bool
     requires { ⌜ InRange s × (length (now disk) ≡ 32896) × (i < 96) ⌝ }
-    ensures { λ r. ⌜ r ≡ asks (took s (now (disk .entry)) b) (foundAt s (now (disk .entry)) [] (now (set .entry)) i) ⌝ }
+    ensures { λ r. ⌜
+        r ≡ asks (took s (now (disk .entry)) b) (foundAt s (now (disk .entry)) [] (now (set .entry)) i)
+        ⌝ }
 {
     let Found::Whole(e) = entry_at(s, disk, set, i) else {
         return false;
@@ -97,7 +106,9 @@ fn slot_took(s: Shape, disk: &[u8], set: &[u16; 96], i: usize, b: u8) -> bool
 // Whether a transaction of the set took block b.
 fn is_held(s: Shape, disk: &[u8], set: &[u16; 96], b: u8) -> bool
     requires { ⌜ InRange s × (length (now disk) ≡ 32896) ⌝ }
-    ensures { λ r. ⌜ r ≡ any (took s (now (disk .entry)) b) (entries s (now (disk .entry)) [] (now (set .entry))) ⌝ }
+    ensures { λ r. ⌜
+        r ≡ any (took s (now (disk .entry)) b) (entries s (now (disk .entry)) [] (now (set .entry)))
+        ⌝ }
 {
     let mut i: usize = 0;
     while i < 96 {
@@ -112,7 +123,9 @@ fn is_held(s: Shape, disk: &[u8], set: &[u16; 96], b: u8) -> bool
 // The lowest block from a place on that the set holds, or B. No public entry.
 pub fn next_held(s: Shape, disk: &[u8], set: &[u16; 96], from: u8) -> u8
     requires { ⌜ InRange s × (length (now disk) ≡ 32896) ⌝ }
-    ensures { λ r. ⌜ r ≡ heldFrom s (now (disk .entry)) (entries s (now (disk .entry)) [] (now (set .entry))) from ⌝ }
+    ensures { λ r. ⌜
+        r ≡ heldFrom s (now (disk .entry)) (entries s (now (disk .entry)) [] (now (set .entry))) from
+        ⌝ }
 {
     let mut b = from;
     while b < s.blocks {
@@ -126,7 +139,9 @@ pub fn next_held(s: Shape, disk: &[u8], set: &[u16; 96], from: u8) -> u8
 
 // Whether a transaction took one of the first n blocks of a descriptor.
 fn share_in(s: Shape, disk: &[u8], block: &[u8], n: usize, f: Committed) -> bool
-    requires { ⌜ InRange s × (length (now disk) ≡ 32896) × (length (now block) ≡ 128) × (n ≤ 8) × Sized s f ⌝ }
+    requires { ⌜
+        InRange s × (length (now disk) ≡ 32896) × (length (now block) ≡ 128) × (n ≤ 8) × Sized s f
+        ⌝ }
     ensures { λ r. ⌜ r ≡ share (blocksIn (now (block .entry)) n) (blocksOf s (now (disk .entry)) f) ⌝ }
 {
     let mut i: usize = 0;
@@ -142,7 +157,9 @@ fn share_in(s: Shape, disk: &[u8], block: &[u8], n: usize, f: Committed) -> bool
 // Whether the transaction in slot i has a lower stamp than e and shares a block with it.
 fn slot_shares(s: Shape, disk: &[u8], set: &[u16; 96], i: usize, e: Committed) -> bool
     requires { ⌜ InRange s × (length (now disk) ≡ 32896) × (i < 96) × Sized s e ⌝ }
-    ensures { λ r. ⌜ r ≡ asks (sharesBelow s (now (disk .entry)) e) (foundAt s (now (disk .entry)) [] (now (set .entry)) i) ⌝ }
+    ensures { λ r. ⌜
+        r ≡ asks (sharesBelow s (now (disk .entry)) e) (foundAt s (now (disk .entry)) [] (now (set .entry)) i)
+        ⌝ }
 {
     let Found::Whole(f) = entry_at(s, disk, set, i) else {
         return false;
@@ -157,7 +174,9 @@ fn slot_shares(s: Shape, disk: &[u8], set: &[u16; 96], i: usize, e: Committed) -
 // Whether a transaction of the set has a lower stamp than e and shares a block with it. No public entry.
 pub fn shares_lower(s: Shape, disk: &[u8], set: &[u16; 96], e: Committed) -> bool
     requires { ⌜ InRange s × (length (now disk) ≡ 32896) × Sized s e ⌝ }
-    ensures { λ r. ⌜ r ≡ any (sharesBelow s (now (disk .entry)) e) (entries s (now (disk .entry)) [] (now (set .entry))) ⌝ }
+    ensures { λ r. ⌜
+        r ≡ any (sharesBelow s (now (disk .entry)) e) (entries s (now (disk .entry)) [] (now (set .entry)))
+        ⌝ }
 {
     let mut i: usize = 0;
     while i < 96 {

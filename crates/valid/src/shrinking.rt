@@ -76,7 +76,11 @@ fn are_met(s: Shape, numbers: &[u32; 8], set: &[u16; 96], commit: &[u8], n: usiz
 // no part.
 fn names_met(s: Shape, disk: &[u8], numbers: &[u32; 8], set: &[u16; 96], c: u8, v: usize) -> bool
     requires { ⌜ InRange s × (length (now disk) ≡ 32896) × (c < s .cores) × (1 ≤ v) × (v ≤ 256) ⌝ }
-    ensures { λ r. ⌜ ((k : ℕ) → r ≡ namesMet s (now (disk .entry)) (numbered (now (numbers .entry))) (entries s (now (disk .entry)) (now (numbers .entry)) (now (set .entry))) (entry s (now (disk .entry)) c k v)) ⌝ }
+    ensures { λ r. ⌜
+        ((k : ℕ) → r ≡ namesMet s (now (disk .entry)) (numbered (now (numbers .entry)))
+        (entries s (now (disk .entry)) (now (numbers .entry)) (now (set .entry)))
+        (entry s (now (disk .entry)) c k v))
+        ⌝ }
 {
     let at = v - 1;
     let count = at_most(layout::block_count(journal_part(s, disk, c, at)), 8);
@@ -128,7 +132,11 @@ fn strike_round(s: Shape, disk: &[u8], numbers: &[u32; 8], set: &mut [u16; 96])
 // each call.
 fn shrink_set(s: Shape, disk: &[u8], numbers: &[u32; 8], set: &mut [u16; 96], count: usize)
     requires { ⌜ InRange s × (length (now disk) ≡ 32896) × (count ≡ filledFrom s (now set) 0 96) ⌝ }
-    ensures { λ _. ⌜ entries s (now (disk .entry)) (now (numbers .entry)) (now (set .exit)) ≡ shrink (namesMet s (now (disk .entry)) (numbered (now (numbers .entry)))) (entries s (now (disk .entry)) (now (numbers .entry)) (now (set .entry))) ⌝ }
+    ensures { λ _. ⌜
+        entries s (now (disk .entry)) (now (numbers .entry)) (now (set .exit))
+        ≡ shrink (namesMet s (now (disk .entry)) (numbered (now (numbers .entry))))
+        (entries s (now (disk .entry)) (now (numbers .entry)) (now (set .entry)))
+        ⌝ }
 {
     strike_round(s, disk, numbers, set);
     let left = count_slots(s, set, 0, 96);
@@ -175,7 +183,11 @@ fn same_slots(a: &[u16; 96], b: &[u16; 96]) -> bool
 // The valid set of the transactions read; the first round is done here, and mostly none goes. No public entry.
 pub fn valid_slots(s: Shape, disk: &[u8], tails: [Tail; 8], committed: [u16; 96]) -> [u16; 96]
     requires { ⌜ InRange s × (length (now disk) ≡ 32896) ⌝ }
-    ensures { λ r. ⌜ entries s (now (disk .entry)) (numbersOf tails) r ≡ validSet s (now (disk .entry)) (numbered (numbersOf tails)) (entries s (now (disk .entry)) (numbersOf tails) committed) ⌝ }
+    ensures { λ r. ⌜
+        entries s (now (disk .entry)) (numbersOf tails) r
+        ≡ validSet s (now (disk .entry)) (numbered (numbersOf tails))
+        (entries s (now (disk .entry)) (numbersOf tails) committed)
+        ⌝ }
 {
     let numbers = numbers_of(tails);
     let mut set = committed;

@@ -1,5 +1,5 @@
 -- `lists::add_block` meets its contract: an element, then the count.
-use Rattle.cells.proofs.CellLaws.{block-in, count-in, block-put, block-frame}
+use Rattle.cells.proofs.TransactionLaws.{block-in, count-in, block-put, block-frame}
 use borrow.Author.Needs.{needs}
 use Rattle.lists.proofs.add_block.Statement.{statement}
 use Rattle.lists.proofs.add_block.Tie as tie

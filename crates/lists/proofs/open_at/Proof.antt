@@ -1,5 +1,5 @@
 -- `lists::open_at` meets its contract.
-use Rattle.cells.proofs.CellLaws.{open-live, still-in, opened-there, opened-frame}
+use Rattle.cells.proofs.TransactionLaws.{open-live, still-in, opened-there, opened-frame}
 use Rattle.cells.proofs.FitsLaws.{frame-same}
 use borrow.Author.Needs.{needs}
 use Rattle.lists.proofs.open_at.Statement.{statement}

@@ -4,10 +4,8 @@ use Rattle.master_block.proofs.Readers.{shape-read}
 use Rattle.master_block.proofs.read_shape.Statement.{statement}
 use Rattle.master_block.proofs.read_shape.Tie as tie
 
-returns : tie.Need-returns
-returns c = search (needs, shape-read)
-
 pub read-shape-spec : {M : Type 1} → statement M
 read-shape-spec =
     tie.close
-    (tie.spec (λ c κs. search needs) (λ c κs. search needs) (λ c κs. search needs) (λ c κs. search needs) returns)
+    (tie.spec (λ c κs. search needs) (λ c κs. search needs) (λ c κs. search needs) (λ c κs. search needs)
+    (λ c. search (needs, shape-read)))

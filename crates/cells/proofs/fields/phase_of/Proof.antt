@@ -1,5 +1,5 @@
 -- `cells::fields::phase_of` meets its contract.
-use Rattle.cells.proofs.CellLaws.{phase-blank, phase-up, phase-down}
+use Rattle.cells.proofs.ReadLaws.{phase-blank, phase-up, phase-down}
 use borrow.Author.Needs.{needs}
 use Rattle.cells.proofs.fields.phase_of.Statement.{statement}
 use Rattle.cells.proofs.fields.phase_of.Tie as tie

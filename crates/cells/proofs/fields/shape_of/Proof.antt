@@ -1,5 +1,5 @@
 -- `cells::fields::shape_of` meets its contract.
-use Rattle.cells.proofs.CellLaws.{shape-read}
+use Rattle.cells.proofs.ReadLaws.{shape-read}
 use borrow.Author.Needs.{needs}
 use Rattle.cells.proofs.fields.shape_of.Statement.{statement}
 use Rattle.cells.proofs.fields.shape_of.Tie as tie

@@ -1,5 +1,5 @@
 -- `cells::holders::holder_at` meets its contract.
-use Rattle.cells.proofs.CellLaws.{holder-none, holder-some, low-core}
+use Rattle.cells.proofs.ReadLaws.{holder-none, holder-some, low-core}
 use borrow.Author.Needs.{needs}
 use Rattle.cells.proofs.holders.holder_at.Statement.{statement}
 use Rattle.cells.proofs.holders.holder_at.Tie as tie

@@ -1,5 +1,5 @@
 -- `cells::transactions::block_count` meets its contract: a count above eight counts as eight.
-use Rattle.cells.proofs.CellLaws.{count-high, count-low}
+use Rattle.cells.proofs.ReadLaws.{count-high, count-low}
 use borrow.Author.Needs.{needs}
 use Rattle.cells.proofs.transactions.block_count.Statement.{statement}
 use Rattle.cells.proofs.transactions.block_count.Tie as tie

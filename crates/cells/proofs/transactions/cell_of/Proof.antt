@@ -1,5 +1,5 @@
 -- `cells::transactions::cell_of` meets its contract: the name is read back.
-use Rattle.cells.proofs.CellLaws.{name-put}
+use Rattle.cells.proofs.ReadLaws.{name-put}
 use borrow.Author.Needs.{needs}
 use Rattle.cells.proofs.transactions.cell_of.Statement.{statement}
 use Rattle.cells.proofs.transactions.cell_of.Tie as tie

@@ -1,6 +1,6 @@
 -- `cells::transactions::clear` meets its contract: one cell after another.
 use Prim.Native.Nat.{_-_}
-use Rattle.cells.proofs.CellLaws.{Cleared, cleared-start, cleared-more, cleared-all}
+use Rattle.cells.proofs.TransactionLaws.{Cleared, cleared-start, cleared-more, cleared-all}
 use borrow.Author.Needs.{needs}
 use Rattle.cells.proofs.transactions.clear.Statement.{statement}
 use Rattle.cells.proofs.transactions.clear.Tie as tie

@@ -1,5 +1,5 @@
 -- `cells::transactions::is_live` meets its contract.
-use Rattle.cells.proofs.CellLaws.{live-read}
+use Rattle.cells.proofs.ReadLaws.{live-read}
 use borrow.Author.Needs.{needs}
 use Rattle.cells.proofs.transactions.is_live.Statement.{statement}
 use Rattle.cells.proofs.transactions.is_live.Tie as tie

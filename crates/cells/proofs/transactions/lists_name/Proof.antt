@@ -7,7 +7,7 @@ use Rattle.model.specs.Card.{sameName, listed}
 use Rattle.model.specs.Lists.{any}
 use Rattle.cells.proofs.Parts.{none-listed, all-missed}
 use Rattle.cells.specs.Cells.{transactionIn}
-use Rattle.cells.proofs.CellLaws.{name-found, name-passed}
+use Rattle.cells.proofs.TransactionLaws.{name-found, name-passed}
 use borrow.Author.Needs.{needs}
 use Rattle.cells.proofs.transactions.lists_name.Statement.{statement}
 use Rattle.cells.proofs.transactions.lists_name.Tie as tie

@@ -1,5 +1,5 @@
 -- `cells::transactions::name_count` meets its contract: a count above twelve counts as twelve.
-use Rattle.cells.proofs.CellLaws.{named-high, named-low}
+use Rattle.cells.proofs.ReadLaws.{named-high, named-low}
 use borrow.Author.Needs.{needs}
 use Rattle.cells.proofs.transactions.name_count.Statement.{statement}
 use Rattle.cells.proofs.transactions.name_count.Tie as tie

@@ -1,5 +1,5 @@
 -- `cells::transactions::name_of` meets its contract.
-use Rattle.cells.proofs.CellLaws.{name-is}
+use Rattle.cells.proofs.ReadLaws.{name-is}
 use borrow.Author.Needs.{needs}
 use Rattle.cells.proofs.transactions.name_of.Statement.{statement}
 use Rattle.cells.proofs.transactions.name_of.Tie as tie

@@ -1,5 +1,5 @@
 -- `checkpoint::stores::next_store` meets its contract: a home store, or the master.
-use Rattle.checkpoint.proofs.RetireLaws.{homed-is}
+use Rattle.cells.proofs.ReadLaws.{homed-there}
 use Rattle.checkpoint.proofs.StoreLaws.{next-home, next-master}
 use borrow.Author.Needs.{needs}
 use Rattle.checkpoint.proofs.stores.next_store.Statement.{statement}
@@ -8,4 +8,4 @@ use Rattle.checkpoint.proofs.stores.next_store.Tie as tie
 pub next-store-spec : {M : Type 1} → statement M
 next-store-spec =
     tie.close
-    (tie.spec (λ c κs. search needs) (λ c. search needs) (λ c κs. search needs) (λ c κs. search (needs, homed-is)) (λ c. search needs) (λ c. search needs) (λ c. search (needs, next-home)) (λ c κs. search needs) (λ c. search needs) (λ c. search needs) (λ c. search (needs, next-master)))
+    (tie.spec (λ c κs. search needs) (λ c. search needs) (λ c κs. search needs) (λ c κs. search (needs, homed-there)) (λ c. search needs) (λ c. search needs) (λ c. search (needs, next-home)) (λ c κs. search needs) (λ c. search needs) (λ c. search needs) (λ c. search (needs, next-master)))

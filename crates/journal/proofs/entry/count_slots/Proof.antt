@@ -13,17 +13,9 @@ Inv-loop s set from n count₀ i₀ count i = (i ≤ n) × (count ≡ filledFrom
 abbrev μ-loop : tie.MeasureT-loop
 μ-loop s set from n count₀ i₀ count i = n - i
 
-loop-holds : tie.Need-loop-holds Inv-loop μ-loop
-loop-holds c = (search needs, count-none _ _ _, search needs)
-
-loop-again : tie.Need-loop-again Inv-loop μ-loop
-loop-again c = (search needs, search (needs, count-more), search needs)
-
-returns : tie.Need-returns Inv-loop μ-loop
-returns c = (search (needs, count-all), search needs)
-
 pub count-slots-spec : {M : Type 1} → statement M
 count-slots-spec =
     tie.close
-    (tie.spec Inv-loop μ-loop loop-holds (λ c. search needs) (λ c κs. search needs) (λ c. search needs)
-    (λ c. search needs) (λ c. search needs) loop-again returns)
+    (tie.spec Inv-loop μ-loop (λ c. (search needs, count-none _ _ _, search needs)) (λ c. search needs)
+    (λ c κs. search needs) (λ c. search needs) (λ c. search needs) (λ c. search needs)
+    (λ c. (search needs, search (needs, count-more), search needs)) (λ c. (search (needs, count-all), search needs)))

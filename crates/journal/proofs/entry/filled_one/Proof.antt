@@ -4,11 +4,8 @@ use borrow.Author.Needs.{needs}
 use Rattle.journal.proofs.entry.filled_one.Statement.{statement}
 use Rattle.journal.proofs.entry.filled_one.Tie as tie
 
-returns : tie.Need-returns
-returns c = (search (needs, one-yes), search needs)
-
-returns-2 : tie.Need-returns-2
-returns-2 c = (search (needs, one-no), search needs)
-
 pub filled-one-spec : {M : Type 1} → statement M
-filled-one-spec = tie.close (tie.spec (λ c κs. search needs) returns returns-2)
+filled-one-spec =
+    tie.close
+    (tie.spec (λ c κs. search needs) (λ c. (search (needs, one-yes), search needs))
+    (λ c. (search (needs, one-no), search needs)))

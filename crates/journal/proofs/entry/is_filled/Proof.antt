@@ -4,8 +4,5 @@ use borrow.Author.Needs.{needs}
 use Rattle.journal.proofs.entry.is_filled.Statement.{statement}
 use Rattle.journal.proofs.entry.is_filled.Tie as tie
 
-returns : tie.Need-returns
-returns c = search (needs, filled-is)
-
 pub is-filled-spec : {M : Type 1} → statement M
-is-filled-spec = tie.close (tie.spec (λ c κs. search needs) returns)
+is-filled-spec = tie.close (tie.spec (λ c κs. search needs) (λ c. search (needs, filled-is)))

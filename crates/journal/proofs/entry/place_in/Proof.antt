@@ -15,5 +15,6 @@ abbrev μ-loop : tie.MeasureT-loop
 pub place-in-spec : {M : Type 1} → statement M
 place-in-spec =
     tie.close
-    (tie.spec Inv-loop μ-loop (λ c. search missed) (λ c κs. search needs) (λ c. (search (needs, place-hit), search needs))
-    (λ c. search needs) (λ c. search needs) (λ c. search (needs, place-more)) (λ c. (search (needs, place-end), search needs)))
+    (tie.spec Inv-loop μ-loop (λ c. search missed) (λ c κs. search needs)
+    (λ c. (search (needs, place-hit), search needs)) (λ c. search needs) (λ c. search needs)
+    (λ c. search (needs, place-more)) (λ c. (search (needs, place-end), search needs)))

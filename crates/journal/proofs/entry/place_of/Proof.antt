@@ -4,10 +4,8 @@ use borrow.Author.Needs.{needs}
 use Rattle.journal.proofs.entry.place_of.Statement.{statement}
 use Rattle.journal.proofs.entry.place_of.Tie as tie
 
-returns : tie.Need-returns
-returns c = (search (needs, place-is), search needs)
-
 pub place-of-spec : {M : Type 1} → statement M
 place-of-spec =
     tie.close
-    (tie.spec (λ c. search needs) (λ c κs. search needs) (λ c. search needs) (λ c κs. search needs) returns)
+    (tie.spec (λ c. search needs) (λ c κs. search needs) (λ c. search needs) (λ c κs. search needs)
+    (λ c. (search (needs, place-is), search needs)))

@@ -4,12 +4,9 @@ use borrow.Author.Needs.{needs}
 use Rattle.journal.proofs.entry.read_entry.Statement.{statement}
 use Rattle.journal.proofs.entry.read_entry.Tie as tie
 
-returns : tie.Need-returns
-returns c = search (needs, entry-is)
-
 pub read-entry-spec : {M : Type 1} → statement M
 read-entry-spec =
     tie.close
     (tie.spec (λ c. search needs) (λ c κs. search needs) (λ c κs. search needs) (λ c κs. search needs)
     (λ c. search needs) (λ c. search needs) (λ c. search needs) (λ c κs. search needs) (λ c κs. search needs)
-    (λ c κs. search needs) (λ c κs. search needs) (λ c. search needs) returns)
+    (λ c κs. search needs) (λ c κs. search needs) (λ c. search needs) (λ c. search (needs, entry-is)))

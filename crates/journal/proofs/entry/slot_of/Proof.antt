@@ -4,16 +4,9 @@ use borrow.Author.Needs.{needs}
 use Rattle.journal.proofs.entry.slot_of.Statement.{statement}
 use Rattle.journal.proofs.entry.slot_of.Tie as tie
 
-returns : tie.Need-returns
-returns c = (search (needs, slot-zero), search needs)
-
-returns-2 : tie.Need-returns-2
-returns-2 c = (search (needs, slot-absent), search needs)
-
-returns-3 : tie.Need-returns-3
-returns-3 c = (search (needs, slot-there), search (needs, slot-low))
-
 pub slot-of-spec : {M : Type 1} → statement M
 slot-of-spec =
     tie.close
-    (tie.spec (λ c. search needs) (λ c. search needs) returns (λ c. search needs) returns-2 (λ c κs. search needs) returns-3)
+    (tie.spec (λ c. search needs) (λ c. search needs) (λ c. (search (needs, slot-zero), search needs))
+    (λ c. search needs) (λ c. (search (needs, slot-absent), search needs)) (λ c κs. search needs)
+    (λ c. (search (needs, slot-there), search (needs, slot-low))))

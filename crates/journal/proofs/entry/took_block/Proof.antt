@@ -4,8 +4,5 @@ use borrow.Author.Needs.{needs}
 use Rattle.journal.proofs.entry.took_block.Statement.{statement}
 use Rattle.journal.proofs.entry.took_block.Tie as tie
 
-returns : tie.Need-returns
-returns c = search (needs, took-is)
-
 pub took-block-spec : {M : Type 1} → statement M
-took-block-spec = tie.close (tie.spec (λ c κs. search needs) (λ c. search needs) returns)
+took-block-spec = tie.close (tie.spec (λ c κs. search needs) (λ c. search needs) (λ c. search (needs, took-is)))

@@ -18,10 +18,8 @@ add-end c = omega (arith, low c)
 part-result-end : tie.Need-part-result-end
 part-result-end c = omega (arith, low c)
 
-returns : tie.Need-returns
-returns c = (search (needs, part-is), search (needs, part-size))
-
 pub journal-part-spec : {M : Type 1} → statement M
 journal-part-spec =
     tie.close
-    (tie.spec (λ c κs. search needs) mul-start add-end (λ c. search needs) (λ c. search needs) part-result-end returns)
+    (tie.spec (λ c κs. search needs) mul-start add-end (λ c. search needs) (λ c. search needs) part-result-end
+    (λ c. (search (needs, part-is), search (needs, part-size))))

@@ -7,15 +7,6 @@ use borrow.Author.Needs.{needs}
 use Rattle.journal.proofs.record.read_record.Statement.{statement}
 use Rattle.journal.proofs.record.read_record.Tie as tie
 
-returns : tie.Need-returns
-returns c = search (needs, no-descriptor)
-
-returns-2 : tie.Need-returns-2
-returns-2 c = search (needs, too-long)
-
-returns-3 : tie.Need-returns-3
-returns-3 c = search (needs, no-commit)
-
 returns-4 : tie.Need-returns-4
 returns-4 c =
     let b : _ = c .before .before .before .before in
@@ -28,6 +19,7 @@ returns-4 c =
 pub read-record-spec : {M : Type 1} → statement M
 read-record-spec =
     tie.close
-    (tie.spec (λ c κs. search needs) (λ c κs. search needs) (λ c. search needs) (λ c. search needs) returns
-    (λ c. search needs) (λ c. search needs) returns-2 (λ c. search needs) (λ c. search needs) (λ c κs. search needs)
-    (λ c κs. search needs) (λ c. search needs) (λ c. search needs) returns-3 returns-4)
+    (tie.spec (λ c κs. search needs) (λ c κs. search needs) (λ c. search needs) (λ c. search needs)
+    (λ c. search (needs, no-descriptor)) (λ c. search needs) (λ c. search needs) (λ c. search (needs, too-long))
+    (λ c. search needs) (λ c. search needs) (λ c κs. search needs) (λ c κs. search needs) (λ c. search needs)
+    (λ c. search needs) (λ c. search (needs, no-commit)) returns-4)

@@ -4,15 +4,9 @@ use borrow.Author.Needs.{needs}
 use Rattle.journal.proofs.walk.advance.Statement.{statement}
 use Rattle.journal.proofs.walk.advance.Tie as tie
 
-cast-t12 : tie.Need-cast-t12
-cast-t12 c = search (needs, wrapped)
-
-returns : tie.Need-returns
-returns c = past-record _ _ _
-
 pub advance-spec : {M : Type 1} → statement M
 advance-spec =
     tie.close
     (tie.spec (λ c. search needs) (λ c. search needs) (λ c. search needs) (λ c. search needs) (λ c. search needs)
-    (λ c. search needs) (λ c. search needs) (λ c. search needs) (λ c. search needs) cast-t12 (λ c. search needs)
-    (λ c. search needs) (λ c. search needs) (λ c. search needs) returns)
+    (λ c. search needs) (λ c. search needs) (λ c. search needs) (λ c. search needs) (λ c. search (needs, wrapped))
+    (λ c. search needs) (λ c. search needs) (λ c. search needs) (λ c. search needs) (λ c. past-record _ _ _))

@@ -14,15 +14,9 @@ abbrev μ-loop : tie.MeasureT-loop
 loop-holds : tie.Need-loop-holds Inv-loop μ-loop
 loop-holds c = reading-none _ _ _ _ _ _ (search needs)
 
-loop-again : tie.Need-loop-again Inv-loop μ-loop
-loop-again c = search (needs, reading-more)
-
-returns : tie.Need-returns Inv-loop μ-loop
-returns c = search (needs, reading-all)
-
 pub read-journals-spec : {M : Type 1} → statement M
 read-journals-spec =
     tie.close
     (tie.spec Inv-loop μ-loop loop-holds (λ c. search needs) (λ c. search needs) (λ c. search needs)
     (λ c κs. search needs) (λ c. search needs) (λ c κs. search needs) (λ c. search needs) (λ c. search needs)
-    (λ c. search needs) (λ c. search needs) loop-again returns)
+    (λ c. search needs) (λ c. search needs) (λ c. search (needs, reading-more)) (λ c. search (needs, reading-all)))

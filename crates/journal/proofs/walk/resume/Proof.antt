@@ -4,11 +4,7 @@ use Rattle.journal.proofs.Reading.{resume-start, resume-same}
 use Rattle.journal.proofs.walk.resume.Statement.{statement}
 use Rattle.journal.proofs.walk.resume.Tie as tie
 
-returns : tie.Need-returns
-returns c = (search (needs, resume-start), search needs)
-
-returns-2 : tie.Need-returns-2
-returns-2 c = (search (needs, resume-same), search needs)
-
 pub resume-spec : {M : Type 1} → statement M
-resume-spec = tie.close (tie.spec returns returns-2)
+resume-spec =
+    tie.close
+    (tie.spec (λ c. (search (needs, resume-start), search needs)) (λ c. (search (needs, resume-same), search needs)))

@@ -4,18 +4,9 @@ use Rattle.layout.proofs.Pairs.{commit-head, commit-rest, commit-pair}
 use Rattle.layout.proofs.commit_block.commit_word.Statement.{statement}
 use Rattle.layout.proofs.commit_block.commit_word.Tie as tie
 
-returns : tie.Need-returns
-returns c = search (needs, commit-head)
-
-returns-2 : tie.Need-returns-2
-returns-2 c = search (needs, commit-rest)
-
-returns-3 : tie.Need-returns-3
-returns-3 c = search (needs, commit-pair)
-
 pub commit-word-spec : {M : Type 1} → statement M
 commit-word-spec =
     tie.close
     (tie.spec (λ c κs. search needs) (λ c. search needs) (λ c. search needs) (λ c. search needs) (λ c. search needs)
-    (λ c. search needs) returns (λ c. search needs) returns-2 (λ c. search needs) (λ c. search needs)
-    (λ c κs. search needs) returns-3)
+    (λ c. search needs) (λ c. search (needs, commit-head)) (λ c. search needs) (λ c. search (needs, commit-rest))
+    (λ c. search needs) (λ c. search needs) (λ c κs. search needs) (λ c. search (needs, commit-pair)))

@@ -4,11 +4,8 @@ use Rattle.model.specs.Layout.{pairAt}
 use Rattle.layout.proofs.commit_block.name_number.Statement.{statement}
 use Rattle.layout.proofs.commit_block.name_number.Tie as tie
 
-returns : tie.Need-returns
-unfolding pairAt
-returns c = search needs
-
 pub name-number-spec : {M : Type 1} → statement M
+unfolding pairAt
 name-number-spec =
     tie.close
-    (tie.spec (λ c. search needs) (λ c. search needs) (λ c. search needs) (λ c κs. search needs) returns)
+    (tie.spec (λ c. search needs) (λ c. search needs) (λ c. search needs) (λ c κs. search needs) (λ c. search needs))

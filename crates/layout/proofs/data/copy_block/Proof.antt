@@ -11,17 +11,9 @@ Inv-loop to₀ from i₀ to i = Begun from to i
 abbrev μ-loop : tie.MeasureT-loop
 μ-loop to₀ from i₀ to i = 128 - i
 
-loop-holds : tie.Need-loop-holds Inv-loop μ-loop
-loop-holds c = search (needs, begun-none)
-
-loop-again : tie.Need-loop-again Inv-loop μ-loop
-loop-again c = search (needs, begun-byte)
-
-returns : tie.Need-returns Inv-loop μ-loop
-returns c = search (needs, begun-all)
-
 pub copy-block-spec : {M : Type 1} → statement M
 copy-block-spec =
     tie.close
-    (tie.spec Inv-loop μ-loop loop-holds (λ c. search needs) (λ c. search needs) (λ c. search needs) (λ c. search needs)
-    loop-again (λ c. search needs) returns)
+    (tie.spec Inv-loop μ-loop (λ c. search (needs, begun-none)) (λ c. search needs) (λ c. search needs)
+    (λ c. search needs) (λ c. search needs) (λ c. search (needs, begun-byte)) (λ c. search needs)
+    (λ c. search (needs, begun-all)))

@@ -4,11 +4,8 @@ use Rattle.layout.proofs.Blocks.{escaped-yes, escaped-no}
 use Rattle.layout.proofs.data.escape.Statement.{statement}
 use Rattle.layout.proofs.data.escape.Tie as tie
 
-returns : tie.Need-returns
-returns c = search (needs, escaped-yes)
-
-returns-2 : tie.Need-returns-2
-returns-2 c = search (needs, escaped-no)
-
 pub escape-spec : {M : Type 1} → statement M
-escape-spec = tie.close (tie.spec (λ c. search needs) (λ c κs. search needs) (λ c κs. search needs) returns returns-2)
+escape-spec =
+    tie.close
+    (tie.spec (λ c. search needs) (λ c κs. search needs) (λ c κs. search needs) (λ c. search (needs, escaped-yes))
+    (λ c. search (needs, escaped-no)))

@@ -5,13 +5,8 @@ use Rattle.layout.proofs.Tests.{tests}
 use Rattle.layout.proofs.data.flag_of.Statement.{statement}
 use Rattle.layout.proofs.data.flag_of.Tie as tie
 
-returns : tie.Need-returns
-unfolding flagOf
-returns c = search (needs, tests)
-
-returns-2 : tie.Need-returns-2
-unfolding flagOf
-returns-2 c = search (needs, tests)
-
 pub flag-of-spec : {M : Type 1} → statement M
-flag-of-spec = tie.close (tie.spec (λ c. search needs) (λ c κs. search needs) returns returns-2)
+unfolding flagOf
+flag-of-spec =
+    tie.close
+    (tie.spec (λ c. search needs) (λ c κs. search needs) (λ c. search (needs, tests)) (λ c. search (needs, tests)))

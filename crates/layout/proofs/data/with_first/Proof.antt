@@ -4,8 +4,5 @@ use Rattle.layout.proofs.Blocks.{first-put}
 use Rattle.layout.proofs.data.with_first.Statement.{statement}
 use Rattle.layout.proofs.data.with_first.Tie as tie
 
-returns : tie.Need-returns
-returns c = search (needs, first-put)
-
 pub with-first-spec : {M : Type 1} → statement M
-with-first-spec = tie.close (tie.spec (λ c. search needs) (λ c κs. search needs) returns)
+with-first-spec = tie.close (tie.spec (λ c. search needs) (λ c κs. search needs) (λ c. search (needs, first-put)))

@@ -4,8 +4,7 @@ use Rattle.layout.proofs.Blocks.{data-written}
 use Rattle.layout.proofs.data.write_data.Statement.{statement}
 use Rattle.layout.proofs.data.write_data.Tie as tie
 
-returns : tie.Need-returns
-returns c = search (needs, data-written)
-
 pub write-data-spec : {M : Type 1} → statement M
-write-data-spec = tie.close (tie.spec (λ c κs. search needs) (λ c κs. search needs) (λ c. search needs) returns)
+write-data-spec =
+    tie.close
+    (tie.spec (λ c κs. search needs) (λ c κs. search needs) (λ c. search needs) (λ c. search (needs, data-written)))

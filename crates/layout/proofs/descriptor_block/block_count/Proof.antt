@@ -4,9 +4,6 @@ use Rattle.model.specs.Layout.{blockCount}
 use Rattle.layout.proofs.descriptor_block.block_count.Statement.{statement}
 use Rattle.layout.proofs.descriptor_block.block_count.Tie as tie
 
-returns : tie.Need-returns
-unfolding blockCount
-returns c = search needs
-
 pub block-count-spec : {M : Type 1} → statement M
-block-count-spec = tie.close (tie.spec (λ c κs. search needs) returns)
+unfolding blockCount
+block-count-spec = tie.close (tie.spec (λ c κs. search needs) (λ c. search needs))

@@ -4,11 +4,8 @@ use Rattle.model.specs.Layout.{pairAt}
 use Rattle.layout.proofs.descriptor_block.held_flag.Statement.{statement}
 use Rattle.layout.proofs.descriptor_block.held_flag.Tie as tie
 
-returns : tie.Need-returns
-unfolding pairAt
-returns c = search needs
-
 pub held-flag-spec : {M : Type 1} → statement M
+unfolding pairAt
 held-flag-spec =
     tie.close
-    (tie.spec (λ c. search needs) (λ c. search needs) (λ c. search needs) (λ c κs. search needs) returns)
+    (tie.spec (λ c. search needs) (λ c. search needs) (λ c. search needs) (λ c κs. search needs) (λ c. search needs))

@@ -7,4 +7,7 @@ use Rattle.layout.proofs.descriptor_block.is_held.Tie as tie
 
 pub is-held-spec : {M : Type 1} → statement M
 unfolding isHeld
-is-held-spec = tie.close (tie.spec (λ c. search needs) (λ c κs. search needs) (λ c. search (needs, tests)) (λ c κs. search needs) (λ c. search (needs, tests)))
+is-held-spec =
+    tie.close
+    (tie.spec (λ c. search needs) (λ c κs. search needs) (λ c. search (needs, tests)) (λ c κs. search needs)
+    (λ c. search (needs, tests)))

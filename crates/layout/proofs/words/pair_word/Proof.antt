@@ -4,11 +4,5 @@ use Rattle.layout.proofs.Pairs.{pair-first, pair-second}
 use Rattle.layout.proofs.words.pair_word.Statement.{statement}
 use Rattle.layout.proofs.words.pair_word.Tie as tie
 
-returns : tie.Need-returns
-returns c = search (needs, pair-first)
-
-returns-2 : tie.Need-returns-2
-returns-2 c = search (needs, pair-second)
-
 pub pair-word-spec : {M : Type 1} → statement M
-pair-word-spec = tie.close (tie.spec returns returns-2)
+pair-word-spec = tie.close (tie.spec (λ c. search (needs, pair-first)) (λ c. search (needs, pair-second)))

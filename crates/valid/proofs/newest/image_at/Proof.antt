@@ -5,11 +5,8 @@ use borrow.Author.Needs.{needs}
 use Rattle.valid.proofs.newest.image_at.Statement.{statement}
 use Rattle.valid.proofs.newest.image_at.Tie as tie
 
-returns : tie.Need-returns
-returns c = (search (needs, image-is), search (needs, part-low))
-
 pub image-at-spec : {M : Type 1} → statement M
 image-at-spec =
     tie.close
-    (tie.spec (λ c. search needs) (λ c κs. search needs) (λ c κs. search needs) (λ c. search needs) (λ c. search needs)
-    (λ c κs. search needs) returns)
+    (tie.spec (λ c. search needs) (λ c κs. search needs) (λ c κs. search needs) (λ c. search needs)
+    (λ c. search needs) (λ c κs. search needs) (λ c. (search (needs, image-is), search (needs, part-low))))

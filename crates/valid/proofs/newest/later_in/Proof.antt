@@ -5,16 +5,9 @@ use borrow.Author.Needs.{needs}
 use Rattle.valid.proofs.newest.later_in.Statement.{statement}
 use Rattle.valid.proofs.newest.later_in.Tie as tie
 
-returns : tie.Need-returns
-returns c = (search (needs, later-miss), search needs)
-
-later-of-requires : tie.Need-later-of-requires
-later-of-requires c κs = search (needs, found-sized)
-
-returns-2 : tie.Need-returns-2
-returns-2 c = (search (needs, later-whole), search needs)
-
 pub later-in-spec : {M : Type 1} → statement M
 later-in-spec =
     tie.close
-    (tie.spec (λ c κs. search needs) (λ c. search needs) (λ c. search needs) returns later-of-requires returns-2)
+    (tie.spec (λ c κs. search needs) (λ c. search needs) (λ c. search needs)
+    (λ c. (search (needs, later-miss), search needs)) (λ c κs. search (needs, found-sized))
+    (λ c. (search (needs, later-whole), search needs)))

@@ -17,17 +17,9 @@ Inv-loop s disk set b best₀ i₀ best i = (i ≤ 96) × (best ≡ foundImage s
 abbrev μ-loop : tie.MeasureT-loop
 μ-loop s disk set b best₀ i₀ best i = 96 - i
 
-loop-holds : tie.Need-loop-holds Inv-loop μ-loop
-loop-holds c = (search needs, newest-none _ _ _ _, search needs)
-
-loop-again : tie.Need-loop-again Inv-loop μ-loop
-loop-again c = (search needs, search (needs, newest-more), search needs)
-
-returns : tie.Need-returns Inv-loop μ-loop
-returns c = (search (needs, newest-all), search needs)
-
 pub newest-image-spec : {M : Type 1} → statement M
 newest-image-spec =
     tie.close
-    (tie.spec Inv-loop μ-loop (λ c. search needs) loop-holds (λ c κs. search needs) (λ c. search needs)
-    (λ c. search needs) loop-again returns)
+    (tie.spec Inv-loop μ-loop (λ c. search needs) (λ c. (search needs, newest-none _ _ _ _, search needs))
+    (λ c κs. search needs) (λ c. search needs) (λ c. search needs)
+    (λ c. (search needs, search (needs, newest-more), search needs)) (λ c. (search (needs, newest-all), search needs)))

@@ -5,16 +5,8 @@ use borrow.Author.Needs.{needs}
 use Rattle.valid.proofs.newest.slot_took.Statement.{statement}
 use Rattle.valid.proofs.newest.slot_took.Tie as tie
 
-returns : tie.Need-returns
-returns c = search (needs, asks-none)
-
-took-block-requires : tie.Need-took-block-requires
-took-block-requires c κs = search (needs, found-sized)
-
-returns-2 : tie.Need-returns-2
-returns-2 c = search (needs, asks-some)
-
 pub slot-took-spec : {M : Type 1} → statement M
 slot-took-spec =
     tie.close
-    (tie.spec (λ c κs. search needs) (λ c. search needs) (λ c. search needs) returns took-block-requires returns-2)
+    (tie.spec (λ c κs. search needs) (λ c. search needs) (λ c. search needs) (λ c. search (needs, asks-none))
+    (λ c κs. search (needs, found-sized)) (λ c. search (needs, asks-some)))

@@ -5,20 +5,9 @@ use borrow.Author.Needs.{needs}
 use Rattle.valid.proofs.shrinking.keep_slot.Statement.{statement}
 use Rattle.valid.proofs.shrinking.keep_slot.Tie as tie
 
-returns : tie.Need-returns
-returns c = search (needs, kept-none)
-
-names-met-requires : tie.Need-names-met-requires
-names-met-requires c κs = search (needs, slot-core)
-
-returns-2 : tie.Need-returns-2
-returns-2 c = search (needs, kept-in)
-
-returns-3 : tie.Need-returns-3
-returns-3 c = search (needs, kept-out)
-
 pub keep-slot-spec : {M : Type 1} → statement M
 keep-slot-spec =
     tie.close
-    (tie.spec (λ c κs. search needs) returns (λ c. search needs) names-met-requires
-    (λ c. search needs) (λ c. search needs) returns-2 returns-3)
+    (tie.spec (λ c κs. search needs) (λ c. search (needs, kept-none)) (λ c. search needs)
+    (λ c κs. search (needs, slot-core)) (λ c. search needs) (λ c. search needs) (λ c. search (needs, kept-in))
+    (λ c. search (needs, kept-out)))

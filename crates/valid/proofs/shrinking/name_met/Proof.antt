@@ -4,9 +4,7 @@ use borrow.Author.Needs.{needs}
 use Rattle.valid.proofs.shrinking.name_met.Statement.{statement}
 use Rattle.valid.proofs.shrinking.name_met.Tie as tie
 
-returns : tie.Need-returns
-returns c = search (needs, name-is)
-
 pub name-met-spec : {M : Type 1} → statement M
 name-met-spec =
-    tie.close (tie.spec (λ c κs. search needs) (λ c κs. search needs) (λ c κs. search needs) returns)
+    tie.close
+    (tie.spec (λ c κs. search needs) (λ c κs. search needs) (λ c κs. search needs) (λ c. search (needs, name-is)))

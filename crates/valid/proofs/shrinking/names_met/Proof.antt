@@ -4,12 +4,9 @@ use borrow.Author.Needs.{needs}
 use Rattle.valid.proofs.shrinking.names_met.Statement.{statement}
 use Rattle.valid.proofs.shrinking.names_met.Tie as tie
 
-returns : tie.Need-returns
-returns c = search (needs, names-read)
-
 pub names-met-spec : {M : Type 1} → statement M
 names-met-spec =
     tie.close
     (tie.spec (λ c. search needs) (λ c κs. search needs) (λ c κs. search needs) (λ c κs. search needs)
     (λ c. search needs) (λ c. search needs) (λ c. search needs) (λ c κs. search needs) (λ c κs. search needs)
-    (λ c κs. search needs) (λ c. search needs) (λ c κs. search needs) returns)
+    (λ c κs. search needs) (λ c. search needs) (λ c κs. search needs) (λ c. search (needs, names-read)))

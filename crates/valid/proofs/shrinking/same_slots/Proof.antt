@@ -13,20 +13,12 @@ Inv-loop a b i₀ i = (i ≤ 96) × SameTo a b i
 abbrev μ-loop : tie.MeasureT-loop
 μ-loop a b i₀ i = 96 - i
 
-loop-holds : tie.Need-loop-holds Inv-loop μ-loop
-loop-holds c = (search needs, same-none _ _)
-
 returns : tie.Need-returns Inv-loop μ-loop
 returns c = λ h. absurd (false≢true h)
-
-loop-again : tie.Need-loop-again Inv-loop μ-loop
-loop-again c = (search needs, search (needs, same-more))
-
-returns-2 : tie.Need-returns-2 Inv-loop μ-loop
-returns-2 c = λ h. search (needs, same-all)
 
 pub same-slots-spec : {M : Type 1} → statement M
 same-slots-spec =
     tie.close
-    (tie.spec Inv-loop μ-loop loop-holds (λ c. search needs) (λ c. search needs) (λ c. search needs) (λ c. search needs) returns
-    (λ c. search needs) (λ c. search needs) loop-again returns-2)
+    (tie.spec Inv-loop μ-loop (λ c. (search needs, same-none _ _)) (λ c. search needs) (λ c. search needs)
+    (λ c. search needs) (λ c. search needs) returns (λ c. search needs) (λ c. search needs)
+    (λ c. (search needs, search (needs, same-more))) (λ c. λ h. search (needs, same-all)))

@@ -4,14 +4,9 @@ use borrow.Author.Needs.{needs}
 use Rattle.valid.proofs.shrinking.valid_slots.Statement.{statement}
 use Rattle.valid.proofs.shrinking.valid_slots.Tie as tie
 
-returns : tie.Need-returns
-returns c = search (needs, valid-same, c .before .same-slots .ensures)
-
-returns-2 : tie.Need-returns-2
-returns-2 c = search (needs, valid-is)
-
 pub valid-slots-spec : {M : Type 1} → statement M
 valid-slots-spec =
     tie.close
-    (tie.spec (λ c κs. search needs) (λ c κs. search needs) (λ c κs. search needs) returns (λ c κs. search needs)
-    (λ c κs. search needs) returns-2)
+    (tie.spec (λ c κs. search needs) (λ c κs. search needs) (λ c κs. search needs)
+    (λ c. search (needs, valid-same, c .before .same-slots .ensures)) (λ c κs. search needs) (λ c κs. search needs)
+    (λ c. search (needs, valid-is)))
