@@ -1,10 +1,12 @@
 -- All journals read in one loop of 96 slots: before each slot, the cores passed have the entries that their journal gives, and
 -- the rest of the current core's is what the walk has yet to read. A step keeps it; at the end all are read.
-use Rattle.model.proofs.Base.{ℕ, suc, _+_, _-_, _*_, _/_, _%_, _≤_, _<_, arith, decLt, ℕ-discrete, _≡_, refl, sym, ap, _∙_, _&&_, List, _∷_, _++_, append-assoc, append-nil, length, getD, set, length-set, getD-set-same, ltb, leb, eq-eqb, ne-eqb, lt-ltb, le-ltb, ltb-true, le-leb, lt-leb, leb-true, leb-false, Bytes}
+use Rattle.model.proofs.Base.{ℕ, suc, _+_, _-_, _*_, _/_, _%_, _≤_, _<_, arith, decLt, ℕ-discrete, _≡_, refl, sym, ap, _∙_, _&&_}
+use Rattle.model.proofs.Base.{List, [], _∷_, _++_, append-assoc, append-nil, length, getD, set, length-set, getD-set-same, ltb}
+use Rattle.model.proofs.Base.{leb, eq-eqb, ne-eqb, lt-ltb, le-ltb, ltb-true, le-leb, lt-leb, leb-true, leb-false, Bytes}
 use native.Mathlib.Nat.{mod-lt}
 use Rattle.model.specs.Layout.{isDescriptor, hasHead}
-use Rattle.model.specs.Journal.{recordAt, recordsFrom, journal}
 use Rattle.model.specs.Limits.{maxNumber}
+use Rattle.model.specs.Journal.{recordAt, recordsFrom, journal}
 use Rattle.model.specs.declared.Shape.{Shape}
 use Rattle.model.specs.declared.Tail.{Tail}
 use Rattle.model.specs.declared.Committed.{Committed}
