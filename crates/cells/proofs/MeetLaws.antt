@@ -1,7 +1,7 @@
 -- A refused command meets its contract with the cells as they were; one carried out meets it where cells, disk and memory are
 -- those of its definition and the changed cells are framed.
 use Rattle.model.proofs.Base.{ℕ, _≡_, refl, _∙_, Bool, List, length, Bytes}
-use Rattle.model.specs.Command.{Outcome, refusal, unless}
+use Rattle.model.specs.Command.{Outcome, refusal, unless, World}
 use Rattle.cells.specs.declared.Answer.{Answer}
 use Rattle.cells.specs.Answer.{outcomeIn, newAnswer, Meets}
 use Rattle.cells.specs.Cells.{worldIn}
