@@ -5,3 +5,5 @@ pub mod Tapes
 pub mod PaperCards
 pub mod Refusals
 pub mod Others
+pub mod CapMissing
+pub mod Committed33
