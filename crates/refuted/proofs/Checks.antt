@@ -2,12 +2,11 @@
 -- Nothing here is to be believed: a test that asked too much could not be proved to follow from the demand.
 use Prim.Native.Nat.{ℕ, zero, suc, _+_, _*_}
 use mathlib.Core.Path.{_≡_, refl, sym, ap, _∙_, subst}
-use mathlib.Core.Logic.{_≢_}
 use mathlib.Core.Bool.{Bool, true, false, cond, not, _&&_}
 use mathlib.Core.List.{List, [], _∷_}
 use lib.ListN.{length-replicate, take}
 use lib.Dec.{eqb, ltb}
-use borrow.Author.Tests.{eqb-true, eqb-false, eq-eqb, ltb-true, not-true}
+use borrow.Author.Tests.{eqb-true, eqb-false, eq-eqb, not-true}
 use Rattle.model.specs.Lists.{all, below}
 use Rattle.model.specs.Bytes.{Bytes, zeroDisk, zeroMemory}
 use Rattle.model.specs.Card.{isUp}
@@ -115,17 +114,30 @@ answer-follows n l p k = eq-eqb _ _ (k .answer)
 abbrev pub answers : Check
 answers = record { test = answerTest; follows = answer-follows }
 
--- demand 1: a refused command leaves memory as it was; its blocks of the shape are looked at
+-- demand 1: a refused command stores nothing and leaves disk and memory as they were; the blocks of the shape are looked at
+unfoldable pub usedBytes : Shape → ℕ
+usedBytes s = 128 * (1 + s .blocks + s .cores * s .journal)
+
+unfoldable pub imageBytes : Shape → ℕ
+imageBytes s = 128 * s .blocks
+
+unfoldable pub sameWorld : Shape → World → World → Bool
+sameWorld s w v = sameBytes (take (usedBytes s) (w .disk)) (take (usedBytes s) (v .disk)) && sameBytes (take (imageBytes s) (w .memory)) (take (imageBytes s) (v .memory))
+
+same-world : (s : Shape) {w v : World} → w ≡ v → sameWorld s w v ≡ true
+unfolding sameWorld
+same-world s e = and-both (same-bytes (ap (λ (w : World). take (usedBytes s) (w .disk)) e)) (same-bytes (ap (λ (w : World). take (imageBytes s) (w .memory)) e))
+
 unfoldable pub refusedTest : Ledger → Point World → Bool
-refusedTest l p =
-    cond (eqb (p .outcome .answer) 0) true
-    (sameBytes (take (128 * l .shape .blocks) (p .outcome .world .memory)) (take (128 * l .shape .blocks) (p .before .memory)))
+refusedTest l p = cond (eqb (p .outcome .answer) 0) true (eqb (p .outcome .stores) 0 && sameWorld (l .shape) (p .outcome .world) (p .before))
 
 pub refused-follows : (n : ℕ) (l : Ledger) (p : Point World) → PointKept n l (p .before) p → refusedTest l p ≡ true
 unfolding refusedTest
 refused-follows n l p k =
     asked-not (eqb (p .outcome .answer) 0)
-    (λ e. same-bytes (ap (λ (o : Outcome World). take (128 * l .shape .blocks) (o .world .memory)) (k .refused (eqb-false _ _ e))))
+    (λ e.
+    let r = k .refused (eqb-false _ _ e) in
+    and-both (eq-eqb _ _ (ap (λ (o : Outcome World). o .stores) r)) (same-world (l .shape) (ap (λ (o : Outcome World). o .world) r)))
 
 abbrev pub unchanged : Check
 unchanged = record { test = refusedTest; follows = refused-follows }
@@ -164,9 +176,6 @@ abbrev pub counts : Check
 counts = record { test = doneTest countTest; follows = done-follows countTest count-follows }
 
 -- demand 2: the bytes stored; the blocks of the shape are looked at
-unfoldable pub usedBytes : Shape → ℕ
-usedBytes s = 128 * (1 + s .blocks + s .cores * s .journal)
-
 unfoldable pub bytesTest : Command → Ledger → World → Outcome World → Bool
 bytesTest k l w o = sameBytes (take (usedBytes (l .shape)) (o .world .disk)) (take (usedBytes (l .shape)) (diskAfter k l (w .disk)))
 
@@ -179,11 +188,11 @@ stored = record { test = doneTest bytesTest; follows = done-follows bytesTest by
 
 -- what is left in memory: the block images of the shape are looked at
 unfoldable pub memoryTest : Command → Ledger → World → Outcome World → Bool
-memoryTest k l w o = sameBytes (take (128 * l .shape .blocks) (o .world .memory)) (take (128 * l .shape .blocks) (memoryAfter k l (w .memory)))
+memoryTest k l w o = sameBytes (take (imageBytes (l .shape)) (o .world .memory)) (take (imageBytes (l .shape)) (memoryAfter k l (w .memory)))
 
 pub memory-follows : (k : Command) (l : Ledger) (w : World) (o : Outcome World) → DoneAs k l w o → memoryTest k l w o ≡ true
 unfolding memoryTest
-memory-follows k l w o d = same-bytes (ap (take (128 * l .shape .blocks)) (d .memory))
+memory-follows k l w o d = same-bytes (ap (take (imageBytes (l .shape))) (d .memory))
 
 abbrev pub left-in-memory : Check
 left-in-memory = record { test = doneTest memoryTest; follows = done-follows memoryTest memory-follows }

@@ -8,10 +8,10 @@ use Rattle.crash.specs.Claims.{homeArea, startWorld, startLedger, fedPoint, ent
 use Rattle.crash.specs.Service.{bookArea}
 use Rattle.crash.specs.Ledger.{blankLedger, freshLedger, imageNow, closeLedger, unretired, metIn, validIn, blocksIn, cutLedger, recoverLedger, carriedOut, entered, storedOf, storedSince, heldOf, recordOf, recordBlocks, recordStored, tailsPast, checkpointStored, recoverStored, diskAfter, storeCount, copiesStored, memoryAfter, namesCount, holderNames, formatRefusals, namesPass, blocksAfter, journalPasses, numberPasses, writeRefusals, closeRefusals, storeRefusals, sharesLowerIn, checkpointRefusals, refusalsOf, answerOf}
 use Rattle.crash.proofs.BookExamples.{books}
-use Rattle.refuted.proofs.Checks.{sameBytes, isRecover, comesUp, areaHolds, answerTest, refusedTest, ofDone, countTest, usedBytes, bytesTest, memoryTest, holds, readsTest, readsHold, decidesTest}
+use Rattle.refuted.proofs.Checks.{sameBytes, isRecover, comesUp, areaHolds, answerTest, usedBytes, imageBytes, sameWorld, refusedTest, ofDone, countTest, bytesTest, memoryTest, holds, readsTest, readsHold, decidesTest}
 
 unfoldable pub tests : Unit {0}
-unfolding books homeArea startWorld startLedger fedPoint enteredPoint bookArea blankLedger freshLedger imageNow closeLedger unretired metIn validIn blocksIn cutLedger recoverLedger carriedOut entered storedOf storedSince heldOf recordOf recordBlocks recordStored tailsPast checkpointStored recoverStored diskAfter storeCount copiesStored memoryAfter namesCount holderNames formatRefusals namesPass blocksAfter journalPasses numberPasses writeRefusals closeRefusals storeRefusals sharesLowerIn checkpointRefusals refusalsOf answerOf sameBytes isRecover comesUp areaHolds answerTest refusedTest ofDone countTest usedBytes bytesTest memoryTest holds readsTest readsHold decidesTest
+unfolding books homeArea startWorld startLedger fedPoint enteredPoint bookArea blankLedger freshLedger imageNow closeLedger unretired metIn validIn blocksIn cutLedger recoverLedger carriedOut entered storedOf storedSince heldOf recordOf recordBlocks recordStored tailsPast checkpointStored recoverStored diskAfter storeCount copiesStored memoryAfter namesCount holderNames formatRefusals namesPass blocksAfter journalPasses numberPasses writeRefusals closeRefusals storeRefusals sharesLowerIn checkpointRefusals refusalsOf answerOf sameBytes isRecover comesUp areaHolds answerTest usedBytes imageBytes sameWorld refusedTest ofDone countTest bytesTest memoryTest holds readsTest readsHold decidesTest
 tests = tt
 
 -- ---- commands of a tape
