@@ -1,16 +1,18 @@
 -- The parts that wrong cards replace are the model's: with its own ones in their place each card is the model's.
 use Prim.Native.Nat.{ℕ, suc, _+_, min}
-use mathlib.Core.Path.{_≡_, refl, ap}
+use mathlib.Core.Path.{_≡_, refl, sym, ap}
 use mathlib.Core.List.{List, [], _∷_}
+use Rattle.model.specs.Bytes.{Bytes}
 use Rattle.model.specs.Shape.{journalBlock}
 use Rattle.model.specs.Card.{shapeOf}
 use Rattle.model.specs.Layout.{maxNumber}
 use Rattle.model.specs.Command.{World, Outcome, unless}
 use Rattle.model.specs.Commit.{nextStored, nextPosition, stored}
 use Rattle.model.specs.Recovery.{validOn, recoverConditions, blocksLeft, newestImage, emptiedTail, broughtUp, recoverStep, recovered}
-use Rattle.model.specs.Tape.{Command, FORMAT, WRITE, CLOSE, STORE, CHECKPOINT, CUT, RECOVER, Step}
-use Rattle.model.specs.Step.{conditionsOf, doneBy, step, stepAt}
+use Rattle.model.specs.Tape.{Command, FORMAT, WRITE, CLOSE, STORE, CHECKPOINT, CUT, RECOVER, Step, readAt}
+use Rattle.model.specs.Step.{conditionsOf, doneBy, step, stepAt, conditionsOn, doneOn}
 use Rattle.model.specs.declared.Card.{Card}
+use Rattle.model.proofs.Command.{command-unless}
 use Rattle.refuted.specs.Parts.{onTape, otherStore, otherCheckpoint, otherRecover, storeBy, recoverStepBy, recoverBy, recoverSet, recoverTail}
 
 -- a card that does as the model's in a world, and in every world
@@ -59,6 +61,10 @@ module _ (w : World) where
 pub by-conditions : IsModel (λ (k : Command) (w : World). unless (conditionsOf k w) w (doneBy k w))
 unfolding step
 by-conditions w k = refl
+
+-- .. and `ignoringAt` one of these
+pub by-tape-conditions : (t : Bytes) (at : ℕ) (w : World) → unless (conditionsOn (readAt t at) w) w (doneOn (readAt t at) w) ≡ stepAt t at w
+by-tape-conditions t at w = sym (command-unless t at w)
 
 pub store-by : IsModel (storeBy (λ (x : Card) (c : ℕ). journalBlock (shapeOf x) c (nextPosition x c)) nextStored)
 unfolding step conditionsOf doneBy stored

@@ -30,7 +30,7 @@ use Rattle.model.specs.declared.Committed.{Committed}
 abbrev pub onTape : Step World → TapeStep World
 onTape f = commandAt wrongLength f
 
--- ---- a card with another command
+-- ---- the card f with another command: a WRITE, a CLOSE and so on
 abbrev pub otherWrite : Step World → (ℕ → ℕ → ℕ → Bytes → World → Outcome World) → Step World
 otherWrite f g (FORMAT c b j) w = f (FORMAT c b j) w
 otherWrite f g (WRITE c b o v) w = g c b o v w
