@@ -1,26 +1,30 @@
 -- Tests that a run can be put to by computing. Each is met wherever its demand is, so a run that fails one refutes the demand.
 -- Nothing here is to be believed: a test that asked too much could not be proved to follow from the demand.
-use Prim.Native.Nat.{ℕ, _+_, _*_}
-use mathlib.Core.Path.{_≡_, refl, ap, subst}
+use Prim.Native.Nat.{ℕ, zero, suc, _+_, _*_}
+use mathlib.Core.Path.{_≡_, refl, sym, ap, _∙_, subst}
 use mathlib.Core.Bool.{Bool, true, false, cond, not, _&&_}
 use mathlib.Core.List.{List, [], _∷_}
-use lib.ListN.{length, length-replicate, take}
+use lib.ListN.{length-replicate, take}
 use lib.Dec.{eqb, ltb}
 use borrow.Author.Tests.{eqb-true, eqb-false, eq-eqb, not-true}
-use Rattle.model.specs.Lists.{all}
+use Rattle.model.specs.Lists.{all, below}
 use Rattle.model.specs.Bytes.{Bytes, zeroDisk, zeroMemory}
 use Rattle.model.specs.Card.{isUp}
-use Rattle.model.specs.Command.{World}
-use Rattle.model.specs.Reading.{readNumber}
-use Rattle.model.specs.Tape.{Step, Point, step, run, blankWorld}
+use Rattle.model.specs.Command.{Outcome, refusal, Decided, refused, carried-out, World}
+use Rattle.model.specs.Reading.{readNumber, readBlock}
+use Rattle.model.specs.Tape.{Command, FORMAT, WRITE, CLOSE, STORE, CHECKPOINT, CUT, RECOVER, Read, whole, unknown, early, readAt, TapeStep, Point, run}
+use Rattle.model.specs.Step.{stepAt, conditionsOn, DecidesEach}
+use Rattle.model.specs.Printing.{blankWorld}
 use Rattle.model.specs.declared.Shape.{Shape}
-use Rattle.model.proofs.Lists.{and-both, and-left, and-right}
+use Rattle.model.proofs.Lists.{and-both, and-left, and-right, mem-all, mem-below}
+use Rattle.model.proofs.Command.{first-refusal, clear-refusal, read-answer, command-decided}
 use Rattle.crash.specs.Service.{Service, emptyService, bookArea}
-use Rattle.crash.specs.Ledger.{Ledger, blankLedger, entered, diskAfter, storeCount}
-use Rattle.crash.specs.Claims.{IsBytes, ComesUp, homeArea, fedPoint, AreaKept, Claim, answerOf, PointKept, LedgerKept, Demands}
+use Rattle.crash.specs.Ledger.{Ledger, blankLedger, imageNow, answerOf, diskAfter, memoryAfter, storeCount}
+use Rattle.crash.specs.Claims.{IsBytes, Start, from-blank, startWorld, startService, startLedger, StartFits, ComesUp, homeArea, fedPoint, AreaKept, Claim, enteredPoint, DoneAs, PointKept, LedgerKept, Demands, ReadsNow, ReadingsKept, Readings}
 use Rattle.crash.proofs.BlockBytes.{zero-bytes}
 use Rattle.crash.proofs.Tests.{clash, impossible}
-use Rattle.crash.proofs.Theorem.{claim, demands}
+use Rattle.crash.proofs.Theorem.{claim, demands, readings}
+use Rattle.refuted.specs.Parts.{byteOf}
 
 unfoldable pub sameBytes : Bytes → Bytes → Bool
 sameBytes [] [] = true
@@ -36,24 +40,38 @@ same-itself (x ∷ xs) = and-both (eq-eqb x x refl) (same-itself xs)
 same-bytes : {s t : Bytes} → s ≡ t → sameBytes s t ≡ true
 same-bytes {s} e = subst (λ (t : Bytes). sameBytes s t ≡ true) e (same-itself s)
 
-same-as-itself : (a : Bool) → cond a a (not a) ≡ true
-same-as-itself true = refl
-same-as-itself false = refl
-
-abbrev pub sameTruth : Bool → Bool → Bool
-sameTruth a b = cond a b (not b)
-
-same-truth : {a b : Bool} → a ≡ b → sameTruth a b ≡ true
-same-truth {a} e = subst (λ (b : Bool). sameTruth a b ≡ true) e (same-as-itself a)
-
--- a test that is asked for where another holds
+-- a test that is asked for where another holds, and where it does not
 asked : (b : Bool) {t : Bool} → (b ≡ true → t ≡ true) → cond b t true ≡ true
 asked true h = h refl
 asked false h = refl
 
+asked-not : (b : Bool) {t : Bool} → (b ≡ false → t ≡ true) → cond b true t ≡ true
+asked-not true h = refl
+asked-not false h = h refl
+
 -- ---- demand 3
-unfoldable pub comesUp : Point → Bool
-comesUp p = eqb (p .byte) 7 && eqb (p .outcome .answer) 0 && eqb (readNumber 0 (p .before)) 22 && not (eqb (readNumber 0 (p .outcome .world)) 22)
+unfoldable pub isRecover : Read → Bool
+isRecover (whole k) = eqb (byteOf k) 7
+isRecover unknown = false
+isRecover early = false
+
+recover-byte : (k : Command) → eqb (byteOf k) 7 ≡ true → k ≡ RECOVER
+recover-byte (FORMAT c b j) h = impossible h
+recover-byte (WRITE c b o v) h = impossible h
+recover-byte (CLOSE c) h = impossible h
+recover-byte (STORE c) h = impossible h
+recover-byte (CHECKPOINT c) h = impossible h
+recover-byte CUT h = impossible h
+recover-byte RECOVER h = refl
+
+is-recover : (r : Read) → isRecover r ≡ true → r ≡ whole RECOVER
+unfolding isRecover
+is-recover (whole k) h = ap whole (recover-byte k h)
+is-recover unknown h = impossible h
+is-recover early h = impossible h
+
+unfoldable pub comesUp : Point World → Bool
+comesUp p = isRecover (p .read) && eqb (p .outcome .answer) 0 && eqb (readNumber 0 (p .before)) 22 && not (eqb (readNumber 0 (p .outcome .world)) 22)
 
 four : (a b c d : Bool) → (a && b && c && d) ≡ true → (a ≡ true) × (b ≡ true) × (c ≡ true) × (d ≡ true)
 four true true true true h = (refl, refl, refl, refl)
@@ -62,19 +80,19 @@ four true true false d h = impossible h
 four true false c d h = impossible h
 four false b c d h = impossible h
 
-comes-up : (p : Point) → comesUp p ≡ true → ComesUp p
+comes-up : (p : Point World) → comesUp p ≡ true → ComesUp p
 unfolding comesUp
 comes-up p h =
-    let k = four (eqb (p .byte) 7) (eqb (p .outcome .answer) 0) (eqb (readNumber 0 (p .before)) 22) (not (eqb (readNumber 0 (p .outcome .world)) 22)) h in
-    record { is-recover = eqb-true _ _ (k .0); is-done = eqb-true _ _ (k .1); was-down = eqb-true _ _ (k .2); is-up = eqb-false _ _ (not-true _ (k .3)) }
+    let k = four (isRecover (p .read)) (eqb (p .outcome .answer) 0) (eqb (readNumber 0 (p .before)) 22) (not (eqb (readNumber 0 (p .outcome .world)) 22)) h in
+    record { is-recover = is-recover _ (k .0); is-done = eqb-true _ _ (k .1); was-down = eqb-true _ _ (k .2); is-up = eqb-false _ _ (not-true _ (k .3)) }
 
 -- wherever the card comes up, the home area is the book's
-unfoldable pub areaHolds : Service → List Point → Bool
+unfoldable pub areaHolds : Service → List (Point World) → Bool
 areaHolds v [] = true
 areaHolds v (p ∷ ps) =
     cond (comesUp p) (sameBytes (homeArea (v .blocks) (p .outcome .world)) (bookArea (fedPoint p v))) true && areaHolds (fedPoint p v) ps
 
-area-holds : (v : Service) (ps : List Point) → AreaKept v ps → areaHolds v ps ≡ true
+area-holds : (v : Service) (ps : List (Point World)) → AreaKept v ps → areaHolds v ps ≡ true
 unfolding areaHolds
 area-holds v [] h = refl
 area-holds v (p ∷ ps) h = and-both (asked (comesUp p) (λ e. same-bytes (h .0 (comes-up p e)))) (area-holds (fedPoint p v) ps (h .1))
@@ -82,80 +100,169 @@ area-holds v (p ∷ ps) h = and-both (asked (comesUp p) (λ e. same-bytes (h .0 
 -- ---- demands 1 and 2, and the course of recovery
 -- a test of one point that follows from what is demanded of it
 pub record Check : Type 0 where
-  pub test : Ledger → Point → Bool
-  pub follows : (l : Ledger) (p : Point) → PointKept l p → test l p ≡ true
+  pub test : Ledger → Point World → Bool
+  pub follows : (n : ℕ) (l : Ledger) (p : Point World) → PointKept n l (p .before) p → test l p ≡ true
 
 -- demand 1: the answer is the ledger's
-unfoldable pub answerTest : Ledger → Point → Bool
-answerTest l p = eqb (p .outcome .answer) (answerOf l p)
+unfoldable pub answerTest : Ledger → Point World → Bool
+answerTest l p = eqb (p .outcome .answer) (answerOf (p .read) l)
 
-pub answer-follows : (l : Ledger) (p : Point) → PointKept l p → answerTest l p ≡ true
+pub answer-follows : (n : ℕ) (l : Ledger) (p : Point World) → PointKept n l (p .before) p → answerTest l p ≡ true
 unfolding answerTest
-answer-follows l p k = eq-eqb _ _ (k .answer)
+answer-follows n l p k = eq-eqb _ _ (k .answer)
 
 abbrev pub answers : Check
 answers = record { test = answerTest; follows = answer-follows }
 
--- demand 2: the stores counted
-unfoldable pub countTest : Ledger → Point → Bool
-countTest l p = eqb (p .outcome .stores) (cond (eqb (p .outcome .answer) 0) (storeCount (p .byte)) 0)
-
-pub count-follows : (l : Ledger) (p : Point) → PointKept l p → countTest l p ≡ true
-unfolding countTest
-count-follows l p k = eq-eqb _ _ (k .stores)
-
-abbrev pub counts : Check
-counts = record { test = countTest; follows = count-follows }
-
--- demand 2: the bytes stored; the blocks of the shape are looked at
+-- demand 1: a refused command stores nothing and leaves disk and memory as they were; the blocks of the shape are looked at
 unfoldable pub usedBytes : Shape → ℕ
 usedBytes s = 128 * (1 + s .blocks + s .cores * s .journal)
 
-unfoldable pub bytesTest : Ledger → Point → Bool
-bytesTest l p =
-    sameBytes (take (usedBytes (l .shape)) (p .outcome .world .disk))
-    (take (usedBytes (l .shape)) (cond (eqb (p .outcome .answer) 0) (diskAfter (p .byte) (p .operands) l (p .before .disk)) (p .before .disk)))
+unfoldable pub imageBytes : Shape → ℕ
+imageBytes s = 128 * s .blocks
 
-pub bytes-follow : (l : Ledger) (p : Point) → PointKept l p → bytesTest l p ≡ true
+unfoldable pub sameWorld : Shape → World → World → Bool
+sameWorld s w v = sameBytes (take (usedBytes s) (w .disk)) (take (usedBytes s) (v .disk)) && sameBytes (take (imageBytes s) (w .memory)) (take (imageBytes s) (v .memory))
+
+same-world : (s : Shape) {w v : World} → w ≡ v → sameWorld s w v ≡ true
+unfolding sameWorld
+same-world s e = and-both (same-bytes (ap (λ (w : World). take (usedBytes s) (w .disk)) e)) (same-bytes (ap (λ (w : World). take (imageBytes s) (w .memory)) e))
+
+unfoldable pub refusedTest : Ledger → Point World → Bool
+refusedTest l p = cond (eqb (p .outcome .answer) 0) true (eqb (p .outcome .stores) 0 && sameWorld (l .shape) (p .outcome .world) (p .before))
+
+pub refused-follows : (n : ℕ) (l : Ledger) (p : Point World) → PointKept n l (p .before) p → refusedTest l p ≡ true
+unfolding refusedTest
+refused-follows n l p k =
+    asked-not (eqb (p .outcome .answer) 0)
+    (λ e.
+    let r = k .refused (eqb-false _ _ e) in
+    and-both (eq-eqb _ _ (ap (λ (o : Outcome World). o .stores) r)) (same-world (l .shape) (ap (λ (o : Outcome World). o .world) r)))
+
+abbrev pub unchanged : Check
+unchanged = record { test = refusedTest; follows = refused-follows }
+
+-- a test of a command that was carried out
+unfoldable pub ofDone : (Command → Bool) → Read → ℕ → Bool
+ofDone test (whole k) zero = test k
+ofDone test (whole k) (suc n) = true
+ofDone test unknown n = true
+ofDone test early n = true
+
+of-done : (test : Command → Bool) (r : Read) (n : ℕ) → ((k : Command) → r ≡ whole k → n ≡ 0 → test k ≡ true) → ofDone test r n ≡ true
+unfolding ofDone
+of-done test (whole k) zero h = h k refl refl
+of-done test (whole k) (suc n) h = refl
+of-done test unknown n h = refl
+of-done test early n h = refl
+
+abbrev pub doneTest : (Command → Ledger → World → Outcome World → Bool) → Ledger → Point World → Bool
+doneTest test l p = ofDone (λ (k : Command). test k l (p .before) (p .outcome)) (p .read) (p .outcome .answer)
+
+pub done-follows : (test : Command → Ledger → World → Outcome World → Bool)
+    → ((k : Command) (l : Ledger) (w : World) (o : Outcome World) → DoneAs k l w o → test k l w o ≡ true)
+    → (n : ℕ) (l : Ledger) (p : Point World) → PointKept n l (p .before) p → doneTest test l p ≡ true
+done-follows test h n l p k = of-done _ (p .read) (p .outcome .answer) (λ c r z. h c l (p .before) (p .outcome) (k .done c r z))
+
+-- demand 2: the stores counted
+unfoldable pub countTest : Command → Ledger → World → Outcome World → Bool
+countTest k l w o = eqb (o .stores) (storeCount k)
+
+pub count-follows : (k : Command) (l : Ledger) (w : World) (o : Outcome World) → DoneAs k l w o → countTest k l w o ≡ true
+unfolding countTest
+count-follows k l w o d = eq-eqb _ _ (d .stores)
+
+abbrev pub counts : Check
+counts = record { test = doneTest countTest; follows = done-follows countTest count-follows }
+
+-- demand 2: the bytes stored; the blocks of the shape are looked at
+unfoldable pub bytesTest : Command → Ledger → World → Outcome World → Bool
+bytesTest k l w o = sameBytes (take (usedBytes (l .shape)) (o .world .disk)) (take (usedBytes (l .shape)) (diskAfter k l (w .disk)))
+
+pub bytes-follow : (k : Command) (l : Ledger) (w : World) (o : Outcome World) → DoneAs k l w o → bytesTest k l w o ≡ true
 unfolding bytesTest
-bytes-follow l p k = same-bytes (ap (take (usedBytes (l .shape))) (k .disk))
+bytes-follow k l w o d = same-bytes (ap (take (usedBytes (l .shape))) (d .disk))
 
 abbrev pub stored : Check
-stored = record { test = bytesTest; follows = bytes-follow }
+stored = record { test = doneTest bytesTest; follows = done-follows bytesTest bytes-follow }
 
--- the card comes up with the master store, once no block is left
-unfoldable pub upTest : Ledger → Point → Bool
-upTest l p = cond (eqb (p .byte) 7 && eqb (p .outcome .answer) 0) (sameTruth (isUp (p .outcome .world .card .phase)) (eqb (length (l .left)) 0)) true
+-- what is left in memory: the block images of the shape are looked at
+unfoldable pub memoryTest : Command → Ledger → World → Outcome World → Bool
+memoryTest k l w o = sameBytes (take (imageBytes (l .shape)) (o .world .memory)) (take (imageBytes (l .shape)) (memoryAfter k l (w .memory)))
 
-pub up-follows : (l : Ledger) (p : Point) → PointKept l p → upTest l p ≡ true
-unfolding upTest
-up-follows l p k =
-    let done = eqb (p .outcome .answer) 0 in
-    asked (eqb (p .byte) 7 && done) (λ h. same-truth (k .comes-up (eqb-true _ _ (and-left (eqb (p .byte) 7) done h)) (eqb-true _ _ (and-right (eqb (p .byte) 7) done h))))
+pub memory-follows : (k : Command) (l : Ledger) (w : World) (o : Outcome World) → DoneAs k l w o → memoryTest k l w o ≡ true
+unfolding memoryTest
+memory-follows k l w o d = same-bytes (ap (take (imageBytes (l .shape))) (d .memory))
 
-abbrev pub coming-up : Check
-coming-up = record { test = upTest; follows = up-follows }
+abbrev pub left-in-memory : Check
+left-in-memory = record { test = doneTest memoryTest; follows = done-follows memoryTest memory-follows }
 
 -- at every point of a run
-unfoldable pub holds : (Ledger → Point → Bool) → Ledger → List Point → Bool
+unfoldable pub holds : (Ledger → Point World → Bool) → Ledger → List (Point World) → Bool
 holds test l [] = true
-holds test l (p ∷ ps) = test l p && holds test (entered (p .byte) (p .operands) (p .outcome .answer) l) ps
+holds test l (p ∷ ps) = test l p && holds test (enteredPoint p l) ps
 
-kept-holds : (c : Check) (n : ℕ) (l : Ledger) (w : World) (ps : List Point) → LedgerKept n l w ps → holds (c .test) l ps ≡ true
+kept-holds : (c : Check) (n : ℕ) (l : Ledger) (w : World) (ps : List (Point World)) → LedgerKept n l w ps → holds (c .test) l ps ≡ true
 unfolding holds
 kept-holds c n l w [] h = refl
-kept-holds c n l w (p ∷ ps) h = and-both (c .follows l p (h .0)) (kept-holds c _ _ _ ps (h .2))
+kept-holds c n l w (p ∷ ps) h =
+    and-both (c .follows n l p (subst (λ (w : World). PointKept n l w p) (sym (h .0 .before)) (h .0))) (kept-holds c _ _ _ ps (h .1))
+
+-- ---- reading
+unfoldable pub readsTest : (ℕ → World → Bytes) → Ledger → World → Bool
+readsTest read l w = cond (isUp (w .card .phase)) (all (λ (b : ℕ). sameBytes (read b w) (imageNow l b)) (below (l .shape .blocks))) true
+
+reads-follow : (read : ℕ → World → Bytes) (l : Ledger) (w : World) → ReadsNow read l w → readsTest read l w ≡ true
+unfolding readsTest
+reads-follow read l w h = asked (isUp (w .card .phase)) (λ e. mem-all _ _ (λ b m. same-bytes (h e b (mem-below (l .shape .blocks) m))))
+
+-- before every command and after the last
+unfoldable pub readsHold : (ℕ → World → Bytes) → Ledger → World → List (Point World) → Bool
+readsHold read l w [] = readsTest read l w
+readsHold read l w (p ∷ ps) = readsTest read l w && readsHold read (enteredPoint p l) (p .outcome .world) ps
+
+reads-hold : (read : ℕ → World → Bytes) (l : Ledger) (w : World) (ps : List (Point World)) → ReadingsKept read l w ps → readsHold read l w ps ≡ true
+unfolding readsHold
+reads-hold read l w [] h = reads-follow read l w h
+reads-hold read l w (p ∷ ps) h = and-both (reads-follow read l w (h .0)) (reads-hold read _ _ ps (h .1))
+
+-- ---- demand 1 for one command
+unfoldable pub decidesTest : TapeStep World → Bytes → World → Bool
+decidesTest f t w = eqb ((f t 0 w) .answer) (refusal (conditionsOn (readAt t 0) w))
+
+decided-answer : {ts : List (Bool × ℕ)} {w : World} {done o : Outcome World} → Decided ts w done o → done .answer ≡ 0 → o .answer ≡ refusal ts
+decided-answer (refused n p f e) z = ap (λ (o : Outcome World). o .answer) e ∙ sym (first-refusal f)
+decided-answer {ts} (carried-out c e) z = ap (λ (o : Outcome World). o .answer) e ∙ z ∙ sym (clear-refusal ts c)
+
+pub decides : (f : TapeStep World) → DecidesEach f → (t : Bytes) (w : World) → decidesTest f t w ≡ true
+unfolding decidesTest
+decides f h t w = eq-eqb _ _ (decided-answer (h t 0 w) (read-answer (readAt t 0) w))
 
 -- ---- a run that fails a test
-pub claim-holds : (f : Step) → Claim f → (t : Bytes) → IsBytes t → areaHolds (emptyService 0) (run f t blankWorld) ≡ true
-unfolding blankWorld zeroDisk zeroMemory
-claim-holds f k t h =
-    area-holds _ _ (k .0 t zeroDisk zeroMemory h (zero-bytes 32896) (zero-bytes 16384) (length-replicate {A = ℕ} 32896 0) (length-replicate {A = ℕ} 16384 0))
+abbrev blankStart : Start
+blankStart = from-blank zeroDisk zeroMemory
 
-pub demands-hold : (f : Step) → Demands f → (c : Check) (t : Bytes) → IsBytes t → holds (c .test) blankLedger (run f t blankWorld) ≡ true
-unfolding blankWorld zeroDisk zeroMemory
-demands-hold f k c t h =
-    kept-holds c _ _ _ _ (k .0 t zeroDisk zeroMemory h (zero-bytes 32896) (zero-bytes 16384) (length-replicate {A = ℕ} 32896 0) (length-replicate {A = ℕ} 16384 0))
+blank-fits : StartFits blankStart
+unfolding startWorld zeroDisk zeroMemory
+blank-fits =
+    record {
+      stated = (length-replicate {A = ℕ} 32896 0, length-replicate {A = ℕ} 16384 0);
+      disk = zero-bytes 32896;
+      memory = zero-bytes 16384;
+    }
+
+module _ (f : TapeStep World) (t : Bytes) where
+  pub claim-holds : Claim f → IsBytes t → areaHolds (emptyService 0) (run f t blankWorld) ≡ true
+  unfolding blankWorld startWorld startService
+  claim-holds k h = area-holds _ _ (k t h blankStart blank-fits)
+
+  pub demands-hold : Demands f → (c : Check) → IsBytes t → holds (c .test) blankLedger (run f t blankWorld) ≡ true
+  unfolding blankWorld startWorld startLedger
+  demands-hold k c h = kept-holds c _ _ _ _ (k t h blankStart blank-fits)
+
+  pub readings-hold : (read : ℕ → World → Bytes) → Readings read f → IsBytes t → readsHold read blankLedger blankWorld (run f t blankWorld) ≡ true
+  unfolding blankWorld startWorld startLedger
+  readings-hold read k h = reads-hold read _ _ _ (k t h blankStart blank-fits)
 
 -- bytes, and a test of them failed
 abbrev pub areBytes : Bytes → Bool
@@ -164,15 +271,28 @@ areBytes t = all (λ (x : ℕ). ltb x 256) t
 abbrev pub Fails : Bytes → Bool → Type 0
 Fails t passed = (areBytes t && not passed) ≡ true
 
-pub refutes-claim : (f : Step) (t : Bytes) → Fails t (areaHolds (emptyService 0) (run f t blankWorld)) → Claim f → ⊥
-refutes-claim f t h k = clash (claim-holds f k t (and-left (areBytes t) _ h)) (not-true _ (and-right (areBytes t) _ h))
+failed : (t : Bytes) (passed : Bool) → Fails t passed → (IsBytes t → passed ≡ true) → ⊥
+failed t passed h k = clash (k (and-left (areBytes t) _ h)) (not-true _ (and-right (areBytes t) _ h))
 
-pub refutes-demands : (f : Step) (c : Check) (t : Bytes) → Fails t (holds (c .test) blankLedger (run f t blankWorld)) → Demands f → ⊥
-refutes-demands f c t h k = clash (demands-hold f k c t (and-left (areBytes t) _ h)) (not-true _ (and-right (areBytes t) _ h))
+pub refutes-claim : (f : TapeStep World) (t : Bytes) → Fails t (areaHolds (emptyService 0) (run f t blankWorld)) → Claim f → ⊥
+refutes-claim f t h k = failed t _ h (claim-holds f t k)
+
+pub refutes-demands : (f : TapeStep World) (c : Check) (t : Bytes) → Fails t (holds (c .test) blankLedger (run f t blankWorld)) → Demands f → ⊥
+refutes-demands f c t h k = failed t _ h (demands-hold f t k c)
+
+pub refutes-readings : (read : ℕ → World → Bytes) (f : TapeStep World) (t : Bytes)
+    → Fails t (readsHold read blankLedger blankWorld (run f t blankWorld)) → Readings read f → ⊥
+refutes-readings read f t h k = failed t _ h (readings-hold f t read k)
 
 -- ---- the model's card passes every test on every tape
-pub passes-area : (t : Bytes) → IsBytes t → areaHolds (emptyService 0) (run step t blankWorld) ≡ true
-passes-area = claim-holds step claim
+pub passes-area : (t : Bytes) → IsBytes t → areaHolds (emptyService 0) (run stepAt t blankWorld) ≡ true
+passes-area t = claim-holds stepAt t claim
 
-pub passes-check : (c : Check) (t : Bytes) → IsBytes t → holds (c .test) blankLedger (run step t blankWorld) ≡ true
-passes-check = demands-hold step demands
+pub passes-check : (c : Check) (t : Bytes) → IsBytes t → holds (c .test) blankLedger (run stepAt t blankWorld) ≡ true
+passes-check c t = demands-hold stepAt t demands c
+
+pub passes-readings : (t : Bytes) → IsBytes t → readsHold readBlock blankLedger blankWorld (run stepAt t blankWorld) ≡ true
+passes-readings t = readings-hold stepAt t readBlock readings
+
+pub passes-decides : (t : Bytes) (w : World) → decidesTest stepAt t w ≡ true
+passes-decides = decides stepAt command-decided

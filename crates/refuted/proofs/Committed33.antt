@@ -14,21 +14,22 @@ use lib.Dec.{eqb, leb, ltb}
 use borrow.Author.Tests.{leb-false, ltb-true, not-false}
 use Rattle.model.specs.Lists.{any, below}
 use Rattle.model.specs.Bytes.{Bytes}
-use Rattle.model.specs.Shape.{inRange}
 use Rattle.model.specs.Card.{newName, isBlank, isDown, shapeOf}
 use Rattle.model.specs.Journal.{nameOf}
 use Rattle.model.specs.Valid.{isIn}
-use Rattle.model.specs.Command.{World, Outcome, refusal, unless, noCore}
-use Rattle.model.specs.Checkpoint.{validNow, committedOf, oldest, share, sharesLower, checkpointConditions, checkpointed, checkpoint}
-use Rattle.model.specs.Tape.{Step, Point, step, runFrom, run, commandByte, operandsAt, commandAt, nextOffset}
+use Rattle.model.specs.Command.{World, Outcome, unless, noCore}
+use Rattle.model.specs.Checkpoint.{validNow, committedOf, oldest, share, sharesLower, checkpointConditions, checkpointed}
+use Rattle.model.specs.Tape.{Command, Read, whole, unknown, early, Step, Point, readAt, obeyed, runFrom, run, commandByte, commandAt, nextOffset}
+use Rattle.model.specs.Step.{conditionsOf, doneBy, step, stepAt}
+use Rattle.model.specs.Reading.{readBlock}
 use Rattle.model.specs.declared.Shape.{Shape}
 use Rattle.model.specs.declared.Name.{Name}
 use Rattle.model.proofs.Lists.{cases, and-left, any-mem, mem-below}
 use Rattle.model.proofs.Tape.{pointAt}
+use Rattle.model.proofs.Command.{unless-same}
 use Rattle.crash.specs.Book.{isCommitted, kept}
-use Rattle.crash.specs.Service.{emptyService}
-use Rattle.crash.specs.Ledger.{Ledger, blankLedger, validIn}
-use Rattle.crash.specs.Claims.{IsBytes, blankStart, downStart, downLedger, AreaKept, LedgerKept, Claim, Demands}
+use Rattle.crash.specs.Ledger.{Ledger, validIn}
+use Rattle.crash.specs.Claims.{IsBytes, Start, from-blank, from-down, StartFits, startWorld, startService, startLedger, AreaKept, LedgerKept, ReadingsKept, Claim, Demands, Readings}
 use Rattle.crash.proofs.Tests.{clash, false-of, in-any, blockEquality}
 use Rattle.crash.proofs.BookEntries.{oldestName, uncommittedName}
 use Rattle.crash.proofs.History.{Event, Took, Status, Sound, Chain, older, kept-link}
@@ -39,10 +40,11 @@ use Rattle.crash.proofs.ReadCheckpoint.{Lower, lowerClosed, closed-lower, oldes
 use Rattle.crash.proofs.CardAnswers.{Same, none-left, then, same-refusal}
 use Rattle.crash.proofs.CardFormat.{down-start}
 use Rattle.crash.proofs.Points.{Goes, goes}
-use Rattle.crash.proofs.Theorem.{UpAt, blank-phase, At, at-blank, at-up, at-down, numbered, relates, claim, demands}
+use Rattle.crash.proofs.UpSteps.{UpAt, numbered}
+use Rattle.crash.proofs.Theorem.{blank-phase, At, at-blank, at-up, at-down, relates, claim, demands, readings}
 use Rattle.refuted.specs.Wrong.{sharesCommitted, committedConditions, onlyCommitted33}
-use Rattle.refuted.specs.Parts.{coreIn}
-use Rattle.refuted.proofs.Parts.{instead-same-at}
+use Rattle.refuted.specs.Parts.{onTape}
+use Rattle.refuted.proofs.Parts.{other-checkpoint}
 
 -- ---- one block's history
 module _ {Txn : Type 0} (s : Status Txn) (sound : Sound s) (stored : Txn → Bool) {Image : Type 0} where
@@ -146,61 +148,60 @@ module _ {l : Ledger} {w : World} (here : At l w) (c : ℕ) where
       then refl (λ valid.
       then (last-same here up low core some valid) (λ _. none-left)))))))
 
-unless-same : (xs ys : List (Bool × ℕ)) (w : World) (o : Outcome) → refusal xs ≡ refusal ys → unless xs w o ≡ unless ys w o
-unfolding unless
-unless-same xs ys w o e = rw (e, unless) refl
-
-pub same-step : (l : Ledger) (w : World) → At l w → (k : ℕ) (a : Bytes) → onlyCommitted33 k a w ≡ step k a w
-unfolding step checkpoint
+pub same-step : (l : Ledger) (w : World) → At l w → (k : Command) → onlyCommitted33 k w ≡ step k w
+unfolding step conditionsOf doneBy
 same-step l w here =
-    instead-same-at 5 (λ (a : Bytes) (w : World). unless (committedConditions (coreIn a) w) w (checkpointed (coreIn a) w)) w
-    (λ a. unless-same (committedConditions (coreIn a) w) (checkpointConditions (coreIn a) w) w (checkpointed (coreIn a) w) (same-refusal (same-conditions here (coreIn a))))
+    other-checkpoint w (λ (c : ℕ) (w : World). unless (committedConditions c w) w (checkpointed c w))
+    (λ c. unless-same (committedConditions c w) (checkpointConditions c w) w (checkpointed c w) (same-refusal (same-conditions here c)))
 
 -- ---- along a tape
 -- a card that does as the model's in every world of a run
-module _ (f : Step) (same : (l : Ledger) (w : World) → At l w → (k : ℕ) (a : Bytes) → f k a w ≡ step k a w) (t : Bytes) (bytes : IsBytes t) where
-  command-same : (at : ℕ) (l : Ledger) (w : World) → At l w → commandAt step t at w ≡ commandAt f t at w
-  unfolding commandAt
-  command-same at l w here = ap (unless _ w) (sym (same l w here (commandByte t at) (operandsAt t at)))
+module _ (f : Step World) (same : (l : Ledger) (w : World) → At l w → (k : Command) → f k w ≡ step k w) (t : Bytes) (bytes : IsBytes t) where
+  obeyed-same : (l : Ledger) (w : World) → At l w → (r : Read) → obeyed step r w ≡ obeyed f r w
+  unfolding obeyed
+  obeyed-same l w here (whole k) = sym (same l w here k)
+  obeyed-same l w here unknown = refl
+  obeyed-same l w here early = refl
 
-  same-from : (most at n : ℕ) (l : Ledger) (w : World) → At l w → runFrom most step t at n w ≡ runFrom most f t at n w
+  command-same : (at : ℕ) (l : Ledger) (w : World) → At l w → stepAt t at w ≡ onTape f t at w
+  unfolding stepAt commandAt
+  command-same at l w here = ap (unless _ w) (obeyed-same l w here (readAt t at))
+
+  same-from : (most at n : ℕ) (l : Ledger) (w : World) → At l w → runFrom most stepAt t at n w ≡ runFrom most (onTape f) t at n w
   unfolding runFrom
   same-from zero at n l w here = refl
   same-from (suc most) at n l w here =
       cases (ltb at (length t))
       (λ h.
-      let o = commandAt step t at w in
-      let g : Goes At relates l (pointAt step t at n w) = goes At relates t bytes at n (ltb-true at (length t) h) l w here in
-      let rest : runFrom most step t (nextOffset t at) (n + o .stores) (o .world) ≡ runFrom most f t (nextOffset t at) (n + o .stores) (o .world) =
+      let o = stepAt t at w in
+      let g : Goes At l w (readAt t at) o = goes At relates t bytes at l w here in
+      let rest : runFrom most stepAt t (nextOffset t at) (n + o .stores) (o .world) ≡ runFrom most (onTape f) t (nextOffset t at) (n + o .stores) (o .world) =
       same-from most (nextOffset t at) (n + o .stores) _ (o .world) (g .next) in
       rw (h, runFrom)
-      (ap (λ (ps : List Point). pointAt step t at n w ∷ ps) rest
-      ∙ ap (λ (o : Outcome). record { offset = at; byte = commandByte t at; operands = operandsAt t at; before = w; outcome = o; stores = n + o .stores } ∷ runFrom most f t (nextOffset t at) (n + o .stores) (o .world))
+      (ap (λ (ps : List (Point World)). pointAt stepAt t at n w ∷ ps) rest
+      ∙ ap (λ (o : Outcome World). record { offset = at; byte = commandByte t at; read = readAt t at; before = w; outcome = o; stores = n + o .stores } ∷ runFrom most (onTape f) t (nextOffset t at) (n + o .stores) (o .world))
       (command-same at l w here)))
       (λ h. rw (h, runFrom) refl)
 
-  run-same : (l : Ledger) (w : World) → At l w → run step t w ≡ run f t w
+  run-same : (l : Ledger) (w : World) → At l w → run stepAt t w ≡ run (onTape f) t w
   unfolding run
   run-same l w here = same-from (length t) 0 0 l w here
 
--- The runs are the same, from both starts.
-pub same-from-blank : (t d m : Bytes) → IsBytes t → length d ≡ 32896 → length m ≡ 16384 → run step t (blankStart d m) ≡ run onlyCommitted33 t (blankStart d m)
-same-from-blank t d m b ld lm =
-    run-same onlyCommitted33 same-step t b blankLedger (blankStart d m) (at-blank (record { card = refl; ledger = refl; disk = ld; memory = lm }))
+starts : (s : Start) → StartFits s → At (startLedger s) (startWorld s)
+unfolding startLedger startWorld
+starts (from-blank d m) h = at-blank (record { card = refl; ledger = refl; disk = h .stated .0; memory = h .stated .1 })
+starts (from-down s m) h = at-down (down-start s m (h .stated .0) (h .memory) (h .stated .1))
 
-pub same-from-down : (t m : Bytes) (s : Shape) → inRange (s .cores) (s .blocks) (s .journal) ≡ true → IsBytes t → IsBytes m → length m ≡ 16384
-    → run step t (downStart s m) ≡ run onlyCommitted33 t (downStart s m)
-same-from-down t m s h b bm lm = run-same onlyCommitted33 same-step t b (downLedger s) (downStart s m) (at-down (down-start s m h bm lm))
+-- The runs are the same, from every start.
+pub same-runs : (t : Bytes) → IsBytes t → (s : Start) → StartFits s → run stepAt t (startWorld s) ≡ run (onTape onlyCommitted33) t (startWorld s)
+same-runs t b s h = run-same onlyCommitted33 same-step t b (startLedger s) (startWorld s) (starts s h)
 
 -- so no demand tells it from the model's card
-pub claim-33 : Claim onlyCommitted33
-claim-33 = (
-  λ t d m bt bd bm ld lm. subst (AreaKept (emptyService 0)) (same-from-blank t d m bt ld lm) (claim .0 t d m bt bd bm ld lm),
-  λ t m s h bt bm lm. subst (AreaKept (emptyService (s .blocks))) (same-from-down t m s h bt bm lm) (claim .1 t m s h bt bm lm),
-)
+pub claim-33 : Claim (onTape onlyCommitted33)
+claim-33 t b s h = subst (AreaKept (startService s)) (same-runs t b s h) (claim t b s h)
 
-pub demands-33 : Demands onlyCommitted33
-demands-33 = (
-  λ t d m bt bd bm ld lm. subst (LedgerKept 0 blankLedger (blankStart d m)) (same-from-blank t d m bt ld lm) (demands .0 t d m bt bd bm ld lm),
-  λ t m s h bt bm lm. subst (LedgerKept 0 (downLedger s) (downStart s m)) (same-from-down t m s h bt bm lm) (demands .1 t m s h bt bm lm),
-)
+pub demands-33 : Demands (onTape onlyCommitted33)
+demands-33 t b s h = subst (LedgerKept 0 (startLedger s) (startWorld s)) (same-runs t b s h) (demands t b s h)
+
+pub readings-33 : Readings readBlock (onTape onlyCommitted33)
+readings-33 t b s h = subst (ReadingsKept readBlock (startLedger s) (startWorld s)) (same-runs t b s h) (readings t b s h)

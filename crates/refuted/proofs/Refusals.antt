@@ -1,24 +1,31 @@
 -- Demand 1, number by number: 'Each is answered under its condition and under no other'.
--- A card that does not test a condition, and one that answers a number always, are refuted by tables that are computed.
+-- A card that does not ask for a condition, and one that answers a number always, are refuted by tables that are computed.
 use Prim.Native.Nat.{ℕ}
 use mathlib.Core.Path.{_≡_, refl}
 use mathlib.Core.Bool.{Bool, true, not, _&&_}
 use mathlib.Core.List.{List, [], _∷_, _++_, flatMap, List·Memᴰ}
+use borrow.Author.Tests.{not-true}
 use Rattle.model.specs.Lists.{below, all}
-use Rattle.model.specs.Bytes.{Bytes}
-use Rattle.model.specs.Tape.{Step, run, blankWorld}
+use Rattle.model.specs.Bytes.{Bytes, zeroDisk, zeroMemory}
+use Rattle.model.specs.Shape.{newShape}
+use Rattle.model.specs.Card.{newTail, freshCard, blankCard, downCard}
+use Rattle.model.specs.Command.{World}
+use Rattle.model.specs.Tape.{Step, TapeStep, run}
+use Rattle.model.specs.Step.{DecidesEach}
+use Rattle.model.specs.Printing.{blankWorld}
+use Rattle.model.specs.declared.Phase.the-variants.{Up}
 use Rattle.model.proofs.Lists.{all-mem}
 use Rattle.crash.specs.Ledger.{blankLedger}
 use Rattle.crash.specs.Claims.{Demands}
-use Rattle.refuted.specs.Parts.{ignoring, refusing}
-use Rattle.refuted.proofs.Checks.{answerTest, answers, holds, areBytes, refutes-demands}
+use Rattle.crash.proofs.Tests.{clash}
+use Rattle.refuted.specs.Parts.{onTape, ignoring, ignoringAt, refusing}
+use Rattle.refuted.proofs.Checks.{answerTest, answers, holds, decidesTest, decides, areBytes, refutes-demands}
 use Rattle.refuted.proofs.Tapes.{tests, format, write, close, stores, checkpoints, cut, recovers, thirteenth}
 
-unfoldable failsAnswers : Step → Bytes → Bool
-failsAnswers f t = areBytes t && not (holds answerTest blankLedger (run f t blankWorld))
+unfoldable failsAnswers : Step World → Bytes → Bool
+failsAnswers f t = areBytes t && not (holds answerTest blankLedger (run (onTape f) t blankWorld))
 
--- ---- under its condition: of each number a tape whose last command meets it. 1 and 8 need other slices than the demands
--- start from, 2 and 3 are the tape's, and 27 needs numbers as `CapMissing` does.
+-- ---- under its condition: of each number a tape whose last command meets it
 abbrev pub conditionTapes : List (ℕ × Bytes)
 conditionTapes =
     (4, format 9 1 4)
@@ -44,9 +51,31 @@ conditions-fail : all (λ (e : ℕ × Bytes). failsAnswers (ignoring (e .0)) (e 
 unfolding tests failsAnswers
 conditions-fail = refl
 
-pub each-condition : (e : ℕ × Bytes) → List·Memᴰ e conditionTapes → Demands (ignoring (e .0)) → ⊥
+pub each-condition : (e : ℕ × Bytes) → List·Memᴰ e conditionTapes → Demands (onTape (ignoring (e .0))) → ⊥
 unfolding failsAnswers
-each-condition e m = refutes-demands (ignoring (e .0)) answers (e .1) (all-mem _ conditionTapes conditions-fail m)
+each-condition e m = refutes-demands (onTape (ignoring (e .0))) answers (e .1) (all-mem _ conditionTapes conditions-fail m)
+
+-- 1 and 8 need other slices than runs start from, 2 and 3 are the tape's, and 27 needs numbers as `CapMissing` does: of each one
+-- command that meets it, with its world
+abbrev pub oneCommand : List (ℕ × Bytes × World)
+oneCommand =
+    (1, format 1 1 4, record { card = blankCard; disk = []; memory = zeroMemory })
+    ∷ (2, 0 ∷ [], blankWorld)
+    ∷ (3, 1 ∷ [], blankWorld)
+    ∷ (8, recovers 1, record { card = downCard; disk = zeroDisk; memory = zeroMemory })
+    ∷ (27, write 0 0 0 1, record { card = freshCard Up (newShape 1 1 4) (newTail 4000000001 0 ∷ []); disk = zeroDisk; memory = zeroMemory })
+    ∷ []
+
+unfoldable failsOne : TapeStep World → Bytes → World → Bool
+failsOne f t w = not (decidesTest f t w)
+
+commands-fail : all (λ (e : ℕ × Bytes × World). failsOne (ignoringAt (e .0)) (e .1) (e .2)) oneCommand ≡ true
+unfolding tests failsOne
+commands-fail = refl
+
+pub each-decided : (e : ℕ × Bytes × World) → List·Memᴰ e oneCommand → DecidesEach (ignoringAt (e .0)) → ⊥
+unfolding failsOne
+each-decided e m h = clash (decides (ignoringAt (e .0)) h (e .1) (e .2)) (not-true _ (all-mem _ oneCommand commands-fail m))
 
 -- ---- under no other: 'that shuts out a card that refuses every WRITE'. Each command with a number that it may answer.
 abbrev pub alwaysRefused : List (ℕ × ℕ)
@@ -60,6 +89,6 @@ always-fail : all (λ (e : ℕ × ℕ). failsAnswers (refusing (e .0) (e .1)) al
 unfolding tests failsAnswers
 always-fail = refl
 
-pub each-command : (e : ℕ × ℕ) → List·Memᴰ e alwaysRefused → Demands (refusing (e .0) (e .1)) → ⊥
+pub each-command : (e : ℕ × ℕ) → List·Memᴰ e alwaysRefused → Demands (onTape (refusing (e .0) (e .1))) → ⊥
 unfolding failsAnswers
-each-command e m = refutes-demands (refusing (e .0) (e .1)) answers allDone (all-mem _ alwaysRefused always-fail m)
+each-command e m = refutes-demands (onTape (refusing (e .0) (e .1))) answers allDone (all-mem _ alwaysRefused always-fail m)

@@ -1,21 +1,23 @@
--- The model's card with a part of a command replaced. With the model's own parts each is the model's card (`proofs/Parts.antt`).
+-- The model's card with a command, or a part of one, replaced. With the model's own parts each is the model's card
+-- (`proofs/Parts.antt`).
 use Prim.Native.Nat.{ℕ, _+_}
 use mathlib.Core.List.{List, [], _∷_, map}
 use mathlib.Core.Bool.{Bool, false, cond}
-use lib.ListN.{length, getD}
+use lib.ListN.{length}
 use lib.Dec.{eqb, ltb, leb}
 use Rattle.model.specs.Lists.{below, select}
-use Rattle.model.specs.Bytes.{Bytes, number, part}
+use Rattle.model.specs.Bytes.{Bytes}
 use Rattle.model.specs.Shape.{homeBlock}
 use Rattle.model.specs.Card.{newTail, freshCard, coreOf, withCore, withRunning}
 use Rattle.model.specs.Layout.{masterBlock}
 use Rattle.model.specs.Journal.{journal}
 use Rattle.model.specs.Valid.{blocksHeld, newest}
-use Rattle.model.specs.Command.{World, Outcome, storing, unless}
+use Rattle.model.specs.Command.{World, Outcome, wrongLength, storing, refusedWith, unless}
+use Rattle.model.specs.Write.{writeConditions, written}
 use Rattle.model.specs.Commit.{coreStored, storeConditions}
 use Rattle.model.specs.Recovery.{shapeOn, tailOn, recoverConditions, blocksLeft, imageFound, newestImage, recoveredTo, emptiedTail}
-use Rattle.model.specs.Tape.{Step, step}
-use Rattle.model.proofs.Command.{rowOf}
+use Rattle.model.specs.Tape.{Command, FORMAT, WRITE, CLOSE, STORE, CHECKPOINT, CUT, RECOVER, Step, TapeStep, readAt, commandAt}
+use Rattle.model.specs.Step.{conditionsOf, doneBy, step, conditionsOn, doneOn}
 use Rattle.model.specs.declared.Phase.the-variants.{Up}
 use Rattle.model.specs.declared.Found.the-variants.{Miss}
 use Rattle.model.specs.declared.Tail.{Tail}
@@ -24,40 +26,106 @@ use Rattle.model.specs.declared.Core.{Core}
 use Rattle.model.specs.declared.Card.{Card}
 use Rattle.model.specs.declared.Committed.{Committed}
 
--- ---- any command
--- the model's card with another command n
-abbrev pub instead : ℕ → (Bytes → World → Outcome) → Step
-instead n g k a w = cond (eqb k n) (g a w) (step k a w)
+-- a card as a tape meets it: 1, 2 and 3 are asked as in the model
+abbrev pub onTape : Step World → TapeStep World
+onTape f = commandAt wrongLength f
 
--- the operands: a core, and WRITE's block
-abbrev pub coreIn : Bytes → ℕ
-coreIn a = getD a 0 0
+-- ---- the card f with another command: a WRITE, a CLOSE and so on
+abbrev pub otherWrite : Step World → (ℕ → ℕ → ℕ → Bytes → World → Outcome World) → Step World
+otherWrite f g (FORMAT c b j) w = f (FORMAT c b j) w
+otherWrite f g (WRITE c b o v) w = g c b o v w
+otherWrite f g (CLOSE c) w = f (CLOSE c) w
+otherWrite f g (STORE c) w = f (STORE c) w
+otherWrite f g (CHECKPOINT c) w = f (CHECKPOINT c) w
+otherWrite f g CUT w = f CUT w
+otherWrite f g RECOVER w = f RECOVER w
 
-abbrev pub blockIn : Bytes → ℕ
-blockIn a = number 0 (part 1 2 a)
+abbrev pub otherClose : Step World → (ℕ → World → Outcome World) → Step World
+otherClose f g (FORMAT c b j) w = f (FORMAT c b j) w
+otherClose f g (WRITE c b o v) w = f (WRITE c b o v) w
+otherClose f g (CLOSE c) w = g c w
+otherClose f g (STORE c) w = f (STORE c) w
+otherClose f g (CHECKPOINT c) w = f (CHECKPOINT c) w
+otherClose f g CUT w = f CUT w
+otherClose f g RECOVER w = f RECOVER w
 
-abbrev pub refuses : ℕ → World → Outcome
-refuses n w = record { answer = n; world = w; stores = 0 }
+abbrev pub otherStore : Step World → (ℕ → World → Outcome World) → Step World
+otherStore f g (FORMAT c b j) w = f (FORMAT c b j) w
+otherStore f g (WRITE c b o v) w = f (WRITE c b o v) w
+otherStore f g (CLOSE c) w = f (CLOSE c) w
+otherStore f g (STORE c) w = g c w
+otherStore f g (CHECKPOINT c) w = f (CHECKPOINT c) w
+otherStore f g CUT w = f CUT w
+otherStore f g RECOVER w = f RECOVER w
 
--- a command that always says n
-abbrev pub refusing : ℕ → ℕ → Step
-refusing k n = instead k (λ (a : Bytes) (w : World). refuses n w)
+abbrev pub otherCheckpoint : Step World → (ℕ → World → Outcome World) → Step World
+otherCheckpoint f g (FORMAT c b j) w = f (FORMAT c b j) w
+otherCheckpoint f g (WRITE c b o v) w = f (WRITE c b o v) w
+otherCheckpoint f g (CLOSE c) w = f (CLOSE c) w
+otherCheckpoint f g (STORE c) w = f (STORE c) w
+otherCheckpoint f g (CHECKPOINT c) w = g c w
+otherCheckpoint f g CUT w = f CUT w
+otherCheckpoint f g RECOVER w = f RECOVER w
+
+abbrev pub otherCut : Step World → (World → Outcome World) → Step World
+otherCut f g (FORMAT c b j) w = f (FORMAT c b j) w
+otherCut f g (WRITE c b o v) w = f (WRITE c b o v) w
+otherCut f g (CLOSE c) w = f (CLOSE c) w
+otherCut f g (STORE c) w = f (STORE c) w
+otherCut f g (CHECKPOINT c) w = f (CHECKPOINT c) w
+otherCut f g CUT w = g w
+otherCut f g RECOVER w = f RECOVER w
+
+abbrev pub otherRecover : Step World → (World → Outcome World) → Step World
+otherRecover f g (FORMAT c b j) w = f (FORMAT c b j) w
+otherRecover f g (WRITE c b o v) w = f (WRITE c b o v) w
+otherRecover f g (CLOSE c) w = f (CLOSE c) w
+otherRecover f g (STORE c) w = f (STORE c) w
+otherRecover f g (CHECKPOINT c) w = f (CHECKPOINT c) w
+otherRecover f g CUT w = f CUT w
+otherRecover f g RECOVER w = g w
+
+-- ---- tables
+-- the byte of a command
+abbrev pub byteOf : Command → ℕ
+byteOf (FORMAT c b j) = 1
+byteOf (WRITE c b o v) = 2
+byteOf (CLOSE c) = 3
+byteOf (STORE c) = 4
+byteOf (CHECKPOINT c) = 5
+byteOf CUT = 6
+byteOf RECOVER = 7
+
+-- the command of byte k always answers n
+abbrev pub refusing : ℕ → ℕ → Step World
+refusing k n m w = cond (eqb (byteOf m) k) (refusedWith n w) (step m w)
 
 -- the condition of number n is another one
-abbrev pub asking : ℕ → (Bytes → World → Bool) → Step
-asking n test k a w =
-    unless (map (λ (t : Bool × ℕ). cond (eqb (t .1) n) (test a w, n) t) ((rowOf k a w) .conditions)) w ((rowOf k a w) .done)
+abbrev pub withCondition : ℕ → Bool → List (Bool × ℕ) → List (Bool × ℕ)
+withCondition n test ts = map (λ (t : Bool × ℕ). cond (eqb (t .1) n) (test, n) t) ts
+
+-- .. in WRITE
+abbrev pub writeAsking : ℕ → (ℕ → ℕ → World → Bool) → Step World
+writeAsking n test = otherWrite step (λ c b o v w. unless (withCondition n (test c b w) (writeConditions c b o w)) w (written c b o v w))
 
 -- the condition of number n is not asked
-abbrev pub ignoring : ℕ → Step
-ignoring n = asking n (λ (a : Bytes) (w : World). false)
+abbrev pub ignoring : ℕ → Step World
+ignoring n k w = unless (withCondition n false (conditionsOf k w)) w (doneBy k w)
 
+-- .. with 1, 2 and 3 among them, which are the tape's
+abbrev pub ignoringAt : ℕ → TapeStep World
+ignoringAt n t at w = unless (withCondition n false (conditionsOn (readAt t at) w)) w (doneOn (readAt t at) w)
+
+-- ---- outcomes and cards changed
 -- where a command is carried out, the card that it leaves is changed once more
-abbrev pub patched : (Card → Card) → Outcome → Outcome
+abbrev pub patched : (Card → Card) → Outcome World → Outcome World
 patched g o =
     cond (eqb (o .answer) 0)
     (record { answer = 0; world = record { card = g (o .world .card); disk = o .world .disk; memory = o .world .memory }; stores = o .stores })
     o
+
+abbrev pub withMemory : Bytes → Outcome World → Outcome World
+withMemory m o = record { answer = o .answer; world = record { card = o .world .card; disk = o .world .disk; memory = m }; stores = o .stores }
 
 abbrev pub withCard : World → Card → World
 withCard w x = record { card = x; disk = w .disk; memory = w .memory }
@@ -76,25 +144,24 @@ onClosed c g x =
     withCore x c (record { next = k .next; used = k .used; stored = k .stored; homed = k .homed; running = k .running; closed = g (k .closed) })
 
 -- ---- STORE: where the next block is stored, and its bytes
-abbrev pub storeBy : (Card → ℕ → ℕ) → (ℕ → Core → Bytes → Bytes) → Step
+abbrev pub storeBy : (Card → ℕ → ℕ) → (ℕ → Core → Bytes → Bytes) → Step World
 storeBy place bytes =
-    instead 4 (λ (a : Bytes) (w : World).
-    let c = coreIn a in
+    otherStore step (λ c w.
     let k = coreOf (w .card) c in
     unless (storeConditions c w) w (storing w (withCore (w .card) c (coreStored k)) (place (w .card) c) (bytes c k (w .memory))))
 
 -- ---- RECOVER: the blocks left, the image that a block gets, the tails that the master store gives
-abbrev pub recoverStepBy : (Bytes → ℕ → Bytes) → (Bytes → ℕ → Tail) → List ℕ → World → Outcome
+abbrev pub recoverStepBy : (Bytes → ℕ → Bytes) → (Bytes → ℕ → Tail) → List ℕ → World → Outcome World
 recoverStepBy image tail [] w =
     let s = shapeOn (w .disk) in
     storing w (freshCard Up s (map (tail (w .disk)) (below 8))) 0 (masterBlock s (tail (w .disk)))
 recoverStepBy image tail (b ∷ bs) w = storing w (recoveredTo (w .card) (b + 1)) (homeBlock b) (image (w .disk) b)
 
-abbrev pub recoverBy : (World → List ℕ) → (Bytes → ℕ → Bytes) → (Bytes → ℕ → Tail) → Step
-recoverBy left image tail = instead 7 (λ (a : Bytes) (w : World). unless (recoverConditions w) w (recoverStepBy image tail (left w) w))
+abbrev pub recoverBy : (World → List ℕ) → (Bytes → ℕ → Bytes) → (Bytes → ℕ → Tail) → Step World
+recoverBy left image tail = otherRecover step (λ w. unless (recoverConditions w) w (recoverStepBy image tail (left w) w))
 
 -- by the set of transactions that count as valid on a disk
-abbrev pub recoverSet : (Bytes → List Committed) → Step
+abbrev pub recoverSet : (Bytes → List Committed) → Step World
 recoverSet set =
     recoverBy (λ (w : World). select (leb (w .card .recovered)) (blocksHeld (shapeOn (w .disk)) (w .disk) (set (w .disk))))
     (λ (d : Bytes) (b : ℕ). imageFound d b (newest (shapeOn d) d b Miss (set d))) emptiedTail
@@ -106,5 +173,5 @@ tailBy next d c =
     let t = tailOn d c in
     cond (ltb c (s .cores)) (newTail (next (t .number) (length (journal s d c t (s .journal)))) 0) (newTail 0 0)
 
-abbrev pub recoverTail : (ℕ → ℕ → ℕ) → Step
+abbrev pub recoverTail : (ℕ → ℕ → ℕ) → Step World
 recoverTail next = recoverBy blocksLeft newestImage (tailBy next)

@@ -1,13 +1,14 @@
--- Cards that are the model's save in one rule: those of paper 01's section 'Where a card goes astray', then others.
+-- Cards that are the model's save in one rule: those of paper 01's section 'Where a card goes astray', then others, and wrong
+-- readings.
 use Prim.Native.Nat.{ℕ, suc, _+_, _*_, _-_, max, min}
 use mathlib.Core.List.{List, [], _∷_, map}
 use mathlib.Core.Bool.{Bool, cond, not, _&&_, _||_}
 use lib.ListN.{length, getD, set, take, replicate}
 use lib.Dec.{eqb, leb, ltb}
 use Rattle.model.specs.Lists.{below, select, any}
-use Rattle.model.specs.Bytes.{Bytes, blockAt, part, replaced}
+use Rattle.model.specs.Bytes.{Bytes, blockAt, replaced}
 use Rattle.model.specs.Shape.{homeBlock, journalBlock}
-use Rattle.model.specs.Card.{taken, listed, lists, stamped, withBlock, newHolder, withHolder, recordSize, freshCard, shapeOf, tailOf, coreOf, holderOf}
+use Rattle.model.specs.Card.{taken, listed, lists, stamped, withBlock, newHolder, withHolder, recordSize, freshCard, shapeOf, tailOf, coreOf, holderOf, isDown}
 use Rattle.model.specs.Layout.{maxNumber, masterBlock, newHeld, descriptorBlock, commitBlock}
 use Rattle.model.specs.Journal.{journalAt, nameOf, blocksOf}
 use Rattle.model.specs.Shrink.{strike}
@@ -17,7 +18,9 @@ use Rattle.model.specs.Write.{writer, writerName, ruleFor, takesBlock, namesHol
 use Rattle.model.specs.Commit.{copyBlock, closedNumber, nextStored, nextPosition}
 use Rattle.model.specs.Checkpoint.{committedNow, validNow, committedOf, oldest, share, checkpointConditions, checkpointed, storedMaster}
 use Rattle.model.specs.Recovery.{shapeOn, tailOn, committedOn, validOn, recoverConditions, blocksLeft, placeOf, imageFound, newestImage, recoveredTo, emptiedTail, recoverStep}
-use Rattle.model.specs.Tape.{Step, step}
+use Rattle.model.specs.Tape.{Step, CHECKPOINT, CLOSE, CUT, Command, FORMAT, RECOVER, STORE, WRITE}
+use Rattle.model.specs.Step.{step}
+use Rattle.model.specs.Reading.{readNumber}
 use Rattle.model.specs.declared.Phase.the-variants.{Up}
 use Rattle.model.specs.declared.Found.{Found}
 use Rattle.model.specs.declared.Found.the-variants.{Whole, Miss}
@@ -27,7 +30,7 @@ use Rattle.model.specs.declared.Transaction.{Transaction}
 use Rattle.model.specs.declared.Core.{Core}
 use Rattle.model.specs.declared.Card.{Card}
 use Rattle.model.specs.declared.Committed.{Committed}
-use Rattle.refuted.specs.Parts.{instead, coreIn, blockIn, refusing, asking, patched, withCard, withCloses, onRunning, onClosed, storeBy, recoverBy, recoverSet, recoverTail}
+use Rattle.refuted.specs.Parts.{otherWrite, otherClose, otherStore, otherCheckpoint, otherCut, otherRecover, refusing, writeAsking, patched, withMemory, withCard, withCloses, onRunning, onClosed, storeBy, recoverBy, recoverSet, recoverTail}
 
 -- ---- 'Where a card goes astray'
 -- 'No name for a holder already committed': the writer's list stays as it was
@@ -37,25 +40,25 @@ withNamesOf t u = record { live = u .live; stamp = u .stamp; count = u .count; b
 abbrev isClosedNow : Card → Name → Bool
 isClosedNow x n = let k = coreOf x (n .core) in k .closed .live && eqb (closedNumber k) (n .number)
 
-abbrev pub noNameForCommitted : Step
+abbrev pub noNameForCommitted : Step World
 noNameForCommitted =
-    instead 2 (λ (a : Bytes) (w : World).
+    otherWrite step (λ c b o v w.
     let x = w .card in
-    let c = coreIn a in
-    let r = ruleFor x c (blockIn a) in
-    let isCommitted = takesBlock r && namesHolder r && not (isClosedNow x ((holderOf x (blockIn a)) .name)) in
-    cond isCommitted (patched (onRunning c (withNamesOf (writer x c))) (step 2 a w)) (step 2 a w))
+    let r = ruleFor x c b in
+    let isCommitted = takesBlock r && namesHolder r && not (isClosedNow x ((holderOf x b) .name)) in
+    let done = step (WRITE c b o v) w in
+    cond isCommitted (patched (onRunning c (withNamesOf (writer x c))) done) done)
 
 -- 'Trusting that a block cannot be in both of two tied transactions .. The stamp decides.': the last in order of core
 -- and number decides
 abbrev unstamped : Committed → Committed
 unstamped e = record { core = e .core; number = e .number; position = e .position; count = e .count; stamp = 0; named = e .named }
 
-abbrev pub newestByOrder : Step
+abbrev pub newestByOrder : Step World
 newestByOrder = recoverBy blocksLeft (λ (d : Bytes) (b : ℕ). imageFound d b (newest (shapeOn d) d b Miss (map unstamped (validOn d)))) emptiedTail
 
 -- 'Tails emptied core by core': one master store each, in the places after the last home block's
-abbrev byCore : List ℕ → World → Outcome
+abbrev byCore : List ℕ → World → Outcome World
 byCore [] w =
     let d = w .disk in
     let s = shapeOn d in
@@ -64,82 +67,93 @@ byCore [] w =
     storing w (cond (eqb (i + 1) (s .cores)) (freshCard Up s (map tails (below 8))) (recoveredTo (w .card) (65 + i))) 0 (masterBlock s tails)
 byCore (b ∷ bs) w = recoverStep (b ∷ bs) w
 
-abbrev pub tailsCoreByCore : Step
-tailsCoreByCore = instead 7 (λ (a : Bytes) (w : World). unless (recoverConditions w) w (byCore (blocksLeft w) w))
+abbrev pub tailsCoreByCore : Step World
+tailsCoreByCore = otherRecover step (λ w. unless (recoverConditions w) w (byCore (blocksLeft w) w))
 
 -- 'A number used again': recovery leaves the tail numbers, or begins them at 1 again
-abbrev pub tailUnchanged : Step
+abbrev pub tailUnchanged : Step World
 tailUnchanged = recoverTail (λ (t n : ℕ). t)
 
-abbrev pub numbersFromOne : Step
+abbrev pub numbersFromOne : Step World
 numbersFromOne = recoverTail (λ (t n : ℕ). 1)
 
 -- ---- 'Cards that look busy'
 -- 'one whose RECOVER reports up before its home stores'
-abbrev pub upBeforeHome : Step
+abbrev pub upBeforeHome : Step World
 upBeforeHome = recoverBy (λ (w : World). []) newestImage emptiedTail
 
 -- 'one that stores the first record and afterwards only counts', of each core
-abbrev pub firstRecordOnly : Step
+abbrev pub firstRecordOnly : Step World
 firstRecordOnly =
-    instead 4 (λ (a : Bytes) (w : World).
-    let o = step 4 a w in
-    cond (leb (closedNumber (coreOf (w .card) (coreIn a))) 1) o
+    otherStore step (λ c w.
+    let o = step (STORE c) w in
+    cond (leb (closedNumber (coreOf (w .card) c)) 1) o
     (record { answer = o .answer; world = record { card = o .world .card; disk = w .disk; memory = o .world .memory }; stores = o .stores }))
 
 -- 'one printing an invented store count': CLOSE counts one
-abbrev pub inventedCount : Step
+abbrev pub inventedCount : Step World
 inventedCount =
-    instead 3 (λ (a : Bytes) (w : World).
-    let o = step 3 a w in
+    otherClose step (λ c w.
+    let o = step (CLOSE c) w in
     record { answer = o .answer; world = o .world; stores = 1 })
 
 -- 'one whose commands change nothing', after FORMAT; each store is counted
-abbrev pub nothingChanges : Step
-nothingChanges k a w = cond (eqb k 1) (step k a w) (record { answer = 0; world = w; stores = cond (eqb k 4 || eqb k 5 || eqb k 7) 1 0 })
+abbrev counting : ℕ → World → Outcome World
+counting n w = record { answer = 0; world = w; stores = n }
+
+abbrev pub nothingChanges : Step World
+nothingChanges (FORMAT c b j) w = step (FORMAT c b j) w
+nothingChanges (WRITE c b o v) w = counting 0 w
+nothingChanges (CLOSE c) w = counting 0 w
+nothingChanges (STORE c) w = counting 1 w
+nothingChanges (CHECKPOINT c) w = counting 1 w
+nothingChanges CUT w = counting 0 w
+nothingChanges RECOVER w = counting 1 w
 
 -- 'one that recovers a blank area always'
-abbrev pub blankAlways : Step
+abbrev pub blankAlways : Step World
 blankAlways = recoverBy blocksLeft (λ (d : Bytes) (b : ℕ). replicate 128 0) emptiedTail
 
 -- 'one whose STORE always says 30 or CHECKPOINT always 32'
-abbrev pub storeAlways30 : Step
+abbrev pub storeAlways30 : Step World
 storeAlways30 = refusing 4 30
 
-abbrev pub checkpointAlways32 : Step
+abbrev pub checkpointAlways32 : Step World
 checkpointAlways32 = refusing 5 32
 
 -- ---- tails and stamps after recovery
 -- 'a tail number two above the last committed one read in its journal': one above
-abbrev pub tailOneAbove : Step
+abbrev pub tailOneAbove : Step World
 tailOneAbove = recoverTail (λ (t n : ℕ). min (t + max n 1) (suc maxNumber))
 
 -- '(with none, one above the old tail)': the old tail
-abbrev pub tailKept : Step
+abbrev pub tailKept : Step World
 tailKept = recoverTail (λ (t n : ℕ). cond (eqb n 0) t (min (t + (n + 1)) (suc maxNumber)))
 
 -- 'at most 4,000,000,001': no bound
-abbrev pub capMissing : Step
+abbrev pub capMissing : Step World
 capMissing = recoverTail (λ (t n : ℕ). t + (n + 1))
 
 -- 'stamps start again at 1': they go on
-abbrev pub stampsGoOn : Step
-stampsGoOn k a w = cond (eqb k 6 || eqb k 7) (patched (withCloses (w .card .closes)) (step k a w)) (step k a w)
+abbrev pub stampsGoOn : Step World
+stampsGoOn =
+    let goesOn : Command → World → Outcome World = λ k w. patched (withCloses (w .card .closes)) (step k w) in
+    otherCut (otherRecover step (goesOn RECOVER)) (goesOn CUT)
 
 -- ---- recovery
 -- 'The valid set is the largest set ..': one whose names are all committed counts, whatever these name
-abbrev pub validityOneDeep : Step
+abbrev pub validityOneDeep : Step World
 validityOneDeep = recoverSet (λ (d : Bytes). strike (namesMet (shapeOn d) d (tailOn d)) (committedOn d))
 
 -- all committed ones count
-abbrev pub allCommittedValid : Step
+abbrev pub allCommittedValid : Step World
 allCommittedValid = recoverSet committedOn
 
 -- 'from the lowest block to the highest': from the highest
 abbrev reversed : List ℕ → List ℕ
 reversed bs = map (λ (i : ℕ). getD bs (length bs - suc i) 0) (below (length bs))
 
-abbrev pub highestFirst : Step
+abbrev pub highestFirst : Step World
 highestFirst =
     recoverBy (λ (w : World).
     let n = w .card .recovered in
@@ -151,167 +165,178 @@ abbrev bareImage : Bytes → ℕ → Found → Bytes
 bareImage d b Miss = blockAt d (homeBlock b)
 bareImage d b (Whole e) = let s = shapeOn d in journalAt s d (e .core) (e .position + (placeOf b (blocksOf s d e) + 1))
 
-abbrev pub flagIgnored : Step
+abbrev pub flagIgnored : Step World
 flagIgnored = recoverBy blocksLeft (λ (d : Bytes) (b : ℕ). bareImage d b (newest (shapeOn d) d b Miss (validOn d))) emptiedTail
 
 -- CUT: 'a recovery under way starts over': it goes on where it was
-abbrev pub cutKeepsPlace : Step
-cutKeepsPlace = instead 6 (λ (a : Bytes) (w : World). patched (λ (x : Card). recoveredTo x (w .card .recovered)) (step 6 a w))
+abbrev pub cutKeepsPlace : Step World
+cutKeepsPlace = otherCut step (λ w. patched (λ x. recoveredTo x (w .card .recovered)) (step CUT w))
 
 -- CUT: 'memory lost': it stays
-abbrev pub cutKeepsMemory : Step
-cutKeepsMemory =
-    instead 6 (λ (a : Bytes) (w : World).
-    let o = step 6 a w in
-    record { answer = o .answer; world = record { card = o .world .card; disk = o .world .disk; memory = w .memory }; stores = o .stores })
+abbrev pub cutKeepsMemory : Step World
+cutKeepsMemory = otherCut step (λ w. withMemory (w .memory) (step CUT w))
 
 -- ---- WRITE
 -- 'U keeps it': T takes a running holder's block too
-abbrev pub writerTakesRunning : Step
+abbrev pub writerTakesRunning : Step World
 writerTakesRunning =
-    instead 2 (λ (a : Bytes) (w : World).
-    let c = coreIn a in
-    let b = blockIn a in
+    otherWrite step (λ c b o v w.
+    let done = step (WRITE c b o v) w in
     cond (isNamedBack (ruleFor (w .card) c b))
-    (patched (λ (x : Card). withHolder (onRunning c (λ (t : Transaction). withBlock t b) x) b (newHolder (writerName x c))) (step 2 a w))
-    (step 2 a w))
+    (patched (λ x. withHolder (onRunning c (λ t. withBlock t b) x) b (newHolder (writerName x c))) done)
+    done)
 
 -- 'T's list names U and U's list names T': only T's, only U's
-abbrev pub onlyWriterNames : Step
+abbrev pub onlyWriterNames : Step World
 onlyWriterNames =
-    instead 2 (λ (a : Bytes) (w : World).
+    otherWrite step (λ c b o v w.
     let x = w .card in
-    let u = ((holderOf x (blockIn a)) .name) .core in
-    cond (isNamedBack (ruleFor x (coreIn a) (blockIn a))) (patched (onRunning u (withNamesOf ((coreOf x u) .running))) (step 2 a w)) (step 2 a w))
+    let u = ((holderOf x b) .name) .core in
+    let done = step (WRITE c b o v) w in
+    cond (isNamedBack (ruleFor x c b)) (patched (onRunning u (withNamesOf ((coreOf x u) .running))) done) done)
 
-abbrev pub onlyHolderNames : Step
+abbrev pub onlyHolderNames : Step World
 onlyHolderNames =
-    instead 2 (λ (a : Bytes) (w : World).
+    otherWrite step (λ c b o v w.
     let x = w .card in
-    let c = coreIn a in
-    cond (isNamedBack (ruleFor x c (blockIn a))) (patched (onRunning c (withNamesOf (writer x c))) (step 2 a w)) (step 2 a w))
+    let done = step (WRITE c b o v) w in
+    cond (isNamedBack (ruleFor x c b)) (patched (onRunning c (withNamesOf (writer x c))) done) done)
 
 -- 'A name stands once in a list.': it is added again
 abbrev nameAgain : Name → Transaction → Transaction
 nameAgain n t =
     record { live = t .live; stamp = t .stamp; count = t .count; blocks = t .blocks; named = t .named + 1; names = set (t .names) (t .named) n }
 
-abbrev pub nameTwice : Step
+abbrev pub nameTwice : Step World
 nameTwice =
-    instead 2 (λ (a : Bytes) (w : World).
+    otherWrite step (λ c b o v w.
     let x = w .card in
-    let c = coreIn a in
-    let n = (holderOf x (blockIn a)) .name in
-    cond (namesHolder (ruleFor x c (blockIn a)) && lists (writer x c) n) (patched (onRunning c (nameAgain n)) (step 2 a w)) (step 2 a w))
+    let n = (holderOf x b) .name in
+    let done = step (WRITE c b o v) w in
+    cond (namesHolder (ruleFor x c b) && lists (writer x c) n) (patched (onRunning c (nameAgain n)) done) done)
 
 -- 'loaded from home when taken without a holder': memory is taken as it stands
-abbrev pub notLoaded : Step
+abbrev pub notLoaded : Step World
 notLoaded =
-    instead 2 (λ (a : Bytes) (w : World).
-    let o = step 2 a w in
-    cond (eqb (o .answer) 0)
-    (record { answer = 0; world = record { card = o .world .card; disk = w .disk; memory = replaced (128 * blockIn a + getD a 3 0) 4 (w .memory) (part 4 4 a) }; stores = 0 })
-    o)
+    otherWrite step (λ c b o v w.
+    let done = step (WRITE c b o v) w in
+    cond (eqb (done .answer) 0) (withMemory (replaced (128 * b + o) 4 (w .memory) v) done) done)
 
 -- 26 is not asked of a WRITE that opens a transaction and takes no block
-abbrev pub no26OnOpen : Step
-no26OnOpen =
-    asking 26 (λ (a : Bytes) (w : World).
-    takesBlock (ruleFor (w .card) (coreIn a) (blockIn a)) && journalFull (w .card) (coreIn a) (blockIn a))
+abbrev pub no26OnOpen : Step World
+no26OnOpen = writeAsking 26 (λ c b w. takesBlock (ruleFor (w .card) c b) && journalFull (w .card) c b)
 
 -- 26 'stored yet or not': a closed one counts from its first store on
-abbrev pub only26Stored : Step
+abbrev pub only26Stored : Step World
 only26Stored =
-    asking 26 (λ (a : Bytes) (w : World).
+    writeAsking 26 (λ c b w.
     let x = w .card in
-    let k = coreOf x (coreIn a) in
+    let k = coreOf x c in
     let closedOne = cond (k .closed .live && ltb 0 (k .stored)) (recordSize (k .closed)) 0 in
-    ltb ((shapeOf x) .journal) (k .used + closedOne + recordSize (writerAfter x (coreIn a) (blockIn a))))
+    ltb ((shapeOf x) .journal) (k .used + closedOne + recordSize (writerAfter x c b)))
 
 -- 24 'a list, the writer's or the holder's': the holder's is not asked
-abbrev pub no24OfHolder : Step
+abbrev pub no24OfHolder : Step World
 no24OfHolder =
-    asking 24 (λ (a : Bytes) (w : World).
+    writeAsking 24 (λ c b w.
     let x = w .card in
-    let c = coreIn a in
-    namesHolder (ruleFor x c (blockIn a)) && passesTwelve (writer x c) ((holderOf x (blockIn a)) .name))
+    namesHolder (ruleFor x c b) && passesTwelve (writer x c) ((holderOf x b) .name))
 
 -- ---- CLOSE
 -- 'CLOSE .. gives it a stamp': the stamp is given when the transaction opens
-abbrev pub stampAtOpen : Step
-stampAtOpen k a w =
-    let c = coreIn a in
+abbrev pub stampAtOpen : Step World
+stampAtOpen =
+    otherWrite
+    (otherClose step (λ c w.
     let t = (coreOf (w .card) c) .running in
+    patched (λ x. withCloses (w .card .closes) (onClosed c (λ u. stamped u (t .stamp)) x)) (step (CLOSE c) w)))
+    (λ c b o v w.
     let n = w .card .closes in
-    let stampedNow : Card → Card = λ x. withCloses (n + 1) (onRunning c (λ (t : Transaction). stamped t (n + 1)) x) in
-    let stampedBefore : Card → Card = λ x. withCloses n (onClosed c (λ (u : Transaction). stamped u (t .stamp)) x) in
-    cond (eqb k 2 && not (t .live)) (patched stampedNow (step k a w))
-    (cond (eqb k 3) (patched stampedBefore (step k a w)) (step k a w))
+    let done = step (WRITE c b o v) w in
+    cond ((coreOf (w .card) c) .running .live) done (patched (λ x. withCloses (n + 1) (onRunning c (λ t. stamped t (n + 1)) x)) done))
 
 -- .. or when its commit is stored
-abbrev pub stampAtCommit : Step
-stampAtCommit k a w =
+abbrev pub stampAtCommit : Step World
+stampAtCommit =
+    otherClose
+    (otherStore step (λ c w.
     let x = w .card in
-    let c = coreIn a in
     let n = x .closes in
     let isCommit = ltb (length (taken ((coreOf x c) .closed))) ((coreOf x c) .stored) in
-    cond (eqb k 3) (patched (withCloses n) (step k a w))
-    (cond (eqb k 4 && isCommit) (step k a (withCard w (withCloses (n + 1) (onClosed c (λ (t : Transaction). stamped t (n + 1)) x)))) (step k a w))
+    step (STORE c) (cond isCommit (withCard w (withCloses (n + 1) (onClosed c (λ t. stamped t (n + 1)) x))) w)))
+    (λ c w. patched (withCloses (w .card .closes)) (step (CLOSE c) w))
 
 -- ---- STORE
 abbrev rightPlace : Card → ℕ → ℕ
 rightPlace x c = journalBlock (shapeOf x) c (nextPosition x c)
 
 -- 'A data block beginning with the mark has those four bytes zeroed in the journal and flag 1': it is stored as it is
-abbrev pub noEscape : Step
+abbrev pub noEscape : Step World
 noEscape =
     storeBy rightPlace (λ (c : ℕ) (k : Core) (m : Bytes).
     cond (eqb (k .stored) 0) (descriptorBlock (closedNumber k) (map (λ (b : ℕ). newHeld b 0) (taken (k .closed))))
     (cond (leb (k .stored) (length (taken (k .closed)))) (blockAt m (copyBlock c (k .stored - 1))) (nextStored c k m)))
 
 -- 'A list has at most 12 names': the twelfth is not stored
-abbrev pub twelfthDropped : Step
+abbrev pub twelfthDropped : Step World
 twelfthDropped =
     storeBy rightPlace (λ (c : ℕ) (k : Core) (m : Bytes).
     cond (leb (k .stored) (length (taken (k .closed)))) (nextStored c k m)
     (commitBlock (closedNumber k) (k .closed .stamp) (take 11 (listed (k .closed)))))
 
 -- 'CLOSE copies the transaction's block images': data is stored from the images as they are by then
-abbrev pub storesImages : Step
+abbrev pub storesImages : Step World
 storesImages =
     storeBy rightPlace (λ (c : ℕ) (k : Core) (m : Bytes).
     let n = k .stored in
     cond (leb 1 n && leb n (length (taken (k .closed)))) (blockAt m (getD (taken (k .closed)) (n - 1) 0)) (nextStored c k m))
 
 -- 'Positions count round modulo J': the blocks of a record follow its first one
-abbrev pub noWrap : Step
+abbrev pub noWrap : Step World
 noWrap =
     storeBy (λ (x : Card) (c : ℕ). journalBlock (shapeOf x) c ((tailOf x c) .position + (coreOf x c) .used) + (coreOf x c) .stored) nextStored
 
 -- ---- CHECKPOINT
 -- 'stores its images home in the order taken, then the master': the master at once
-abbrev pub retiresAtOnce : Step
+abbrev pub retiresAtOnce : Step World
 retiresAtOnce =
-    instead 5 (λ (a : Bytes) (w : World).
-    unless (checkpointConditions (coreIn a) w) w (storedMaster (coreIn a) (oldest (committedOf w (coreIn a))) w))
+    otherCheckpoint step (λ c w. unless (checkpointConditions c w) w (storedMaster c (oldest (committedOf w c)) w))
 
 -- 'A block's home image comes from the journal, never from later memory.'
-abbrev pub homeFromMemory : Step
+abbrev pub homeFromMemory : Step World
 homeFromMemory =
-    instead 5 (λ (a : Bytes) (w : World).
-    let c = coreIn a in
-    let o = step 5 a w in
+    otherCheckpoint step (λ c w.
+    let o = step (CHECKPOINT c) w in
     let e = oldest (committedOf w c) in
     let k = coreOf (w .card) c in
     let b = getD (blocksOf (shapeOf (w .card)) (w .disk) e) (k .homed) 0 in
     cond (eqb (o .answer) 0 && ltb (k .homed) (e .count)) (storing w (o .world .card) (homeBlock b) (blockAt (w .memory) b)) o)
 
 -- 'until that one is retired': its blocks stay held
-abbrev pub holderStays : Step
+abbrev pub holderStays : Step World
 holderStays =
-    instead 5 (λ (a : Bytes) (w : World).
-    patched (λ (x : Card). record { phase = x .phase; shape = x .shape; closes = x .closes; recovered = x .recovered; tails = x .tails; cores = x .cores; holders = w .card .holders })
-    (step 5 a w))
+    otherCheckpoint step (λ c w.
+    patched (λ x. record { phase = x .phase; shape = x .shape; closes = x .closes; recovered = x .recovered; tails = x .tails; cores = x .cores; holders = w .card .holders })
+    (step (CHECKPOINT c) w))
+
+-- ---- refusals
+-- 'A refusal .. changes no byte of any lent buffer': while the card is down, memory is overwritten
+abbrev pub refusalOverwrites : Step World
+refusalOverwrites k w =
+    let o = step k w in
+    cond (isDown (w .card .phase) && not (eqb (o .answer) 0)) (withMemory (replaced 0 4 (w .memory) (1 ∷ 1 ∷ 1 ∷ 1 ∷ [])) o) o
+
+-- ---- reading: 'a part of memory while a transaction still in a journal, closed or running, holds the block, otherwise a part of
+-- the disk'
+-- always a part of the disk, always one of memory, and the two exchanged
+abbrev pub fromHome : ℕ → World → Bytes
+fromHome b w = cond (eqb (readNumber b w) 0) (blockAt (w .disk) (homeBlock b)) []
+
+abbrev pub fromMemory : ℕ → World → Bytes
+fromMemory b w = cond (eqb (readNumber b w) 0) (blockAt (w .memory) b) []
+
+abbrev pub exchanged : ℕ → World → Bytes
+exchanged b w = cond ((holderOf (w .card) b) .held) (fromHome b w) (fromMemory b w)
 
 -- ---- a card that is not wrong
 -- '33 .. a lower-stamped unretired transaction': only committed ones are looked at. No run tells it from the model's.
@@ -331,5 +356,5 @@ committedConditions c w =
     ∷ (sharesCommitted w e, 33)
     ∷ [])
 
-abbrev pub onlyCommitted33 : Step
-onlyCommitted33 = instead 5 (λ (a : Bytes) (w : World). unless (committedConditions (coreIn a) w) w (checkpointed (coreIn a) w))
+abbrev pub onlyCommitted33 : Step World
+onlyCommitted33 = otherCheckpoint step (λ c w. unless (committedConditions c w) w (checkpointed c w))
