@@ -244,7 +244,7 @@ relates = record { sizes = sizes; between = λ l w h. record { phase = phase l w
     carries l w (at-up u) k fits h = up-carries u k fits h
     carries l w (at-down d) k fits h = down-carries d k h
 
-starts : (s : Start) → StartFits s → At (startLedger s) (startWorld s)
+pub starts : (s : Start) → StartFits s → At (startLedger s) (startWorld s)
 unfolding startLedger startWorld
 starts (from-blank d m) h = at-blank (record { card = refl; ledger = refl; disk = h .stated .0; memory = h .stated .1 })
 starts (from-down s m) h = at-down (down-start s m (h .stated .0) (h .memory) (h .stated .1))

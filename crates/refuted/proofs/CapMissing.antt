@@ -13,11 +13,12 @@ use borrow.Author.Tests.{lt-leb, le-ltb}
 use Rattle.model.specs.Lists.{all, below}
 use Rattle.model.specs.Bytes.{Bytes, part, store, zeroMemory}
 use Rattle.model.specs.Card.{newTail, isBlank, isUp}
-use Rattle.model.specs.Layout.{maxNumber, masterWords, masterBlock}
+use Rattle.model.specs.Layout.{masterWords, masterBlock}
 use Rattle.model.specs.Journal.{journal}
 use Rattle.model.specs.Command.{World, Outcome, refusal, unless, wrongLength}
 use Rattle.model.specs.Recovery.{shapeOn, tailOn, recoverConditions, blocksLeft, newestImage}
 use Rattle.model.specs.Tape.{Command, CUT, RECOVER, Read, whole, TapeStep, Point, run, decoded, operandLength, commandByte, operandsAt, wholeOrEarly, readAt, obeyed, commandAt, offsetPast, nextOffset, heard}
+use Rattle.model.specs.Limits.{maxNumber}
 use Rattle.model.specs.declared.Shape.{Shape}
 use Rattle.model.specs.declared.Phase.the-variants.{Down}
 use Rattle.model.specs.declared.Tail.{Tail}

@@ -29,19 +29,18 @@ use Rattle.model.proofs.Tape.{pointAt}
 use Rattle.model.proofs.Command.{unless-same}
 use Rattle.crash.specs.Book.{isCommitted, kept}
 use Rattle.crash.specs.Ledger.{Ledger, validIn}
-use Rattle.crash.specs.Claims.{IsBytes, Start, from-blank, from-down, StartFits, startWorld, startService, startLedger, AreaKept, LedgerKept, ReadingsKept, Claim, Demands, Readings}
+use Rattle.crash.specs.Claims.{IsBytes, Start, StartFits, startWorld, startService, startLedger, AreaKept, LedgerKept, ReadingsKept, Claim, Demands, Readings}
 use Rattle.crash.proofs.Tests.{clash, false-of, in-any, blockEquality}
 use Rattle.crash.proofs.BookEntries.{oldestName, uncommittedName}
-use Rattle.crash.proofs.History.{Event, Took, Status, Sound, Chain, older, kept-link}
+use Rattle.crash.proofs.History.{Event, Took, Status, Sound, Chain, older}
 use Rattle.crash.proofs.Largest.{memberOf, stageOf, RetiredBelow, kept-largest, valid-is-kept}
 use Rattle.crash.proofs.Invariant.{Inv, historyOf, homed, status, opened-of, sound-of}
 use Rattle.crash.proofs.ReadMaster.{shape-up}
 use Rattle.crash.proofs.ReadCheckpoint.{Lower, lowerClosed, closed-lower, oldest-is, oldest-name, none-committed, oldest-valid}
 use Rattle.crash.proofs.CardAnswers.{Same, none-left, then, same-refusal}
-use Rattle.crash.proofs.CardFormat.{down-start}
 use Rattle.crash.proofs.Points.{Goes, goes}
 use Rattle.crash.proofs.UpSteps.{UpAt, numbered}
-use Rattle.crash.proofs.Theorem.{blank-phase, At, at-blank, at-up, at-down, relates, claim, demands, readings}
+use Rattle.crash.proofs.Theorem.{blank-phase, At, at-blank, at-up, at-down, relates, claim, demands, readings, starts}
 use Rattle.refuted.specs.Wrong.{sharesCommitted, committedConditions, onlyCommitted33}
 use Rattle.refuted.specs.Parts.{onTape}
 use Rattle.refuted.proofs.Parts.{other-checkpoint}
@@ -186,11 +185,6 @@ module _ (f : Step World) (same : (l : Ledger) (w : World) → At l w → (k : C
   run-same : (l : Ledger) (w : World) → At l w → run stepAt t w ≡ run (onTape f) t w
   unfolding run
   run-same l w here = same-from (length t) 0 0 l w here
-
-starts : (s : Start) → StartFits s → At (startLedger s) (startWorld s)
-unfolding startLedger startWorld
-starts (from-blank d m) h = at-blank (record { card = refl; ledger = refl; disk = h .stated .0; memory = h .stated .1 })
-starts (from-down s m) h = at-down (down-start s m (h .stated .0) (h .memory) (h .stated .1))
 
 -- The runs are the same, from every start.
 pub same-runs : (t : Bytes) → IsBytes t → (s : Start) → StartFits s → run stepAt t (startWorld s) ≡ run (onTape onlyCommitted33) t (startWorld s)

@@ -5,12 +5,12 @@ use mathlib.Core.List.{List, [], _∷_}
 use Rattle.model.specs.Bytes.{Bytes}
 use Rattle.model.specs.Shape.{journalBlock}
 use Rattle.model.specs.Card.{shapeOf}
-use Rattle.model.specs.Layout.{maxNumber}
 use Rattle.model.specs.Command.{World, Outcome, unless}
 use Rattle.model.specs.Commit.{nextStored, nextPosition, stored}
 use Rattle.model.specs.Recovery.{validOn, recoverConditions, blocksLeft, newestImage, emptiedTail, broughtUp, recoverStep, recovered}
 use Rattle.model.specs.Tape.{Command, FORMAT, WRITE, CLOSE, STORE, CHECKPOINT, CUT, RECOVER, Step, readAt}
 use Rattle.model.specs.Step.{conditionsOf, doneBy, step, stepAt, conditionsOn, doneOn}
+use Rattle.model.specs.Limits.{maxNumber}
 use Rattle.model.specs.declared.Card.{Card}
 use Rattle.model.proofs.Command.{command-unless}
 use Rattle.refuted.specs.Parts.{onTape, otherStore, otherCheckpoint, otherRecover, storeBy, recoverStepBy, recoverBy, recoverSet, recoverTail}

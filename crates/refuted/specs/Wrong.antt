@@ -9,18 +9,19 @@ use Rattle.model.specs.Lists.{below, select, any}
 use Rattle.model.specs.Bytes.{Bytes, blockAt, replaced}
 use Rattle.model.specs.Shape.{homeBlock, journalBlock}
 use Rattle.model.specs.Card.{taken, listed, lists, stamped, withBlock, newHolder, withHolder, recordSize, freshCard, shapeOf, tailOf, coreOf, holderOf, isDown}
-use Rattle.model.specs.Layout.{maxNumber, masterBlock, newHeld, descriptorBlock, commitBlock}
+use Rattle.model.specs.Layout.{masterBlock, newHeld, descriptorBlock, commitBlock}
 use Rattle.model.specs.Journal.{journalAt, nameOf, blocksOf}
 use Rattle.model.specs.Shrink.{strike}
 use Rattle.model.specs.Valid.{isIn, namesMet, blocksHeld, newest}
 use Rattle.model.specs.Command.{World, Outcome, storing, unless, notUp, noCore}
-use Rattle.model.specs.Write.{writer, writerName, ruleFor, takesBlock, namesHolder, isNamedBack, writerAfter, passesTwelve, journalFull}
+use Rattle.model.specs.Write.{writer, writerName, ruleFor, takesBlock, namesHolder, isNamedBack, writerAfter, passesNames, journalFull}
 use Rattle.model.specs.Commit.{copyBlock, closedNumber, nextStored, nextPosition}
 use Rattle.model.specs.Checkpoint.{committedNow, validNow, committedOf, oldest, share, checkpointConditions, checkpointed, storedMaster}
 use Rattle.model.specs.Recovery.{shapeOn, tailOn, committedOn, validOn, recoverConditions, blocksLeft, placeOf, imageFound, newestImage, recoveredTo, emptiedTail, recoverStep}
 use Rattle.model.specs.Tape.{Step, CHECKPOINT, CLOSE, CUT, Command, FORMAT, RECOVER, STORE, WRITE}
 use Rattle.model.specs.Step.{step}
 use Rattle.model.specs.Reading.{readNumber}
+use Rattle.model.specs.Limits.{maxNumber}
 use Rattle.model.specs.declared.Phase.the-variants.{Up}
 use Rattle.model.specs.declared.Found.{Found}
 use Rattle.model.specs.declared.Found.the-variants.{Whole, Miss}
@@ -240,7 +241,7 @@ abbrev pub no24OfHolder : Step World
 no24OfHolder =
     writeAsking 24 (λ c b w.
     let x = w .card in
-    namesHolder (ruleFor x c b) && passesTwelve (writer x c) ((holderOf x b) .name))
+    namesHolder (ruleFor x c b) && passesNames (writer x c) ((holderOf x b) .name))
 
 -- ---- CLOSE
 -- 'CLOSE .. gives it a stamp': the stamp is given when the transaction opens
