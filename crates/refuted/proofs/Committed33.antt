@@ -32,7 +32,7 @@ use Rattle.crash.specs.Ledger.{Ledger, validIn}
 use Rattle.crash.specs.Claims.{IsBytes, Start, StartFits, startWorld, startService, startLedger, AreaKept, LedgerKept, ReadingsKept, Claim, Demands, Readings}
 use Rattle.crash.proofs.Tests.{clash, false-of, in-any, blockEquality}
 use Rattle.crash.proofs.BookEntries.{oldestName, uncommittedName}
-use Rattle.crash.proofs.History.{Event, Took, Status, Sound, Chain, older}
+use Rattle.crash.proofs.History.{Event, Took, Status, Sound, Chain, older, kept-link}
 use Rattle.crash.proofs.Largest.{memberOf, stageOf, RetiredBelow, kept-largest, valid-is-kept}
 use Rattle.crash.proofs.Invariant.{Inv, historyOf, homed, status, opened-of, sound-of}
 use Rattle.crash.proofs.ReadMaster.{shape-up}
