@@ -72,7 +72,7 @@ module _ {l : Ledger} {w : World} (u : Up l w) where
         let o = l .book .oldest c in
         let n = l .book .uncommitted c in
         elim (decLt n (l .book .next c)) [
-          | yes lt ↦ (let e : l .book .next c - o ≡ suc (n - o) = omega (arith, r .low, r .high) in
+          | yes lt ↦ (let e : l .book .next c - o ≡ suc (n - o) = omega (arith, r .low, y .one) in
               let a : o + (n - o) ≡ n = omega (arith, r .low) in
               let s : recordBlocks (l .book) c o (suc (n - o)) ≡ recordBlocks (l .book) c o (n - o) + (length ((l .book .entry (newName c n)) .blocks) + 2) =
               rw a at (records-snoc (l .book) c o (n - o)) in

@@ -259,6 +259,7 @@ module _ {l : Ledger} {w : World} (u : Up l w) (c : ℕ) (in-range : c < l .shap
       let number : (x .next + 1) % 4294967296 ≡ suc n = omega (arith, y .next, low-next) in
       record {
         next = rw (new-next, number) refl;
+        one = rw (new-next, new-numbers .1 c) (omega arith);
         used = rw (new-numbers .0 c, new-numbers .1 c, new-total (l .book .uncommitted c - l .book .oldest c)) (y .used);
         runs = rw new-next (λ h. clash h (ap isRunning unopened));
         idle = λ _. refl;

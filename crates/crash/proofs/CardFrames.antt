@@ -20,7 +20,7 @@ use Rattle.crash.specs.Book.{Stage, absent, running, isRunning, isClosed
 use Rattle.crash.specs.Ledger.{Ledger, recordBlocks, heldOf, recordOf, withBook, imageNow}
 use Rattle.crash.proofs.LedgerStages.{closed-present}
 use Rattle.crash.proofs.BookEntries.{records-same, nextName, uncommittedName}
-use Rattle.crash.proofs.Relation.{Fine, contents, JournalStands, CoreUp, Matches, IsBlock, DiskStands, Up, holderAs}
+use Rattle.crash.proofs.Relation.{first-waiting, Fine, contents, JournalStands, CoreUp, Matches, IsBlock, DiskStands, Up, holderAs}
 use Rattle.model.proofs.Store.{length-store, block-stored, block-other}
 use Rattle.model.proofs.Journal.{home-apart}
 use Rattle.crash.specs.Claims.{IsBytes}
@@ -77,7 +77,7 @@ module _ (l : Ledger) (fine : Fine l) (c : ℕ) (in-range : c < l .shape .cores)
     same-record : (i : ℕ) → i < l .book .next c → recordOf l₂ (newName c i) ≡ recordOf l (newName c i)
     same-record i h = record-same l l₂ (newName c i) (ap (λ (e : Entry). e .blocks) (same .entry i h)) (ap (λ (e : Entry). e .names) (same .entry i h)) (same .images i h) (same .stamp i h)
 
-    contents-stay : counted ((l₂ .book .entry (nextName c (l .book))) .stage) ≡ 0 → contents l₂ c ≡ contents l c
+    pub contents-stay : counted ((l₂ .book .entry (nextName c (l .book))) .stage) ≡ 0 → contents l₂ c ≡ contents l c
     contents-stay z =
         let r = fine .ranks c in-range in
         contents-same l l₂ c (same .oldest) (same .uncommitted) (λ i h. same-record i (omega (arith, r .mid)))
@@ -120,6 +120,7 @@ module _ (l : Ledger) (fine : Fine l) (c : ℕ) (in-range : c < l .shape .cores)
         let e : n < l .book .next c → l₂ .book .entry (newName c n) ≡ l .book .entry (newName c n) = same .entry n in
         record {
           next = rw (same .next) (u .next);
+          one = rw (same .next, same .uncommitted) (u .one);
           used = rw (same .oldest, same .uncommitted, total-stays n (r .mid)) (u .used);
           runs = rw (same .next) run;
           idle = rw (same .next) idle;
@@ -133,7 +134,7 @@ module _ (l : Ledger) (fine : Fine l) (c : ℕ) (in-range : c < l .shape .cores)
       where
         few : l .book .uncommitted c < l .book .next c → length ((l .book .entry (uncommittedName c (l .book))) .blocks) ≤ 8
         few h =
-            let s = fine .ranks c in-range .storing h in
+            let s = first-waiting (fine .ranks c in-range) h in
             fine .limits (uncommittedName c (l .book)) (closed-present _ (ap isClosed (s .1))) .few
 
 -- ---- a store below the journals, of the master or of a home block

@@ -91,6 +91,7 @@ module _ {s : Shape} {first : ℕ → ℕ} {w : World} (r : InRange s) (u : Come
         rw (fresh-core c h)
         (record {
           next = refl;
+          one = omega arith;
           used = sym (fresh-records s saved first c);
           runs = λ k. impossible k;
           idle = λ k. refl;

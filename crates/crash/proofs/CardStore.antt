@@ -22,7 +22,7 @@ use Rattle.crash.specs.Ledger.{Ledger, withBook, recordBlocks, heldOf, r
 use Rattle.crash.proofs.BookEntries.{other-number, other-core, change-at, raise-at, raise-other, records-snoc, nextName, uncommittedName}
 use Rattle.crash.proofs.BookSteps.{Restages, restaged, restages-records, storedStage, store-restages, store-more, store-last, store-holder}
 use Rattle.crash.proofs.BlockBytes.{bytes-store}
-use Rattle.crash.proofs.Relation.{IsBlock, Fine, contents, JournalStands, DiskStands, CoreUp, Up}
+use Rattle.crash.proofs.Relation.{first-waiting, IsBlock, Fine, contents, JournalStands, DiskStands, CoreUp, Up}
 use Rattle.crash.proofs.ReadMaster.{shape-up, tail-read}
 use Rattle.crash.proofs.RecordFormat.{length-record, record-each, record-blocks, record-clear}
 use Rattle.crash.proofs.ReadRecords.{records-flat, length-records, stored-closed}
@@ -39,35 +39,35 @@ held-copies l t c m h =
     (length bs) (λ i g. ap (λ (b : Bytes). newHeld (getD bs i 0) (flagOf b)) (h i g))
 
 module _ {l : Ledger} {w : World} (u : Up l w) (c : ℕ) (in-range : c < l .shape .cores) (busy : l .book .uncommitted c < l .book .next c) where
-  abbrev t : Name
+  abbrev pub t : Name
   t = uncommittedName c (l .book)
 
-  abbrev x : Core
+  abbrev pub x : Core
   x = coreOf (w .card) c
 
-  abbrev k₂ : Book
+  abbrev pub k₂ : Book
   k₂ = store c (l .book)
 
-  abbrev l₂ : Ledger
+  abbrev pub l₂ : Ledger
   l₂ = withBook l k₂
 
-  stage-now : (l .book .entry t) .stage ≡ closed (x .stored)
+  pub stage-now : (l .book .entry t) .stage ≡ closed (x .stored)
   stage-now = u .cores c in-range .stored busy .0
 
-  closed-now : isClosed ((l .book .entry t) .stage) ≡ true
+  pub closed-now : isClosed ((l .book .entry t) .stage) ≡ true
   closed-now = ap isClosed stage-now
 
-  within : x .stored ≤ length ((l .book .entry t) .blocks) + 1
+  pub within : x .stored ≤ length ((l .book .entry t) .blocks) + 1
   within =
-      let s = u .fine .ranks c in-range .storing busy in
+      let s = first-waiting (u .fine .ranks c in-range) busy in
       let e : s .0 ≡ x .stored = ap counted (sym (s .1) ∙ stage-now) in
       omega (arith, s .2)
 
-  size : length (recordOf l t) ≡ length ((l .book .entry t) .blocks) + 2
+  pub size : length (recordOf l t) ≡ length ((l .book .entry t) .blocks) + 2
   size = length-record (u .fine) t closed-now
 
   next-now : x .next - 1 ≡ l .book .uncommitted c
-  next-now = omega (arith, u .cores c in-range .next, u .fine .ranks c in-range .high)
+  next-now = omega (arith, u .cores c in-range .next, u .cores c in-range .one)
 
   -- what is stored next is the record's next block
   next-block : nextStored c x (w .memory) ≡ getD (recordOf l t) (x .stored) []
@@ -86,7 +86,7 @@ module _ {l : Ledger} {w : World} (u : Up l w) (c : ℕ) (in-range : c < l .shap
       (x .stored) (omega (arith, within, size)) refl
 
   -- and stands after what the journal holds
-  length-contents : length (contents l c) ≡ x .used + x .stored
+  pub length-contents : length (contents l c) ≡ x .used + x .stored
   unfolding contents
   length-contents =
       let r = u .fine .ranks c in-range in
@@ -104,20 +104,20 @@ module _ {l : Ledger} {w : World} (u : Up l w) (c : ℕ) (in-range : c < l .shap
       let r = u .fine .ranks c in-range in
       let o = l .book .oldest c in
       let n = l .book .uncommitted c - o in
-      let e : l .book .next c - o ≡ suc n = omega (arith, r .low, r .high) in
+      let e : l .book .next c - o ≡ suc n = omega (arith, r .low, u .cores c in-range .one) in
       let a : o + n ≡ l .book .uncommitted c = omega (arith, r .low) in
       let z : recordBlocks (l .book) c o (suc n) ≤ l .shape .journal = rw e at (u .disk .journals c in-range .room) in
       let s : recordBlocks (l .book) c o (suc n) ≡ recordBlocks (l .book) c o n + (length ((l .book .entry t) .blocks) + 2) = rw a at (records-snoc (l .book) c o n) in
       omega (arith, u .cores c in-range .used)
 
   -- ---- the ledger afterwards
-  abbrev new : Restages (l .book) k₂ t (storedStage (l .book .entry t))
+  abbrev pub new : Restages (l .book) k₂ t (storedStage (l .book .entry t))
   new = store-restages c (l .book)
 
-  new-record : (v : Name) → recordOf l₂ v ≡ recordOf l v
+  pub new-record : (v : Name) → recordOf l₂ v ≡ recordOf l v
   new-record v = record-same l l₂ v (new .blocks v) (new .names v) refl refl
 
-  new-uncommitted : (a : ℕ) → a ≢ c → k₂ .uncommitted a ≡ l .book .uncommitted a
+  pub new-uncommitted : (a : ℕ) → a ≢ c → k₂ .uncommitted a ≡ l .book .uncommitted a
   unfolding store
   new-uncommitted a ne =
       cases (leb (length ((l .book .entry t) .blocks) + 2) (suc (counted ((l .book .entry t) .stage)))) (λ h. rw (h, raise-other c (l .book .uncommitted) a ne)) (λ h. rw h)
@@ -126,7 +126,7 @@ module _ {l : Ledger} {w : World} (u : Up l w) (c : ℕ) (in-range : c < l .shap
   unfolding store
   same-numbers = (λ a. refl, λ a. refl)
 
-  others : (a : ℕ) → a ≢ c → SameClosed l l₂ a
+  pub others : (a : ℕ) → a ≢ c → SameClosed l l₂ a
   others a ne =
       record {
         shape = refl;
@@ -140,7 +140,7 @@ module _ {l : Ledger} {w : World} (u : Up l w) (c : ℕ) (in-range : c < l .shap
 
   -- the block was not the last
   module _ (more : x .stored ≤ length ((l .book .entry t) .blocks)) where
-    more-store : k₂ ≡ restaged t (closed (suc (x .stored))) (l .book .oldest) (l .book .uncommitted) (l .book .next) (l .book)
+    pub more-store : k₂ ≡ restaged t (closed (suc (x .stored))) (l .book .oldest) (l .book .uncommitted) (l .book .next) (l .book)
     more-store = store-more c (x .stored) (l .book) stage-now (omega arith)
 
     more-entry : k₂ .entry t ≡ staged (closed (suc (x .stored))) (l .book .entry t)
@@ -161,17 +161,17 @@ module _ {l : Ledger} {w : World} (u : Up l w) (c : ℕ) (in-range : c < l .shap
 
   -- the block was the last
   module _ (last : length ((l .book .entry t) .blocks) < x .stored) where
-    last-store : k₂ ≡ restaged t (committed 0) (l .book .oldest) (raise c (l .book .uncommitted)) (l .book .next) (l .book)
+    pub last-store : k₂ ≡ restaged t (committed 0) (l .book .oldest) (raise c (l .book .uncommitted)) (l .book .next) (l .book)
     last-store = store-last c (x .stored) (l .book) stage-now (omega (arith, within))
 
-    last-entry : k₂ .entry t ≡ staged (committed 0) (l .book .entry t)
+    pub last-entry : k₂ .entry t ≡ staged (committed 0) (l .book .entry t)
     last-entry = ap (λ (k : Book). k .entry t) last-store ∙ change-at t (staged (committed 0)) (l .book .entry)
 
-    last-uncommitted : k₂ .uncommitted c ≡ suc (l .book .uncommitted c)
+    pub last-uncommitted : k₂ .uncommitted c ≡ suc (l .book .uncommitted c)
     last-uncommitted = ap (λ (k : Book). k .uncommitted c) last-store ∙ raise-at c (l .book .uncommitted)
 
     next-is : l .book .next c ≡ suc (l .book .uncommitted c)
-    next-is = omega (arith, u .fine .ranks c in-range .high)
+    next-is = omega (arith, u .cores c in-range .one)
 
     last-contents : contents l₂ c ≡ contents l c ++ (getD (recordOf l t) (x .stored) [] ∷ [])
     unfolding contents below flatMap
@@ -198,7 +198,7 @@ module _ {l : Ledger} {w : World} (u : Up l w) (c : ℕ) (in-range : c < l .shap
   by-last : {A : Type 0} → (x .stored ≤ length ((l .book .entry t) .blocks) → A) → (length ((l .book .entry t) .blocks) < x .stored → A) → A
   by-last f g = elim (decLt (length ((l .book .entry t) .blocks)) (x .stored)) [ yes h ↦ g h | no h ↦ f (omega arith) ]
 
-  grown : contents l₂ c ≡ contents l c ++ (getD (recordOf l t) (x .stored) [] ∷ [])
+  pub grown : contents l₂ c ≡ contents l c ++ (getD (recordOf l t) (x .stored) [] ∷ [])
   grown = by-last more-contents last-contents
 
   new-low : l .book .uncommitted c ≤ k₂ .uncommitted c
@@ -208,13 +208,13 @@ module _ {l : Ledger} {w : World} (u : Up l w) (c : ℕ) (in-range : c < l .shap
   running-stays = new .other (nextName c (l .book)) (other-number c (omega arith))
 
   -- ---- the disk afterwards
-  abbrev at : ℕ
+  abbrev pub at : ℕ
   at = journalBlock (l .shape) c ((tailOf (w .card) c) .position + length (contents l c))
 
-  abbrev b : Bytes
+  abbrev pub b : Bytes
   b = getD (recordOf l t) (x .stored) []
 
-  stored-disk : (stored c w) .world .disk ≡ storeBlock (w .disk) at b
+  pub stored-disk : (stored c w) .world .disk ≡ storeBlock (w .disk) at b
   unfolding stored nextPosition
   stored-disk =
       let p = (tailOf (w .card) c) .position in
@@ -226,13 +226,13 @@ module _ {l : Ledger} {w : World} (u : Up l w) (c : ℕ) (in-range : c < l .shap
   unfolding stored nextPosition recordStored
   stored-bytes = rw (shape-up u, next-block, tail-read (u .fine) (u .disk) c in-range, u .cores c in-range .used, ap counted stage-now) refl
 
-  is-block : IsBlock b
+  pub is-block : IsBlock b
   is-block = record-blocks (u .fine) t closed-now (x .stored) (omega (arith, size, within))
 
-  fits : 128 * at + 128 ≤ length (w .disk)
+  pub fits : 128 * at + 128 ≤ length (w .disk)
   fits = omega (arith, u .disk .size, journal-low (u .fine .range) c ((tailOf (w .card) c) .position + length (contents l c)) in-range)
 
-  elsewhere : (k : ℕ) → k ≢ at → blockAt (storeBlock (w .disk) at b) k ≡ blockAt (w .disk) k
+  pub elsewhere : (k : ℕ) → k ≢ at → blockAt (storeBlock (w .disk) at b) k ≡ blockAt (w .disk) k
   elsewhere = block-other (w .disk) at b fits (is-block .size)
 
   own-journal : JournalStands l₂ (storeBlock (w .disk) at b) c (tailOf (w .card) c)
@@ -304,6 +304,7 @@ module _ {l : Ledger} {w : World} (u : Up l w) (c : ℕ) (in-range : c < l .shap
       rw (m .blocks, le-leb (x .stored) (length bs) h)
       (record {
         next = rw (same-numbers .1 c) (y .next);
+        one = rw (same-numbers .1 c, v) (y .one);
         used = rw (same-numbers .0 c, v, restages-records new c (l .book .oldest c) (n - o)) (y .used);
         runs = rw (same-numbers .1 c, running-stays) (y .runs);
         idle = rw (same-numbers .1 c, running-stays) (y .idle);
@@ -325,12 +326,13 @@ module _ {l : Ledger} {w : World} (u : Up l w) (c : ℕ) (in-range : c < l .shap
       rw (m .blocks, lt-leb (x .stored) (length bs) h)
       (record {
         next = rw (same-numbers .1 c) (y .next);
+        one = rw (same-numbers .1 c, v) (omega (arith, y .one));
         used = rw (same-numbers .0 c, v, z, restages-records new c (l .book .oldest c) (suc (n - o)), total) (omega (arith, y .used, room, u .fine .range .short));
         runs = rw (same-numbers .1 c, running-stays) (y .runs);
         idle = rw (same-numbers .1 c, running-stays) (y .idle);
-        closing = rw (same-numbers .1 c, v) (λ g. absurd (omega (arith, r .high)));
-        stored = rw (same-numbers .1 c, v) (λ g. absurd (omega (arith, r .high)));
-        copies = rw (same-numbers .1 c, v) (λ g. absurd (omega (arith, r .high)));
+        closing = rw (same-numbers .1 c, v) (λ g. absurd (omega (arith, y .one)));
+        stored = rw (same-numbers .1 c, v) (λ g. absurd (omega (arith, y .one)));
+        copies = rw (same-numbers .1 c, v) (λ g. absurd (omega (arith, y .one)));
         none-closing = λ _. refl;
         homed =
             rw (same-numbers .0 c, v)

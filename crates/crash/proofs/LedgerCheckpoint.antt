@@ -64,6 +64,7 @@ module _ (l : Ledger) (t : Name) (g : Stage) (o : ℕ → ℕ) where
     core-advanced m k used homed n h z y =
         record {
           next = y .next;
+          one = y .one;
           used = n ∙ sym (restages-records one-changed a (o a) (l .book .uncommitted a - o a));
           runs = rw current-stays (y .runs);
           idle = rw current-stays (y .idle);

@@ -58,12 +58,11 @@ fine-fresh s saved first r fits firsts =
             positive = lo;
             low = omega arith;
             mid = omega arith;
-            high = omega arith;
             top = hi;
             old = λ i g. inl refl;
             first = λ g. absurd (omega arith);
             done = λ i g j. absurd (omega arith);
-            storing = λ g. absurd (omega arith);
+            waiting = λ i g j. absurd (omega arith);
             current = inl refl;
             rest = λ i g. refl;
           };

@@ -7,7 +7,7 @@ use Rattle.model.specs.Card.{newName}
 use Rattle.crash.specs.Book.{Stage, absent, running, closed, committed, retired, Book, raise, store, checkpoint}
 use Rattle.crash.proofs.BookEntries.{nextName, uncommittedName, oldestName, other-number, other-core, raise-at, raise-other}
 use Rattle.crash.proofs.BookSteps.{Restages, restaged, restages, store-more, store-last, checkpoint-home, checkpoint-retires}
-use Rattle.crash.proofs.Relation.{Ranks, sumNext}
+use Rattle.crash.proofs.Relation.{first-waiting, Ranks, sumNext}
 
 module _ (k k′ : Book) (c : ℕ) (r : Ranks k c) (o : k′ .oldest c ≡ k .oldest c) (u : k′ .uncommitted c ≡ k .uncommitted c) (n : k′ .next c ≡ k .next c)
     (stages : (i : ℕ) → i ≢ k .next c → (k′ .entry (newName c i)) .stage ≡ (k .entry (newName c i)) .stage)
@@ -22,7 +22,6 @@ module _ (k k′ : Book) (c : ℕ) (r : Ranks k c) (o : k′ .oldest c ≡ k .ol
         positive = rw o (r .positive);
         low = rw (o, u) (r .low);
         mid = rw (u, n) (r .mid);
-        high = rw (u, n) (r .high);
         top = rw n (r .top);
         old = λ i h. let g : i < k .oldest c = rw o at h in rw (stages i (below-next i (omega arith))) (r .old i g);
         first = λ h.
@@ -34,10 +33,10 @@ module _ (k k′ : Book) (c : ℕ) (r : Ranks k c) (o : k′ .oldest c ≡ k .ol
             let a : k .oldest c < i = rw o at h in
             let b : i < k .uncommitted c = rw u at g in
             rw (stages i (below-next i (omega arith))) (r .done i a b);
-        storing = λ h.
-            let g : k .uncommitted c < k .next c = rw (u, n) at h in
-            let f = r .storing g in
-            rw (u, stages (k .uncommitted c) (below-next (k .uncommitted c) g), blocks (k .uncommitted c) g) f;
+        waiting = λ i h g.
+            let a : k .uncommitted c ≤ i = rw u at h in
+            let b : i < k .next c = rw n at g in
+            rw (stages i (below-next i b), blocks i b) (r .waiting i a b);
         current = rw n current;
         rest = λ i h. let g : k .next c < i = rw n at h in stages i (λ e. omega arith) ∙ r .rest i g;
       }
@@ -88,12 +87,15 @@ module _ (k : Book) (c : ℕ) (r : Ranks k c) where
         positive = r .positive;
         low = r .low;
         mid = rw up (omega arith);
-        high = rw up (omega arith);
         top = rw up (omega arith);
         old = λ i h. rw (other i (λ e. omega arith)) (r .old i h);
         first = λ h. rw (other (k .oldest c) (λ e. omega arith)) (r .first h);
         done = λ i h g. rw (other i (λ e. omega arith)) (r .done i h g);
-        storing = λ h. (0, one-at k c (k .next c) (closed 0) (k .oldest) (k .uncommitted) (raise c (k .next)) (k .uncommitted c) idle, omega arith);
+        waiting =
+            λ i h g.
+            let d : i < suc (k .next c) = rw up at g in
+            let e : i ≡ k .next c = omega arith in
+            (0, one-at k c (k .next c) (closed 0) (k .oldest) (k .uncommitted) (raise c (k .next)) i e, omega arith);
         current = inl (rw (up, other (suc (k .next c)) (λ e. omega arith)) (r .rest (suc (k .next c)) (omega arith)));
         rest = λ i h. let g : suc (k .next c) < i = rw up at h in rw (other i (λ e. omega arith)) (r .rest i (omega arith));
       }
@@ -107,12 +109,14 @@ module _ (k : Book) (c : ℕ) (r : Ranks k c) where
           positive = r .positive;
           low = r .low;
           mid = r .mid;
-          high = r .high;
           top = r .top;
           old = λ i a. rw (other i (λ e. omega arith)) (r .old i a);
           first = λ a. rw (other (k .oldest c) (λ e. omega arith)) (r .first a);
           done = λ i a b. rw (other i (λ e. omega arith)) (r .done i a b);
-          storing = λ a. (suc n, step .stage, rw (step .blocks (uncommittedName c k)) (omega arith));
+          waiting = λ i a b. elim (ℕ-discrete i (k .uncommitted c)) [
+            | yes e ↦ rw e (suc n, step .stage, rw (step .blocks (uncommittedName c k)) (omega arith))
+            | no ne ↦ rw (other i ne) (r .waiting i a b)
+          ];
           current = rw (other (k .next c) (λ e. omega arith)) (r .current);
           rest = λ i a. rw (other i (λ e. omega arith)) (r .rest i a);
         }
@@ -126,7 +130,6 @@ module _ (k : Book) (c : ℕ) (r : Ranks k c) where
           positive = r .positive;
           low = rw up (omega arith);
           mid = rw up (omega arith);
-          high = rw up (omega arith);
           top = r .top;
           old = λ i a. rw (other i (λ e. omega arith)) (r .old i a);
           first = λ a. elim (ℕ-discrete (k .oldest c) (k .uncommitted c)) [
@@ -137,7 +140,7 @@ module _ (k : Book) (c : ℕ) (r : Ranks k c) where
             | yes e ↦ at i e
             | no ne ↦ (let d : i < suc (k .uncommitted c) = rw up at b in rw (other i ne) (r .done i a (omega arith)))
           ];
-          storing = λ a. absurd (let d : suc (k .uncommitted c) < k .next c = rw up at a in omega arith);
+          waiting = λ i a b. (let d : suc (k .uncommitted c) ≤ i = rw up at a in rw (other i (λ e. omega arith)) (r .waiting i (omega arith) b));
           current = rw (other (k .next c) (λ e. omega arith)) (r .current);
           rest = λ i a. rw (other i (λ e. omega arith)) (r .rest i a);
         }
@@ -151,12 +154,11 @@ module _ (k : Book) (c : ℕ) (r : Ranks k c) where
           positive = r .positive;
           low = r .low;
           mid = r .mid;
-          high = r .high;
           top = r .top;
           old = λ i a. rw (other i (λ e. omega arith)) (r .old i a);
           first = λ a. (suc n, step .stage, rw (step .blocks (oldestName c k)) (omega arith));
           done = λ i a b. rw (other i (λ e. omega arith)) (r .done i a b);
-          storing = λ a. rw (other (k .uncommitted c) (λ e. omega arith)) (r .storing a);
+          waiting = λ i a b. rw (other i (λ e. omega arith)) (r .waiting i a b);
           current = rw (other (k .next c) (λ e. omega arith)) (r .current);
           rest = λ i a. rw (other i (λ e. omega arith)) (r .rest i a);
         }
@@ -169,7 +171,6 @@ module _ (k : Book) (c : ℕ) (r : Ranks k c) where
           positive = rw up (omega arith);
           low = rw up (omega arith);
           mid = r .mid;
-          high = r .high;
           top = r .top;
           old = λ i a. elim (ℕ-discrete i (k .oldest c)) [
             | yes e ↦ inr (one-at k c (k .oldest c) retired (raise c (k .oldest)) (k .uncommitted) (k .next) i e)
@@ -178,7 +179,7 @@ module _ (k : Book) (c : ℕ) (r : Ranks k c) where
           first = λ a. (let d : suc (k .oldest c) < k .uncommitted c = rw up at a in
               (0, rw (up, other (suc (k .oldest c)) (λ e. omega arith)) (r .done (suc (k .oldest c)) (omega arith) d), omega arith));
           done = λ i a b. (let d : suc (k .oldest c) < i = rw up at a in rw (other i (λ e. omega arith)) (r .done i (omega arith) b));
-          storing = λ a. rw (other (k .uncommitted c) (λ e. omega arith)) (r .storing a);
+          waiting = λ i a b. rw (other i (λ e. omega arith)) (r .waiting i a b);
           current = rw (other (k .next c) (λ e. omega arith)) (r .current);
           rest = λ i a. rw (other i (λ e. omega arith)) (r .rest i a);
         }
@@ -191,7 +192,7 @@ module _ (k : Book) (c : ℕ) (r : Ranks k c) where
       → P (restaged (uncommittedName c k) (committed 0) (k .oldest) (raise c (k .uncommitted)) (k .next) k))
       → P (store c k)
   store-by P due more last =
-      let s = r .storing due in
+      let s = first-waiting r due in
       let bound : s .0 ≤ length ((k .entry (uncommittedName c k)) .blocks) + 1 = s .2 in
       elim (decLt (s .0) (length ((k .entry (uncommittedName c k)) .blocks) + 1)) [
         | yes lt ↦ rw (store-more c (s .0) k (s .1) lt) (more (s .0) (s .1) lt)

@@ -13,7 +13,7 @@ use Rattle.model.specs.Card.{newName}
 use Rattle.crash.specs.Book.{Stage, absent, running, closed, committed, retired, isRunning, isClosed, isCommitted, isRetired, Book}
 use Rattle.crash.proofs.Tests.{clash, impossible}
 use Rattle.crash.proofs.BookEntries.{by-stage, uncommittedName}
-use Rattle.crash.proofs.Relation.{Ranks}
+use Rattle.crash.proofs.Relation.{first-waiting, Ranks}
 
 pub closed-present : (g : Stage) → isClosed g ≡ true → g ≢ absent
 closed-present g h e = clash h (ap isClosed e)
@@ -55,17 +55,15 @@ module _ {k : Book} {c : ℕ} (r : Ranks k c) (i : ℕ) where
 
   -- where a number stands, with its stage
   by-rank : {A : Type 0} → (i < k .oldest c → (stage ≡ absent) ⊎ (stage ≡ retired) → A)
-      → (k .oldest c ≤ i → i < k .uncommitted c → (n : ℕ) → stage ≡ committed n → A) → (i ≡ k .uncommitted c → i < k .next c → (n : ℕ) → stage ≡ closed n → A)
+      → (k .oldest c ≤ i → i < k .uncommitted c → (n : ℕ) → stage ≡ committed n → A) → (k .uncommitted c ≤ i → i < k .next c → (n : ℕ) → stage ≡ closed n → A)
       → (i ≡ k .next c → (stage ≡ absent) ⊎ (stage ≡ running) → A) → (stage ≡ absent → A) → A
-  by-rank old stored storing current rest =
+  by-rank old stored waiting current rest =
       elim (decLt i (k .oldest c)) [
         | yes o ↦ old o (r .old i o)
         | no o ↦ elim (decLt i (k .uncommitted c)) [
           | yes u ↦ (let x = committed-stage (omega arith) u in stored (omega arith) u (x .0) (x .1))
           | no u ↦ elim (decLt i (k .next c)) [
-            | yes n ↦ (let x = r .storing (omega arith) in
-                let e : i ≡ k .uncommitted c = omega (arith, r .high) in
-                storing e n (x .0) (ap (λ (j : ℕ). (k .entry (newName c j)) .stage) e ∙ x .1))
+            | yes n ↦ (let x = r .waiting i (omega arith) n in waiting (omega arith) n (x .0) (x .1))
             | no n ↦ elim (ℕ-discrete i (k .next c)) [ yes e ↦ current e (rw e (r .current)) | no ne ↦ rest (r .rest i (omega arith)) ]
           ]
         ]
@@ -73,7 +71,7 @@ module _ {k : Book} {c : ℕ} (r : Ranks k c) (i : ℕ) where
 
   -- an unretired closed one is stored whole, or the one that is being stored
   pub unretired-rank : isClosed stage ≡ true → isRetired stage ≡ false
-      → ((k .oldest c ≤ i) × (i < k .uncommitted c)) ⊎ ((i ≡ k .uncommitted c) × (i < k .next c))
+      → ((k .oldest c ≤ i) × (i < k .uncommitted c)) ⊎ ((k .uncommitted c ≤ i) × (i < k .next c))
   unretired-rank h g =
       by-rank
       (λ _ o. elim o [ inl e ↦ clash h (ap isClosed e) | inr e ↦ clash (ap isRetired e) g ])
@@ -114,4 +112,4 @@ module _ {k : Book} {c : ℕ} (r : Ranks k c) (i : ℕ) where
 -- the one that is being stored
 pub closing-stage : {k : Book} {c : ℕ} → Ranks k c → k .uncommitted c < k .next c
     → (isClosed ((k .entry (uncommittedName c k)) .stage) ≡ true) × (isRetired ((k .entry (uncommittedName c k)) .stage) ≡ false)
-closing-stage r h = let x = r .storing h in (ap isClosed (x .1), ap isRetired (x .1))
+closing-stage r h = let x = first-waiting r h in (ap isClosed (x .1), ap isRetired (x .1))

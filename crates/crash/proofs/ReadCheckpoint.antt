@@ -33,7 +33,7 @@ module _ {l : Ledger} {w : World} (u : Up l w) where
       let k = u .cores c h in
       elim (ℕ-discrete (l .book .uncommitted c) (l .book .next c)) [
         | yes e ↦ rw (k .none-closing e, k .next, u .disk .journals c h .number) (omega arith)
-        | no n ↦ rw (k .closing (omega (arith, r .mid)) .live, k .next, u .disk .journals c h .number) (omega (arith, r .mid, r .high))
+        | no n ↦ rw (k .closing (omega (arith, r .mid)) .live, k .next, u .disk .journals c h .number) (omega (arith, r .mid, k .one))
       ]
 
   count-enough : (c : ℕ) → c < l .shape .cores → l .book .uncommitted c - l .book .oldest c ≤ committedCount (w .card) c
@@ -163,7 +163,7 @@ module _ {l : Ledger} {w : World} (u : Up l w) (c : ℕ) (e : Committed) (x : Is
               (mem-any lowerRead (rw (committed-now u) (m (p .0) (p .1))) (lower-read (g .0) (v .core) y (subst (Lower l (nameOf e)) (sym (g .2)) r))))
           | inr i ↦ or-right (any lowerRead (committedNow w))
               (mem-any lowerClosed (rw (shape-up u) (below-mem (l .shape .cores) (v .core) h))
-              (lower-closed (v .core) h (omega arith) (subst (λ (j : ℕ). Lower l (nameOf e) (newName (v .core) j)) (i .0) r)))
+              (lower-closed (v .core) h (omega arith) (let e₂ : v .number ≡ l .book .uncommitted (v .core) = omega (arith, i .0, i .1, u .cores (v .core) h .one) in subst (λ (j : ℕ). Lower l (nameOf e) (newName (v .core) j)) e₂ r)))
         ]
       ]
 

@@ -2,6 +2,7 @@
 -- says (`DiskStands`), and card and memory agree with it (`Up`), or recovery will give the kept writes (`DownBy`).
 -- Each command keeps this; the claims follow from it.
 use Prim.Native.Nat.{ℕ, zero, suc, _+_, _-_, _≤_, _<_}
+use native.Mathlib.Omega.{arith}
 use mathlib.Core.Path.{_≡_}
 use mathlib.Core.Logic.{_⊎_, _≢_}
 use mathlib.Core.List.{List, [], _++_, flatMap, List·Memᴰ}
@@ -65,16 +66,21 @@ pub record Ranks (k : Book) (c : ℕ) : Type 0 where
   pub positive : 1 ≤ k .oldest c
   pub low : k .oldest c ≤ k .uncommitted c
   pub mid : k .uncommitted c ≤ k .next c
-  pub high : k .next c ≤ suc (k .uncommitted c)
   pub top : k .next c ≤ 4000000001
   pub old : (i : ℕ) → i < k .oldest c → ((k .entry (newName c i)) .stage ≡ absent) ⊎ ((k .entry (newName c i)) .stage ≡ retired)
   pub first : k .oldest c < k .uncommitted c
       → (n : ℕ) × ((k .entry (oldestName c k)) .stage ≡ committed n) × (n ≤ length ((k .entry (oldestName c k)) .blocks))
   pub done : (i : ℕ) → k .oldest c < i → i < k .uncommitted c → (k .entry (newName c i)) .stage ≡ committed 0
-  pub storing : k .uncommitted c < k .next c
-      → (n : ℕ) × ((k .entry (uncommittedName c k)) .stage ≡ closed n) × (n ≤ length ((k .entry (uncommittedName c k)) .blocks) + 1)
+  -- closed and not committed: on a card that is up one at most (`CoreUp.one`); where a cut loses the commit before it, two
+  pub waiting : (i : ℕ) → k .uncommitted c ≤ i → i < k .next c
+      → (n : ℕ) × ((k .entry (newName c i)) .stage ≡ closed n) × (n ≤ length ((k .entry (newName c i)) .blocks) + 1)
   pub current : ((k .entry (nextName c k)) .stage ≡ absent) ⊎ ((k .entry (nextName c k)) .stage ≡ running)
   pub rest : (i : ℕ) → k .next c < i → (k .entry (newName c i)) .stage ≡ absent
+
+-- the first of them, which STORE stores
+pub first-waiting : {k : Book} {c : ℕ} → Ranks k c → k .uncommitted c < k .next c
+    → (n : ℕ) × ((k .entry (uncommittedName c k)) .stage ≡ closed n) × (n ≤ length ((k .entry (uncommittedName c k)) .blocks) + 1)
+first-waiting {k} {c} r h = r .waiting (k .uncommitted c) (omega arith) h
 
 -- the sum of the next numbers of the cores below n
 unfoldable pub sumNext : Book → ℕ → ℕ
@@ -134,6 +140,7 @@ pub record Matches (t : Transaction) (e : Entry) : Type 0 where
 
 pub record CoreUp (l : Ledger) (m : Bytes) (c : ℕ) (k : Core) : Type 0 where
   pub next : k .next ≡ l .book .next c
+  pub one : l .book .next c ≤ suc (l .book .uncommitted c)
   pub used : k .used ≡ recordBlocks (l .book) c (l .book .oldest c) (l .book .uncommitted c - l .book .oldest c)
   pub runs : isRunning ((l .book .entry (nextName c (l .book))) .stage) ≡ true → Matches (k .running) (l .book .entry (nextName c (l .book)))
   pub idle : isRunning ((l .book .entry (nextName c (l .book))) .stage) ≡ false → k .running .live ≡ false

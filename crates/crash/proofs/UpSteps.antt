@@ -31,7 +31,7 @@ use Rattle.crash.proofs.Invariant.{Inv, imageAt, opened-of}
 use Rattle.crash.proofs.InvariantSteps.{inv-fresh, inv-close, inv-store, inv-retire, inv-home-store, lower-retired}
 use Rattle.crash.proofs.InvariantWrite.{home-current, open-holds, holder-took, inv-wrote}
 use Rattle.crash.proofs.ClosedImages.{Imaged, image-of-closed, imaged-fresh, imaged-close, imaged-store, imaged-retire, imaged-home-store, imaged-wrote}
-use Rattle.crash.proofs.Relation.{Fine, Up, DownBy, holderAs}
+use Rattle.crash.proofs.Relation.{first-waiting, Fine, Up, DownBy, holderAs}
 use Rattle.crash.proofs.LedgerSteps.{fine-close, fine-store, fine-checkpoint}
 use Rattle.crash.proofs.CardCut.{cut-up, right-length}
 use Rattle.crash.proofs.Given.{held-newest, home-target}
@@ -123,7 +123,7 @@ module _ {l : Ledger} {w : World} (u : UpAt l w) where
   module _ (c : ℕ) (in-range : c < l .shape .cores) where
     pub store-at : k .uncommitted c < k .next c → UpAt (withBook l (store c k)) ((stored c w) .world)
     store-at busy =
-        let s = u .up .fine .ranks c in-range .storing busy in
+        let s = first-waiting (u .up .fine .ranks c in-range) busy in
         record {
           up = store-up (u .up) c in-range busy (fine-store l (u .up .fine) c in-range busy);
           home = u .home;

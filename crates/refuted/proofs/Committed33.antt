@@ -41,6 +41,7 @@ use Rattle.crash.proofs.CardAnswers.{Same, none-left, then, same-refusal}
 use Rattle.crash.proofs.Points.{Goes, goes}
 use Rattle.crash.proofs.UpSteps.{UpAt, numbered}
 use Rattle.crash.proofs.Theorem.{blank-phase, At, at-blank, at-up, at-down, relates, claim, demands, readings, starts}
+use Rattle.crash.proofs.Relation.{first-waiting}
 use Rattle.refuted.specs.Wrong.{sharesCommitted, committedConditions, onlyCommitted33}
 use Rattle.refuted.specs.Parts.{onTape}
 use Rattle.refuted.proofs.Parts.{other-checkpoint}
@@ -99,7 +100,7 @@ module _ {l : Ledger} {w : World} (u : UpAt l w) (c : ℕ) (in-range : c < l .sh
   not-committed i h =
       let r = u .up .fine .ranks i h in
       elim (decLt (l .book .uncommitted i) (l .book .next i)) [
-        | yes busy ↦ ap isCommitted (r .storing busy .1)
+        | yes busy ↦ ap isCommitted (first-waiting r busy .1)
         | no free ↦ (let e : l .book .uncommitted i ≡ l .book .next i = omega (arith, r .mid) in
             subst (λ (n : ℕ). isCommitted (stageOf (l .book) (newName i n)) ≡ false) (sym e)
             (elim (r .current) [ inl a ↦ ap isCommitted a | inr a ↦ ap isCommitted a ]))
