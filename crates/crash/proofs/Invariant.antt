@@ -13,7 +13,7 @@ use Rattle.crash.proofs.Tests.{clash}
 use Rattle.crash.proofs.BookEntries.{by-stage}
 use Rattle.crash.proofs.History.{Event, value, upto, Took, Status, Sound, Chain, Good}
 use Rattle.crash.proofs.Steps.{Extends, extend}
-use Rattle.crash.proofs.Largest.{largest-mono, memberOf, stageOf, listsName, kept-largest}
+use Rattle.crash.proofs.Largest.{memberOf, stageOf, listsName, kept-largest, kept-more}
 
 -- ---- the histories of a list of writes
 abbrev pub eventOf : Write → Event Name Bytes
@@ -138,10 +138,8 @@ module _ {home : ℕ → Bytes} {l : Ledger} (v : Inv home l) (l′ : Ledger) (k
         closed = λ t. grows t .closed;
         retired = λ t. grows t .retired;
         kept =
-            largest-mono _ _ (listsName (l .book)) (listsName (l′ .book)) _ _ _
-            (λ t. grows t .committed)
-            (λ t u h n. rw (grows t .names-fixed (committed-closed (stageOf (l .book) t) h)) at n)
-            (kept-largest (l .book) (opened-of (l .book) (v .known))) (kept-largest (l′ .book) (opened-of (l′ .book) known));
+            kept-more (l .book) (l′ .book) (opened-of (l .book) (v .known)) (opened-of (l′ .book) known)
+            (λ t. grows t .committed) (λ t u h n. rw (grows t .names-fixed (committed-closed (stageOf (l .book) t) h)) at n);
         names = λ t u. grows t .names u;
         lower =
             λ t u cu low ct. rw (grows u .stamp-fixed cu)

@@ -39,7 +39,7 @@ module _ {Txn : Type 0} where
       }
 
   -- more transactions, with the lists of the former ones as they were, give more
-  pub largest-mono : (from from′ : Txn → Bool) (lists lists′ : Txn → Txn → Bool) (met k k′ : Txn → Bool)
+  largest-mono : (from from′ : Txn → Bool) (lists lists′ : Txn → Txn → Bool) (met k k′ : Txn → Bool)
       → ((t : Txn) → So (from t) → So (from′ t)) → ((t u : Txn) → So (from t) → So (lists′ t u) → So (lists t u))
       → Largest from lists met k → Largest from′ lists′ met k′ → (t : Txn) → So (k t) → So (k′ t)
   largest-mono from from′ lists lists′ met k k′ f n l l′ =
@@ -157,3 +157,11 @@ module _ (k : Book) (opened : (t : Name) → So (isCommitted (stageOf k t)) → 
     pub valid-is-kept : ((t : Name) → So (isRetired (stageOf k t)) → So (memberOf (kept k) t))
         → (t : Name) → memberOf (validIn k) t ≡ (memberOf (kept k) t && not (isRetired (stageOf k t)))
     valid-is-kept = valid-kept (λ t. isCommitted (stageOf k t)) (λ t. isRetired (stageOf k t)) (listsName k) (memberOf (kept k)) (memberOf (validIn k)) kept-largest valid-largest
+
+-- Of two books the one with more committed, of which those committed in the first list no other names, keeps more.
+pub kept-more : (k k′ : Book) → ((t : Name) → So (isCommitted (stageOf k t)) → List·Memᴰ t (k .opened)) → ((t : Name) → So (isCommitted (stageOf k′ t)) → List·Memᴰ t (k′ .opened))
+    → ((t : Name) → So (isCommitted (stageOf k t)) → So (isCommitted (stageOf k′ t)))
+    → ((t u : Name) → So (isCommitted (stageOf k t)) → So (listsName k′ t u) → So (listsName k t u))
+    → (t : Name) → So (memberOf (kept k) t) → So (memberOf (kept k′) t)
+kept-more k k′ opened opened′ more names =
+    largest-mono _ _ (listsName k) (listsName k′) _ _ _ more names (kept-largest k opened) (kept-largest k′ opened′)
