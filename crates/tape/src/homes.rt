@@ -74,7 +74,7 @@ pub fn home_blocks(w: &[u64; 512], disk: &[u8], numbers: &mut [u8]) -> usize
 // The first eight bytes of home block b.
 pub fn first_bytes(b: u8, disk: &[u8]) -> &[u8]
     requires { ⌜ length (now disk) ≡ 32896 ⌝ }
-    ensures { λ r. ⌜ now r ≡ take 8 (blockAt (now (disk .entry)) (homeBlock b)) ⌝ }
+    ensures { λ r. ⌜ (now r ≡ take 8 (blockAt (now (disk .entry)) (homeBlock b))) × (length (now r) ≡ 8) ⌝ }
 {
     let from = 128 * (b as usize) + 128;
     let to = from + 8;
