@@ -93,20 +93,12 @@ fn digit(x: u8) -> u8
     if x < 10 { 48 + x } else { 87 + x }
 }
 
-fn high_digit(x: u8) -> u8 {
-    digit(x / 16)
-}
-
-fn low_digit(x: u8) -> u8 {
-    digit(x % 16)
-}
-
 // A byte as two digits.
 fn put_byte(text: &mut [u8], at: usize, x: u8)
     requires { ⌜ at + 2 ≤ length (now text) ⌝ }
 {
-    text[at] = high_digit(x);
-    text[at + 1] = low_digit(x);
+    text[at] = digit(x / 16);
+    text[at + 1] = digit(x % 16);
 }
 
 // Eight bytes in hex, and the end of the line.
