@@ -1,4 +1,3 @@
 -- Laws that the proofs of the program cite.
-pub mod OwnBytes
 pub mod TurnLaws
 pub mod PageLaws

@@ -16,9 +16,9 @@ use Rattle.command.specs.Counting.{counted, Performs}
 use Rattle.command.proofs.CountLaws.{counted-sum}
 use Rattle.firmware.specs.Session.{RunsCommand}
 use Rattle.firmware.specs.declared.session.Reply.{Reply}
-use Rattle.tape.specs.Program.{ownBytes, advanced, lineIn, Turned}
+use Rattle.tape.specs.Program.{advanced, lineIn, Turned}
 use Rattle.tape.specs.declared.turn.Turn.{Turn}
-use Rattle.tape.proofs.OwnBytes.{same-byte, same-unknown, same-early, same-command, same-next, whole-within}
+use Rattle.model.proofs.OwnBytes.{ownBytes, same-byte, same-unknown, same-early, same-command, same-next, whole-within}
 
 -- ---- whole or not
 abbrev whole : Bytes → ℕ → Bool

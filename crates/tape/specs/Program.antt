@@ -1,19 +1,16 @@
 -- What the program does with one command of a tape, and which home blocks have a line.
-use Prim.Native.Nat.{ℕ, suc, _+_, _≤_, _<_, min}
+use Prim.Native.Nat.{ℕ, _+_, _≤_, _<_, min}
 use mathlib.Core.Path.{_≡_}
 use mathlib.Core.List.{List, map}
 use mathlib.Core.Bool.{Bool, true, false, not}
 use lib.ListN.{length, take}
-use Rattle.model.specs.Bytes.{Bytes, part, blockAt}
+use Rattle.model.specs.Bytes.{Bytes, blockAt}
 use Rattle.model.specs.Shape.{homeBlock}
-use Rattle.model.specs.Tape.{step, operandLength, commandByte, commandAt, nextOffset, isZero, Line, lineOf}
+use Rattle.model.specs.Tape.{step, commandAt, nextOffset, isZero, Line, lineOf}
 use Rattle.model.proofs.Tape.{pointAt}
 use Rattle.cells.specs.Cells.{storesIn, worldIn}
 use Rattle.command.specs.Counting.{Performs}
 use Rattle.tape.specs.declared.turn.Turn.{Turn}
-
-unfoldable pub ownBytes : Bytes → ℕ → Bytes
-ownBytes t at = part at (suc (operandLength (commandByte t at))) t
 
 -- the line that the program prints of a command
 abbrev pub lineIn : Turn → Line

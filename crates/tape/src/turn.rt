@@ -5,7 +5,8 @@ ghost use mathlib.Core.Bool.{not, _&&_};
 ghost use lib.ListN.{length};
 ghost use Rattle.model.specs.Bytes.{Bytes};
 ghost use Rattle.model.specs.Tape.{isUnknown, endsEarly};
-ghost use Rattle.tape.specs.Program.{advanced, ownBytes, Turned};
+ghost use Rattle.model.proofs.OwnBytes.{ownBytes};
+ghost use Rattle.tape.specs.Program.{advanced, Turned};
 
 // The four numbers of a command's line; the offset of the next command, how many of the bytes read this one took, and whether the
 // tape goes on.

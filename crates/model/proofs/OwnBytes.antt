@@ -3,17 +3,20 @@
 use Prim.Native.Nat.{ℕ, suc, _+_, _-_, _≤_, _<_, min}
 use native.Mathlib.Omega.{arith}
 use mathlib.Core.Path.{_≡_, refl, sym, ap, _∙_}
-use mathlib.Core.Bool.{Bool, true, not, _&&_}
-use mathlib.Core.List.{[], _∷_}
-use lib.ListN.{length, take, drop, getD, length-take, length-drop}
-use lib.Seq.{getD-take, getD-drop, take-nil, take-take, drop-drop}
+use mathlib.Core.Bool.{Bool, true, false, not, _&&_}
+use mathlib.Core.List.{[], _∷_, _++_}
+use lib.ListN.{length, take, drop, getD, length-take, length-drop, List·getD-append}
+use lib.Seq.{getD-take, getD-drop, take-nil, take-take, take-append-le, drop-drop}
 use lib.Dec.{ltb}
 use borrow.Author.Tests.{ltb-true, ltb-false, lt-ltb, le-ltb, not-true}
 use Rattle.model.specs.Bytes.{Bytes, part}
 use Rattle.model.specs.Command.{World, Outcome}
 use Rattle.model.specs.Tape.{Step, operandLength, commandByte, operandsAt, isUnknown, endsEarly, commandAt, nextOffset}
 use Rattle.model.proofs.Lists.{cases, and-right}
-use Rattle.tape.specs.Program.{ownBytes}
+
+-- the bytes of the command at an offset, or those of them that are there; of an unknown one its first byte
+unfoldable pub ownBytes : Bytes → ℕ → Bytes
+ownBytes t at = part at (suc (operandLength (commandByte t at))) t
 
 drop-first : (n : ℕ) (l : Bytes) → drop 1 (take (suc n) l) ≡ take n (drop 1 l)
 drop-first n [] = sym (take-nil n)
@@ -77,6 +80,27 @@ module _ (t : Bytes) (at : ℕ) where
     pub whole-within : nextOffset t at ≤ length t
     unfolding nextOffset endsEarly
     whole-within = rw h (ltb-false (length t) _ (not-true (endsEarly t at) (and-right (not (isUnknown t at)) (not (endsEarly t at)) h)))
+
+-- ---- bytes read from an offset on, with others to follow: they hold its own bytes where they do not end early, or no other follows
+module _ (t : Bytes) (at : ℕ) (s r : Bytes) (e : drop at t ≡ s ++ r) where
+  read-byte : 0 < length s → commandByte t at ≡ commandByte s 0
+  unfolding commandByte
+  read-byte h =
+      let z : at + 0 ≡ at = omega arith in
+      ap (λ (i : ℕ). getD t i 0) (sym z) ∙ sym (getD-drop at t 0 0) ∙ ap (λ (l : Bytes). getD l 0 0) e ∙ List·getD-append s r 0 0 h
+
+  pub own-read : endsEarly s 0 ≡ false → ownBytes t at ≡ ownBytes s 0
+  unfolding endsEarly ownBytes part
+  own-read h =
+      let l : 0 + 1 + operandLength (commandByte s 0) ≤ length s = ltb-false (length s) _ h in
+      rw (read-byte (omega arith), e) (take-append-le (suc (operandLength (commandByte s 0))) s r (omega arith))
+
+pub own-rest : (t : Bytes) (at : ℕ) (s : Bytes) → drop at t ≡ s → ownBytes t at ≡ ownBytes s 0
+unfolding ownBytes part commandByte
+own-rest t at s e =
+    let z : at + 0 ≡ at = omega arith in
+    let b : getD t at 0 ≡ getD s 0 0 = ap (λ (i : ℕ). getD t i 0) (sym z) ∙ sym (getD-drop at t 0 0) ∙ ap (λ (l : Bytes). getD l 0 0) e in
+    rw (b, e)
 
 -- ---- two commands whose own bytes are the same
 module _ (t : Bytes) (at : ℕ) (s : Bytes) (i : ℕ) (e : ownBytes t at ≡ ownBytes s i) where
