@@ -18,3 +18,4 @@ pub mod Arrays
 pub mod Records
 pub mod OneStore
 pub mod Sizes
+pub mod OwnBytes

@@ -1,9 +1,10 @@
 // lib.rs: the proved library behind a safe wrapper, a watcher that compares it with the independent model, cells that no run made,
-// and a gauge of stack.
+// a gauge of stack, and the tape program.
 
 pub mod cells;
 pub mod made_up;
 pub mod paint;
+pub mod program;
 pub mod session;
 pub mod stage;
 pub mod watcher;
