@@ -3,16 +3,16 @@
 use Prim.Native.Nat.{ℕ, suc, _+_, _-_, _≤_, _<_, min}
 use native.Mathlib.Omega.{arith}
 use mathlib.Core.Path.{_≡_, refl, sym, ap, _∙_}
-use mathlib.Core.Bool.{Bool, true, false, not, _&&_}
+use mathlib.Core.Bool.{Bool, true, false}
 use mathlib.Core.List.{[], _∷_, _++_}
 use lib.ListN.{length, take, drop, getD, length-take, length-drop, List·getD-append}
 use lib.Seq.{getD-take, getD-drop, take-nil, take-take, take-append-le, drop-drop}
-use lib.Dec.{ltb}
-use borrow.Author.Tests.{ltb-true, ltb-false, lt-ltb, le-ltb, not-true}
+use lib.Dec.{ltb, leb}
+use borrow.Author.Tests.{ltb-true, ltb-false, lt-ltb, le-ltb, le-leb, lt-leb, leb-true, leb-false}
 use Rattle.model.specs.Bytes.{Bytes, part}
-use Rattle.model.specs.Command.{World, Outcome}
-use Rattle.model.specs.Tape.{Step, operandLength, commandByte, operandsAt, isUnknown, endsEarly, commandAt, nextOffset}
-use Rattle.model.proofs.Lists.{cases, and-right}
+use Rattle.model.specs.Tape.{Command, operandLength, whole, isEarly, commandByte, operandsAt, readAt, offsetPast, nextOffset, Step, commandAt}
+use Rattle.model.proofs.Lists.{cases}
+use Rattle.model.proofs.Tape.{early-is}
 
 -- the bytes of the command at an offset, or those of them that are there; of an unknown one its first byte
 unfoldable pub ownBytes : Bytes → ℕ → Bytes
@@ -45,11 +45,11 @@ module _ (t : Bytes) (at : ℕ) where
   own-length = length-take _ (drop at t) ∙ ap (min (suc (operandLength (commandByte t at)))) (length-drop at t)
 
   -- a first byte is there, and too few are there, on both
-  own-begins : ltb 0 (length (ownBytes t at)) ≡ ltb at (length t)
+  own-begins : leb (length (ownBytes t at)) 0 ≡ leb (length t) at
   own-begins =
-      cases (ltb at (length t))
-      (λ h. lt-ltb 0 (length (ownBytes t at)) (omega (arith, own-length, ltb-true at (length t) h)) ∙ sym h)
-      (λ h. le-ltb 0 (length (ownBytes t at)) (omega (arith, own-length, ltb-false at (length t) h)) ∙ sym h)
+      cases (leb (length t) at)
+      (λ h. le-leb (length (ownBytes t at)) 0 (omega (arith, own-length, leb-true (length t) at h)) ∙ sym h)
+      (λ h. lt-leb (length (ownBytes t at)) 0 (omega (arith, own-length, leb-false (length t) at h)) ∙ sym h)
 
   own-short : let n = operandLength (commandByte t at) in ltb (length (ownBytes t at)) (0 + 1 + n) ≡ ltb (length t) (at + 1 + n)
   own-short =
@@ -58,42 +58,33 @@ module _ (t : Bytes) (at : ℕ) where
       (λ h. lt-ltb (length (ownBytes t at)) (0 + 1 + n) (omega (arith, own-length, ltb-true (length t) (at + 1 + n) h)) ∙ sym h)
       (λ h. le-ltb (length (ownBytes t at)) (0 + 1 + n) (omega (arith, own-length, ltb-false (length t) (at + 1 + n) h)) ∙ sym h)
 
-  -- ---- (ii) unknown, early
-  pub own-unknown : isUnknown (ownBytes t at) 0 ≡ isUnknown t at
-  unfolding isUnknown
-  own-unknown = rw (own-begins, own-byte)
+  -- ---- (ii) what is read there: the command, unknown or early
+  pub own-read : readAt (ownBytes t at) 0 ≡ readAt t at
+  unfolding readAt
+  own-read = rw (own-begins, own-byte, own-operands, own-short)
 
-  pub own-early : endsEarly (ownBytes t at) 0 ≡ endsEarly t at
-  unfolding endsEarly
-  own-early = rw own-byte own-short
-
-  -- ---- (iii) the command, and where the next one stands
-  pub own-command : (f : Step) (w : World) → commandAt f (ownBytes t at) 0 w ≡ commandAt f t at w
+  -- ---- (iii) what any card makes of it, and where the next one stands
+  pub own-command : {W : Type 0} (wrong : W → Bool) (f : Step W) (w : W) → commandAt wrong f (ownBytes t at) 0 w ≡ commandAt wrong f t at w
   unfolding commandAt
-  own-command f w = rw (own-unknown, own-early, own-byte, own-operands)
+  own-command wrong f w = rw own-read
 
-  module _ (h : not (isUnknown t at) && not (endsEarly t at) ≡ true) where
-    pub own-next : nextOffset t at ≡ at + nextOffset (ownBytes t at) 0
-    unfolding nextOffset
-    own-next = rw (own-unknown, own-early, own-byte, h) (omega arith)
-
-    pub whole-within : nextOffset t at ≤ length t
-    unfolding nextOffset endsEarly
-    whole-within = rw h (ltb-false (length t) _ (not-true (endsEarly t at) (and-right (not (isUnknown t at)) (not (endsEarly t at)) h)))
+  pub own-next : (k : Command) → readAt t at ≡ whole k → nextOffset t at ≡ at + nextOffset (ownBytes t at) 0
+  unfolding nextOffset offsetPast
+  own-next k e = rw (own-read, e, own-byte) (omega arith)
 
 -- ---- bytes read from an offset on, with others to follow: they hold its own bytes where they do not end early, or no other follows
 module _ (t : Bytes) (at : ℕ) (s r : Bytes) (e : drop at t ≡ s ++ r) where
-  read-byte : 0 < length s → commandByte t at ≡ commandByte s 0
+  prefix-byte : 0 < length s → commandByte t at ≡ commandByte s 0
   unfolding commandByte
-  read-byte h =
+  prefix-byte h =
       let z : at + 0 ≡ at = omega arith in
       ap (λ (i : ℕ). getD t i 0) (sym z) ∙ sym (getD-drop at t 0 0) ∙ ap (λ (l : Bytes). getD l 0 0) e ∙ List·getD-append s r 0 0 h
 
-  pub own-read : endsEarly s 0 ≡ false → ownBytes t at ≡ ownBytes s 0
-  unfolding endsEarly ownBytes part
-  own-read h =
-      let l : 0 + 1 + operandLength (commandByte s 0) ≤ length s = ltb-false (length s) _ h in
-      rw (read-byte (omega arith), e) (take-append-le (suc (operandLength (commandByte s 0))) s r (omega arith))
+  pub own-prefix : isEarly (readAt s 0) ≡ false → ownBytes t at ≡ ownBytes s 0
+  unfolding ownBytes part
+  own-prefix h =
+      let l : 0 + 1 + operandLength (commandByte s 0) ≤ length s = ltb-false (length s) _ (sym (early-is s 0) ∙ h) in
+      rw (prefix-byte (omega arith), e) (take-append-le (suc (operandLength (commandByte s 0))) s r (omega arith))
 
 pub own-rest : (t : Bytes) (at : ℕ) (s : Bytes) → drop at t ≡ s → ownBytes t at ≡ ownBytes s 0
 unfolding ownBytes part commandByte
@@ -110,17 +101,13 @@ module _ (t : Bytes) (at : ℕ) (s : Bytes) (i : ℕ) (e : ownBytes t at ≡ own
   pub same-byte : commandByte t at ≡ commandByte s i
   same-byte = same commandByte own-byte
 
-  pub same-unknown : isUnknown t at ≡ isUnknown s i
-  same-unknown = same isUnknown own-unknown
+  pub same-read : readAt t at ≡ readAt s i
+  same-read = same readAt own-read
 
-  pub same-early : endsEarly t at ≡ endsEarly s i
-  same-early = same endsEarly own-early
+  pub same-command : {W : Type 0} (wrong : W → Bool) (f : Step W) (w : W) → commandAt wrong f t at w ≡ commandAt wrong f s i w
+  same-command wrong f w = same (λ (b : Bytes) (k : ℕ). commandAt wrong f b k w) (λ t at. own-command t at wrong f w)
 
-  pub same-command : (f : Step) (w : World) → commandAt f t at w ≡ commandAt f s i w
-  same-command f w = same (λ (b : Bytes) (k : ℕ). commandAt f b k w) (λ t at. own-command t at f w)
-
-  pub same-next : not (isUnknown t at) && not (endsEarly t at) ≡ true → i + nextOffset t at ≡ at + nextOffset s i
-  same-next h =
-      let k : not (isUnknown s i) && not (endsEarly s i) ≡ true = rw (same-unknown, same-early) at h in
+  pub same-next : (k : Command) → readAt t at ≡ whole k → i + nextOffset t at ≡ at + nextOffset s i
+  same-next k h =
       let n : nextOffset (ownBytes t at) 0 ≡ nextOffset (ownBytes s i) 0 = ap (λ (b : Bytes). nextOffset b 0) e in
-      omega (arith, own-next t at h, own-next s i k)
+      omega (arith, own-next t at k h, own-next s i k (sym same-read ∙ h))

@@ -14,7 +14,7 @@ use Rattle.model.specs.Bytes.{Bytes, part, blockAt}
 use Rattle.model.specs.Shape.{homeBlock}
 use Rattle.model.specs.declared.Card.{Card}
 use Rattle.cells.specs.Cells.{world}
-use Rattle.model.specs.Tape.{isZero, homeCount, homeLines}
+use Rattle.model.specs.Printing.{isZero, homeCount, homeLines}
 use Rattle.model.proofs.Lists.{cases, all-append, all-mem, getD-mem}
 use Rattle.tape.specs.Program.{isPrinted, homeLine}
 

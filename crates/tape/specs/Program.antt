@@ -6,11 +6,19 @@ use mathlib.Core.Bool.{Bool, true, false, not}
 use lib.ListN.{length, take}
 use Rattle.model.specs.Bytes.{Bytes, blockAt}
 use Rattle.model.specs.Shape.{homeBlock}
-use Rattle.model.specs.Tape.{step, commandAt, nextOffset, isZero, Line, lineOf}
+use Rattle.model.specs.Tape.{Read, whole, unknown, early, nextOffset}
+use Rattle.model.specs.Step.{stepAt}
+use Rattle.model.specs.Printing.{isZero, Line, lineOf}
 use Rattle.model.proofs.Tape.{pointAt}
 use Rattle.cells.specs.Cells.{storesIn, worldIn}
 use Rattle.command.specs.Counting.{Performs}
 use Rattle.tape.specs.declared.turn.Turn.{Turn}
+
+-- a known command with all its operands: after any other the tape ends
+abbrev pub isWhole : Read → Bool
+isWhole (whole k) = true
+isWhole unknown = false
+isWhole early = false
 
 -- the line that the program prints of a command
 abbrev pub lineIn : Turn → Line
@@ -20,9 +28,9 @@ lineIn r = record { offset = r .offset; byte = r .byte; answer = r .answer; stor
 -- long as the count of stores fits its cell; and whether the tape goes on: then where the next command stands, as long as
 -- offsets fit eight bytes, and else no command follows.
 pub record Turned (t : Bytes) (at : ℕ) (v : List ℕ) (d m : Bytes) (u : List ℕ) (e k : Bytes) (r : Turn) : Type 0 where
-  pub performs : Performs (commandAt step t at (worldIn v d m)) v u e k (r .answer)
-  pub line : storesIn v + (commandAt step t at (worldIn v d m)) .stores < 18446744073709551616
-      → lineIn r ≡ lineOf (pointAt step t at (storesIn v) (worldIn v d m))
+  pub performs : Performs (stepAt t at (worldIn v d m)) v u e k (r .answer)
+  pub line : storesIn v + (stepAt t at (worldIn v d m)) .stores < 18446744073709551616
+      → lineIn r ≡ lineOf (pointAt stepAt t at (storesIn v) (worldIn v d m))
   pub goes-on : r .more ≡ true → length t < 18446744073709551616 → r .next ≡ nextOffset t at
   pub ends : r .more ≡ false → length t ≤ nextOffset t at
 

@@ -1,12 +1,11 @@
 // One command of a tape, without input or output.
 ghost use Prim.Native.Nat.{_≤_};
 ghost use mathlib.Core.Path.{_≡_};
-ghost use mathlib.Core.Bool.{not, _&&_};
 ghost use lib.ListN.{length};
 ghost use Rattle.model.specs.Bytes.{Bytes};
-ghost use Rattle.model.specs.Tape.{isUnknown, endsEarly};
+ghost use Rattle.model.specs.Tape.{readAt};
 ghost use Rattle.model.proofs.OwnBytes.{ownBytes};
-ghost use Rattle.tape.specs.Program.{advanced, Turned};
+ghost use Rattle.tape.specs.Program.{isWhole, advanced, Turned};
 
 // The four numbers of a command's line; the offset of the next command, how many of the bytes read this one took, and whether the
 // tape goes on.
@@ -22,7 +21,7 @@ pub struct Turn {
 
 // Whether a known command begins here and all its operands are there: after any other the tape ends.
 fn is_whole(read: &[u8]) -> bool
-    ensures { λ r. ⌜ r ≡ (not (isUnknown (now (read .entry)) 0) && not (endsEarly (now (read .entry)) 0)) ⌝ }
+    ensures { λ r. ⌜ r ≡ isWhole (readAt (now (read .entry)) 0) ⌝ }
 {
     if operands::is_unknown(read, 0) {
         return false;
