@@ -26,8 +26,8 @@ use Rattle.model.proofs.Lists.{cases, and-left, and-right, mem-all, mem-getD}
 use Rattle.model.proofs.Store.{length-blockAt}
 use Rattle.model.proofs.Tape.{Runs, at-end, one-more, next-past, next-within, run-runs}
 use Rattle.crash.specs.Claims.{IsBytes, AreaKept, LedgerKept, ReadingsKept, Start, StartFits, Stated, startLedger, startService, startWorld}
-use Rattle.crash.proofs.Theorem.{claim, demands, readings}
-use Rattle.crash.proofs.Largest.{largest-kept}
+use Rattle.crash.proofs.Runs.Theorem.{claim, demands, readings}
+use Rattle.crash.proofs.Books.Largest.{largest-kept}
 use Rattle.cells.specs.Cells.{storesIn, Exact, world, worldIn}
 use Rattle.reading.specs.declared.Part.{Part}
 use Rattle.reading.specs.Part.{partOf}

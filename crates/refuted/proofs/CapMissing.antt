@@ -27,7 +27,7 @@ use Rattle.model.proofs.Tape.{pointAt, Runs, at-end, one-more, run-runs}
 use Rattle.crash.specs.Book.{emptyBook}
 use Rattle.crash.specs.Ledger.{Ledger, freshLedger, cutLedger, carriedOut, entered, storedSince, diskAfter, refusalsOf, answerOf}
 use Rattle.crash.specs.Claims.{IsBytes, Start, from-down, startWorld, startLedger, StartFits, enteredPoint, Between, PointKept, LedgerKept, JournalsRead, Demands}
-use Rattle.crash.proofs.Tests.{clash}
+use Rattle.crash.proofs.Books.Tests.{clash}
 use Rattle.refuted.specs.Parts.{onTape, recoverStepBy, tailBy}
 use Rattle.refuted.specs.Wrong.{capMissing}
 use Rattle.refuted.proofs.Tapes.{tests}

@@ -21,9 +21,9 @@ use Rattle.model.proofs.Command.{first-refusal, clear-refusal, read-answer, com
 use Rattle.crash.specs.Service.{Service, emptyService, bookArea}
 use Rattle.crash.specs.Ledger.{Ledger, blankLedger, imageNow, answerOf, diskAfter, memoryAfter, storeCount}
 use Rattle.crash.specs.Claims.{IsBytes, Start, from-blank, startWorld, startService, startLedger, StartFits, ComesUp, homeArea, fedPoint, AreaKept, Claim, enteredPoint, DoneAs, PointKept, LedgerKept, Demands, ReadsNow, ReadingsKept, Readings}
-use Rattle.crash.proofs.BlockBytes.{zero-bytes}
-use Rattle.crash.proofs.Tests.{clash, impossible}
-use Rattle.crash.proofs.Theorem.{claim, demands, readings}
+use Rattle.crash.proofs.Disk.BlockBytes.{zero-bytes}
+use Rattle.crash.proofs.Books.Tests.{clash, impossible}
+use Rattle.crash.proofs.Runs.Theorem.{claim, demands, readings}
 use Rattle.refuted.specs.Parts.{byteOf}
 
 unfoldable pub sameBytes : Bytes → Bytes → Bool

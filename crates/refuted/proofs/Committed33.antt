@@ -30,18 +30,18 @@ use Rattle.model.proofs.Command.{unless-same}
 use Rattle.crash.specs.Book.{isCommitted, kept}
 use Rattle.crash.specs.Ledger.{Ledger, validIn}
 use Rattle.crash.specs.Claims.{IsBytes, Start, StartFits, startWorld, startService, startLedger, AreaKept, LedgerKept, ReadingsKept, Claim, Demands, Readings}
-use Rattle.crash.proofs.Tests.{clash, false-of, in-any, blockEquality}
-use Rattle.crash.proofs.BookEntries.{oldestName, uncommittedName}
-use Rattle.crash.proofs.History.{Event, Took, Status, Sound, Chain, older, kept-link}
-use Rattle.crash.proofs.Largest.{memberOf, stageOf, RetiredBelow, kept-largest, valid-is-kept}
-use Rattle.crash.proofs.Invariant.{Inv, historyOf, homed, status, opened-of, sound-of}
-use Rattle.crash.proofs.ReadMaster.{shape-up}
-use Rattle.crash.proofs.ReadCheckpoint.{Lower, lowerClosed, closed-lower, oldest-is, oldest-name, none-committed, oldest-valid}
-use Rattle.crash.proofs.CardAnswers.{Same, none-left, then, same-refusal}
-use Rattle.crash.proofs.Points.{Goes, goes}
-use Rattle.crash.proofs.UpSteps.{UpAt, numbered}
-use Rattle.crash.proofs.Theorem.{blank-phase, At, at-blank, at-up, at-down, relates, claim, demands, readings, starts}
-use Rattle.crash.proofs.Relation.{first-waiting}
+use Rattle.crash.proofs.Books.Tests.{clash, false-of, in-any, blockEquality}
+use Rattle.crash.proofs.Books.BookEntries.{oldestName, uncommittedName}
+use Rattle.crash.proofs.Blocks.History.{Event, Took, Status, Sound, Chain, older, kept-link}
+use Rattle.crash.proofs.Books.Largest.{memberOf, stageOf, RetiredBelow, kept-largest, valid-is-kept}
+use Rattle.crash.proofs.Blocks.Invariant.{Inv, historyOf, homed, status, opened-of, sound-of}
+use Rattle.crash.proofs.Disk.ReadMaster.{shape-up}
+use Rattle.crash.proofs.Disk.ReadCheckpoint.{Lower, lowerClosed, closed-lower, oldest-is, oldest-name, none-committed, oldest-valid}
+use Rattle.crash.proofs.Commands.CardAnswers.{Same, none-left, then, same-refusal}
+use Rattle.crash.proofs.Runs.Points.{Goes, goes}
+use Rattle.crash.proofs.Runs.UpSteps.{UpAt, numbered}
+use Rattle.crash.proofs.Runs.Theorem.{blank-phase, At, at-blank, at-up, at-down, relates, claim, demands, readings, starts}
+use Rattle.crash.proofs.Disk.Relation.{first-waiting}
 use Rattle.refuted.specs.Wrong.{sharesCommitted, committedConditions, onlyCommitted33}
 use Rattle.refuted.specs.Parts.{onTape}
 use Rattle.refuted.proofs.Parts.{other-checkpoint}

@@ -17,7 +17,7 @@ use Rattle.model.specs.declared.Phase.the-variants.{Up}
 use Rattle.model.proofs.Lists.{all-mem}
 use Rattle.crash.specs.Ledger.{blankLedger}
 use Rattle.crash.specs.Claims.{Demands}
-use Rattle.crash.proofs.Tests.{clash}
+use Rattle.crash.proofs.Books.Tests.{clash}
 use Rattle.refuted.specs.Parts.{onTape, ignoring, ignoringAt, refusing}
 use Rattle.refuted.proofs.Checks.{answerTest, answers, holds, decidesTest, decides, areBytes, refutes-demands}
 use Rattle.refuted.proofs.Tapes.{tests, format, write, close, stores, checkpoints, cut, recovers, thirteenth}

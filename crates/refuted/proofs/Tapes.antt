@@ -7,7 +7,7 @@ use Rattle.model.specs.Bytes.{Bytes, bytes}
 use Rattle.crash.specs.Claims.{homeArea, startWorld, startLedger, fedPoint, enteredPoint}
 use Rattle.crash.specs.Service.{bookArea}
 use Rattle.crash.specs.Ledger.{blankLedger, freshLedger, imageNow, closeLedger, unretired, metIn, validIn, blocksIn, cutLedger, recoverLedger, carriedOut, entered, storedOf, storedSince, heldOf, recordOf, recordBlocks, recordStored, tailsPast, checkpointStored, recoverStored, diskAfter, storeCount, copiesStored, memoryAfter, namesCount, holderNames, formatRefusals, namesPass, blocksAfter, journalPasses, numberPasses, writeRefusals, closeRefusals, storeRefusals, sharesLowerIn, checkpointRefusals, refusalsOf, answerOf}
-use Rattle.crash.proofs.BookExamples.{books}
+use Rattle.crash.proofs.Books.BookExamples.{books}
 use Rattle.refuted.proofs.Checks.{sameBytes, isRecover, comesUp, areaHolds, answerTest, usedBytes, imageBytes, sameWorld, refusedTest, ofDone, countTest, bytesTest, memoryTest, holds, readsTest, readsHold, decidesTest}
 
 unfoldable pub tests : Unit {0}

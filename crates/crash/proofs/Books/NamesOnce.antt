@@ -1,0 +1,223 @@
+-- 'A name stands once in a list.' Of every list of a book or ledger, whatever the commands and answers that it was fed;
+-- and so, by the demands, of every list that the journals of a run hold.
+use Prim.Native.Nat.{ℕ, zero, suc, _+_, _-_, _<_}
+use mathlib.Core.Path.{_≡_, refl, sym, ap, _∙_, subst}
+use mathlib.Core.Bool.{Bool, true, false, cond, not, _&&_}
+use mathlib.Core.List.{List, [], _∷_, _++_}
+use lib.ListN.{getD}
+use lib.Dec.{eqb}
+use borrow.Author.Tests.{not-true}
+use Rattle.model.specs.Lists.{below, all, any}
+use Rattle.model.specs.Bytes.{Bytes}
+use Rattle.model.specs.Card.{newName, sameName, isBlank}
+use Rattle.model.specs.Command.{World}
+use Rattle.model.specs.Journal.{journal, namesOf}
+use Rattle.model.specs.Recovery.{shapeOn, tailOn}
+use Rattle.model.specs.Tape.{Point, run, CHECKPOINT, CLOSE, CUT, Command, FORMAT, RECOVER, Read, STORE, WRITE, early, heard, unknown, whole}
+use Rattle.model.proofs.Lists.{cases, and-both, and-left, and-right, or-none, any-append, all-map, mem-all}
+use Rattle.model.proofs.Valid.{sameName-refl}
+use Rattle.crash.specs.Book.{Stage, Entry, Book, emptyBook, change, staged, taking, naming, hasRunning, hasClosed, hasCommitted, begin, holderIn, Meeting, no-holder, own, running-holder, closed-holder, meets, ruled, note, wrote, close, store, checkpoint}
+use Rattle.crash.specs.Service.{Service, emptyService, noted, cutService, fed, served}
+use Rattle.crash.specs.Ledger.{Ledger, Stored, freshLedger, blankLedger, closeLedger, cutLedger, recoverLedger, entered, storedOf, storedSince, carriedOut}
+use Rattle.crash.specs.Claims.{fedPoint, readAs, JournalsRead, LedgerKept, OnRuns, Start, StartFits, from-blank, from-down, enteredPoint, startLedger, startWorld}
+use Rattle.crash.proofs.Books.BookEntries.{sameName-false, change-each}
+use Rattle.crash.proofs.Books.Tests.{clash}
+use Rattle.crash.proofs.Runs.Theorem.{demands}
+use Rattle.model.specs.Step.{stepAt}
+use Rattle.model.specs.declared.Name.{Name}
+use Rattle.model.specs.declared.Shape.{Shape}
+use Rattle.model.specs.declared.Committed.{Committed}
+
+-- no name stands twice
+unfoldable pub once : List Name → Bool
+once [] = true
+once (n ∷ ns) = not (any (sameName n) ns) && once ns
+
+-- in the lists of a book
+abbrev pub NamesOnce : Book → Type 0
+NamesOnce k = (t : Name) → once ((k .entry t) .names) ≡ true
+
+-- in the lists that the journals of a card that is not blank hold
+abbrev pub ReadOnce : World → Type 0
+ReadOnce w =
+    let d = w .disk in
+    let s = shapeOn d in
+    isBlank (w .card .phase) ≡ false → (c : ℕ) → c < s .cores → all (λ (e : Committed). once (namesOf s d e)) (journal s d c (tailOn d c) (s .journal)) ≡ true
+
+-- at every point of a run, and at its end
+abbrev pub OnceAlong : Ledger → World → List (Point World) → Type 0
+OnceAlong l w [] = NamesOnce (l .book) × ReadOnce w
+OnceAlong l w (p ∷ ps) =
+    NamesOnce (l .book) × ReadOnce w × OnceAlong (enteredPoint p l) (p .outcome .world) ps
+
+abbrev pub OnceServed : Service → List (Point World) → Type 0
+OnceServed v [] = NamesOnce (v .book)
+OnceServed v (p ∷ ps) = NamesOnce (v .book) × OnceServed (fedPoint p v) ps
+
+-- ---- a name added where it does not stand
+none-added : (n x : Name) (ns : List Name) → any (sameName x) ns ≡ false → sameName x n ≡ false → any (sameName x) (ns ++ (n ∷ [])) ≡ false
+unfolding any
+none-added n x ns a e = any-append (sameName x) ns (n ∷ []) ∙ rw (a, e)
+
+once-added : (n : Name) (ns : List Name) → any (sameName n) ns ≡ false → once ns ≡ true → once (ns ++ (n ∷ [])) ≡ true
+unfolding once any
+once-added n [] a h = refl
+once-added n (x ∷ xs) a h =
+    let p = or-none (sameName n x) (any (sameName n) xs) a in
+    let f : any (sameName x) xs ≡ false = not-true _ (and-left (not (any (sameName x) xs)) (once xs) h) in
+    let g : sameName x n ≡ false = sameName-false x n (λ e. clash (rw e (sameName-refl n)) (p .0)) in
+    and-both (ap not (none-added n x xs f g)) (once-added n xs (p .1) (and-right (not (any (sameName x) xs)) (once xs) h))
+
+once-named : (n : Name) (e : Entry) → once (e .names) ≡ true → once ((naming n e) .names) ≡ true
+once-named n e h = cases (any (sameName n) (e .names)) (λ a. rw a h) (λ a. rw a (once-added n (e .names) a h))
+
+-- ---- the commands in a book
+by-test : {A : Type 0} (P : A → Type 0) (t : Bool) {x y : A} → P x → P y → P (cond t x y)
+by-test P true p q = p
+by-test P false p q = q
+
+module _ (entry : Name → Entry) (h : (u : Name) → once ((entry u) .names) ≡ true) where
+  changed-once : (t : Name) (g : Entry → Entry) → ((e : Entry) → once (e .names) ≡ true → once ((g e) .names) ≡ true) → (u : Name) → once ((change t g entry u) .names) ≡ true
+  changed-once t g keeps = change-each (λ (u : Name) (e : Entry). once (e .names) ≡ true) t g entry (keeps (entry t) (h t)) (λ u ne. h u)
+
+  staged-once : (t : Name) (g : Stage) (u : Name) → once ((change t (staged g) entry u) .names) ≡ true
+  staged-once t g = changed-once t (staged g) (λ e p. p)
+
+ruled-once : (m : Meeting) (t : Name) (b : ℕ) (entry : Name → Entry) → ((u : Name) → once ((entry u) .names) ≡ true) → (u : Name) → once ((ruled m t b entry u) .names) ≡ true
+unfolding ruled
+ruled-once no-holder t b entry h = changed-once entry h t (taking b) (λ e p. p)
+ruled-once own t b entry h = h
+ruled-once (running-holder u) t b entry h = changed-once (change t (naming u) entry) (changed-once entry h t (naming u) (once-named u)) u (naming t) (once-named t)
+ruled-once (closed-holder u) t b entry h = changed-once entry h t (λ (e : Entry). taking b (naming u e)) (once-named u)
+
+note-once : (t : Name) (b o : ℕ) (v : Bytes) (k : Book) → NamesOnce k → NamesOnce (note t b o v k)
+unfolding note
+note-once t b o v k h = ruled-once (meets k t (holderIn k b (k .writes))) t b (k .entry) h
+
+begin-once : (t : Name) (k : Book) → NamesOnce k → NamesOnce (begin t k)
+unfolding begin
+begin-once t k h = staged-once (k .entry) h t _
+
+module _ (c : ℕ) (k : Book) (h : NamesOnce k) where
+  wrote-once : (b o : ℕ) (v : Bytes) → NamesOnce (wrote c b o v k)
+  unfolding wrote
+  wrote-once b o v =
+      let t = newName c (k .next c) in
+      note-once t b o v (cond (hasRunning k c) k (begin t k)) (by-test NamesOnce (hasRunning k c) h (begin-once t k h))
+
+  close-once : NamesOnce (close c k)
+  unfolding close
+  close-once = staged-once (k .entry) h _ _
+
+  store-once : NamesOnce (store c k)
+  unfolding store
+  store-once = staged-once (k .entry) h _ _
+
+  checkpoint-once : NamesOnce (checkpoint c k)
+  unfolding checkpoint
+  checkpoint-once = staged-once (k .entry) h _ _
+
+empty-once : (first : ℕ → ℕ) → NamesOnce (emptyBook first)
+unfolding emptyBook once
+empty-once first t = refl
+
+noted-once : (k : Command) (b : Book) → NamesOnce b → NamesOnce (noted k b)
+unfolding noted
+noted-once (FORMAT c n j) b h = h
+noted-once (WRITE c n o v) b h = wrote-once c b h n o v
+noted-once (CLOSE c) b h = by-test NamesOnce (hasRunning b c) (close-once c b h) h
+noted-once (STORE c) b h = by-test NamesOnce (hasClosed b c) (store-once c b h) h
+noted-once (CHECKPOINT c) b h = by-test NamesOnce (hasCommitted b c) (checkpoint-once c b h) h
+noted-once CUT b h = h
+noted-once RECOVER b h = h
+
+served-once : (k : Command) (v : Service) → NamesOnce (v .book) → NamesOnce ((served k v) .book)
+unfolding served emptyService cutService
+served-once (FORMAT c b j) v h = empty-once _
+served-once (WRITE c b o d) v h = noted-once (WRITE c b o d) (v .book) h
+served-once (CLOSE c) v h = noted-once (CLOSE c) (v .book) h
+served-once (STORE c) v h = noted-once (STORE c) (v .book) h
+served-once (CHECKPOINT c) v h = noted-once (CHECKPOINT c) (v .book) h
+served-once CUT v h = empty-once _
+served-once RECOVER v h = h
+
+recover-once : (bs : List ℕ) (l : Ledger) → NamesOnce (l .book) → NamesOnce ((recoverLedger bs l) .book)
+unfolding recoverLedger freshLedger
+recover-once [] l h = empty-once _
+recover-once (b ∷ bs) l h = h
+
+carried-once : (k : Command) (l : Ledger) → NamesOnce (l .book) → NamesOnce ((carriedOut k l) .book)
+unfolding carriedOut freshLedger closeLedger cutLedger
+carried-once (FORMAT c b j) l h = empty-once _
+carried-once (WRITE c b o v) l h = noted-once (WRITE c b o v) (l .book) h
+carried-once (CLOSE c) l h = by-test (λ (l : Ledger). NamesOnce (l .book)) (hasRunning (l .book) c) (close-once c (l .book) h) h
+carried-once (STORE c) l h = noted-once (STORE c) (l .book) h
+carried-once (CHECKPOINT c) l h = noted-once (CHECKPOINT c) (l .book) h
+carried-once CUT l h = h
+carried-once RECOVER l h = recover-once (l .left) l h
+
+-- a refused command changes nothing, nor does what is no command
+module _ {S : Type 0} (book : S → Book) (f : Command → ℕ → S → S) (h : (k : Command) (n : ℕ) (s : S) → NamesOnce (book s) → NamesOnce (book (f k n s))) where
+  heard-once : (r : Read) (n : ℕ) (s : S) → NamesOnce (book s) → NamesOnce (book (heard f r n s))
+  unfolding heard
+  heard-once (whole k) n s g = h k n s g
+  heard-once unknown n s g = g
+  heard-once early n s g = g
+
+fed-once : (k : Command) (n : ℕ) (v : Service) → NamesOnce (v .book) → NamesOnce ((fed k n v) .book)
+unfolding fed
+fed-once k zero v h = served-once k v h
+fed-once k (suc n) v h = h
+
+entered-once : (k : Command) (n : ℕ) (l : Ledger) → NamesOnce (l .book) → NamesOnce ((entered k n l) .book)
+unfolding entered
+entered-once k zero l h = carried-once k l h
+entered-once k (suc n) l h = h
+
+-- ---- the journals: each is read as the ledger's transactions
+stored-once : (l : Ledger) (c : ℕ) → NamesOnce (l .book) → all (λ (r : Stored). once (r .names)) (storedSince l c) ≡ true
+unfolding storedSince storedOf
+stored-once l c h =
+    let t : ℕ → Name = λ i. newName c (l .book .oldest c + i) in
+    let p : ℕ → Bool = λ i. once ((l .book .entry (t i)) .names) in
+    all-map (λ (i : ℕ). storedOf l (t i)) p (λ (r : Stored). once (r .names)) (λ i. refl) (below (l .book .uncommitted c - l .book .oldest c))
+    ∙ mem-all p (below (l .book .uncommitted c - l .book .oldest c)) (λ i m. h (t i))
+
+journals-once : (l : Ledger) (d : Bytes) → NamesOnce (l .book) → JournalsRead l d
+    → (c : ℕ) → c < (shapeOn d) .cores → all (λ (e : Committed). once (namesOf (shapeOn d) d e)) (journal (shapeOn d) d c (tailOn d c) ((shapeOn d) .journal)) ≡ true
+unfolding readAs
+journals-once l d h r =
+    subst (λ (s : Shape). (c : ℕ) → c < s .cores → all (λ (e : Committed). once (namesOf s d e)) (journal s d c (tailOn d c) (s .journal)) ≡ true)
+    (sym (r .shape))
+    (λ c b.
+    sym (all-map (readAs (l .shape) d) (λ (e : Committed). once (namesOf (l .shape) d e)) (λ (r : Stored). once (r .names)) (λ e. refl) (journal (l .shape) d c (tailOn d c) (l .shape .journal)))
+    ∙ ap (all (λ (r : Stored). once (r .names))) (r .records c b)
+    ∙ stored-once l c h)
+
+-- ---- along a run
+along : (n : ℕ) (l : Ledger) (w : World) (ps : List (Point World)) → NamesOnce (l .book) → LedgerKept n l w ps → OnceAlong l w ps
+along n l w [] h k = (h, λ b. journals-once l (w .disk) h (k .journals b))
+along n l w (p ∷ ps) h k = (
+  h,
+  λ b. journals-once l (w .disk) h (k .0 .between .journals b),
+  along (p .stores) (enteredPoint p l) (p .outcome .world) ps (unfold enteredPoint in heard-once (λ (l : Ledger). l .book) entered entered-once (p .read) (p .outcome .answer) l h) (k .1),
+)
+
+served-along : (v : Service) (ps : List (Point World)) → NamesOnce (v .book) → OnceServed v ps
+unfolding fedPoint
+served-along v [] h = h
+served-along v (p ∷ ps) h = (h, served-along (fedPoint p v) ps (heard-once (λ (v : Service). v .book) fed fed-once (p .read) (p .outcome .answer) v h))
+
+-- the service book needs no run: any points do
+pub service-once : (n : ℕ) (ps : List (Point World)) → OnceServed (emptyService n) ps
+unfolding emptyService
+service-once n ps = served-along (emptyService n) ps (empty-once _)
+
+start-once : (s : Start) → NamesOnce ((startLedger s) .book)
+unfolding startLedger blankLedger cutLedger freshLedger
+start-once (from-blank d m) = empty-once _
+start-once (from-down s m) = empty-once _
+
+-- In every run, from a blank card and from one that is down over a formatted disk: no list has a name twice.
+pub names-once : OnRuns StartFits startWorld stepAt (λ (s : Start) (ps : List (Point World)). OnceAlong (startLedger s) (startWorld s) ps)
+names-once t b s h = along 0 (startLedger s) (startWorld s) (run stepAt t (startWorld s)) (start-once s) (demands t b s h)

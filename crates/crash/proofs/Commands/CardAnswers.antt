@@ -1,0 +1,206 @@
+-- On a card that agrees with the ledger, the commands from WRITE to CHECKPOINT are answered by the ledger's conditions:
+-- each condition of the card is the ledger's. Only 26 counts the card's array of eight blocks, and there 25 has said
+-- before that eight are enough. So the first that holds is the same, and with it the answer.
+use Prim.Native.Nat.{ℕ, suc, _+_, _-_, _≤_, _<_}
+use native.Mathlib.Omega.{arith}
+use native.Mathlib.Decide.{decLt}
+use mathlib.Core.Path.{_≡_, refl, ap, ap₂, _∙_, sym}
+use mathlib.Core.Logic.{_⊎_, inl, inr, _≢_}
+use mathlib.Core.Bool.{Bool, false, cond, not, _&&_, _||_}
+use mathlib.Core.List.{List, [], _∷_}
+use mathlib.Core.Option.{some}
+use lib.ListN.{length, length-append}
+use lib.Dec.{ltb, leb}
+use borrow.Author.Tests.{lt-ltb, le-ltb, le-leb, lt-leb, leb-false, ltb-false, ltb-true, not-false}
+use Rattle.model.specs.Lists.{any}
+use Rattle.model.specs.Bytes.{Bytes}
+use Rattle.model.specs.Card.{newName, sameName, lists, recordSize, coreOf}
+use Rattle.model.specs.Command.{World, refusal, notUp, noCore, noBlock}
+use Rattle.model.specs.Write.{writer, ruleFor, takesBlock, passesNames, listsFull, closedBlocks, journalFull, writeConditions}
+use Rattle.model.specs.Commit.{closeConditions, storeConditions}
+use Rattle.model.specs.Checkpoint.{checkpointConditions}
+use Rattle.model.specs.Limits.{maxNumber}
+use Rattle.model.proofs.Lists.{cases, or-none}
+use Rattle.crash.specs.Book.{absent, running, isRunning, Entry, Book, begin, staged, taking, naming, holderIn, wrote}
+use Rattle.crash.specs.Ledger.{Ledger, namesCount, holderNames, recordBlocks, notUpFor, writeRefusals, closeRefusals, storeRefusals, checkpointRefusals, blocksAfter, journalPasses, namesPass, numberPasses}
+use Rattle.crash.proofs.Books.BookEntries.{change-at, records-snoc, nextName}
+use Rattle.crash.proofs.Books.BookSteps.{begun, meeting}
+use Rattle.crash.proofs.Disk.Relation.{Matches, Up}
+use Rattle.crash.proofs.Disk.LedgerStages.{running-present}
+use Rattle.crash.proofs.Disk.ReadMaster.{shape-up}
+use Rattle.crash.proofs.Disk.ReadCheckpoint.{none-committed, oldest-valid, oldest-shares}
+use Rattle.crash.proofs.Commands.CardRules.{entry-free, entry-own, entry-running, entry-closed, entry-holder, live-runs, writer-name, writer-matches, met-none, met-own, met-running, met-closed, rule-met, writer-after, holder-matches}
+use Rattle.crash.proofs.Commands.CardCut.{right-length}
+use Rattle.model.specs.declared.Shape.{Shape}
+use Rattle.model.specs.declared.Name.{Name}
+use Rattle.model.specs.declared.Transaction.{Transaction}
+
+-- ---- conditions one by one
+-- the same conditions, each as far as none before it holds
+pub data Same : List (Bool × ℕ) → List (Bool × ℕ) → Type 0 where
+  none-left : Same [] []
+  then : {p q : Bool} {n : ℕ} {xs ys : List (Bool × ℕ)} → p ≡ q → (q ≡ false → Same xs ys) → Same ((p, n) ∷ xs) ((q, n) ∷ ys)
+
+pub same-refusal : {xs ys : List (Bool × ℕ)} → Same xs ys → refusal xs ≡ refusal ys
+unfolding refusal
+same-refusal none-left = refl
+same-refusal (then {q = q} e h) = rw e (cases q (λ t. rw t refl) (λ f. rw f (same-refusal (h f))))
+
+module _ {l : Ledger} {w : World} (u : Up l w) where
+  -- 1, 20, 22 and 5
+  up-refusal : (c : ℕ) (xs ys : List (Bool × ℕ)) → (c < l .shape .cores → Same xs ys) → refusal (notUp w ((noCore w c, 5) ∷ xs)) ≡ refusal (notUpFor c l ys)
+  unfolding refusal noCore
+  up-refusal c xs ys h =
+      let same : Same ((leb (l .shape .cores) c, 5) ∷ xs) ((leb (l .shape .cores) c, 5) ∷ ys) = then refl (λ e. h (leb-false (l .shape .cores) c e)) in
+      rw (right-length w (u .disk .size) (u .memory), shape-up u, u .phase, u .ledger) (same-refusal same)
+
+  module _ (c : ℕ) (in-range : c < l .shape .cores) where
+    closing-live : (coreOf (w .card) c) .closed .live ≡ ltb (l .book .uncommitted c) (l .book .next c)
+    closing-live =
+        let y = u .cores c in-range in
+        elim (decLt (l .book .uncommitted c) (l .book .next c)) [
+          | yes lt ↦ y .closing lt .live ∙ sym (lt-ltb (l .book .uncommitted c) (l .book .next c) lt)
+          | no ge ↦ y .none-closing (omega (arith, u .fine .ranks c in-range .mid)) ∙ sym (le-ltb (l .book .uncommitted c) (l .book .next c) (omega arith))
+        ]
+
+    -- the blocks of the closed unretired records
+    closed-total : closedBlocks (coreOf (w .card) c) ≡ recordBlocks (l .book) c (l .book .oldest c) (l .book .next c - l .book .oldest c)
+    unfolding closedBlocks recordSize
+    closed-total =
+        let y = u .cores c in-range in
+        let r = u .fine .ranks c in-range in
+        let o = l .book .oldest c in
+        let n = l .book .uncommitted c in
+        elim (decLt n (l .book .next c)) [
+          | yes lt ↦ (let e : l .book .next c - o ≡ suc (n - o) = omega (arith, r .low, y .one) in
+              let a : o + (n - o) ≡ n = omega (arith, r .low) in
+              let s : recordBlocks (l .book) c o (suc (n - o)) ≡ recordBlocks (l .book) c o (n - o) + (length ((l .book .entry (newName c n)) .blocks) + 2) =
+              rw a at (records-snoc (l .book) c o (n - o)) in
+              rw (e, s, y .closing lt .live, y .closing lt .blocks, y .used) refl)
+          | no ge ↦ (let e : l .book .next c ≡ n = omega (arith, r .mid) in
+              rw (y .none-closing (sym e), y .used, e) (omega arith))
+        ]
+
+  -- ---- CLOSE, STORE and CHECKPOINT
+  pub close-answers : (c : ℕ) → refusal (closeConditions c w) ≡ refusal (closeRefusals c l)
+  unfolding closeConditions closeRefusals
+  close-answers c = up-refusal c _ _ (λ h. then (ap not (live-runs u c h)) (λ _. then (closing-live c h) (λ _. none-left)))
+
+  pub store-answers : (c : ℕ) → refusal (storeConditions c w) ≡ refusal (storeRefusals c l)
+  unfolding storeConditions storeRefusals
+  store-answers c = up-refusal c _ _ (λ h. then (ap not (closing-live c h)) (λ _. none-left))
+
+  pub checkpoint-answers : (c : ℕ) → refusal (checkpointConditions c w) ≡ refusal (checkpointRefusals c l)
+  unfolding checkpointConditions checkpointRefusals
+  checkpoint-answers c =
+      up-refusal c _ _
+      (λ h.
+      then (none-committed u c h)
+      (λ e.
+      let some : l .book .oldest c < l .book .uncommitted c = ltb-true _ _ (not-false _ e) in
+      then (ap not (oldest-valid u c h some)) (λ _. then (oldest-shares u c h some) (λ _. none-left))))
+
+-- ---- lists and blocks counted
+-- one more than so many
+more-test : (n m : ℕ) → ltb n (m + 1) ≡ leb n m
+more-test n m = elim (decLt m n) [ yes lt ↦ le-ltb n (m + 1) (omega arith) ∙ sym (lt-leb n m lt) | no ge ↦ lt-ltb n (m + 1) (omega arith) ∙ sym (le-leb n m (omega arith)) ]
+
+names-pass : {t : Transaction} {e : Entry} → Matches t e → (n : Name) → length (e .names) ≤ 12 → passesNames t n ≡ ltb 12 (length ((naming n e) .names))
+unfolding passesNames lists
+names-pass {t} {e} m n h =
+    cases (any (sameName n) (e .names))
+    (λ q. rw (m .names, q) (sym (le-ltb 12 (length (e .names)) h)))
+    (λ q. rw (m .names, q, m .named, length-append (e .names) (n ∷ [])) (sym (more-test 12 (length (e .names)))))
+
+blocks-pass : {t : Transaction} {e : Entry} → Matches t e → (b : ℕ) → leb 8 (t .count) ≡ ltb 8 (length ((taking b e) .blocks))
+blocks-pass {t} {e} m b = rw (m .count, length-append (e .blocks) (b ∷ [])) (sym (more-test 8 (length (e .blocks))))
+
+-- ---- WRITE
+module _ {l : Ledger} {w : World} (u : Up l w) (c : ℕ) (in-range : c < l .shape .cores) (b : ℕ) (low : b < l .shape .blocks)
+    (opens : (n : Name) → holderIn (l .book) b (l .book .writes) ≡ some n → (l .book .entry n) .stage ≢ absent) (o : ℕ) (v : Bytes) where
+  abbrev t : Name
+  t = nextName c (l .book)
+
+  abbrev k₂ : Book
+  k₂ = wrote c b o v (l .book)
+
+  abbrev e₁ : Entry
+  e₁ = begun c (l .book) .entry t
+
+  abbrev current : ((l .book .entry t) .stage ≡ absent) ⊎ ((l .book .entry t) .stage ≡ running)
+  current = u .fine .ranks c in-range .current
+
+  -- the writer's lists before
+  few-before : (length (e₁ .blocks) ≤ 8) × (length (e₁ .names) ≤ 12)
+  unfolding begin
+  few-before =
+      elim current [
+        | inl e ↦ (let z = u .fine .unopened t e in
+            let q : e₁ ≡ staged running (l .book .entry t) =
+            ap (λ (p : Bool). (cond p (l .book) (begin t (l .book))) .entry t) (ap isRunning e) ∙ change-at t (staged running) (l .book .entry) in
+            rw (q, z .0, z .1) (omega arith, omega arith))
+        | inr e ↦ (let z = u .fine .limits t (running-present _ e) in
+            let q : e₁ ≡ l .book .entry t = ap (λ (p : Bool). (cond p (l .book) (begin t (l .book))) .entry t) (ap isRunning e) in
+            rw q (z .few, z .short))
+      ]
+
+  lists-answer : listsFull (w .card) c b ≡ (ltb 12 (namesCount k₂ t) || ltb 12 (holderNames k₂ (meeting c b (l .book))))
+  unfolding listsFull namesCount holderNames
+  lists-answer =
+      let m = writer-matches u c in-range in
+      let short = le-ltb 12 (length (e₁ .names)) (few-before .1) in
+      elim (rule-met u c in-range b low opens) [
+        | met-none _ e r ↦ rw (r, e, entry-free (l .book) c current b o v e, short) refl
+        | met-own _ _ e r ↦ rw (r, e, entry-own (l .book) c current b o v e, short) refl
+        | met-running n h runs is _ e r ↦ (let y = holder-matches u c in-range b low opens n h runs is in
+            let z = u .fine .limits n (running-present _ runs) in
+            let own = entry-running (l .book) c current b o v n (h .other) e in
+            let back = entry-holder (l .book) c current b o v n (h .other) e in
+            rw (r, e, h .name, writer-name u c in-range, own, back, names-pass m n (few-before .1), names-pass y t (z .short)) refl)
+        | met-closed n h _ e r ↦ rw (r, e, h .name, entry-closed (l .book) c current b o v n (h .other) e, names-pass m n (few-before .1)) refl
+      ]
+
+  blocks-answer : (takesBlock (ruleFor (w .card) c b) && leb 8 ((writer (w .card) c) .count)) ≡ ltb 8 (length ((k₂ .entry t) .blocks))
+  blocks-answer =
+      let m = writer-matches u c in-range in
+      let few = le-ltb 8 (length (e₁ .blocks)) (few-before .0) in
+      elim (rule-met u c in-range b low opens) [
+        | met-none _ e r ↦ rw (r, entry-free (l .book) c current b o v e) (blocks-pass m b)
+        | met-own _ _ e r ↦ rw (r, entry-own (l .book) c current b o v e) (sym few)
+        | met-running n h _ _ _ e r ↦ rw (r, entry-running (l .book) c current b o v n (h .other) e) (sym few)
+        | met-closed n h _ e r ↦ rw (r, entry-closed (l .book) c current b o v n (h .other) e) (blocks-pass m b)
+      ]
+
+  journal-answer : length ((k₂ .entry t) .blocks) ≤ 8 → length ((k₂ .entry t) .names) ≤ 12
+      → journalFull (w .card) c b
+      ≡ ltb (l .shape .journal) (recordBlocks (l .book) c (l .book .oldest c) (l .book .next c - l .book .oldest c) + 2 + length ((k₂ .entry t) .blocks))
+  unfolding journalFull recordSize
+  journal-answer few short =
+      let m = writer-after u c in-range b low opens o v few short in
+      let total = recordBlocks (l .book) c (l .book .oldest c) (l .book .next c - l .book .oldest c) in
+      let n = length ((k₂ .entry t) .blocks) in
+      let e : total + (n + 2) ≡ total + 2 + n = omega arith in
+      rw (shape-up u, closed-total u c in-range, m .blocks, e) refl
+
+pub write-answers : {l : Ledger} {w : World} → Up l w → (c b o : ℕ) (v : Bytes)
+    → (b < l .shape .blocks → (n : Name) → holderIn (l .book) b (l .book .writes) ≡ some n → (l .book .entry n) .stage ≢ absent)
+    → refusal (writeConditions c b o w) ≡ refusal (writeRefusals c b o v l)
+unfolding writeConditions writeRefusals noBlock namesCount namesPass blocksAfter journalPasses numberPasses
+write-answers {l} {w} u c b o v opens =
+    let k₂ = wrote c b o v (l .book) in
+    let t = nextName c (l .book) in
+    up-refusal u c _ _
+    (λ h.
+    then (ap (λ (s : Shape). leb (s .blocks) b) (shape-up u))
+    (λ e.
+    let low : b < l .shape .blocks = leb-false (l .shape .blocks) b e in
+    then refl
+    (λ _.
+    then (lists-answer u c h b low (opens low) o v)
+    (λ names.
+    let short : length ((k₂ .entry t) .names) ≤ 12 = ltb-false 12 (length ((k₂ .entry t) .names)) (or-none _ _ names .0) in
+    then (blocks-answer u c h b low (opens low) o v)
+    (λ blocks.
+    then (journal-answer u c h b low (opens low) o v (ltb-false 8 (length ((k₂ .entry t) .blocks)) blocks) short)
+    (λ _.
+    then (ap₂ (λ (p : Bool) (n : ℕ). not p && ltb maxNumber n) (live-runs u c h) (u .cores c h .next)) (λ _. none-left)))))))

@@ -1,0 +1,110 @@
+-- CUT leaves a card that is down by the ledger's cut: memory is lost, the disk and the transactions stay as they are.
+-- Nothing that recovery reads depends on the phase or on how far recovery is, so journals, the newest images and the
+-- area of the kept writes stay; and recovery, starting over, has all held blocks before it.
+use Rattle.model.proofs.Base.{ℕ, _<_, arith, _≡_, refl, sym, subst, _∙_, false, List, List·Memᴰ, length, length-replicate, eqb}
+use Rattle.model.proofs.Base.{leb, eq-eqb, le-leb, below, any, select, Bytes}
+use Rattle.model.specs.Bytes.{blockAt, zeroMemory}
+use Rattle.model.specs.Shape.{homeBlock}
+use Rattle.model.specs.Card.{freshCard, emptyCard, downCard}
+use Rattle.model.specs.Command.{World, unstored, wrongLength}
+use Rattle.model.specs.declared.Phase.{Phase}
+use Rattle.model.specs.declared.Phase.the-variants.{Down as PhaseDown}
+use Rattle.model.specs.declared.Tail.{Tail}
+use Rattle.model.proofs.Lists.{cases, mem-below}
+use Rattle.model.proofs.Select.{select-mem, select-same}
+use Rattle.crash.specs.Book.{Book}
+use Rattle.crash.specs.Ledger.{Ledger, blocksIn, cutLedger, heldOf, recordOf}
+use Rattle.crash.specs.Claims.{IsBytes}
+use Rattle.crash.proofs.Disk.Relation.{Fine, contents, JournalStands, DiskStands, Up, target, Newest, DownBy}
+use Rattle.crash.proofs.Books.Tests.{clash, any-in, in-any, blockEquality}
+use Rattle.crash.proofs.Disk.BlockBytes.{zero-bytes}
+use Rattle.crash.proofs.Disk.LedgerFresh.{fine-cut, phased}
+
+-- ---- the ledger in another phase, with other blocks left
+pub target-phased : (p : Phase) (bs : List ℕ) (l : Ledger) (b : ℕ) → target (phased p bs l) b ≡ target l b
+unfolding target
+target-phased p bs l b = refl
+
+module _ (p : Phase) (bs : List ℕ) {l : Ledger} where
+  journal-phased : {d : Bytes} {c : ℕ} {t : Tail} → JournalStands l d c t → JournalStands (phased p bs l) d c t
+  unfolding contents recordOf heldOf
+  journal-phased j = record { number = j .number; position = j .position; stands = j .stands; clear = j .clear; room = j .room; reserved = j .reserved }
+
+  pub stands-phased : {d : Bytes} {tailAt : ℕ → Tail} → DiskStands l d tailAt → DiskStands (phased p bs l) d tailAt
+  stands-phased z = record { size = z .size; bytes = z .bytes; master = z .master; journals = λ c h. journal-phased (z .journals c h) }
+
+  pub newest-phased : {b : ℕ} → Newest l b → Newest (phased p bs l) b
+  newest-phased {b} n =
+      record {
+        holder = n .holder;
+        valid = n .valid;
+        place = n .place;
+        within = n .within;
+        block = n .block;
+        highest = n .highest;
+        image = n .image ∙ sym (target-phased p bs l b);
+      }
+
+-- ---- the blocks held
+pub held-low : (n : ℕ) (k : Book) {b : ℕ} → List·Memᴰ b (blocksIn n k) → b < n
+unfolding blocksIn
+held-low n k {b} m = mem-below n (select-mem _ (below n) b m .0)
+
+-- recovery before its first store has them all left
+all-left : (bs : List ℕ) → bs ≡ select (leb 0) bs
+all-left bs = sym (select-same (leb 0) bs (λ b m. le-leb 0 b (omega arith)))
+
+-- ---- CUT
+pub right-length : (w : World) → length (w .disk) ≡ 32896 → length (w .memory) ≡ 16384 → wrongLength w ≡ false
+unfolding wrongLength
+right-length w d m = rw (eq-eqb (length (w .disk)) 32896 d, eq-eqb (length (w .memory)) 16384 m)
+
+-- what the commands before a cut leave to recovery
+pub record Gives (l : Ledger) (d : Bytes) : Type 0 where
+  pub held : (b : ℕ) → b < l .shape .blocks → List·Memᴰ b (blocksIn (l .shape .blocks) (l .book)) → Newest l b
+  pub home : (b : ℕ) → b < l .shape .blocks → any (eqb b) (blocksIn (l .shape .blocks) (l .book)) ≡ false → blockAt d (homeBlock b) ≡ target l b
+
+module _ {l : Ledger} {d : Bytes} {tailAt : ℕ → Tail} (f : Fine l) (z : DiskStands l d tailAt) (g : Gives l d) where
+  -- a card that is down over such a disk
+  pub down-over : (m : Bytes) → length m ≡ 16384 → IsBytes m → DownBy (cutLedger l) (record { card = downCard; disk = d; memory = m })
+  unfolding cutLedger downCard emptyCard freshCard
+  down-over m n b =
+      let bs = blocksIn (l .shape .blocks) (l .book) in
+      record {
+        phase = refl;
+        ledger = refl;
+        memory = n;
+        memory-bytes = b;
+        fine = fine-cut l f;
+        tailAt = tailAt;
+        disk = stands-phased PhaseDown bs z;
+        left = all-left bs;
+        newest = λ i h. newest-phased PhaseDown bs (g .held i (held-low (l .shape .blocks) (l .book) h) h);
+        at-home = λ i h a. g .home i h a ∙ sym (target-phased PhaseDown bs l i);
+      }
+
+  cut-over : DownBy (cutLedger l) (record { card = downCard; disk = d; memory = zeroMemory })
+  unfolding zeroMemory
+  cut-over = down-over zeroMemory (length-replicate {A = ℕ} 16384 0) (zero-bytes 16384)
+
+pub cut-up : {l : Ledger} {w : World} → Up l w → Gives l (w .disk) → DownBy (cutLedger l) ((unstored w downCard zeroMemory) .world)
+cut-up u g = cut-over (u .fine) (u .disk) g
+
+-- 'a recovery under way starts over'
+down-gives : {l : Ledger} {w : World} → DownBy l w → Gives l (w .disk)
+down-gives {l} {w} v =
+    let bs = blocksIn (l .shape .blocks) (l .book) in
+    record {
+      held = λ b h m. v .newest b m;
+      home =
+          λ b h a.
+          v .at-home b h
+          (cases (any (eqb b) (l .left))
+          (λ y.
+          let q : List·Memᴰ b (select (leb (w .card .recovered)) bs) = subst (List·Memᴰ b) (v .left) (any-in blockEquality b (l .left) y) in
+          clash (in-any blockEquality (select-mem (leb (w .card .recovered)) bs b q .0)) a)
+          (λ y. y));
+    }
+
+pub cut-down : {l : Ledger} {w : World} → DownBy l w → DownBy (cutLedger l) ((unstored w downCard zeroMemory) .world)
+cut-down v = cut-over (v .fine) (v .disk) (down-gives v)

@@ -1,0 +1,130 @@
+-- FORMAT leaves a card that is up by the fresh ledger, over a disk that is blank but for the master: journals of zeros
+-- hold no commit, and each home block is the blank area's. A card that is down over such a disk is the other start:
+-- nothing is committed, so recovery has no block to store home and gives the blank area.
+use Prim.Native.Nat.{ℕ, _+_, _*_, _-_, _≤_, _<_}
+use native.Mathlib.Omega.{arith}
+use mathlib.Core.Path.{_≡_, refl, sym, ap, _∙_}
+use mathlib.Core.Logic.{_≢_}
+use mathlib.Core.Bool.{true, false}
+use mathlib.Core.List.{List, [], List·Memᴰ, List·Memᴰ·not-nil}
+use lib.ListN.{length, take, drop, replicate, length-replicate, getD-replicate, replicate-append-replicate}
+use lib.Seq.{take-at, drop-at}
+use Rattle.model.specs.Lists.{below, any, select}
+use Rattle.model.specs.Bytes.{Bytes, number, part, be4, blockAt, zeroDisk, zeroMemory}
+use Rattle.model.specs.Shape.{inRange, homeBlock, journalBlock}
+use Rattle.model.specs.Card.{newTail}
+use Rattle.model.specs.Layout.{hasHead, masterBlock, isCommit}
+use Rattle.model.specs.Journal.{journalAt}
+use Rattle.model.specs.Shrink.{shrink, shrinkIn}
+use Rattle.model.specs.Format.{formatted}
+use Rattle.model.specs.declared.Shape.{Shape}
+use Rattle.model.specs.declared.Tail.{Tail}
+use Rattle.model.proofs.Limits.{InRange, range-test}
+use Rattle.model.proofs.Store.{length-store, block-stored, block-other}
+use Rattle.model.proofs.Encoding.{no-commit}
+use Rattle.model.proofs.Journal.{journal-low, home-apart}
+use Rattle.model.proofs.Select.{select-mem}
+use Rattle.crash.specs.Book.{Write, emptyBook, keptWrites, image, blank}
+use Rattle.crash.specs.Ledger.{freshLedger, unretired, validIn, blocksIn}
+use Rattle.crash.specs.Claims.{IsBytes, from-down, startWorld, startLedger}
+use Rattle.crash.proofs.Books.Tests.{clash}
+use Rattle.crash.proofs.Disk.BlockBytes.{bytes-store, zero-bytes}
+use Rattle.crash.proofs.Disk.Relation.{Up, target, DownBy, IsBlock}
+use Rattle.crash.proofs.Disk.ReadMaster.{master-block}
+use Rattle.crash.proofs.Commands.CardFresh.{ComeUp, fresh-up}
+use Rattle.crash.proofs.Commands.CardCut.{Gives, down-over}
+
+-- ---- blocks of zeros
+abbrev zeros : ℕ → Bytes
+zeros n = replicate n 0
+
+zero-part : (i n m : ℕ) → take n (drop i (zeros (i + (n + m)))) ≡ zeros n
+zero-part i n m =
+    ap (λ (s : Bytes). take n (drop i s)) (sym (replicate-append-replicate {A = ℕ} i (n + m) 0))
+    ∙ ap (take n) (drop-at (zeros i) (zeros (n + m)) i (length-replicate {A = ℕ} i 0))
+    ∙ ap (take n) (sym (replicate-append-replicate {A = ℕ} n m 0))
+    ∙ take-at (zeros n) (zeros m) n (length-replicate {A = ℕ} n 0)
+
+zero-block : (n k m : ℕ) → n ≡ 128 * k + (128 + m) → blockAt (zeros n) k ≡ zeros 128
+unfolding blockAt part
+zero-block n k m e = rw e (zero-part (128 * k) 128 m)
+
+zero-commit : (s : Shape) (i : ℕ) → isCommit s i (zeros 128) ≡ false
+zero-commit s i = no-commit s i (zeros 128) (unfold hasHead be4 part number in refl)
+
+module _ (s : Shape) (r : InRange s) where
+  abbrev formatTail : ℕ → Tail
+  formatTail c = newTail 1 0
+
+  abbrev newDisk : Bytes
+  newDisk = (formatted s) .world .disk
+
+  zero-fits : 128 * 0 + 128 ≤ length zeroDisk
+  unfolding zeroDisk
+  zero-fits = rw (length-replicate {A = ℕ} 32896 0) (omega arith)
+
+  is-master : IsBlock (masterBlock s formatTail)
+  is-master = master-block r formatTail
+
+  -- every block but the master is zero
+  format-block : (k : ℕ) → k ≢ 0 → k < 257 → blockAt newDisk k ≡ zeros 128
+  unfolding formatted
+  format-block k ne h =
+      block-other zeroDisk 0 (masterBlock s formatTail) zero-fits (is-master .size) k ne
+      ∙ (unfold zeroDisk in zero-block 32896 k (128 * (256 - k)) (omega arith))
+
+  pub format-home : (b : ℕ) → b < s .blocks → blockAt newDisk (homeBlock b) ≡ blank b
+  unfolding blank
+  format-home b h = format-block (homeBlock b) (λ e. omega arith) (omega (arith, r .few-blocks))
+
+  format-comes-up : ComeUp s (λ (c : ℕ). 1) ((formatted s) .world)
+  format-comes-up =
+      record {
+        tails = replicate 8 (newTail 1 0);
+        card = unfold formatted in refl;
+        eight = length-replicate 8 (newTail 1 0);
+        tail = λ c h. getD-replicate 8 c (newTail 1 0) (newTail 0 0) (omega (arith, r .few-cores));
+        memory = unfold formatted zeroMemory in length-replicate {A = ℕ} 16384 0;
+        memory-bytes = unfold formatted zeroMemory in zero-bytes 16384;
+        size = unfold formatted in (length-store zeroDisk 0 (masterBlock s formatTail) zero-fits (is-master .size) ∙ (unfold zeroDisk in length-replicate {A = ℕ} 32896 0));
+        bytes = unfold formatted in bytes-store zeroDisk 0 (masterBlock s formatTail) (unfold zeroDisk in zero-bytes 32896) (is-master .bytes);
+        master = unfold formatted in block-stored zeroDisk 0 (masterBlock s formatTail) zero-fits (is-master .size);
+        clear =
+            λ c h i q k.
+            let z : journalAt s newDisk c q ≡ zeros 128 =
+            unfold journalAt in format-block (journalBlock s c q) (λ e. home-apart s c q 0 (omega arith) (sym e)) (journal-low r c q h) in
+            ap (isCommit s i) z ∙ zero-commit s i;
+      }
+
+  pub format-up : Up (freshLedger s [] (λ (c : ℕ). 1)) ((formatted s) .world)
+  format-up = fresh-up r format-comes-up [] (λ w m. absurd (List·Memᴰ·not-nil m)) (λ c h. (omega arith, omega arith))
+
+-- ---- a fresh ledger holds no block, and its kept writes are those saved
+fresh-valid : (first : ℕ → ℕ) → validIn (emptyBook first) ≡ []
+unfolding validIn unretired select shrink shrinkIn emptyBook
+fresh-valid first = refl
+
+fresh-held : (n : ℕ) (first : ℕ → ℕ) (b : ℕ) → List·Memᴰ b (blocksIn n (emptyBook first)) → ⊥
+unfolding blocksIn any
+fresh-held n first b m = clash (select-mem _ (below n) b m .1) (rw (fresh-valid first))
+
+fresh-target : (s : Shape) (saved : List Write) (first : ℕ → ℕ) (b : ℕ) → target (freshLedger s saved first) b ≡ image blank saved b
+unfolding target freshLedger keptWrites select emptyBook
+fresh-target s saved first b = refl
+
+fresh-gives : (s : Shape) (saved : List Write) (first : ℕ → ℕ) (d : Bytes) → ((b : ℕ) → b < s .blocks → blockAt d (homeBlock b) ≡ image blank saved b)
+    → Gives (freshLedger s saved first) d
+unfolding freshLedger
+fresh-gives s saved first d h =
+    record {
+      held = λ b k m. absurd (fresh-held (s .blocks) first b m);
+      home = λ b k a. h b k ∙ sym (fresh-target s saved first b);
+    }
+
+-- ---- a card that is down over a formatted disk
+pub down-start : (s : Shape) (m : Bytes) → inRange (s .cores) (s .blocks) (s .journal) ≡ true → IsBytes m → length m ≡ 16384 → DownBy (startLedger (from-down s m)) (startWorld (from-down s m))
+unfolding startLedger startWorld
+down-start s m h b n =
+    let r = range-test s h in
+    let u = format-up s r in
+    down-over (u .fine) (u .disk) (fresh-gives s [] (λ (c : ℕ). 1) ((formatted s) .world .disk) (λ b k. format-home s r b k ∙ (unfold image in refl))) m n b

@@ -1,0 +1,208 @@
+-- RECOVER on a card that is down by the ledger is carried out, and its store is the one that the ledger says. A home store
+-- changes neither journals nor master, so the rest of recovery stays as it was. With no block left the home area is the
+-- target, and the master store empties all journals: no commit has an uncommitted number, so a fresh card has come up.
+use Rattle.model.proofs.Base.{ℕ, zero, suc, _+_, _-_, _≤_, _<_, arith, ℕ-discrete, _≡_, refl, sym, ap, subst, _∙_, _≢_, inl, inr}
+use Rattle.model.proofs.Base.{Bool, false, List, [], _∷_, _++_, map, List·Memᴰ, List·Memᴰ·head, List·Memᴰ·tail, List·Memᴰ·not-nil}
+use Rattle.model.proofs.Base.{List·Memᴰ·append-cases, List·Memᴰ·eq-of-singleton, length, length-map, eqb, leb, ne-eqb, lt-ltb}
+use Rattle.model.proofs.Base.{le-leb, lt-leb, leb-true, leb-false, below, any, select}
+use Rattle.model.specs.Bytes.{blockAt, store}
+use Rattle.model.specs.Shape.{homeBlock}
+use Rattle.model.specs.Card.{isUp, newTail, freshCard}
+use Rattle.model.specs.Layout.{masterBlock, isCommit}
+use Rattle.model.specs.Journal.{journal, journalAt}
+use Rattle.model.specs.Command.{World, Outcome, storing}
+use Rattle.model.specs.Recovery.{tailOn, blocksLeft, recoveredTo, emptiedTail, broughtUp, recoverStep, recovered}
+use Rattle.model.proofs.Encoding.{master-same}
+use Rattle.model.proofs.Lists.{cases, mem-below, length-below, getD-map-below}
+use Rattle.model.proofs.Select.{select-mem, select-same}
+use Rattle.crash.specs.Book.{keptWrites, blank}
+use Rattle.crash.specs.Ledger.{Ledger, blocksIn, firstNumber, recoverLedger, recoverStored}
+use Rattle.crash.proofs.Books.Tests.{impossible}
+use Rattle.crash.proofs.Disk.Relation.{IsBlock, Fine, Up, target, DownBy}
+use Rattle.crash.proofs.Disk.LedgerFresh.{image-block, blank-block, fine-home, phased, kept-fits}
+use Rattle.crash.proofs.Disk.ReadMaster.{shape-read, master-block}
+use Rattle.crash.proofs.Disk.ReadRecords.{length-readList, few-records, journal-read}
+use Rattle.crash.proofs.Disk.ReadValid.{own-tails, blocks-on}
+use Rattle.crash.proofs.Disk.ReadNewest.{newest-image}
+use Rattle.crash.proofs.Commands.CardFrames.{low-stored, low-other, low-journal, low-size, low-bytes, home-stands}
+use Rattle.crash.proofs.Commands.CardFresh.{ComeUp, fresh-up}
+use Rattle.crash.proofs.Commands.CardCut.{stands-phased, target-phased, newest-phased, held-low}
+use Rattle.model.specs.declared.Phase.the-variants.{Up as PhaseUp, Down as PhaseDown}
+use Rattle.model.specs.declared.Shape.{Shape}
+use Rattle.model.specs.declared.Tail.{Tail}
+
+-- ---- ascending lists: those left after the first are those above it
+abbrev Ascending : List ℕ → Type 0
+Ascending [] = Unit {0}
+Ascending (x ∷ xs) = ((y : ℕ) → List·Memᴰ y xs → x < y) × Ascending xs
+
+ascending-snoc : (xs : List ℕ) (n : ℕ) → Ascending xs → ((y : ℕ) → List·Memᴰ y xs → y < n) → Ascending (xs ++ (n ∷ []))
+ascending-snoc [] n a h = (λ y m. absurd (List·Memᴰ·not-nil m), tt)
+ascending-snoc (x ∷ xs) n a h = (
+  λ y m. elim (List·Memᴰ·append-cases xs m) [ inl p ↦ a .0 y p | inr p ↦ (let e = List·Memᴰ·eq-of-singleton p in omega (arith, h x (List·Memᴰ·head refl))) ],
+  ascending-snoc xs n (a .1) (λ y m. h y (List·Memᴰ·tail m)),
+)
+
+ascending-below : (n : ℕ) → Ascending (below n)
+unfolding below
+ascending-below zero = tt
+ascending-below (suc n) = ascending-snoc (below n) n (ascending-below n) (λ y m. mem-below n m)
+
+ascending-select : (p : ℕ → Bool) (xs : List ℕ) → Ascending xs → Ascending (select p xs)
+unfolding select
+ascending-select p [] a = tt
+ascending-select p (x ∷ xs) a =
+    let r = ascending-select p xs (a .1) in
+    cases (p x) (λ h. rw h (λ y m. a .0 y (select-mem p xs y m .0), r)) (λ h. rw h r)
+
+select-after : (r b : ℕ) (bs xs : List ℕ) → Ascending xs → select (leb r) xs ≡ b ∷ bs → bs ≡ select (leb (b + 1)) xs
+unfolding select
+select-after r b bs [] a e = impossible cc
+select-after r b bs (x ∷ xs) a e =
+    cases (leb r x)
+    (λ h.
+    let k : x ∷ select (leb r) xs ≡ b ∷ bs = rw h at e in
+    let i : x ≡ b = cc in
+    let j : select (leb r) xs ≡ bs = cc in
+    let l = leb-true r x h in
+    let f : select (leb r) xs ≡ xs = select-same (leb r) xs (λ y m. le-leb r y (omega (arith, a .0 y m))) in
+    let g : select (leb (b + 1)) xs ≡ xs = select-same (leb (b + 1)) xs (λ y m. le-leb (b + 1) y (omega (arith, a .0 y m))) in
+    rw (lt-leb (b + 1) x (omega arith)) (sym j ∙ f ∙ sym g))
+    (λ h.
+    let k : select (leb r) xs ≡ b ∷ bs = rw h at e in
+    let m = select-mem (leb r) xs b (rw k (List·Memᴰ·head refl)) in
+    rw (lt-leb (b + 1) x (omega (arith, leb-false r x h, leb-true r b (m .1)))) (select-after r b bs xs (a .1) k))
+
+held-ascend : (l : Ledger) → Ascending (blocksIn (l .shape .blocks) (l .book))
+unfolding blocksIn
+held-ascend l = ascending-select _ (below (l .shape .blocks)) (ascending-below (l .shape .blocks))
+
+-- ---- the kept writes fit, so the target's blocks are blocks of bytes
+target-block : (l : Ledger) → Fine l → (b : ℕ) → IsBlock (target l b)
+unfolding target
+target-block l f b =
+    image-block (l .shape) blank b (blank-block b) (keptWrites (l .book) ++ l .saved) (kept-fits l f)
+
+-- ---- RECOVER
+module _ {l : Ledger} {w : World} (v : DownBy l w) where
+  left-read : blocksLeft w ≡ l .left
+  unfolding blocksLeft
+  left-read = rw (blocks-on (v .fine) (v .disk)) (sym (v .left))
+
+  -- ---- a home store
+  module _ {b : ℕ} {bs : List ℕ} (e : l .left ≡ b ∷ bs) where
+    held-first : List·Memᴰ b (blocksIn (l .shape .blocks) (l .book))
+    held-first = select-mem (leb (w .card .recovered)) (blocksIn (l .shape .blocks) (l .book)) b (subst (List·Memᴰ b) (sym e ∙ v .left) (List·Memᴰ·head refl)) .0
+
+    first-low : b < l .shape .blocks
+    first-low = held-low (l .shape .blocks) (l .book) held-first
+
+    home-outcome : recovered w ≡ storing w (recoveredTo (w .card) (b + 1)) (homeBlock b) (target l b)
+    unfolding recovered recoverStep
+    home-outcome =
+        ap (λ (xs : List ℕ). recoverStep xs w) (left-read ∙ e)
+        ∙ ap (storing w (recoveredTo (w .card) (b + 1)) (homeBlock b)) (newest-image (v .fine) (v .disk) (v .newest b held-first))
+
+    pub recover-home : DownBy (recoverLedger (b ∷ bs) l) ((recovered w) .world)
+    unfolding recoverLedger
+    recover-home =
+        let x = target l b in
+        let i = target-block l (v .fine) b in
+        subst (λ (o : Outcome World). DownBy (recoverLedger (b ∷ bs) l) (o .world)) (sym home-outcome)
+        (record {
+          phase = v .phase;
+          ledger = refl;
+          memory = v .memory;
+          memory-bytes = v .memory-bytes;
+          fine = fine-home b bs l (v .fine);
+          tailAt = v .tailAt;
+          disk = stands-phased PhaseDown bs (home-stands (v .fine) (v .disk) b first-low x i);
+          left = select-after (w .card .recovered) b bs (blocksIn (l .shape .blocks) (l .book)) (held-ascend l) (sym (v .left) ∙ e);
+          newest = λ j m. newest-phased PhaseDown bs (v .newest j m);
+          at-home =
+              λ j h a.
+              elim (ℕ-discrete j b) [
+                | yes q ↦ subst (λ (k : ℕ). blockAt (store (w .disk) (homeBlock b) x) (homeBlock k) ≡ target (phased PhaseDown bs l) k) (sym q)
+                    (low-stored (v .fine) (v .disk) (homeBlock b) (omega (arith, first-low)) x i ∙ sym (target-phased PhaseDown bs l b))
+                | no ne ↦ low-other (v .fine) (v .disk) (homeBlock b) (omega (arith, first-low)) x i (homeBlock j) (λ q. ne (omega arith))
+                    ∙ v .at-home j h (rw e (unfold any in rw (ne-eqb j b ne) a))
+                    ∙ sym (target-phased PhaseDown bs l j)
+              ];
+        })
+
+  -- ---- the master store
+  abbrev firstTail : ℕ → Tail
+  firstTail c = newTail (firstNumber l c) 0
+
+  -- 'two above the last committed one read in its journal'
+  emptied : (c : ℕ) → c < l .shape .cores → emptiedTail (w .disk) c ≡ firstTail c
+  unfolding emptiedTail
+  emptied c h =
+      let own = own-tails (v .fine) (v .disk) in
+      let t = tailOn (w .disk) c in
+      let k : length (journal (l .shape) (w .disk) c t (l .shape .journal)) ≡ l .book .uncommitted c - l .book .oldest c =
+      ap length (journal-read (v .fine) own c h (l .shape .journal) (few-records (v .fine) own c h)) ∙ length-readList l c t in
+      let e : l .book .oldest c + (l .book .uncommitted c - l .book .oldest c + 1) ≡ l .book .uncommitted c + 1 = omega (arith, v .fine .ranks c h .low) in
+      rw (shape-read (v .fine) (v .disk), lt-ltb c (l .shape .cores) h, k, own .journals c h .number, e)
+
+  is-master : IsBlock (masterBlock (l .shape) firstTail)
+  is-master = master-block (v .fine .range) firstTail
+
+  module _ (e : l .left ≡ []) where
+    master-outcome : recovered w ≡ storing w (broughtUp (w .disk)) 0 (masterBlock (l .shape) firstTail)
+    unfolding recovered recoverStep
+    master-outcome =
+        ap (λ (xs : List ℕ). recoverStep xs w) (left-read ∙ e)
+        ∙ ap (storing w (broughtUp (w .disk)) 0)
+        (ap (λ (s : Shape). masterBlock s (emptiedTail (w .disk))) (shape-read (v .fine) (v .disk)) ∙ master-same (l .shape) (emptiedTail (w .disk)) firstTail emptied)
+
+    master-other : (k : ℕ) → k ≢ 0 → blockAt ((recovered w) .world .disk) k ≡ blockAt (w .disk) k
+    master-other k ne = rw master-outcome (low-other (v .fine) (v .disk) 0 (omega arith) (masterBlock (l .shape) firstTail) is-master k ne)
+
+    -- the home area is the one that the kept writes give
+    pub recovered-home : (b : ℕ) → b < l .shape .blocks → blockAt ((recovered w) .world .disk) (homeBlock b) ≡ target l b
+    recovered-home b h = master-other (homeBlock b) (λ q. omega arith) ∙ v .at-home b h (rw e (unfold any in refl))
+
+    recovered-clear : (c : ℕ) → c < l .shape .cores → (i q : ℕ) → firstNumber l c ≤ i → isCommit (l .shape) i (journalAt (l .shape) ((recovered w) .world .disk) c q) ≡ false
+    recovered-clear c h i q k =
+        let r = v .fine .ranks c h in
+        rw (master-outcome, low-journal (v .fine) (v .disk) 0 (omega arith) (masterBlock (l .shape) firstTail) is-master c q)
+        (v .disk .journals c h .clear i q (omega (arith, r .mid, r .top)))
+
+    recovered-comes-up : ComeUp (l .shape) (firstNumber l) ((recovered w) .world)
+    recovered-comes-up =
+        let o = master-outcome in
+        let m = masterBlock (l .shape) firstTail in
+        record {
+          tails = map (emptiedTail (w .disk)) (below 8);
+          card = rw o (unfold broughtUp in ap (λ (s : Shape). freshCard PhaseUp s (map (emptiedTail (w .disk)) (below 8))) (shape-read (v .fine) (v .disk)));
+          eight = length-map (below 8) (emptiedTail (w .disk)) ∙ length-below 8;
+          tail = λ c h. getD-map-below (emptiedTail (w .disk)) 8 c (newTail 0 0) (omega (arith, v .fine .range .few-cores)) ∙ emptied c h;
+          memory = rw o (v .memory);
+          memory-bytes = rw o (v .memory-bytes);
+          size = rw o (low-size (v .fine) (v .disk) 0 (omega arith) m is-master);
+          bytes = rw o (low-bytes (v .fine) (v .disk) 0 (omega arith) m is-master);
+          master = rw o (low-stored (v .fine) (v .disk) 0 (omega arith) m is-master);
+          clear = recovered-clear;
+        }
+
+    pub recover-master : Up (recoverLedger [] l) ((recovered w) .world)
+    unfolding recoverLedger
+    recover-master =
+        fresh-up (v .fine .range) recovered-comes-up (keptWrites (l .book) ++ l .saved) (kept-fits l (v .fine)) (λ c h. (omega arith, omega arith))
+
+  -- ---- the store that the ledger says, and when the card comes up
+  pub recovered-bytes : ((recovered w) .world .disk ≡ recoverStored (l .left) l (w .disk)) × ((recovered w) .stores ≡ 1)
+  unfolding recoverStored target
+  recovered-bytes = go (l .left) refl
+    where
+      go : (bs : List ℕ) → l .left ≡ bs → ((recovered w) .world .disk ≡ recoverStored bs l (w .disk)) × ((recovered w) .stores ≡ 1)
+      go [] e = (ap (λ (o : Outcome World). o .world .disk) (master-outcome e), ap (λ (o : Outcome World). o .stores) (master-outcome e))
+      go (b ∷ bs) e = (ap (λ (o : Outcome World). o .world .disk) (home-outcome e), ap (λ (o : Outcome World). o .stores) (home-outcome e))
+
+  pub recover-up : isUp ((recovered w) .world .card .phase) ≡ eqb (length (l .left)) 0
+  recover-up = go (l .left) refl
+    where
+      go : (bs : List ℕ) → l .left ≡ bs → isUp ((recovered w) .world .card .phase) ≡ eqb (length bs) 0
+      go [] e = ap isUp (recover-master e .phase)
+      go (b ∷ bs) e = ap isUp (recover-home e .phase) ∙ sym (ne-eqb (suc (length bs)) 0 (λ z. omega arith))

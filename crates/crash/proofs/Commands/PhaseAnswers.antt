@@ -1,0 +1,98 @@
+-- What each command is answered, by phase: the ledger's number.
+-- The conditions that come first are those of the phase, which card and ledger have in common; the only one of the
+-- card's own behind them is 8, and a disk that holds what the ledger says never meets it.
+use Prim.Native.Nat.{ℕ, _≤_}
+use native.Mathlib.Omega.{arith}
+use mathlib.Core.Path.{_≡_, refl, sym, ap, _∙_}
+use mathlib.Core.Logic.{_≢_}
+use mathlib.Core.Option.{some}
+use mathlib.Core.Bool.{Bool, true, false}
+use mathlib.Core.List.{List, [], _∷_}
+use lib.ListN.{length, getD}
+use lib.Dec.{eqb}
+use borrow.Author.Tests.{ne-eqb}
+use Rattle.model.specs.Bytes.{blockAt}
+use Rattle.model.specs.Card.{isBlank, isUp, isDown, freshCard, emptyCard, blankCard}
+use Rattle.model.specs.Layout.{isMaster}
+use Rattle.model.specs.Command.{World, refusal, wrongLength, notUp}
+use Rattle.model.specs.Format.{formatConditions}
+use Rattle.model.specs.Write.{writeConditions}
+use Rattle.model.specs.Commit.{closeConditions, storeConditions}
+use Rattle.model.specs.Checkpoint.{checkpointConditions}
+use Rattle.model.specs.Recovery.{cutConditions, recoverConditions}
+use Rattle.crash.specs.Ledger.{Ledger, blankLedger, notUpFor, formatRefusals, writeRefusals, closeRefusals, storeRefusals, checkpointRefusals, refusalsOf}
+use Rattle.crash.proofs.Books.Tests.{clash}
+use Rattle.crash.proofs.Disk.Relation.{Up, DownBy}
+use Rattle.crash.proofs.Disk.ReadMaster.{master-stands}
+use Rattle.crash.proofs.Commands.CardCut.{right-length}
+use Rattle.model.specs.Tape.{CHECKPOINT, CLOSE, CUT, Command, FORMAT, RECOVER, STORE, WRITE}
+use Rattle.crash.specs.Book.{absent, holderIn}
+use Rattle.crash.proofs.Commands.CardAnswers.{checkpoint-answers, close-answers, store-answers, write-answers}
+use Rattle.model.specs.Step.{conditionsOf}
+use Rattle.model.specs.declared.Phase.{Phase}
+use Rattle.model.specs.declared.Phase.the-variants.{Blank as PhaseBlank, Up as PhaseUp, Down as PhaseDown}
+use Rattle.model.specs.declared.Card.{Card}
+use Rattle.model.specs.declared.Name.{Name}
+
+-- ---- by the phase
+module _ (l : Ledger) (w : World) (sizes : wrongLength w ≡ false) where
+  format-answer : (c b j : ℕ) → w .card .phase ≡ l .phase → refusal (formatConditions c b j w) ≡ refusal (formatRefusals c b j l)
+  unfolding refusal formatConditions formatRefusals
+  format-answer c b j same = rw (sizes, same)
+
+  cut-answer : w .card .phase ≡ l .phase → refusal (cutConditions w) ≡ refusal ((isBlank (l .phase), 20) ∷ [])
+  unfolding refusal cutConditions
+  cut-answer same = rw (sizes, same)
+
+  -- the commands that want a card that is up
+  not-up-answer : (p : Phase) → isUp p ≡ false → w .card .phase ≡ p → l .phase ≡ p → (c : ℕ) (ts rest : List (Bool × ℕ))
+      → refusal (notUp w ts) ≡ refusal (notUpFor c l rest)
+  unfolding refusal
+  not-up-answer PhaseBlank h i j c ts rest = rw (sizes, i, j)
+  not-up-answer PhaseUp h i j c ts rest = clash refl h
+  not-up-answer PhaseDown h i j c ts rest = rw (sizes, i, j)
+
+  recover-answer : (p : Phase) → (isDown p ≡ true → isMaster (blockAt (w .disk) 0) ≡ true) → w .card .phase ≡ p → l .phase ≡ p
+      → refusal (recoverConditions w) ≡ refusal ((isBlank (l .phase), 20) ∷ (isUp (l .phase), 23) ∷ [])
+  unfolding refusal recoverConditions
+  recover-answer PhaseBlank m i j = rw (sizes, i, j)
+  recover-answer PhaseUp m i j = rw (sizes, i, j)
+  recover-answer PhaseDown m i j = rw (sizes, i, j, m refl)
+
+  -- while the card is not up
+  phase-answers : (p : Phase) → isUp p ≡ false → (isDown p ≡ true → isMaster (blockAt (w .disk) 0) ≡ true) → w .card .phase ≡ p → l .phase ≡ p
+      → (k : Command) → refusal (conditionsOf k w) ≡ refusal (refusalsOf k l)
+  unfolding conditionsOf refusalsOf writeConditions writeRefusals closeConditions closeRefusals storeConditions storeRefusals checkpointConditions checkpointRefusals
+  phase-answers p h m i j (FORMAT c b f) = format-answer c b f (i ∙ sym j)
+  phase-answers p h m i j (WRITE c b o v) = not-up-answer p h i j c _ _
+  phase-answers p h m i j (CLOSE c) = not-up-answer p h i j c _ _
+  phase-answers p h m i j (STORE c) = not-up-answer p h i j c _ _
+  phase-answers p h m i j (CHECKPOINT c) = not-up-answer p h i j c _ _
+  phase-answers p h m i j CUT = cut-answer (i ∙ sym j)
+  phase-answers p h m i j RECOVER = recover-answer p m i j
+
+-- ---- down: FORMAT 21, CUT and RECOVER 0, the others 22
+pub down-answers : {l : Ledger} {w : World} → DownBy l w → (k : Command) → refusal (conditionsOf k w) ≡ refusal (refusalsOf k l)
+down-answers {l} {w} v =
+    phase-answers l w (right-length w (v .disk .size) (v .memory)) PhaseDown refl (λ h. master-stands (v .fine) (v .disk)) (v .phase) (v .ledger)
+
+-- ---- blank: FORMAT 0 or 4, the others 20
+pub blank-answers : (w : World) → w .card ≡ blankCard → length (w .disk) ≡ 32896 → length (w .memory) ≡ 16384 → (k : Command)
+    → refusal (conditionsOf k w) ≡ refusal (refusalsOf k blankLedger)
+unfolding blankCard emptyCard freshCard blankLedger
+blank-answers w e d m = phase-answers blankLedger w (right-length w d m) PhaseBlank refl (λ h. clash h refl) (ap (λ (x : Card). x .phase) e) refl
+
+-- ---- up: FORMAT 21, CUT 0, RECOVER 23; the others by what the transactions are
+module _ {l : Ledger} {w : World} (u : Up l w) (opens : (b : ℕ) (n : Name) → holderIn (l .book) b (l .book .writes) ≡ some n → (l .book .entry n) .stage ≢ absent) where
+  abbrev sizes : wrongLength w ≡ false
+  sizes = right-length w (u .disk .size) (u .memory)
+
+  pub up-answers : (k : Command) → refusal (conditionsOf k w) ≡ refusal (refusalsOf k l)
+  unfolding conditionsOf refusalsOf
+  up-answers (FORMAT c b j) = format-answer l w sizes c b j (u .phase ∙ sym (u .ledger))
+  up-answers (WRITE c b o v) = write-answers u c b o v (λ _. opens b)
+  up-answers (CLOSE c) = close-answers u c
+  up-answers (STORE c) = store-answers u c
+  up-answers (CHECKPOINT c) = checkpoint-answers u c
+  up-answers CUT = cut-answer l w sizes (u .phase ∙ sym (u .ledger))
+  up-answers RECOVER = recover-answer l w sizes PhaseUp (λ z. clash z refl) (u .phase) (u .ledger)

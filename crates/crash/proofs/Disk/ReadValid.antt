@@ -1,0 +1,198 @@
+-- All journals of a disk that holds what the ledger says, the valid set read from them, and the home blocks that it holds.
+-- Both valid sets are the largest of their kind over the same transactions, with the same names and the same tails:
+-- so the names of the reader's set are the ledger's set, and so are the blocks.
+use Rattle.model.proofs.Base.{ℕ, _-_, _≤_, _<_, arith, decLt, _≡_, sym, ap, subst, fun-ext, _∙_, _⊎_, inl, inr, Bool, true, false}
+use Rattle.model.proofs.Base.{not, _&&_, _||_, map, flatMap, List·Memᴰ, Memᴰ·cast, eqb, ltb, not-true, below, any, select, Bytes}
+use mathlib.Core.List.{Memᴰ·map, Memᴰ·of-map}
+use Rattle.model.specs.Card.{sameName}
+use Rattle.model.specs.Journal.{journal, journals, nameOf, blocksOf, namesOf}
+use Rattle.model.specs.Shrink.{Closed, Within}
+use Rattle.model.specs.Valid.{isIn, isMet, namesMet, validSet, blocksHeld}
+use Rattle.model.specs.Recovery.{shapeOn, tailOn, committedOn, validOn}
+use Rattle.model.specs.declared.Tail.{Tail}
+use Rattle.model.specs.declared.Name.{Name}
+use Rattle.model.specs.declared.Committed.{Committed}
+use Rattle.model.proofs.Encoding.{master-same}
+use Rattle.model.proofs.Lists.{and-both, and-left, and-right, or-left, or-right, or-cases, all-mem, mem-all, any-mem, mem-any, mem-flatMap, flatMap-mem, mem-below, below-mem, both-ways}
+use Rattle.model.proofs.Select.{mem-select, select-mem}
+use Rattle.model.proofs.Shrink.{Monotone, shrink-closed, shrink-within, shrink-largest, named-monotone}
+use Rattle.model.proofs.Valid.{sameName-true, sameName-refl, valid-within, valid-largest, valid-names}
+use Rattle.crash.specs.Book.{isCommitted, isRetired, Book}
+use Rattle.crash.specs.Ledger.{Ledger, unretired, metIn, validIn, blocksIn}
+use Rattle.crash.proofs.Books.Tests.{clash, any-in, in-any, nameEquality}
+use Rattle.crash.proofs.Disk.Relation.{Fine, JournalStands, DiskStands}
+use Rattle.crash.proofs.Disk.LedgerStages.{closed-present, committed-rank}
+use Rattle.crash.proofs.Disk.ReadMaster.{shape-read, tail-read}
+use Rattle.crash.proofs.Disk.RecordFormat.{readList}
+use Rattle.crash.proofs.Disk.ReadRecords.{IsRead, readList-has, readList-is, journal-read, few-records}
+
+-- ---- the ledger's valid set
+abbrev belowOldest : Book → Name → Bool
+belowOldest k n = ltb (n .number) (k .oldest (n .core))
+
+metIn-monotone : (k : Book) → Monotone (metIn k)
+unfolding metIn
+metIn-monotone k = named-monotone (λ (t : Name). (k .entry t) .names) (λ (t : Name). t) sameName sameName-true sameName-refl (belowOldest k)
+
+pub valid-unretired : (k : Book) (t : Name) → List·Memᴰ t (validIn k) → List·Memᴰ t (unretired k)
+unfolding validIn
+valid-unretired k = shrink-within (metIn k) (unretired k)
+
+valid-met : (k : Book) (t n : Name) → List·Memᴰ t (validIn k) → List·Memᴰ n ((k .entry t) .names) → (belowOldest k n ≡ true) ⊎ (any (sameName n) (validIn k) ≡ true)
+unfolding validIn metIn
+valid-met k t n m i =
+    or-cases (belowOldest k n) (any (sameName n) (validIn k))
+    (all-mem (λ (n : Name). belowOldest k n || any (sameName n) (validIn k)) ((k .entry t) .names) (shrink-closed (metIn k) (unretired k) t m) i)
+
+module _ {l : Ledger} {d : Bytes} {tailAt : ℕ → Tail} (f : Fine l) (z : DiskStands l d tailAt) where
+  -- a name that is listed: below the tail on the disk, and in the ledger
+  below-tail : (t n : Name) → List·Memᴰ n ((l .book .entry t) .names) → ltb (n .number) ((tailAt (n .core)) .number) ≡ belowOldest (l .book) n
+  below-tail t n m = ap (ltb (n .number)) (z .journals (n .core) (f .limits n (f .named t n m) .core) .number)
+
+  module _ (most : ℕ → ℕ) (enough : (c : ℕ) → c < l .shape .cores → l .book .uncommitted c - l .book .oldest c ≤ most c) where
+    -- ---- all journals
+    journals-listed : (e : Committed) → List·Memᴰ e (journals (l .shape) d tailAt most)
+        → (e .core < l .shape .cores) × List·Memᴰ e (readList l (e .core) (tailAt (e .core)))
+    unfolding journals
+    journals-listed e m =
+        let r = mem-flatMap (λ (c : ℕ). journal (l .shape) d c (tailAt c) (most c)) (below (l .shape .cores)) m in
+        let h = mem-below (l .shape .cores) (r .1) in
+        let x : List·Memᴰ e (readList l (r .0) (tailAt (r .0))) = rw (journal-read f z (r .0) h (most (r .0)) (enough (r .0) h)) at (r .2) in
+        let c : e .core ≡ r .0 = readList-is f z (r .0) h e x .core in
+        subst (λ (i : ℕ). (i < l .shape .cores) × List·Memᴰ e (readList l i (tailAt i))) (sym c) (h, x)
+
+    pub listed-journals : (e : Committed) → e .core < l .shape .cores → List·Memᴰ e (readList l (e .core) (tailAt (e .core)))
+        → List·Memᴰ e (journals (l .shape) d tailAt most)
+    unfolding journals
+    listed-journals e h m =
+        flatMap-mem (λ (c : ℕ). journal (l .shape) d c (tailAt c) (most c)) (below-mem (l .shape .cores) (e .core) h)
+        (rw (journal-read f z (e .core) h (most (e .core)) (enough (e .core) h)) m)
+
+    pub journals-are : (e : Committed) → List·Memᴰ e (journals (l .shape) d tailAt most) → IsRead l d (e .core) e
+    journals-are e m = let r = journals-listed e m in readList-is f z (e .core) (r .0) e (r .1)
+
+    -- ---- they are the ledger's committed unretired transactions
+    read-unretired : (e : Committed) → List·Memᴰ e (journals (l .shape) d tailAt most) → List·Memᴰ (nameOf e) (unretired (l .book))
+    unfolding unretired
+    read-unretired e m =
+        let u = journals-are e m .unretired in
+        mem-select _ (l .book .opened) (nameOf e) (f .known (nameOf e) (closed-present _ (u .is-closed))) (and-both (u .is-committed) (ap not (u .not-retired)))
+
+    unretired-read : (t : Name) → List·Memᴰ t (unretired (l .book)) → (e : Committed) × List·Memᴰ e (journals (l .shape) d tailAt most) × (nameOf e ≡ t)
+    unfolding unretired
+    unretired-read t m =
+        let g = (l .book .entry t) .stage in
+        let h = select-mem (λ (t : Name). isCommitted ((l .book .entry t) .stage) && not (isRetired ((l .book .entry t) .stage))) (l .book .opened) t m .1 in
+        let a : isCommitted g ≡ true = and-left (isCommitted g) (not (isRetired g)) h in
+        let b : isRetired g ≡ false = not-true (isRetired g) (and-right (isCommitted g) (not (isRetired g)) h) in
+        elim (decLt (t .core) (l .shape .cores)) [
+          | yes c ↦ (let i = committed-rank (f .ranks (t .core) c) (t .number) a b in
+              let r = readList-has l (t .core) (tailAt (t .core)) (t .number) (i .0) (i .1) in
+              let e = subst (λ (i : ℕ). (i < l .shape .cores) × List·Memᴰ (r .0) (readList l i (tailAt i))) (sym (ap (λ (n : Name). n .core) (r .2))) (c, r .1) in
+              (r .0, listed-journals (r .0) (e .0) (e .1), r .2))
+          | no c ↦ clash a (ap isCommitted (f .far t (omega arith)))
+        ]
+
+    -- ---- the valid set
+    pub valid-name : (e : Committed) → List·Memᴰ e (validSet (l .shape) d tailAt (journals (l .shape) d tailAt most)) → List·Memᴰ (nameOf e) (validIn (l .book))
+    unfolding validIn metIn
+    valid-name e m =
+        let es = journals (l .shape) d tailAt most in
+        let vs = validSet (l .shape) d tailAt es in
+        let k = l .book in
+        let ts = map nameOf vs in
+        let within : Within ts (unretired k) =
+        λ t i. let r = Memᴰ·of-map nameOf vs i in Memᴰ·cast (sym (r .2)) (read-unretired (r .0) (valid-within (l .shape) d tailAt es (r .0) (r .1))) in
+        let closed : Closed (metIn k) ts =
+        λ t i.
+        let r = Memᴰ·of-map nameOf vs i in
+        let x = journals-are (r .0) (valid-within (l .shape) d tailAt es (r .0) (r .1)) in
+        mem-all (λ (n : Name). belowOldest k n || any (sameName n) ts) ((k .entry t) .names)
+        (λ n j.
+        let listed : List·Memᴰ n (namesOf (l .shape) d (r .0)) = rw (x .names, r .2) j in
+        elim (valid-names (l .shape) d tailAt es (r .0) (r .1) n listed) [
+          | inl b ↦ or-left (any (sameName n) ts) (sym (below-tail t n j) ∙ b)
+          | inr u ↦ or-right (belowOldest k n) (in-any nameEquality (Memᴰ·cast (u .2) (Memᴰ·map nameOf (u .1))))
+        ]) in
+        shrink-largest (metIn k) (metIn-monotone k) (unretired k) ts within closed (nameOf e) (Memᴰ·map nameOf m)
+
+    name-valid : (e : Committed) → List·Memᴰ e (journals (l .shape) d tailAt most) → List·Memᴰ (nameOf e) (validIn (l .book))
+        → List·Memᴰ e (validSet (l .shape) d tailAt (journals (l .shape) d tailAt most))
+    unfolding namesMet isMet isIn
+    name-valid e m v =
+        let es = journals (l .shape) d tailAt most in
+        let k = l .book in
+        let test : Committed → Bool = λ x. any (sameName (nameOf x)) (validIn k) in
+        let ss = select test es in
+        let closed : Closed (namesMet (l .shape) d tailAt) ss =
+        λ x i.
+        let r = select-mem test es x i in
+        let y = journals-are x (r .0) in
+        mem-all (isMet tailAt ss) (namesOf (l .shape) d x)
+        (λ n j.
+        let listed : List·Memᴰ n ((k .entry (nameOf x)) .names) = rw (y .names) at j in
+        elim (valid-met k (nameOf x) n (any-in nameEquality (nameOf x) (validIn k) (r .1)) listed) [
+          | inl b ↦ or-left (isIn ss n) (below-tail (nameOf x) n listed ∙ b)
+          | inr u ↦ or-right (ltb (n .number) ((tailAt (n .core)) .number))
+              (let w = unretired-read n (valid-unretired k n (any-in nameEquality n (validIn k) u)) in
+              mem-any (λ (g : Committed). sameName n (nameOf g)) (mem-select test es (w .0) (w .1) (rw (w .2) u)) (rw (w .2) (sameName-refl n)))
+        ]) in
+        valid-largest (l .shape) d tailAt es ss (λ x i. select-mem test es x i .0) closed e (mem-select test es e m (in-any nameEquality v))
+
+    -- a valid transaction of the ledger is read, as a valid one
+    pub valid-read : (t : Name) → List·Memᴰ t (validIn (l .book))
+        → (e : Committed) × List·Memᴰ e (validSet (l .shape) d tailAt (journals (l .shape) d tailAt most)) × (nameOf e ≡ t)
+    valid-read t v =
+        let r = unretired-read t (valid-unretired (l .book) t v) in
+        (r .0, name-valid (r .0) (r .1) (rw (r .2) v), r .2)
+
+    pub valid-are : (e : Committed) → List·Memᴰ e (validSet (l .shape) d tailAt (journals (l .shape) d tailAt most)) → IsRead l d (e .core) e
+    valid-are e m = journals-are e (valid-within (l .shape) d tailAt (journals (l .shape) d tailAt most) e m)
+
+    pub valid-same : (n : Name) → isIn (validSet (l .shape) d tailAt (journals (l .shape) d tailAt most)) n ≡ any (sameName n) (validIn (l .book))
+    unfolding isIn
+    valid-same n =
+        let vs = validSet (l .shape) d tailAt (journals (l .shape) d tailAt most) in
+        both-ways
+        (λ h. let r = any-mem (λ (e : Committed). sameName n (nameOf e)) vs h in
+        in-any nameEquality (Memᴰ·cast (sameName-true n (nameOf (r .0)) (r .2)) (valid-name (r .0) (r .1))))
+        (λ h. let r = valid-read n (any-in nameEquality n (validIn (l .book)) h) in
+        mem-any (λ (e : Committed). sameName n (nameOf e)) (r .1) (rw (r .2) (sameName-refl n)))
+
+    -- ---- the home blocks held in it
+    blocks-same : blocksHeld (l .shape) d (validSet (l .shape) d tailAt (journals (l .shape) d tailAt most)) ≡ blocksIn (l .shape .blocks) (l .book)
+    unfolding blocksHeld blocksIn
+    blocks-same =
+        let vs = validSet (l .shape) d tailAt (journals (l .shape) d tailAt most) in
+        let k = l .book in
+        let holds : ℕ → Name → Bool = λ b t. any (eqb b) ((k .entry t) .blocks) in
+        ap (λ (p : ℕ → Bool). select p (below (l .shape .blocks)))
+        (fun-ext (λ b.
+        both-ways
+        (λ h.
+        let x = any-mem (eqb b) (flatMap (blocksOf (l .shape) d) vs) h in
+        let r = mem-flatMap (blocksOf (l .shape) d) vs (x .1) in
+        mem-any (holds b) (valid-name (r .0) (r .1)) (mem-any (eqb b) (rw (valid-are (r .0) (r .1) .blocks) at (r .2)) (x .2)))
+        (λ h.
+        let t = any-mem (holds b) (validIn k) h in
+        let x = any-mem (eqb b) ((k .entry (t .0)) .blocks) (t .2) in
+        let r = valid-read (t .0) (t .1) in
+        mem-any (eqb b) (flatMap-mem (blocksOf (l .shape) d) (r .1) (rw (valid-are (r .0) (r .1) .blocks, r .2) (x .1))) (x .2))))
+
+-- ---- as RECOVER reads: from the master's own shape and tails
+module _ {l : Ledger} {d : Bytes} {tailAt : ℕ → Tail} (f : Fine l) (z : DiskStands l d tailAt) where
+  pub own-tails : DiskStands l d (tailOn d)
+  own-tails =
+      record {
+        size = z .size;
+        bytes = z .bytes;
+        master = z .master ∙ master-same (l .shape) tailAt (tailOn d) (λ c h. sym (tail-read f z c h));
+        journals = λ c h. subst (JournalStands l d c) (sym (tail-read f z c h)) (z .journals c h);
+      }
+
+  pub valid-on : validOn d ≡ validSet (l .shape) d (tailOn d) (journals (l .shape) d (tailOn d) (λ (c : ℕ). l .shape .journal))
+  unfolding validOn committedOn
+  valid-on = rw (shape-read f z)
+
+  pub blocks-on : blocksHeld (shapeOn d) d (validOn d) ≡ blocksIn (l .shape .blocks) (l .book)
+  blocks-on = rw (shape-read f z, valid-on) (blocks-same f own-tails (λ (c : ℕ). l .shape .journal) (few-records f z))
