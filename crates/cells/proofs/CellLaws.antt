@@ -15,56 +15,56 @@ use Rattle.model.proofs.Lists.{cases, map-below}
 use Rattle.cells.proofs.FitsLaws.{fits-holder, frame-wider, frame-set}
 use Rattle.cells.specs.Cells.{phaseIn, nameIn, holderIn, tailFrom, transactionIn, coreIn, cardIn, tailPlace, holderPlace, corePlace}
 use Rattle.cells.specs.Changes.{Frame}
-use Rattle.cells.proofs.ReadLaws.{tabled-set, core-at}
-use Rattle.cells.proofs.TransactionLaws.{transaction-same, transaction-high}
+use Rattle.cells.proofs.ReadLaws.{tabled-set, coreOf-cardIn}
+use Rattle.cells.proofs.TransactionLaws.{transactionIn-same, transactionIn-high}
 
 -- ---- the card where some cells changed
-pub same-tail : (a b c d : ℕ) → a ≡ b → c ≡ d → newTail a c ≡ newTail b d
-same-tail a b c d p q = rw (p, q)
+pub tail-cong : (a b c d : ℕ) → a ≡ b → c ≡ d → newTail a c ≡ newTail b d
+tail-cong a b c d p q = rw (p, q)
 
-pub tail-same : (v w : List ℕ) (b : ℕ) → ((i : ℕ) → b ≤ i → i < b + 2 → getD w i 0 ≡ getD v i 0) → tailFrom w b ≡ tailFrom v b
+pub tailFrom-same : (v w : List ℕ) (b : ℕ) → ((i : ℕ) → b ≤ i → i < b + 2 → getD w i 0 ≡ getD v i 0) → tailFrom w b ≡ tailFrom v b
 unfolding tailFrom
-tail-same v w b e =
-    same-tail _ _ _ _
+tailFrom-same v w b e =
+    tail-cong _ _ _ _
     (ap (λ (n : ℕ). n % 4294967296) (e b (omega arith) (omega arith)))
     (ap (λ (n : ℕ). n % 256) (e (b + 1) (omega arith) (omega arith)))
 
-pub same-core : (a b c d e f g h : ℕ) (r s t u : Transaction) → a ≡ b → c ≡ d → e ≡ f → g ≡ h → r ≡ s → t ≡ u
+pub core-cong : (a b c d e f g h : ℕ) (r s t u : Transaction) → a ≡ b → c ≡ d → e ≡ f → g ≡ h → r ≡ s → t ≡ u
     → _≡_ {A = Core} (record { next = a; used = c; stored = e; homed = g; running = r; closed = t }) (record { next = b; used = d; stored = f; homed = h; running = s; closed = u })
-same-core a b c d e f g h r s t u i j k l m n = rw (i, j, k, l, m, n)
+core-cong a b c d e f g h r s t u i j k l m n = rw (i, j, k, l, m, n)
 
-pub core-same : (v w : List ℕ) (b : ℕ) → ((i : ℕ) → b ≤ i → i < b + 52 → getD w i 0 ≡ getD v i 0) → coreIn w b ≡ coreIn v b
+pub coreIn-same : (v w : List ℕ) (b : ℕ) → ((i : ℕ) → b ≤ i → i < b + 52 → getD w i 0 ≡ getD v i 0) → coreIn w b ≡ coreIn v b
 unfolding coreIn
-core-same v w b e =
-    same-core _ _ _ _ _ _ _ _ _ _ _ _
+coreIn-same v w b e =
+    core-cong _ _ _ _ _ _ _ _ _ _ _ _
     (ap (λ (n : ℕ). n % 4294967296) (e b (omega arith) (omega arith)))
     (ap (λ (n : ℕ). n % 256) (e (b + 1) (omega arith) (omega arith)))
     (ap (λ (n : ℕ). n % 256) (e (b + 2) (omega arith) (omega arith)))
     (ap (λ (n : ℕ). n % 256) (e (b + 3) (omega arith) (omega arith)))
-    (transaction-same v w (b + 4) (λ i p q. e i (omega arith) (omega arith)))
-    (transaction-same v w (b + 28) (λ i p q. e i (omega arith) (omega arith)))
+    (transactionIn-same v w (b + 4) (λ i p q. e i (omega arith) (omega arith)))
+    (transactionIn-same v w (b + 28) (λ i p q. e i (omega arith) (omega arith)))
 
-pub same-card : (p q : Phase) (s t : Shape) (a b c d : ℕ) (ts us : List Tail) (ks ls : List Core) (hs is : List Holder) → p ≡ q → s ≡ t → a ≡ b → c ≡ d → ts ≡ us → ks ≡ ls → hs ≡ is
+pub card-cong : (p q : Phase) (s t : Shape) (a b c d : ℕ) (ts us : List Tail) (ks ls : List Core) (hs is : List Holder) → p ≡ q → s ≡ t → a ≡ b → c ≡ d → ts ≡ us → ks ≡ ls → hs ≡ is
     → _≡_ {A = Card} (record { phase = p; shape = s; closes = a; recovered = c; tails = ts; cores = ks; holders = hs }) (record { phase = q; shape = t; closes = b; recovered = d; tails = us; cores = ls; holders = is })
-same-card p q s t a b c d ts us ks ls hs is e f g h i j k = rw (e, f, g, h, i, j, k)
+card-cong p q s t a b c d ts us ks ls hs is e f g h i j k = rw (e, f, g, h, i, j, k)
 
-pub same-shape : (a b c d e f : ℕ) → a ≡ b → c ≡ d → e ≡ f → _≡_ {A = Shape} (record { cores = a; blocks = c; journal = e }) (record { cores = b; blocks = d; journal = f })
-same-shape a b c d e f p q r = rw (p, q, r)
+pub shape-cong : (a b c d e f : ℕ) → a ≡ b → c ≡ d → e ≡ f → _≡_ {A = Shape} (record { cores = a; blocks = c; journal = e }) (record { cores = b; blocks = d; journal = f })
+shape-cong a b c d e f p q r = rw (p, q, r)
 
 -- cells of one core
 module _ (v w : List ℕ) (c : ℕ) (h : c < 8) (e : Frame v w (corePlace c) 52) where
   core-other : (d : ℕ) → d < 8 → (d ≡ c → ⊥) → coreIn w (corePlace d) ≡ coreIn v (corePlace d)
-  core-other d l f = core-same v w (corePlace d) (λ i p q. cases (ltb d c) (λ t. let z : d < c = ltb-true d c t in e .low i (omega arith)) (λ t. let z : c ≤ d = ltb-false d c t in e .high i (omega arith)))
+  core-other d l f = coreIn-same v w (corePlace d) (λ i p q. cases (ltb d c) (λ t. let z : d < c = ltb-true d c t in e .low i (omega arith)) (λ t. let z : c ≤ d = ltb-false d c t in e .high i (omega arith)))
 
   pub core-put : cardIn w ≡ withCore (cardIn v) c (coreIn w (corePlace c))
   unfolding cardIn
   core-put =
-      same-card _ _ _ _ _ _ _ _ _ _ _ _ _ _
+      card-cong _ _ _ _ _ _ _ _ _ _ _ _ _ _
       (ap phaseIn (e .low 0 (omega arith)))
-      (same-shape _ _ _ _ _ _ (ap (λ (n : ℕ). n % 256) (e .low 1 (omega arith))) (ap (λ (n : ℕ). n % 256) (e .low 2 (omega arith))) (ap (λ (n : ℕ). n % 256) (e .low 3 (omega arith))))
+      (shape-cong _ _ _ _ _ _ (ap (λ (n : ℕ). n % 256) (e .low 1 (omega arith))) (ap (λ (n : ℕ). n % 256) (e .low 2 (omega arith))) (ap (λ (n : ℕ). n % 256) (e .low 3 (omega arith))))
       (e .low 4 (omega arith))
       (ap (λ (n : ℕ). n % 256) (e .low 5 (omega arith)))
-      (map-below _ _ 8 (λ d p. tail-same v w (tailPlace d) (λ i q r. e .low i (omega arith))))
+      (map-below _ _ 8 (λ d p. tailFrom-same v w (tailPlace d) (λ i q r. e .low i (omega arith))))
       (tabled-set (λ (d : ℕ). coreIn v (corePlace d)) (λ (d : ℕ). coreIn w (corePlace d)) 8 c (freshCore 0) h core-other)
       (map-below _ _ 64 (λ b p. ap holderIn (e .low (holderPlace b) (omega arith))))
 
@@ -73,18 +73,18 @@ module _ (v w : List ℕ) (c : ℕ) (h : c < 8) (e : Frame v w (corePlace c + 4)
   running-inside : coreIn w (corePlace c) ≡ withRunning (coreIn v (corePlace c)) (transactionIn w (corePlace c + 4))
   unfolding coreIn
   running-inside =
-      same-core _ _ _ _ _ _ _ _ _ _ _ _
+      core-cong _ _ _ _ _ _ _ _ _ _ _ _
       (ap (λ (n : ℕ). n % 4294967296) (e .low (corePlace c) (omega arith)))
       (ap (λ (n : ℕ). n % 256) (e .low (corePlace c + 1) (omega arith)))
       (ap (λ (n : ℕ). n % 256) (e .low (corePlace c + 2) (omega arith)))
       (ap (λ (n : ℕ). n % 256) (e .low (corePlace c + 3) (omega arith)))
       refl
-      (transaction-high v w (corePlace c + 4) 24 (corePlace c + 28) e (omega arith))
+      (transactionIn-high v w (corePlace c + 4) 24 (corePlace c + 28) e (omega arith))
 
   pub running-put : cardIn w ≡ withCore (cardIn v) c (withRunning (coreOf (cardIn v) c) (transactionIn w (corePlace c + 4)))
   running-put =
       core-put v w c h (frame-wider v w (corePlace c + 4) 24 (corePlace c) 52 e (omega arith) (omega arith))
-      ∙ ap (withCore (cardIn v) c) (running-inside ∙ ap (λ (k : Core). withRunning k (transactionIn w (corePlace c + 4))) (sym (core-at v c h)))
+      ∙ ap (withCore (cardIn v) c) (running-inside ∙ ap (λ (k : Core). withRunning k (transactionIn w (corePlace c + 4))) (sym (coreOf-cardIn v c h)))
 
 -- the cell of a holder
 back-one : (x : ℕ) → x + 1 - 1 ≡ x
@@ -100,13 +100,13 @@ holder-frame v b x h l = frame-set v (holderPlace b) 1 (holderPlace b) (x + 1) (
 pub holder-put : (v : List ℕ) (b x : ℕ) → length v ≡ 512 → b < 64 → (n : Name) → nameIn x ≡ n → cardIn (set v (holderPlace b) (x + 1)) ≡ withHolder (cardIn v) b (newHolder n)
 unfolding cardIn
 holder-put v b x l h n e =
-    same-card _ _ _ _ _ _ _ _ _ _ _ _ _ _
+    card-cong _ _ _ _ _ _ _ _ _ _ _ _ _ _
     (ap phaseIn (other 0 (omega arith)))
-    (same-shape _ _ _ _ _ _ (ap (λ (n : ℕ). n % 256) (other 1 (omega arith))) (ap (λ (n : ℕ). n % 256) (other 2 (omega arith))) (ap (λ (n : ℕ). n % 256) (other 3 (omega arith))))
+    (shape-cong _ _ _ _ _ _ (ap (λ (n : ℕ). n % 256) (other 1 (omega arith))) (ap (λ (n : ℕ). n % 256) (other 2 (omega arith))) (ap (λ (n : ℕ). n % 256) (other 3 (omega arith))))
     (other 4 (omega arith))
     (ap (λ (n : ℕ). n % 256) (other 5 (omega arith)))
-    (map-below _ _ 8 (λ d p. tail-same v _ (tailPlace d) (λ i q r. other i (omega arith))))
-    (map-below _ _ 8 (λ d p. core-same v (set v (holderPlace b) (x + 1)) (corePlace d) (λ i q r. other i (omega arith))))
+    (map-below _ _ 8 (λ d p. tailFrom-same v _ (tailPlace d) (λ i q r. other i (omega arith))))
+    (map-below _ _ 8 (λ d p. coreIn-same v (set v (holderPlace b) (x + 1)) (corePlace d) (λ i q r. other i (omega arith))))
     (tabled-set (λ (d : ℕ). holderIn (getD v (holderPlace d) 0)) (λ (d : ℕ). holderIn (getD (set v (holderPlace b) (x + 1)) (holderPlace d) 0)) 64 b noHolder h (λ d p q. ap holderIn (other (holderPlace d) (omega arith)))
     ∙ ap (λ (k : Holder). set (map (λ (d : ℕ). holderIn (getD v (holderPlace d) 0)) (below 64)) b k) (ap holderIn (getD-set-same v (holderPlace b) (x + 1) 0 (omega arith)) ∙ holder-cell x n e))
   where

@@ -10,9 +10,9 @@ use Rattle.model.proofs.Lists.{map-below}
 use Rattle.cells.specs.Cells.{byteIn, phaseIn, holderIn, transactionIn, coreIn, cardIn, tailPlace, holderPlace, corePlace}
 use Rattle.cells.specs.Changes.{withNumbers, withClosed, withCloses, Frame}
 use Rattle.cells.proofs.FitsLaws.{fits-next, fits-count, frame-set, frame-then, frame-wider}
-use Rattle.cells.proofs.ReadLaws.{length-tabled, core-at}
-use Rattle.cells.proofs.TransactionLaws.{transaction-low, transaction-high}
-use Rattle.cells.proofs.CellLaws.{same-card, same-shape, same-core, tail-same, core-same, core-put}
+use Rattle.cells.proofs.ReadLaws.{length-tabled, coreOf-cardIn}
+use Rattle.cells.proofs.TransactionLaws.{transactionIn-low, transactionIn-high}
+use Rattle.cells.proofs.CellLaws.{card-cong, shape-cong, core-cong, tailFrom-same, coreIn-same, core-put}
 
 -- ---- a core of the card, replaced
 module _ (v : List ℕ) (c : ℕ) (h : c < 8) (k : Core) where
@@ -30,18 +30,18 @@ module _ (v w : List ℕ) (c : ℕ) (h : c < 8) (e : Frame v w (corePlace c + 28
   closed-inside : coreIn w (corePlace c) ≡ withClosed (coreIn v (corePlace c)) (transactionIn w (corePlace c + 28))
   unfolding coreIn
   closed-inside =
-      same-core _ _ _ _ _ _ _ _ _ _ _ _
+      core-cong _ _ _ _ _ _ _ _ _ _ _ _
       (ap (λ (n : ℕ). n % 4294967296) (e .low (corePlace c) (omega arith)))
       (ap (λ (n : ℕ). n % 256) (e .low (corePlace c + 1) (omega arith)))
       (ap (λ (n : ℕ). n % 256) (e .low (corePlace c + 2) (omega arith)))
       (ap (λ (n : ℕ). n % 256) (e .low (corePlace c + 3) (omega arith)))
-      (transaction-low v w (corePlace c + 28) 24 (corePlace c + 4) e (omega arith))
+      (transactionIn-low v w (corePlace c + 28) 24 (corePlace c + 4) e (omega arith))
       refl
 
   pub closed-put : cardIn w ≡ withCore (cardIn v) c (withClosed (coreOf (cardIn v) c) (transactionIn w (corePlace c + 28)))
   closed-put =
       core-put v w c h (frame-wider v w (corePlace c + 28) 24 (corePlace c) 52 e (omega arith) (omega arith))
-      ∙ ap (withCore (cardIn v) c) (closed-inside ∙ ap (λ (k : Core). withClosed k (transactionIn w (corePlace c + 28))) (sym (core-at v c h)))
+      ∙ ap (withCore (cardIn v) c) (closed-inside ∙ ap (λ (k : Core). withClosed k (transactionIn w (corePlace c + 28))) (sym (coreOf-cardIn v c h)))
 
 -- ---- its numbers
 module _ (v : List ℕ) (c : ℕ) (h : c < 8) (size : length v ≡ 512) (next used stored homed : ℕ) (p : next < 4294967296) (q : used < 256) (r : stored < 256) (s : homed < 256) where
@@ -93,18 +93,18 @@ module _ (v : List ℕ) (c : ℕ) (h : c < 8) (size : length v ≡ 512) (next us
   numbers-inside : coreIn w₄ (corePlace c) ≡ withNumbers (coreIn v (corePlace c)) next used stored homed
   unfolding coreIn
   numbers-inside =
-      same-core _ _ _ _ _ _ _ _ _ _ _ _
+      core-cong _ _ _ _ _ _ _ _ _ _ _ _
       (ap (λ (n : ℕ). n % 4294967296) first ∙ omega arith)
       (ap (λ (n : ℕ). n % 256) second ∙ omega arith)
       (ap (λ (n : ℕ). n % 256) third ∙ omega arith)
       (ap (λ (n : ℕ). n % 256) fourth ∙ omega arith)
-      (transaction-high v w₄ (corePlace c) 4 (corePlace c + 4) numbers-frame (omega arith))
-      (transaction-high v w₄ (corePlace c) 4 (corePlace c + 28) numbers-frame (omega arith))
+      (transactionIn-high v w₄ (corePlace c) 4 (corePlace c + 4) numbers-frame (omega arith))
+      (transactionIn-high v w₄ (corePlace c) 4 (corePlace c + 28) numbers-frame (omega arith))
 
   pub numbers-put : cardIn w₄ ≡ withCore (cardIn v) c (withNumbers (coreOf (cardIn v) c) next used stored homed)
   numbers-put =
       core-put v w₄ c h (frame-wider v w₄ (corePlace c) 4 (corePlace c) 52 numbers-frame (omega arith) (omega arith))
-      ∙ ap (withCore (cardIn v) c) (numbers-inside ∙ ap (λ (k : Core). withNumbers k next used stored homed) (sym (core-at v c h)))
+      ∙ ap (withCore (cardIn v) c) (numbers-inside ∙ ap (λ (k : Core). withNumbers k next used stored homed) (sym (coreOf-cardIn v c h)))
 
 -- the four cells stand within the array
 module _ (v : List ℕ) (c : ℕ) (h : c < 8) (at : ℕ) (e : at ≡ corePlace c) (size : length v ≡ 512) where
@@ -128,7 +128,7 @@ module _ (v : List ℕ) (c : ℕ) (h : c < 8) (at : ℕ) (e : at ≡ corePlace c
 module _ (v w : List ℕ) where
   pub tails-kept : ((i : ℕ) → 16 ≤ i → i < 32 → getD w i 0 ≡ getD v i 0) → (cardIn w) .tails ≡ (cardIn v) .tails
   unfolding cardIn
-  tails-kept e = map-below _ _ 8 (λ c p. tail-same v w (tailPlace c) (λ i q r. e i (omega arith) (omega arith)))
+  tails-kept e = map-below _ _ 8 (λ c p. tailFrom-same v w (tailPlace c) (λ i q r. e i (omega arith) (omega arith)))
 
   pub holders-kept : ((i : ℕ) → 32 ≤ i → i < 96 → getD w i 0 ≡ getD v i 0) → (cardIn w) .holders ≡ (cardIn v) .holders
   unfolding cardIn
@@ -136,15 +136,15 @@ module _ (v w : List ℕ) where
 
   pub cores-kept : ((i : ℕ) → 96 ≤ i → getD w i 0 ≡ getD v i 0) → (cardIn w) .cores ≡ (cardIn v) .cores
   unfolding cardIn
-  cores-kept e = map-below _ _ 8 (λ c p. core-same v w (corePlace c) (λ i q r. e i (omega arith)))
+  cores-kept e = map-below _ _ 8 (λ c p. coreIn-same v w (corePlace c) (λ i q r. e i (omega arith)))
 
   -- one field of the header
   pub closes-put : Frame v w 4 1 → cardIn w ≡ withCloses (cardIn v) (getD w 4 0)
   unfolding cardIn
   closes-put e =
-      same-card _ _ _ _ _ _ _ _ _ _ _ _ _ _
+      card-cong _ _ _ _ _ _ _ _ _ _ _ _ _ _
       (ap phaseIn (e .low 0 (omega arith)))
-      (same-shape _ _ _ _ _ _ (ap (λ (n : ℕ). n % 256) (e .low 1 (omega arith))) (ap (λ (n : ℕ). n % 256) (e .low 2 (omega arith))) (ap (λ (n : ℕ). n % 256) (e .low 3 (omega arith))))
+      (shape-cong _ _ _ _ _ _ (ap (λ (n : ℕ). n % 256) (e .low 1 (omega arith))) (ap (λ (n : ℕ). n % 256) (e .low 2 (omega arith))) (ap (λ (n : ℕ). n % 256) (e .low 3 (omega arith))))
       refl
       (ap (λ (n : ℕ). n % 256) (e .high 5 (omega arith)))
       (tails-kept (λ i p q. e .high i (omega arith)))
@@ -154,9 +154,9 @@ module _ (v w : List ℕ) where
   pub recovered-put : Frame v w 5 1 → cardIn w ≡ recoveredTo (cardIn v) (byteIn w 5)
   unfolding cardIn
   recovered-put e =
-      same-card _ _ _ _ _ _ _ _ _ _ _ _ _ _
+      card-cong _ _ _ _ _ _ _ _ _ _ _ _ _ _
       (ap phaseIn (e .low 0 (omega arith)))
-      (same-shape _ _ _ _ _ _ (ap (λ (n : ℕ). n % 256) (e .low 1 (omega arith))) (ap (λ (n : ℕ). n % 256) (e .low 2 (omega arith))) (ap (λ (n : ℕ). n % 256) (e .low 3 (omega arith))))
+      (shape-cong _ _ _ _ _ _ (ap (λ (n : ℕ). n % 256) (e .low 1 (omega arith))) (ap (λ (n : ℕ). n % 256) (e .low 2 (omega arith))) (ap (λ (n : ℕ). n % 256) (e .low 3 (omega arith))))
       (e .low 4 (omega arith))
       refl
       (tails-kept (λ i p q. e .high i (omega arith)))
@@ -167,9 +167,9 @@ module _ (v w : List ℕ) where
   pub stores-unseen : Frame v w 6 1 → cardIn w ≡ cardIn v
   unfolding cardIn
   stores-unseen e =
-      same-card _ _ _ _ _ _ _ _ _ _ _ _ _ _
+      card-cong _ _ _ _ _ _ _ _ _ _ _ _ _ _
       (ap phaseIn (e .low 0 (omega arith)))
-      (same-shape _ _ _ _ _ _ (ap (λ (n : ℕ). n % 256) (e .low 1 (omega arith))) (ap (λ (n : ℕ). n % 256) (e .low 2 (omega arith))) (ap (λ (n : ℕ). n % 256) (e .low 3 (omega arith))))
+      (shape-cong _ _ _ _ _ _ (ap (λ (n : ℕ). n % 256) (e .low 1 (omega arith))) (ap (λ (n : ℕ). n % 256) (e .low 2 (omega arith))) (ap (λ (n : ℕ). n % 256) (e .low 3 (omega arith))))
       (e .low 4 (omega arith))
       (ap (λ (n : ℕ). n % 256) (e .low 5 (omega arith)))
       (tails-kept (λ i p q. e .high i (omega arith)))
@@ -180,9 +180,9 @@ module _ (v w : List ℕ) where
   pub holders-put : Frame v w 32 64 → cardIn w ≡ withLists (cardIn v) ((cardIn v) .tails) ((cardIn v) .cores) ((cardIn w) .holders)
   unfolding cardIn
   holders-put e =
-      same-card _ _ _ _ _ _ _ _ _ _ _ _ _ _
+      card-cong _ _ _ _ _ _ _ _ _ _ _ _ _ _
       (ap phaseIn (e .low 0 (omega arith)))
-      (same-shape _ _ _ _ _ _ (ap (λ (n : ℕ). n % 256) (e .low 1 (omega arith))) (ap (λ (n : ℕ). n % 256) (e .low 2 (omega arith))) (ap (λ (n : ℕ). n % 256) (e .low 3 (omega arith))))
+      (shape-cong _ _ _ _ _ _ (ap (λ (n : ℕ). n % 256) (e .low 1 (omega arith))) (ap (λ (n : ℕ). n % 256) (e .low 2 (omega arith))) (ap (λ (n : ℕ). n % 256) (e .low 3 (omega arith))))
       (e .low 4 (omega arith))
       (ap (λ (n : ℕ). n % 256) (e .low 5 (omega arith)))
       (tails-kept (λ i p q. e .low i (omega arith)))

@@ -12,14 +12,14 @@ use Rattle.model.specs.declared.Transaction.{Transaction}
 use Rattle.model.specs.declared.Core.{Core}
 use Rattle.model.specs.declared.Holder.{Holder}
 use Rattle.model.specs.declared.Card.{Card}
-use Rattle.model.proofs.Lists.{cases, both-ways, getD-map-below}
+use Rattle.model.proofs.Lists.{cases, bool-ext, getD-map-below}
 use Rattle.cells.proofs.FitsLaws.{in-place, fits-zero, fits-phase, fits-in-number, fits-in-position, fits-in-holder, fits-in-core, fits-set}
-use Rattle.cells.proofs.ReadLaws.{length-tabled, name-put, name-read, block-read, holder-read, tail-at, core-at}
-use Rattle.cells.proofs.TransactionLaws.{same-transaction}
-use Rattle.cells.proofs.CellLaws.{same-tail, same-core, same-card, same-shape, holder-cell}
+use Rattle.cells.proofs.ReadLaws.{length-tabled, nameIn-put, name-read, block-read, holder-read, tail-at, coreOf-cardIn}
+use Rattle.cells.proofs.TransactionLaws.{transaction-cong}
+use Rattle.cells.proofs.CellLaws.{tail-cong, core-cong, card-cong, shape-cong, holder-cell}
 use Rattle.cells.specs.Cells.{phaseIn, nameIn, holderIn, tailFrom, transactionIn, coreIn, cardIn, storesIn, corePlace, tailPlace, holderPlace, phaseCell, nameCell, holderCell, headerCell, tailCell, transactionCell, coreCell, cellOf, cellsOf, Exact}
-use Rattle.cells.specs.Sized.{SizedName, SizedTransaction, SizedCore, SizedTail, SizedHolder, Sized}
-use Rattle.cells.specs.Changes.{fitsHeader, fitsTransaction, fitsCore, fitsAt, Fits}
+use Rattle.cells.specs.Sized.{SizedName, SizedTransaction, SizedCore, SizedTail, SizedHolder, SizedCard}
+use Rattle.cells.specs.Changes.{fitsHeader, fitsTransaction, fitsCore, fitsAt, AllFit}
 
 ruleset tests = (ltb-true, leb-true, eqb-true, lt-ltb, le-leb, eq-eqb)
 
@@ -51,18 +51,18 @@ same-fits : (x : ℕ) → true ≡ eqb x x
 same-fits x = sym (eq-eqb x x refl)
 
 byte-fits : (x : ℕ) → ltb x 256 ≡ eqb x (x % 256)
-byte-fits x = both-ways (λ e. omega (arith, tests)) (λ e. omega (arith, tests))
+byte-fits x = bool-ext (λ e. omega (arith, tests)) (λ e. omega (arith, tests))
 
 number-fits : (x : ℕ) → ltb x 4294967296 ≡ eqb x (x % 4294967296)
-number-fits x = both-ways (λ e. omega (arith, tests)) (λ e. omega (arith, tests))
+number-fits x = bool-ext (λ e. omega (arith, tests)) (λ e. omega (arith, tests))
 
 name-fits : (x : ℕ) → ltb x 34359738368 ≡ eqb x (nameCell (nameIn x))
 unfolding nameCell nameIn
-name-fits x = both-ways (λ e. let q : x / 8 < 4294967296 = omega (arith, tests) in omega (arith, tests)) (λ e. omega (arith, tests))
+name-fits x = bool-ext (λ e. let q : x / 8 < 4294967296 = omega (arith, tests) in omega (arith, tests)) (λ e. omega (arith, tests))
 
 name-back : (n : Name) → SizedName n → nameIn (nameCell n) ≡ n
 unfolding nameCell
-name-back n s = name-put (n .core) (n .number) (s .core) (s .number)
+name-back n s = nameIn-put (n .core) (n .number) (s .core) (s .number)
 
 name-sized : (x : ℕ) → SizedName (nameIn x)
 unfolding nameIn
@@ -74,7 +74,7 @@ holder-fits zero = refl
 holder-fits (suc x) =
     let z : suc x - 1 ≡ x = omega arith in
     rw (ne-eqb (suc x) 0 (omega arith), z)
-    (both-ways (λ e. omega (arith, tests, sym (name-fits x) ∙ lt-ltb x 34359738368 (omega (arith, tests)))) (λ e. omega (arith, tests, name-fits x ∙ eq-eqb x _ (omega (arith, tests)))))
+    (bool-ext (λ e. omega (arith, tests, sym (name-fits x) ∙ lt-ltb x 34359738368 (omega (arith, tests)))) (λ e. omega (arith, tests, name-fits x ∙ eq-eqb x _ (omega (arith, tests)))))
 
 holder-back : (b : Bool) (n : Name) → let h : Holder = record { held = b; name = n } in SizedHolder h → holderIn (holderCell h) ≡ h
 unfolding holderIn holderCell
@@ -155,7 +155,7 @@ module _ (w : List ℕ) (a : ℕ) where
   transaction-back : (t : Transaction) → SizedTransaction t → ((j : ℕ) → j < 24 → getD w (a + j) 0 ≡ transactionCell t j) → transactionIn w a ≡ t
   unfolding transactionIn transactionCell
   transaction-back t s e =
-      same-transaction _ _ _ _ _ _ _ _ _ _ _ _
+      transaction-cong _ _ _ _ _ _ _ _ _ _ _ _
       (let z : a + 0 ≡ a = omega arith in ap (λ (n : ℕ). not (eqb n 0)) (rw z at (e 0 (omega arith))) ∙ flag-back (t .live))
       (e 1 (omega arith))
       (omega (arith, e 2 (omega arith)))
@@ -200,7 +200,7 @@ module _ (w : List ℕ) (a : ℕ) where
   core-back : (k : Core) → SizedCore k → ((j : ℕ) → j < 52 → getD w (a + j) 0 ≡ coreCell k j) → coreIn w a ≡ k
   unfolding coreIn coreCell
   core-back k s e =
-      same-core _ _ _ _ _ _ _ _ _ _ _ _
+      core-cong _ _ _ _ _ _ _ _ _ _ _ _
       (let z : a + 0 ≡ a = omega arith in omega (arith, rw z at (e 0 (omega arith))))
       (omega (arith, e 1 (omega arith)))
       (omega (arith, e 2 (omega arith)))
@@ -256,16 +256,16 @@ module _ (x : Card) (n : ℕ) where
       let d : (96 + 52 * c + j - 96) / 52 ≡ c = omega arith in
       rw (le-ltb (96 + 52 * c + j) 16 (omega arith), le-ltb (96 + 52 * c + j) 32 (omega arith), le-ltb (96 + 52 * c + j) 96 (omega arith), e, d)
 
-  pub card-of-cells : Sized x → cardIn (cellsOf x n) ≡ x
+  pub card-of-cells : SizedCard x → cardIn (cellsOf x n) ≡ x
   unfolding cardIn cellOf headerCell tailFrom tailOf coreOf holderOf
   card-of-cells s =
-      same-card _ _ _ _ _ _ _ _ _ _ _ _ _ _
+      card-cong _ _ _ _ _ _ _ _ _ _ _ _ _ _
       (ap phaseIn (cell-at 0 (omega arith)) ∙ phase-back (x .phase))
-      (same-shape _ _ _ _ _ _ (omega (arith, cell-at 1 (omega arith))) (omega (arith, cell-at 2 (omega arith))) (omega (arith, cell-at 3 (omega arith))))
+      (shape-cong _ _ _ _ _ _ (omega (arith, cell-at 1 (omega arith))) (omega (arith, cell-at 2 (omega arith))) (omega (arith, cell-at 3 (omega arith))))
       (cell-at 4 (omega arith))
       (omega (arith, cell-at 5 (omega arith)))
       (table-is _ 8 (newTail 0 0) (x .tails) (s .lengths .0) (λ c h.
-      same-tail _ _ _ _
+      tail-cong _ _ _ _
       (omega (arith, s .tail c h .number, cell-at (tailPlace c) (omega arith), number-cell c h))
       (omega (arith, s .tail c h .position, cell-at (tailPlace c + 1) (omega arith), position-cell c h))))
       (table-is _ 8 (freshCore 0) (x .cores) (s .lengths .1) (λ c h.
@@ -275,7 +275,7 @@ module _ (x : Card) (n : ℕ) where
 
 -- ---- the card of cells w
 module _ (w : List ℕ) where
-  pub card-sized : Sized (cardIn w)
+  pub card-sized : SizedCard (cardIn w)
   unfolding cardIn tailFrom holderIn
   card-sized =
       record {
@@ -283,7 +283,7 @@ module _ (w : List ℕ) where
         recovered = omega arith;
         lengths = (length-tabled _ 8, length-tabled _ 8, length-tabled _ 64);
         tail = λ c h. subst SizedTail (sym (tail-at w c h)) (omega arith);
-        core = λ c h. subst SizedCore (sym (core-at w c h)) (core-sized w (corePlace c));
+        core = λ c h. subst SizedCore (sym (coreOf-cardIn w c h)) (core-sized w (corePlace c));
         holder = λ b h. subst SizedHolder (sym (holder-read w b h)) (holder-sized (eqb (getD w (holderPlace b) 0) 0) _ (name-sized (getD w (holderPlace b) 0 - 1)));
       }
 
@@ -300,26 +300,26 @@ module _ (w : List ℕ) where
       (λ c h. fits-in-number c (getD w (tailPlace c) 0) h ∙ number-fits (getD w (tailPlace c) 0) ∙ ap (eqb _) (sym (number-cell (cardIn w) (storesIn w) c h ∙ ap (λ (t : Tail). t .number) (tail-at w c h))))
       (λ c h. fits-in-position c (getD w (tailPlace c + 1) 0) h ∙ byte-fits (getD w (tailPlace c + 1) 0) ∙ ap (eqb _) (sym (position-cell (cardIn w) (storesIn w) c h ∙ ap (λ (t : Tail). t .position) (tail-at w c h))))
       (λ b h. fits-in-holder b (getD w (holderPlace b) 0) h ∙ holder-fits (getD w (holderPlace b) 0) ∙ ap (eqb _) (sym (holder-at (cardIn w) (storesIn w) b h ∙ ap holderCell (holder-read w b h))))
-      (λ c j h l. fits-in-core c j _ h l ∙ core-fits w (corePlace c) j l ∙ ap (eqb _) (sym (core-cell (cardIn w) (storesIn w) c j h l ∙ ap (λ (k : Core). coreCell k j) (core-at w c h))))
+      (λ c j h l. fits-in-core c j _ h l ∙ core-fits w (corePlace c) j l ∙ ap (eqb _) (sym (core-cell (cardIn w) (storesIn w) c j h l ∙ ap (λ (k : Core). coreCell k j) (coreOf-cardIn w c h))))
 
-  pub fits-exact : length w ≡ 512 → Fits w → Exact w
-  unfolding Fits Exact
+  pub fits-exact : length w ≡ 512 → AllFit w → Exact w
+  unfolding AllFit Exact
   fits-exact l f =
       ext-getD 0 _ _ (l ∙ sym (cells-long (cardIn w) (storesIn w)))
       (λ i h. let k : i < 512 = omega arith in eqb-true _ _ (sym (cell-fits i k) ∙ f i k) ∙ sym (cell-at (cardIn w) (storesIn w) i k))
 
-  pub exact-fits : Exact w → Fits w
-  unfolding Fits Exact
+  pub exact-fits : Exact w → AllFit w
+  unfolding AllFit Exact
   exact-fits e i h = cell-fits i h ∙ eq-eqb _ _ (ap (λ (v : List ℕ). getD v i 0) e ∙ cell-at (cardIn w) (storesIn w) i h)
 
 -- the cells of a card within its widths are those of their card and count
-pub sized-exact : (x : Card) (n : ℕ) → Sized x → Exact (cellsOf x n)
+pub sized-exact : (x : Card) (n : ℕ) → SizedCard x → Exact (cellsOf x n)
 unfolding Exact
 sized-exact x n s = sym (ap₂ cellsOf (card-of-cells x n s) (stores-of-cells x n))
 
 -- ---- the card blank, and down
-zero-fits : Fits (replicate 512 0)
-unfolding Fits
+zero-fits : AllFit (replicate 512 0)
+unfolding AllFit
 zero-fits i h = ap (fitsAt i) (getD-replicate 512 i 0 0 h) ∙ fits-zero i
 
 pub blank-read : cardIn (replicate 512 0) ≡ blankCard
@@ -342,7 +342,7 @@ down-cells =
 
 -- so a run starts with such cells
 pub blank-exact : Exact (cellsOf blankCard 0)
-blank-exact = sized-exact blankCard 0 (subst Sized blank-read (card-sized (replicate 512 0)))
+blank-exact = sized-exact blankCard 0 (subst SizedCard blank-read (card-sized (replicate 512 0)))
 
 pub down-exact : Exact (cellsOf downCard 0)
-down-exact = sized-exact downCard 0 (subst Sized down-read (card-sized (set (replicate 512 0) 0 2)))
+down-exact = sized-exact downCard 0 (subst SizedCard down-read (card-sized (set (replicate 512 0) 0 2)))

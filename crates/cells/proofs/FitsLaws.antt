@@ -6,7 +6,7 @@ use Rattle.model.proofs.Base.{eqb-true, eqb-false, lt-ltb, le-ltb, ltb-true, lt
 use lib.Seq.{set-out}
 use Rattle.model.proofs.Lists.{cases}
 use Rattle.cells.specs.Cells.{corePlace, tailPlace, holderPlace, runningPlace, closedPlace}
-use Rattle.cells.specs.Changes.{IsPlace, fitsHeader, fitsTransaction, fitsCore, fitsAt, Fits, Frame}
+use Rattle.cells.specs.Changes.{IsPlace, fitsHeader, fitsTransaction, fitsCore, fitsAt, AllFit, Frame}
 
 either : (t a b : Bool) → a ≡ true → b ≡ true → cond t a b ≡ true
 either true a b p q = p
@@ -127,8 +127,8 @@ module _ (a : ℕ) (p : 96 ≤ a) (q : a + 24 ≤ 512) (r : (a - 96) % 52 % 24 �
       fits-at k x m ∙ rw (ne-eqb k 0 (omega arith), ne-eqb k 1 (omega arith), le-ltb k 12 l, lt-ltb x 34359738368 h)
 
 -- ---- arrays that differ in some cells
-pub fits-set : (v : List ℕ) (j x : ℕ) → fitsAt j x ≡ true → Fits v → Fits (set v j x)
-unfolding Fits
+pub fits-set : (v : List ℕ) (j x : ℕ) → fitsAt j x ≡ true → AllFit v → AllFit (set v j x)
+unfolding AllFit
 fits-set v j x e f i h =
     cases (eqb i j)
     (λ t. let z : i ≡ j = eqb-true i j t in
@@ -140,7 +140,7 @@ fits-set v j x e f i h =
 module _ (v w : List ℕ) where
   pub frame-wider : (a n b m : ℕ) → Frame v w a n → b ≤ a → a + n ≤ b + m → Frame v w b m
   frame-wider a n b m e p q =
-      record { size = e .size; low = λ i h. e .low i (omega arith); high = λ i h. e .high i (omega arith); kept = e .kept }
+      record { size = e .size; low = λ i h. e .low i (omega arith); high = λ i h. e .high i (omega arith); fits = e .fits }
 
   pub frame-then : (u : List ℕ) (a n : ℕ) → Frame u v a n → Frame v w a n → Frame u w a n
   frame-then u a n p q =
@@ -148,11 +148,11 @@ module _ (v w : List ℕ) where
         size = q .size ∙ p .size;
         low = λ i h. q .low i h ∙ p .low i h;
         high = λ i h. q .high i h ∙ p .high i h;
-        kept = λ f. q .kept (p .kept f);
+        fits = λ f. q .fits (p .fits f);
       }
 
 pub frame-same : (v : List ℕ) (a n : ℕ) → Frame v v a n
-frame-same v a n = record { size = refl; low = λ i h. refl; high = λ i h. refl; kept = λ f. f }
+frame-same v a n = record { size = refl; low = λ i h. refl; high = λ i h. refl; fits = λ f. f }
 
 pub frame-set : (v : List ℕ) (a n j x : ℕ) → a ≤ j → j < a + n → fitsAt j x ≡ true → Frame v (set v j x) a n
 frame-set v a n j x p q e =
@@ -160,5 +160,5 @@ frame-set v a n j x p q e =
       size = length-set v j x;
       low = λ i h. getD-set-other v j i x 0 (omega arith);
       high = λ i h. getD-set-other v j i x 0 (omega arith);
-      kept = fits-set v j x e;
+      fits = fits-set v j x e;
     }

@@ -12,11 +12,11 @@ use Rattle.model.specs.declared.Core.{Core}
 use Rattle.model.specs.declared.Card.{Card}
 use Rattle.layout.proofs.DiskLaws.{Zeroed, zeroed-all}
 use Rattle.cells.specs.Cells.{phaseIn, cardIn, cellsOf, corePlace, tailPlace}
-use Rattle.cells.specs.Changes.{withNumbers, withTail, upWith, fitsAt, Fits, Frame}
+use Rattle.cells.specs.Changes.{withNumbers, withTail, upWith, fitsAt, AllFit, Frame}
 use Rattle.cells.proofs.Parts.{filled, filled-none, filled-more, filled-all}
 use Rattle.cells.proofs.FitsLaws.{fits-zero, fits-phase, fits-field, frame-same, frame-set, frame-then, frame-wider}
 use Rattle.cells.proofs.ReadLaws.{length-tabled}
-use Rattle.cells.proofs.CellLaws.{same-card, same-shape}
+use Rattle.cells.proofs.CellLaws.{card-cong, shape-cong}
 use Rattle.cells.proofs.ExactLaws.{blank-read, blank-cells, down-read, down-cells}
 use Rattle.cells.proofs.CoreLaws.{tails-kept, cores-kept, holders-kept}
 
@@ -26,13 +26,13 @@ zeros = replicate 512 0
 
 module _ (v : List ℕ) (size : length v ≡ 512) where
   zeros-frame : Frame v zeros 0 512
-  unfolding Fits
+  unfolding AllFit
   zeros-frame =
       record {
         size = length-replicate {A = ℕ} 512 0 ∙ sym size;
         low = λ i h. absurd (omega arith);
         high = λ i h. List·getD-eq-default zeros 0 (let b : length zeros ≤ i = omega arith in b) ∙ sym (List·getD-eq-default v 0 (let b : length v ≤ i = omega arith in b));
-        kept = λ f i h. ap (fitsAt i) (getD-replicate 512 i 0 0 h) ∙ fits-zero i;
+        fits = λ f i h. ap (fitsAt i) (getD-replicate 512 i 0 0 h) ∙ fits-zero i;
       }
 
   module _ (w : List ℕ) (i : ℕ) (z : Zeroed v w i) (h : length w ≤ i) where
@@ -99,9 +99,9 @@ module _ (v : List ℕ) (size : length v ≡ 512) (a b j : ℕ) (p : a < 256) (q
   pub shape-put : cardIn w₄ ≡ upWith (cardIn v) (record { cores = a; blocks = b; journal = j })
   unfolding cardIn phaseIn
   shape-put =
-      same-card _ _ _ _ _ _ _ _ _ _ _ _ _ _
+      card-cong _ _ _ _ _ _ _ _ _ _ _ _ _ _
       (ap phaseIn phase-put)
-      (same-shape _ _ _ _ _ _ (ap (λ (n : ℕ). n % 256) cores-put ∙ omega arith) (ap (λ (n : ℕ). n % 256) blocks-put ∙ omega arith) (ap (λ (n : ℕ). n % 256) journal-put ∙ omega arith))
+      (shape-cong _ _ _ _ _ _ (ap (λ (n : ℕ). n % 256) cores-put ∙ omega arith) (ap (λ (n : ℕ). n % 256) blocks-put ∙ omega arith) (ap (λ (n : ℕ). n % 256) journal-put ∙ omega arith))
       (shape-frame .high 4 (omega arith))
       (ap (λ (n : ℕ). n % 256) (shape-frame .high 5 (omega arith)))
       (tails-kept v w₄ (λ i l h. shape-frame .high i (omega arith)))

@@ -99,16 +99,16 @@ module _ (w : List ℕ) (a : ℕ) where
       q ∙ named-some (transactionIn w a) names-long (omega arith)
 
 -- ---- names and holders in a cell
-same-name : (a b c d : ℕ) → a ≡ b → c ≡ d → newName a c ≡ newName b d
-same-name a b c d p q = rw (p, q)
+name-cong : (a b c d : ℕ) → a ≡ b → c ≡ d → newName a c ≡ newName b d
+name-cong a b c d p q = rw (p, q)
 
 pub name-is : (n : ℕ) → newName (n % 8) (n / 8 % 4294967296) ≡ nameIn n
 unfolding nameIn
 name-is n = refl
 
-pub name-put : (c k : ℕ) → c < 8 → k < 4294967296 → nameIn (8 * k + c) ≡ newName c k
+pub nameIn-put : (c k : ℕ) → c < 8 → k < 4294967296 → nameIn (8 * k + c) ≡ newName c k
 unfolding nameIn
-name-put c k p q = same-name _ _ _ _ (omega arith) (omega arith)
+nameIn-put c k p q = name-cong _ _ _ _ (omega arith) (omega arith)
 
 module _ (w : List ℕ) (b : ℕ) (h : b < 64) where
   pub holder-read : holderOf (cardIn w) b ≡ holderIn (getD w (holderPlace b) 0)
@@ -132,13 +132,13 @@ pub tail-at : (w : List ℕ) (c : ℕ) → c < 8 → tailOf (cardIn w) c ≡ tai
 unfolding tailOf cardIn
 tail-at w c h = getD-map-below _ 8 c (newTail 0 0) h
 
-pub core-at : (w : List ℕ) (c : ℕ) → c < 8 → coreOf (cardIn w) c ≡ coreIn w (corePlace c)
+pub coreOf-cardIn : (w : List ℕ) (c : ℕ) → c < 8 → coreOf (cardIn w) c ≡ coreIn w (corePlace c)
 unfolding coreOf cardIn
-core-at w c h = getD-map-below _ 8 c (freshCore 0) h
+coreOf-cardIn w c h = getD-map-below _ 8 c (freshCore 0) h
 
 module _ (w : List ℕ) (c : ℕ) (h : c < 8) where
   field-at : {A : Type 0} (f : Core → A) → f (coreIn w (corePlace c)) ≡ f (coreOf (cardIn w) c)
-  field-at f = sym (ap f (core-at w c h))
+  field-at f = sym (ap f (coreOf-cardIn w c h))
 
   pub running-read : transactionIn w (corePlace c + 4) ≡ (coreOf (cardIn w) c) .running
   unfolding coreIn

@@ -10,12 +10,12 @@ use Rattle.cells.specs.Cells.{byteIn, numberIn, phaseIn, holderIn, tailF
 use Rattle.cells.specs.Changes.{withTail, Frame}
 use Rattle.cells.proofs.FitsLaws.{fits-number, fits-position, frame-then, frame-set}
 use Rattle.cells.proofs.ReadLaws.{tabled-set, tail-at}
-use Rattle.cells.proofs.CellLaws.{same-tail, tail-same, core-same, same-card, same-shape}
+use Rattle.cells.proofs.CellLaws.{tail-cong, tailFrom-same, coreIn-same, card-cong, shape-cong}
 
 module _ (w : List ℕ) where
   pub tail-read : (c : ℕ) → c < 8 → (n p : ℕ) → n ≡ numberIn w (tailPlace c) → p ≡ byteIn w (tailPlace c + 1) → newTail n p ≡ tailOf (cardIn w) c
   unfolding tailFrom
-  tail-read c h n p e f = same-tail _ _ _ _ e f ∙ sym (tail-at w c h)
+  tail-read c h n p e f = tail-cong _ _ _ _ e f ∙ sym (tail-at w c h)
 
   all-tails : map (tailOf (cardIn w)) (below 8) ≡ (cardIn w) .tails
   unfolding cardIn
@@ -51,22 +51,22 @@ module _ (v : List ℕ) (c : ℕ) (size : length v ≡ 512) (h : c < 8) (n : ℕ
     new-tail : tailFrom put (tailPlace c) ≡ newTail n p
     unfolding tailFrom
     new-tail =
-        same-tail _ _ _ _
+        tail-cong _ _ _ _
         (ap (λ (x : ℕ). x % 4294967296) (getD-set-other (set v (tailPlace c) n) (tailPlace c + 1) (tailPlace c) p 0 (omega arith) ∙ getD-set-same v (tailPlace c) n 0 (omega arith)) ∙ low-number)
         (ap (λ (x : ℕ). x % 256) (getD-set-same (set v (tailPlace c) n) (tailPlace c + 1) p 0 position-in) ∙ low-position)
 
     pub tail-put : cardIn put ≡ withTail (cardIn v) c (newTail n p)
     unfolding cardIn
     tail-put =
-        same-card _ _ _ _ _ _ _ _ _ _ _ _ _ _
+        card-cong _ _ _ _ _ _ _ _ _ _ _ _ _ _
         (ap phaseIn (other 0 (omega arith) (omega arith)))
-        (same-shape _ _ _ _ _ _ (byte 1 (omega arith)) (byte 2 (omega arith)) (byte 3 (omega arith)))
+        (shape-cong _ _ _ _ _ _ (byte 1 (omega arith)) (byte 2 (omega arith)) (byte 3 (omega arith)))
         (other 4 (omega arith) (omega arith))
         (byte 5 (omega arith))
         (tabled-set (λ (d : ℕ). tailFrom v (tailPlace d)) (λ (d : ℕ). tailFrom put (tailPlace d)) 8 c (newTail 0 0) h
-        (λ d q e. tail-same v put (tailPlace d) (λ i r s. other i (omega arith) (omega arith)))
+        (λ d q e. tailFrom-same v put (tailPlace d) (λ i r s. other i (omega arith) (omega arith)))
         ∙ ap (λ (t : Tail). set (map (λ (d : ℕ). tailFrom v (tailPlace d)) (below 8)) c t) new-tail)
-        (map-below _ _ 8 (λ d q. core-same v put (corePlace d) (λ i r s. other i (omega arith) (omega arith))))
+        (map-below _ _ 8 (λ d q. coreIn-same v put (corePlace d) (λ i r s. other i (omega arith) (omega arith))))
         (map-below _ _ 64 (λ d q. ap holderIn (other (holderPlace d) (omega arith) (omega arith))))
       where
         byte : (i : ℕ) → i < 16 → byteIn put i ≡ byteIn v i

@@ -15,15 +15,15 @@ use Rattle.cells.specs.Changes.{openedOr, fitsAt, Frame}
 use Rattle.cells.proofs.ReadLaws.{tabled-set, count-read, named-read, name-read}
 
 -- ---- a transaction by its cells
-pub same-transaction : (l m : Bool) (s t c d : ℕ) (bs es : List ℕ) (n o : ℕ) (ns os : List Name) → l ≡ m → s ≡ t → c ≡ d → bs ≡ es → n ≡ o → ns ≡ os
+pub transaction-cong : (l m : Bool) (s t c d : ℕ) (bs es : List ℕ) (n o : ℕ) (ns os : List Name) → l ≡ m → s ≡ t → c ≡ d → bs ≡ es → n ≡ o → ns ≡ os
     → _≡_ {A = Transaction} (record { live = l; stamp = s; count = c; blocks = bs; named = n; names = ns }) (record { live = m; stamp = t; count = d; blocks = es; named = o; names = os })
-same-transaction l m s t c d bs es n o ns os p q r u x y = rw (p, q, r, u, x, y)
+transaction-cong l m s t c d bs es n o ns os p q r u x y = rw (p, q, r, u, x, y)
 
 -- cells that are the same from b on are the same transaction
-pub transaction-same : (v w : List ℕ) (b : ℕ) → ((i : ℕ) → b ≤ i → i < b + 24 → getD w i 0 ≡ getD v i 0) → transactionIn w b ≡ transactionIn v b
+pub transactionIn-same : (v w : List ℕ) (b : ℕ) → ((i : ℕ) → b ≤ i → i < b + 24 → getD w i 0 ≡ getD v i 0) → transactionIn w b ≡ transactionIn v b
 unfolding transactionIn
-transaction-same v w b e =
-    same-transaction _ _ _ _ _ _ _ _ _ _ _ _
+transactionIn-same v w b e =
+    transaction-cong _ _ _ _ _ _ _ _ _ _ _ _
     (ap (λ (n : ℕ). not (eqb n 0)) (e b (omega arith) (omega arith)))
     (e (b + 1) (omega arith) (omega arith))
     (ap (λ (n : ℕ). n % 256) (e (b + 2) (omega arith) (omega arith)))
@@ -31,11 +31,11 @@ transaction-same v w b e =
     (ap (λ (n : ℕ). n % 256) (e (b + 3) (omega arith) (omega arith)))
     (map-below _ _ 12 (λ i h. ap nameIn (e (b + 12 + i) (omega arith) (omega arith))))
 
-pub transaction-low : (v w : List ℕ) (a n b : ℕ) → Frame v w a n → b + 24 ≤ a → transactionIn w b ≡ transactionIn v b
-transaction-low v w a n b e h = transaction-same v w b (λ i p q. e .low i (omega arith))
+pub transactionIn-low : (v w : List ℕ) (a n b : ℕ) → Frame v w a n → b + 24 ≤ a → transactionIn w b ≡ transactionIn v b
+transactionIn-low v w a n b e h = transactionIn-same v w b (λ i p q. e .low i (omega arith))
 
-pub transaction-high : (v w : List ℕ) (a n b : ℕ) → Frame v w a n → a + n ≤ b → transactionIn w b ≡ transactionIn v b
-transaction-high v w a n b e h = transaction-same v w b (λ i p q. e .high i (omega arith))
+pub transactionIn-high : (v w : List ℕ) (a n b : ℕ) → Frame v w a n → a + n ≤ b → transactionIn w b ≡ transactionIn v b
+transactionIn-high v w a n b e h = transactionIn-same v w b (λ i p q. e .high i (omega arith))
 
 -- ---- changes of a transaction: an element put, then the count of them
 module _ (v : List ℕ) (a : ℕ) (size : length v ≡ 512) (fits : a + 24 ≤ 512) (j k x y : ℕ) (p : a + 4 ≤ j) (q : j < a + 24) (r : a ≤ k) (s : k < a + 4) where
@@ -61,7 +61,7 @@ module _ (v : List ℕ) (a : ℕ) (size : length v ≡ 512) (fits : a + 24 ≤ 5
   pub block-added : i ≡ byteIn v (a + 2) → i < 8 → x < 256 → transactionIn (set (set v (a + 4 + i) x) (a + 2) (i + 1)) a ≡ withBlock (transactionIn v a) x
   unfolding transactionIn
   block-added e h z =
-      same-transaction _ _ _ _ _ _ _ _ _ _ _ _
+      transaction-cong _ _ _ _ _ _ _ _ _ _ _ _
       (ap (λ (n : ℕ). not (eqb n 0)) (other a (omega arith) (omega arith)))
       (other (a + 1) (omega arith) (omega arith))
       (ap (λ (n : ℕ). n % 256) second ∙ omega arith)
@@ -85,7 +85,7 @@ module _ (v : List ℕ) (a : ℕ) (size : length v ≡ 512) (fits : a + 24 ≤ 5
   unfolding transactionIn withName
   name-added e h n z g l f =
       rw (← l, f)
-      (same-transaction _ _ _ _ _ _ _ _ _ _ _ _
+      (transaction-cong _ _ _ _ _ _ _ _ _ _ _ _
       (ap (λ (n : ℕ). not (eqb n 0)) (other a (omega arith) (omega arith)))
       (other (a + 1) (omega arith) (omega arith))
       (ap (λ (n : ℕ). n % 256) (other (a + 2) (omega arith) (omega arith)))
@@ -128,7 +128,7 @@ module _ (v : List ℕ) (a : ℕ) where
     pub cleared-all : 24 ≤ i → transactionIn w a ≡ noTransaction
     unfolding transactionIn nameIn below
     cleared-all h =
-        same-transaction _ _ _ _ _ _ _ _ _ _ _ _
+        transaction-cong _ _ _ _ _ _ _ _ _ _ _ _
         (ap (λ (n : ℕ). not (eqb n 0)) (c .zero a (omega arith) (omega arith)))
         (at 1 (omega arith))
         (ap (λ (n : ℕ). n % 256) (at 2 (omega arith)))
@@ -143,7 +143,7 @@ module _ (v : List ℕ) (a : ℕ) where
 pub opened-here : (w : List ℕ) (a x : ℕ) → length w ≡ 512 → a + 24 ≤ 512 → eqb x 0 ≡ false → transactionIn w a ≡ noTransaction → transactionIn (set w a x) a ≡ opened
 unfolding transactionIn
 opened-here w a x n f l e =
-    same-transaction _ _ _ _ _ _ _ _ _ _ _ _
+    transaction-cong _ _ _ _ _ _ _ _ _ _ _ _
     (ap (λ (k : ℕ). not (eqb k 0)) (getD-set-same w a x 0 (omega arith)) ∙ ap not l)
     (getD-set-other w a (a + 1) x 0 (omega arith))
     (ap (λ (k : ℕ). k % 256) (getD-set-other w a (a + 2) x 0 (omega arith)))

@@ -8,7 +8,7 @@ use lib.ListN.{length}
 use Rattle.model.specs.Bytes.{Bytes}
 use Rattle.model.specs.Command.{World, Outcome, wrongLength}
 use Rattle.cells.specs.Cells.{worldIn}
-use Rattle.cells.specs.Changes.{Fits, Frame}
+use Rattle.cells.specs.Changes.{AllFit, Frame}
 use Rattle.model.specs.declared.Phase.{Phase}
 use Rattle.model.specs.declared.Phase.the-variants.{Blank, Up, Down}
 use Rattle.cells.specs.declared.Answer.{Answer}
@@ -25,7 +25,7 @@ outcomeIn r w d m = record { answer = r .number; world = worldIn w d m; stores =
 pub record Meets (o : Outcome World) (v w : List ℕ) (d m : Bytes) (r : Answer) : Type 0 where
   pub outcome : outcomeIn r w d m ≡ o
   pub size : length w ≡ 512
-  pub kept : Fits v → Fits w
+  pub fits : AllFit v → AllFit w
   pub refused : (r .number ≡ 0 → ⊥) → w ≡ v
 
 -- One store of a command, over the cells v and the disk d: it left w and e. With any memory that is the outcome given.

@@ -41,8 +41,8 @@ fitsAt i x =
     (cond (ltb i 32) (cond (eqb (i % 2) 0) (ltb x 4294967296) (ltb x 256))
     (cond (ltb i 96) (leb x 34359738368) (fitsCore ((i - 96) % 52) x)))
 
-unfoldable pub Fits : List ℕ → Type 0
-Fits w = (i : ℕ) → i < 512 → fitsAt i (getD w i 0) ≡ true
+unfoldable pub AllFit : List ℕ → Type 0
+AllFit w = (i : ℕ) → i < 512 → fitsAt i (getD w i 0) ≡ true
 
 -- the place of a transaction: that of a core's running one, or of its closed one
 abbrev pub IsPlace : ℕ → Type 0
@@ -54,7 +54,7 @@ pub record Frame (v w : List ℕ) (a n : ℕ) : Type 0 where
   pub size : length w ≡ length v
   pub low : (i : ℕ) → i < a → getD w i 0 ≡ getD v i 0
   pub high : (i : ℕ) → a + n ≤ i → getD w i 0 ≡ getD v i 0
-  pub kept : Fits v → Fits w
+  pub fits : AllFit v → AllFit w
 
 -- the card is changed by f, within the n cells from a on; and a transaction, in its place
 abbrev pub Changed : (Card → Card) → List ℕ → List ℕ → ℕ → ℕ → Type 0

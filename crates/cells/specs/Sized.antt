@@ -40,7 +40,7 @@ pub record SizedHolder (h : Holder) : Type 0 where
   pub name : SizedName (h .name)
   pub free : h .held ≡ false → h ≡ noHolder
 
-pub record Sized (x : Card) : Type 0 where
+pub record SizedCard (x : Card) : Type 0 where
   pub shape : (x .shape .cores < 256) × (x .shape .blocks < 256) × (x .shape .journal < 256)
   pub recovered : x .recovered < 256
   pub lengths : (length (x .tails) ≡ 8) × (length (x .cores) ≡ 8) × (length (x .holders) ≡ 64)

@@ -95,7 +95,7 @@ module _ (v : List ℕ) (size : length v ≡ 512) (c : ℕ) (e : Committed) (d :
 -- ---- the command
 pub oldest-found : (x : Card) (c : ℕ) (d m : Bytes) → Entered x c d m → (f : Found) → f ≡ oldestAt x d c → (e : Committed) → f ≡ Whole e
     → (most : List ℕ) → Counts x most → IsOldest x d c most e
-oldest-found x c d m p f q e z most o = record { long = p .disk; core = p .core; counted = o; first = sym q ∙ z }
+oldest-found x c d m p f q e z most o = record { long = p .disk; core = p .core; are-counts = o; first = sym q ∙ z }
 
 stages : (c : ℕ) (w : World)
     → refusal (checkpointConditions c w)

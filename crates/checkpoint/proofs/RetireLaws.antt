@@ -12,7 +12,7 @@ use Rattle.model.specs.declared.Card.{Card}
 use Rattle.model.specs.declared.Committed.{Committed}
 use Rattle.model.proofs.Lists.{cases, map-below}
 use Rattle.cells.specs.Cells.{byteIn, numberIn, nameIn, holderIn, cardIn, tailPlace, holderPlace, corePlace}
-use Rattle.cells.specs.Changes.{fitsAt, Fits, Frame, withNumbers, withTail}
+use Rattle.cells.specs.Changes.{fitsAt, AllFit, Frame, withNumbers, withTail}
 use Rattle.cells.proofs.FitsLaws.{fits-zero, fits-set, frame-then, frame-same, frame-wider}
 use Rattle.cells.proofs.ReadLaws.{next-there, used-there, stored-there}
 use Rattle.cells.proofs.CoreLaws.{holders-put}
@@ -22,7 +22,7 @@ use Rattle.checkpoint.specs.NextStore.{withReleased, Freed}
 module _ (n : Name) (x : ℕ) where
   pub freed-none : x ≡ 0 → Freed n x 0
   unfolding holderIn
-  freed-none e = record { holder = rw e; kept = λ i f. fits-zero i }
+  freed-none e = record { holder = rw e; fits = λ i f. fits-zero i }
 
   module _ (h : x ≡ 0 → ⊥) (m : Name) (e : m ≡ nameIn (x - 1)) (g : Bool) (q : g ≡ sameName m n) where
     held-by : holderIn x ≡ newHolder m
@@ -31,10 +31,10 @@ module _ (n : Name) (x : ℕ) where
 
     pub freed-own : g ≡ true → Freed n x 0
     unfolding holderIn
-    freed-own t = record { holder = sym (ap (freed n) held-by ∙ rw (← q, t)); kept = λ i f. fits-zero i }
+    freed-own t = record { holder = sym (ap (freed n) held-by ∙ rw (← q, t)); fits = λ i f. fits-zero i }
 
     pub freed-other : g ≡ false → Freed n x x
-    freed-other t = record { holder = held-by ∙ sym (ap (freed n) held-by ∙ rw (← q, t)); kept = λ i f. f }
+    freed-other t = record { holder = held-by ∙ sym (ap (freed n) held-by ∙ rw (← q, t)); fits = λ i f. f }
 
 -- ---- one holder after another
 -- the first i are done
@@ -46,13 +46,13 @@ pub record Releasing (n : Name) (v w : List ℕ) (i : ℕ) : Type 0 where
 
 -- a cell replaced by a value that fits where the one before did
 frame-kept : (v : List ℕ) (a n j x : ℕ) → a ≤ j → j < a + n → j < 512 → (fitsAt j (getD v j 0) ≡ true → fitsAt j x ≡ true) → Frame v (set v j x) a n
-unfolding Fits
+unfolding AllFit
 frame-kept v a n j x p q h e =
     record {
       size = length-set v j x;
       low = λ i l. getD-set-other v j i x 0 (omega arith);
       high = λ i l. getD-set-other v j i x 0 (omega arith);
-      kept = λ f. fits-set v j x (e (f j h)) f;
+      fits = λ f. fits-set v j x (e (f j h)) f;
     }
 
 holders-freed : (n : Name) (v w : List ℕ) → ((b : ℕ) → b < 64 → holderIn (getD w (holderPlace b) 0) ≡ freed n (holderIn (getD v (holderPlace b) 0)))
@@ -80,7 +80,7 @@ module _ (n : Name) (v : List ℕ) where
       release-more r f =
           record {
             most = omega arith;
-            frame = frame-then w (set w (holderPlace i) r) v 32 64 (s .frame) (frame-kept w 32 64 (holderPlace i) r (omega arith) (omega arith) (omega arith) (f .kept (holderPlace i)));
+            frame = frame-then w (set w (holderPlace i) r) v 32 64 (s .frame) (frame-kept w 32 64 (holderPlace i) r (omega arith) (omega arith) (omega arith) (f .fits (holderPlace i)));
             made = λ b l. cases (eqb b i)
                 (λ t. let z : b ≡ i = eqb-true b i t in
                 rw z (ap holderIn (getD-set-same w (holderPlace i) r 0 release-in) ∙ f .holder ∙ ap (λ (k : ℕ). freed n (holderIn k)) (s .left i (omega arith))))

@@ -28,4 +28,4 @@ withReleased x n = withLists x (x .tails) (x .cores) (released n (x .holders))
 -- a holder's cell after the transaction of this name is retired: it tells of the holder, and still fits where it did
 pub record Freed (n : Name) (x r : ℕ) : Type 0 where
   pub holder : holderIn r ≡ freed n (holderIn x)
-  pub kept : (i : ℕ) → fitsAt i x ≡ true → fitsAt i r ≡ true
+  pub fits : (i : ℕ) → fitsAt i x ≡ true → fitsAt i r ≡ true

@@ -7,9 +7,9 @@ use Rattle.model.specs.Commit.{closedCard}
 use Rattle.model.specs.declared.Transaction.{Transaction}
 use Rattle.model.proofs.Lists.{cases, map-below}
 use Rattle.cells.specs.Cells.{byteIn, numberIn, nameIn, transactionIn, cardIn, corePlace, runningPlace, closedPlace}
-use Rattle.cells.specs.Changes.{withNumbers, withClosed, fitsAt, Fits, Frame}
+use Rattle.cells.specs.Changes.{withNumbers, withClosed, fitsAt, AllFit, Frame}
 use Rattle.cells.proofs.FitsLaws.{running-place, closed-place, fits-at, fits-stamp, fits-closes, fits-set, frame-same, frame-set, frame-then, frame-wider}
-use Rattle.cells.proofs.TransactionLaws.{same-transaction}
+use Rattle.cells.proofs.TransactionLaws.{transaction-cong}
 use Rattle.cells.proofs.CellLaws.{running-put}
 use Rattle.cells.proofs.CoreLaws.{core-of-with, with-core-twice, closed-put, closes-put}
 use Rattle.close.specs.Frozen.{frozen, countedClose}
@@ -19,7 +19,7 @@ use Rattle.cells.proofs.ReadLaws.{next-there, used-there, homed-there, running-
 transaction-moved : (v w : List ℕ) (a b : ℕ) → ((k : ℕ) → k < 24 → getD w (b + k) 0 ≡ getD v (a + k) 0) → transactionIn w b ≡ transactionIn v a
 unfolding transactionIn
 transaction-moved v w a b e =
-    same-transaction _ _ _ _ _ _ _ _ _ _ _ _
+    transaction-cong _ _ _ _ _ _ _ _ _ _ _ _
     (ap (λ (n : ℕ). not (eqb n 0)) (at 0 b a (omega arith) (omega arith) (omega arith)))
     (e 1 (omega arith))
     (ap (λ (n : ℕ). n % 256) (e 2 (omega arith)))
@@ -53,8 +53,8 @@ module _ (v : List ℕ) (c : ℕ) (w : List ℕ) (i : ℕ) (m : Moved v c w i) (
     cell-read = m .rest .low (runningPlace c + i) (omega arith)
 
     -- and fits where it is put
-    cell-fits : Fits v → fitsAt (closedPlace c + i) (getD w (runningPlace c + i) 0) ≡ true
-    unfolding Fits
+    cell-fits : AllFit v → fitsAt (closedPlace c + i) (getD w (runningPlace c + i) 0) ≡ true
+    unfolding AllFit
     cell-fits f =
         let r = running-place c h in
         let s = closed-place c h in
@@ -69,7 +69,7 @@ module _ (v : List ℕ) (c : ℕ) (w : List ℕ) (i : ℕ) (m : Moved v c w i) (
           size = length-set w (closedPlace c + i) (getD w (runningPlace c + i) 0) ∙ m .rest .size;
           low = λ k z. getD-set-other w (closedPlace c + i) k _ 0 (omega arith) ∙ m .rest .low k z;
           high = λ k z. getD-set-other w (closedPlace c + i) k _ 0 (omega arith) ∙ m .rest .high k z;
-          kept = λ f. fits-set w (closedPlace c + i) _ (cell-fits f) (m .rest .kept f);
+          fits = λ f. fits-set w (closedPlace c + i) _ (cell-fits f) (m .rest .fits f);
         }
 
     same-next : (k : ℕ) → k < i + 1 → getD (set w (closedPlace c + i) (getD w (runningPlace c + i) 0)) (closedPlace c + k) 0 ≡ getD v (runningPlace c + k) 0
@@ -90,7 +90,7 @@ module _ (v : List ℕ) (c : ℕ) (w : List ℕ) (i : ℕ) (m : Moved v c w i) (
 stamp-put : (w : List ℕ) (a s : ℕ) → a + 24 ≤ length w → transactionIn (set w (a + 1) s) a ≡ stamped (transactionIn w a) s
 unfolding transactionIn
 stamp-put w a s f =
-    same-transaction _ _ _ _ _ _ _ _ _ _ _ _
+    transaction-cong _ _ _ _ _ _ _ _ _ _ _ _
     (ap (λ (n : ℕ). not (eqb n 0)) (other a (omega arith)))
     (getD-set-same w (a + 1) s 0 (omega arith))
     (ap (λ (n : ℕ). n % 256) (other (a + 2) (omega arith)))

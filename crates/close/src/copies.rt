@@ -4,7 +4,7 @@ ghost use mathlib.Core.List.{map};
 ghost use Prim.Native.Nat.{ℕ, _+_, _≤_, _<_, _%_};
 ghost use lib.ListN.{length};
 ghost use Rattle.model.specs.Lists.{below};
-ghost use Rattle.model.specs.Bytes.{blockAt, store as storeBlock};
+ghost use Rattle.model.specs.Bytes.{blockAt, store};
 ghost use Rattle.model.specs.Card.{taken};
 ghost use Rattle.model.specs.Layout.{flagOf};
 ghost use Rattle.model.specs.Commit.{copyBlock, copied};
@@ -26,7 +26,7 @@ fn copy_place(c: u8, i: usize) -> usize
 fn copy_image(memory: &mut [u8], c: u8, i: usize, b: u8)
     requires { ⌜ (length (now memory) ≡ 16384) × (c < 8) × (i < 8) ⌝ }
     ensures { λ _. ⌜
-        now (memory .exit) ≡ storeBlock (now (memory .entry)) (copyBlock c i) (blockAt (now (memory .entry)) (b % 64))
+        now (memory .exit) ≡ store (now (memory .entry)) (copyBlock c i) (blockAt (now (memory .entry)) (b % 64))
         ⌝ }
 {
     let image = layout::load_block(memory, b as usize % 64);

@@ -108,7 +108,7 @@ module _ (t : Bytes) (at : ℕ) (v : List ℕ) (l : length v ≡ 512) (d₀ m₀
           exact = λ x.
               subst Exact (sym put)
               (fits-exact (set u 6 (counted n (a .stores))) (length-set u 6 (counted n (a .stores)) ∙ f .size)
-              (fits-set u 6 (counted n (a .stores)) (fits-stores (counted n (a .stores))) (f .kept (exact-fits v x))));
+              (fits-set u 6 (counted n (a .stores)) (fits-stores (counted n (a .stores))) (f .fits (exact-fits v x))));
           refused = λ z. absurd (z h);
         }
 

@@ -113,7 +113,7 @@ write-length a k h e = h ∙ rw e
 
 -- ---- the command at an offset
 -- where its operands stand
-pub record Whole (t : Bytes) (at k next : ℕ) : Type 0 where
+pub record WholeCommand (t : Bytes) (at k next : ℕ) : Type 0 where
   pub next-is : next ≡ at + 1 + operandLength k
   pub within : next ≤ length t
   pub operands : length (take (next - (at + 1)) (drop (at + 1) t)) ≡ operandLength k
@@ -141,7 +141,7 @@ module _ (t : Bytes) (at : ℕ) (v : List ℕ) (d m : Bytes) (n : ℕ) (e : (y :
     next-within : next ≤ length t
     next-within = omega (arith, f, next-known t at (clear .0) (clear .1), whole-at t at (read .0) (read .1) .within)
 
-    pub at-whole : Whole t at k next
+    pub at-whole : WholeCommand t at k next
     at-whole =
         record {
           next-is = next-same;

@@ -6,9 +6,9 @@ use Rattle.model.proofs.Base.{below, Bytes}
 use Rattle.model.specs.Bytes.{blockAt}
 use Rattle.model.specs.Shape.{clamped, journalBlock}
 use Rattle.model.specs.Card.{taken, listed, shapeOf, tailOf, coreOf, withCore}
-use Rattle.model.specs.Layout.{newHeld, descriptorBlock, commitBlock, escaped}
+use Rattle.model.specs.Layout.{newTag, descriptorBlock, commitBlock, escaped}
 use Rattle.model.specs.Command.{refusal}
-use Rattle.model.specs.Commit.{copyBlock, heldCopies, closedNumber, nextStored, nextPosition, coreStored, storeConditions, stored, storeNext}
+use Rattle.model.specs.Commit.{copyBlock, copyTags, closedNumber, nextStored, nextPosition, coreStored, storeConditions, stored, storeNext}
 use Rattle.model.specs.declared.Shape.{Shape}
 use Rattle.model.specs.declared.Tail.{Tail}
 use Rattle.model.specs.declared.Name.{Name}
@@ -16,7 +16,7 @@ use Rattle.model.specs.declared.Transaction.{Transaction}
 use Rattle.model.specs.declared.Card.{Card}
 use Rattle.model.proofs.Lists.{getD-map-below, map-below}
 use Rattle.model.proofs.Limits.{clamped-same}
-use Rattle.model.proofs.OneStore.{shape-limits, stored-low, position}
+use Rattle.model.proofs.OneStore.{shape-limits, storePlace-low, position}
 use Rattle.layout.proofs.Blocks.{block-lent}
 use Rattle.cells.specs.Cells.{byteIn, numberIn, nameIn, transactionIn, cardIn, corePlace, closedPlace, worldIn}
 use Rattle.cells.specs.Changes.{Frame}
@@ -71,8 +71,8 @@ took t n = length-take (t .count) (t .blocks) ∙ ap (min (t .count)) n
 
 -- the first of the eight flags belong to the blocks taken
 same-held : (t : Transaction) (c : ℕ) (m : Bytes) (fs : List ℕ) → fs ≡ map (copyFlag c m) (below 8) → length (t .blocks) ≡ 8
-    → map (λ (i : ℕ). newHeld (getD (t .blocks) i 0) (getD fs i 0)) (below (min (t .count) 8)) ≡ heldCopies c (taken t) m
-unfolding heldCopies
+    → map (λ (i : ℕ). newTag (getD (t .blocks) i 0) (getD fs i 0)) (below (min (t .count) 8)) ≡ copyTags c (taken t) m
+unfolding copyTags
 same-held t c m fs e n =
     let l : length (taken t) ≡ min (t .count) 8 = took t n in
     rw l
@@ -84,8 +84,8 @@ same-held t c m fs e n =
 
 module _ (w : List ℕ) (a num : ℕ) where
   pub first-written : (c : ℕ) (m : Bytes) (fs : List ℕ) → fs ≡ map (copyFlag c m) (below 8) → (bs : List ℕ) → bs ≡ (transactionIn w a) .blocks → (n : ℕ) → n ≡ byteIn w (a + 2)
-      → (b : Bytes) → b ≡ descriptorBlock num (map (λ (i : ℕ). newHeld (getD bs i 0) (getD fs i 0)) (below (min n 8)))
-      → b ≡ descriptorBlock num (heldCopies c (taken (transactionIn w a)) m)
+      → (b : Bytes) → b ≡ descriptorBlock num (map (λ (i : ℕ). newTag (getD bs i 0) (getD fs i 0)) (below (min n 8)))
+      → b ≡ descriptorBlock num (copyTags c (taken (transactionIn w a)) m)
   first-written c m fs e bs p n q b r = r ∙ rw (p, q, count-read w a) (ap (descriptorBlock num) (same-held (transactionIn w a) c m fs e (blocks-long w a)))
 
   pub last-written : (ns : List Name) → ns ≡ (transactionIn w a) .names → (n : ℕ) → n ≡ byteIn w (a + 3)
@@ -111,7 +111,7 @@ module _ (v : List ℕ) (c : ℕ) (h : c < 8) (m : Bytes) (p : ℕ) (i : p ≡ c
   at-stored : done ≡ (coreOf (cardIn v) c) .stored
   at-stored = stored-there v c h a j done s
 
-  pub next-descriptor : b ≡ descriptorBlock num (heldCopies c (taken (transactionIn v p)) m) → done ≡ 0 → b ≡ nextStored c (coreOf (cardIn v) c) m
+  pub next-descriptor : b ≡ descriptorBlock num (copyTags c (taken (transactionIn v p)) m) → done ≡ 0 → b ≡ nextStored c (coreOf (cardIn v) c) m
   unfolding nextStored
   next-descriptor r z = r ∙ rw (← at-stored, z, q, at-closed)
 
@@ -152,7 +152,7 @@ module _ (v : List ℕ) (size : length v ≡ 512) (c : ℕ) (d m : Bytes) (n : �
 
       -- the block stands on the disk
       pub store-low : j < 257
-      store-low = rw store-place (stored-low (shape-limits (cardIn v)) (position (store-entered .core) p))
+      store-low = rw store-place (storePlace-low (shape-limits (cardIn v)) (position (store-entered .core) p))
 
       pub store-end : 128 * j + 128 ≤ length d
       store-end = omega (arith, store-low, store-entered .disk)

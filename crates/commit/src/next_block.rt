@@ -5,7 +5,7 @@ ghost use lib.ListN.{length};
 ghost use Rattle.model.specs.Bytes.{blockAt};
 ghost use Rattle.model.specs.Card.{taken, listed, coreOf};
 ghost use Rattle.model.specs.Layout.{descriptorBlock, commitBlock, escaped};
-ghost use Rattle.model.specs.Commit.{copyBlock, heldCopies, closedNumber, nextStored, nextPosition};
+ghost use Rattle.model.specs.Commit.{copyBlock, copyTags, closedNumber, nextStored, nextPosition};
 ghost use Rattle.cells.specs.Cells.{transactionIn, cardIn};
 use cells::BLOCKS;
 use cells::COUNT;
@@ -71,7 +71,7 @@ fn write_first(block: &mut [u8], w: &[u64], at: usize, number: u32, c: u8, memor
         (length (now block) ≡ 128) × (length (now w) ≡ 512) × (at + 24 ≤ 512) × (length (now memory) ≡ 16384) × (c < 8)
         ⌝ }
     ensures { λ _. ⌜
-        now (block .exit) ≡ descriptorBlock number (heldCopies c (taken (transactionIn (now (w .entry)) at)) (now (memory .entry)))
+        now (block .exit) ≡ descriptorBlock number (copyTags c (taken (transactionIn (now (w .entry)) at)) (now (memory .entry)))
         ⌝ }
 {
     let flags = flags_of(memory, c);

@@ -49,12 +49,12 @@ isRetired (closed n) = false
 isRetired (committed n) = false
 isRetired retired = true
 
-abbrev pub counted : Stage → ℕ
-counted absent = 0
-counted running = 0
-counted (closed n) = n
-counted (committed n) = n
-counted retired = 0
+abbrev pub stageCount : Stage → ℕ
+stageCount absent = 0
+stageCount running = 0
+stageCount (closed n) = n
+stageCount (committed n) = n
+stageCount retired = 0
 
 -- a transaction in the book: the blocks that it took, in order, the names in its list, how far it has come
 pub record Entry : Type 0 where
@@ -133,9 +133,9 @@ begin t k =
     }
 
 -- the holder of block b: who held it after its last write, 'until that one is retired'
-unfoldable pub holderIn : Book → ℕ → List Write → Option Name
-holderIn k b [] = none
-holderIn k b (w ∷ ws) = cond (eqb b (w .block)) (cond (isRetired ((k .entry (w .holder)) .stage)) none (some (w .holder))) (holderIn k b ws)
+unfoldable pub bookHolder : Book → ℕ → List Write → Option Name
+bookHolder k b [] = none
+bookHolder k b (w ∷ ws) = cond (eqb b (w .block)) (cond (isRetired ((k .entry (w .holder)) .stage)) none (some (w .holder))) (bookHolder k b ws)
 
 -- 'When T writes a block': no holder; T holds it; another running U holds it; a closed U holds it
 pub data Meeting : Type 0 where
@@ -164,7 +164,7 @@ holderAfter (closed-holder u) t = t
 -- 'and notes the write with its transaction'
 unfoldable pub note : Name → ℕ → ℕ → Bytes → Book → Book
 note t b o v k =
-    let m = meets k t (holderIn k b (k .writes)) in
+    let m = meets k t (bookHolder k b (k .writes)) in
     record {
       opened = k .opened;
       entry = ruled m t b (k .entry);
@@ -174,14 +174,14 @@ note t b o v k =
       next = k .next;
     }
 
-unfoldable pub wrote : ℕ → ℕ → ℕ → Bytes → Book → Book
-wrote c b o v k =
+unfoldable pub writeBook : ℕ → ℕ → ℕ → Bytes → Book → Book
+writeBook c b o v k =
     let t = newName c (k .next c) in
     note t b o v (cond (hasRunning k c) k (begin t k))
 
 -- ---- CLOSE: 'makes the core's running one closed'
-unfoldable pub close : ℕ → Book → Book
-close c k =
+unfoldable pub closeBook : ℕ → Book → Book
+closeBook c k =
     record {
       opened = k .opened;
       entry = change (newName c (k .next c)) (staged (closed 0)) (k .entry);
@@ -192,11 +192,11 @@ close c k =
     }
 
 -- ---- STORE: 'counts for the core's closed and still uncommitted one: as many as the blocks that it took, and two, commit it'
-unfoldable pub store : ℕ → Book → Book
-store c k =
+unfoldable pub storeBook : ℕ → Book → Book
+storeBook c k =
     let t = newName c (k .uncommitted c) in
     let e = k .entry t in
-    let n = suc (counted (e .stage)) in
+    let n = suc (stageCount (e .stage)) in
     let last = leb (length (e .blocks) + 2) n in
     record {
       opened = k .opened;
@@ -209,11 +209,11 @@ store c k =
 
 -- ---- CHECKPOINT: 'counts for the core's oldest committed unretired one: one for each block that it took, and one for
 -- the master, retire it'
-unfoldable pub checkpoint : ℕ → Book → Book
-checkpoint c k =
+unfoldable pub checkpointBook : ℕ → Book → Book
+checkpointBook c k =
     let t = newName c (k .oldest c) in
     let e = k .entry t in
-    let n = suc (counted (e .stage)) in
+    let n = suc (stageCount (e .stage)) in
     let last = leb (length (e .blocks) + 1) n in
     record {
       opened = k .opened;
@@ -230,12 +230,12 @@ unfoldable pub committedIn : Book → List Name
 committedIn k = select (λ (t : Name). isCommitted ((k .entry t) .stage)) (k .opened)
 
 -- each name of its list is in the set
-unfoldable pub namesIn : Book → List Name → Name → Bool
-namesIn k ts t = all (λ (n : Name). any (sameName n) ts) ((k .entry t) .names)
+unfoldable pub namesWithin : Book → List Name → Name → Bool
+namesWithin k ts t = all (λ (n : Name). any (sameName n) ts) ((k .entry t) .names)
 
 -- 'Kept is the largest set of the book's committed transactions in which each has all that it depends on there'
 unfoldable pub kept : Book → List Name
-kept k = shrink (namesIn k) (committedIn k)
+kept k = shrink (namesWithin k) (committedIn k)
 
 -- 'the writes of the kept transactions, in the order issued'
 unfoldable pub keptWrites : Book → List Write

@@ -12,10 +12,10 @@ use Rattle.model.specs.Bytes.{Bytes, store, zeroDisk, replaced, zeroMemory}
 use Rattle.model.specs.Card.{newTail, newName, sameName, isBlank, isUp, isDown}
 use Rattle.model.specs.Shape.{inRange, homeBlock, journalBlock, newShape}
 use Rattle.model.specs.Checkpoint.{share}
-use Rattle.model.specs.Layout.{masterBlock, Held, newHeld, descriptorBlock, commitBlock, flagOf, escaped}
+use Rattle.model.specs.Layout.{masterBlock, Tag, newTag, descriptorBlock, commitBlock, flagOf, escaped}
 use Rattle.model.specs.Recovery.{tailOn}
 use Rattle.model.specs.Shrink.{shrink}
-use Rattle.crash.specs.Book.{Book, Write, isClosed, isCommitted, isRetired, counted, emptyBook, hasRunning, hasClosed, hasCommitted, holderIn, Meeting, no-holder, own, running-holder, closed-holder, meets, wrote, close, keptWrites, image, blank}
+use Rattle.crash.specs.Book.{Book, Write, isClosed, isCommitted, isRetired, stageCount, emptyBook, hasRunning, hasClosed, hasCommitted, bookHolder, Meeting, no-holder, own, running-holder, closed-holder, meets, writeBook, closeBook, keptWrites, image, blank}
 use Rattle.crash.specs.Service.{noted}
 use Rattle.model.specs.Tape.{CHECKPOINT, CLOSE, CUT, Command, FORMAT, RECOVER, Read, STORE, WRITE, early, unknown, whole}
 use Rattle.model.specs.Commit.{copyBlock}
@@ -92,7 +92,7 @@ closeLedger c l =
     record {
       shape = l .shape;
       saved = l .saved;
-      book = close c (l .book);
+      book = closeBook c (l .book);
       closes = suc (l .closes);
       stamp = λ (u : Name). cond (sameName u t) (suc (l .closes)) (l .stamp u);
       images = λ (u : Name). cond (sameName u t) (map (imageNow l) ((l .book .entry t) .blocks)) (l .images u);
@@ -178,14 +178,14 @@ storedSince l c = map (λ (i : ℕ). storedOf l (newName c (l .book .oldest c + 
 -- ---- the bytes that a command carried out stores
 -- a transaction's blocks with their flags, and the blocks of its record in the order stored: 'descriptor, data in the
 -- order taken, commit'
-unfoldable pub heldOf : Ledger → Name → List Held
-heldOf l t =
+unfoldable pub recordTags : Ledger → Name → List Tag
+recordTags l t =
     let bs = (l .book .entry t) .blocks in
-    map (λ (i : ℕ). newHeld (getD bs i 0) (flagOf (getD (l .images t) i []))) (below (length bs))
+    map (λ (i : ℕ). newTag (getD bs i 0) (flagOf (getD (l .images t) i []))) (below (length bs))
 
 unfoldable pub recordOf : Ledger → Name → List Bytes
 recordOf l t =
-    descriptorBlock (t .number) (heldOf l t)
+    descriptorBlock (t .number) (recordTags l t)
     ∷ (map escaped (l .images t) ++ (commitBlock (t .number) (l .stamp t) ((l .book .entry t) .names) ∷ []))
 
 -- 'blocks of the records of .. transactions': of n of core c, from number i on
@@ -198,7 +198,7 @@ unfoldable pub recordStored : ℕ → Ledger → Bytes → Bytes
 recordStored c l d =
     let k = l .book in
     let t = newName c (k .uncommitted c) in
-    let n = counted ((k .entry t) .stage) in
+    let n = stageCount ((k .entry t) .stage) in
     store d (journalBlock (l .shape) c ((tailOn d c) .position + recordBlocks k c (k .oldest c) (k .uncommitted c - k .oldest c) + n)) (getD (recordOf l t) n [])
 
 -- CHECKPOINT: the next image of the oldest one home, or the master with the tail moved past it
@@ -211,7 +211,7 @@ unfoldable pub checkpointStored : ℕ → Ledger → Bytes → Bytes
 checkpointStored c l d =
     let t = newName c (l .book .oldest c) in
     let e = l .book .entry t in
-    let m = counted (e .stage) in
+    let m = stageCount (e .stage) in
     cond (ltb m (length (e .blocks))) (store d (homeBlock (getD (e .blocks) m 0)) (getD (l .images t) m [])) (store d 0 (masterBlock (l .shape) (tailsPast c l d)))
 
 -- RECOVER: the lowest block left gets the bytes that the kept writes give it; where none is left, 'one master store
@@ -278,7 +278,7 @@ formatRefusals c b j l = (not (isBlank (l .phase)), 21) ∷ (not (inRange c b j)
 unfoldable pub namesPass : ℕ → ℕ → Book → Book → Bool
 namesPass c b k after =
     let t = newName c (k .next c) in
-    ltb maxNames (namesCount after t) || ltb maxNames (holderNames after (meets k t (holderIn k b (k .writes))))
+    ltb maxNames (namesCount after t) || ltb maxNames (holderNames after (meets k t (bookHolder k b (k .writes))))
 
 -- the blocks that its transaction then has
 unfoldable pub blocksAfter : ℕ → Book → Book → ℕ
@@ -296,7 +296,7 @@ numberPasses c k = not (hasRunning k c) && ltb maxNumber (k .next c)
 unfoldable pub writeRefusals : ℕ → ℕ → ℕ → Bytes → Ledger → List (Bool × ℕ)
 writeRefusals c b o v l =
     let k = l .book in
-    let after = wrote c b o v k in
+    let after = writeBook c b o v k in
     notUpFor c l
     ((leb (l .shape .blocks) b, 6)
     ∷ (ltb maxOffset o, 7)

@@ -6,7 +6,7 @@ use lib.ListN.{getD}
 use lib.Dec.{eqb}
 use Rattle.model.specs.Lists.{below}
 use Rattle.model.specs.Bytes.{Bytes}
-use Rattle.crash.specs.Book.{Book, Write, emptyBook, hasRunning, hasClosed, hasCommitted, wrote, close, store, checkpoint, keptWrites, image, blank}
+use Rattle.crash.specs.Book.{Book, Write, emptyBook, hasRunning, hasClosed, hasCommitted, writeBook, closeBook, storeBook, checkpointBook, keptWrites, image, blank}
 use Rattle.model.specs.Tape.{CHECKPOINT, CLOSE, CUT, Command, FORMAT, RECOVER, STORE, WRITE}
 
 -- the number of home blocks, from FORMAT's operand; the kept writes so far, the newest first; the book since the last cut
@@ -22,10 +22,10 @@ emptyService n = record { blocks = n; saved = []; book = emptyBook (λ (c : ℕ)
 -- what a command does in a book: the transactions, holders and names; one for a transaction that is not there does nothing
 unfoldable pub noted : Command → Book → Book
 noted (FORMAT c b j) k = k
-noted (WRITE c b o v) k = wrote c b o v k
-noted (CLOSE c) k = cond (hasRunning k c) (close c k) k
-noted (STORE c) k = cond (hasClosed k c) (store c k) k
-noted (CHECKPOINT c) k = cond (hasCommitted k c) (checkpoint c k) k
+noted (WRITE c b o v) k = writeBook c b o v k
+noted (CLOSE c) k = cond (hasRunning k c) (closeBook c k) k
+noted (STORE c) k = cond (hasClosed k c) (storeBook c k) k
+noted (CHECKPOINT c) k = cond (hasCommitted k c) (checkpointBook c k) k
 noted CUT k = k
 noted RECOVER k = k
 

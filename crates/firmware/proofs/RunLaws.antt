@@ -29,7 +29,7 @@ use Rattle.crash.specs.Claims.{IsBytes, AreaKept, LedgerKept, ReadingsKept, Sta
 use Rattle.crash.proofs.Runs.Theorem.{claim, demands, readings}
 use Rattle.crash.proofs.Books.Largest.{largest-kept}
 use Rattle.cells.specs.Cells.{storesIn, Exact, world, worldIn}
-use Rattle.reading.specs.declared.Part.{Part}
+use Rattle.reading.specs.declared.BlockPart.{BlockPart}
 use Rattle.reading.specs.Part.{partOf}
 use Rattle.reading.proofs.ReadLaws.{readable}
 use Rattle.command.specs.Counting.{counted}
@@ -49,7 +49,7 @@ refused-more p ps h =
 
 -- ---- a run from an offset on
 module _ (t : Bytes) where
-  record Further (at n : ℕ) (w : World) (ps : List (Point World)) : Type 0 where
+  record RunNext (at n : ℕ) (w : World) (ps : List (Point World)) : Type 0 where
     pub rest : List (Point World)
     pub runs : Runs stepAt t (nextOffset t at) (n + (stepAt t at w) .stores) ((stepAt t at w) .world) rest
     pub world-after : worldAfter w ps ≡ worldAfter ((stepAt t at w) .world) rest
@@ -57,10 +57,10 @@ module _ (t : Bytes) where
     pub held : allRefused ps ≡ true → ((stepAt t at w) .answer ≡ 0 → ⊥) × (allRefused rest ≡ true)
     pub last : (s : Stop) → stopAfter s ps ≡ stopAfter (newStop at ((stepAt t at w) .answer) (commandByte t at)) rest
 
-  further : {at n : ℕ} {w : World} {ps : List (Point World)} → Runs stepAt t at n w ps → at < length t → Further at n w ps
+  run-next : {at n : ℕ} {w : World} {ps : List (Point World)} → Runs stepAt t at n w ps → at < length t → RunNext at n w ps
   unfolding worldAfter storesAfter stopAfter
-  further (at-end h) l = absurd (omega arith)
-  further (one-more {at} {n} {w} {p = p} {ps = ps} k e r) l =
+  run-next (at-end h) l = absurd (omega arith)
+  run-next (one-more {at} {n} {w} {p = p} {ps = ps} k e r) l =
       record {
         rest = ps;
         runs = subst (λ (p : Point World). Runs stepAt t (nextOffset t at) (p .stores) (p .outcome .world) ps) e r;
@@ -124,7 +124,7 @@ run-stores t w h =
     sym (counted-sum 0 k (omega (arith, bounded t (run-runs stepAt t w) (omega arith))) (omega arith)) ∙ e
 
 -- what is left of the run over the cells v₀, the disk d₀ and memory m₀: at an offset, over the cells v, d and m, the last command s
-pub record Left (t : Bytes) (v₀ : List ℕ) (d₀ m₀ : Bytes) (at : ℕ) (v : List ℕ) (d m : Bytes) (s : Stop) : Type 0 where
+pub record RunLeft (t : Bytes) (v₀ : List ℕ) (d₀ m₀ : Bytes) (at : ℕ) (v : List ℕ) (d m : Bytes) (s : Stop) : Type 0 where
   pub count : ℕ
   pub points : List (Point World)
   pub runs : Runs stepAt t at count (worldIn v d m) points
@@ -135,8 +135,8 @@ pub record Left (t : Bytes) (v₀ : List ℕ) (d₀ m₀ : Bytes) (at : ℕ) (v 
   pub held : allRefused (run stepAt t (worldIn v₀ d₀ m₀)) ≡ true → (v ≡ v₀) × (allRefused points ≡ true)
   pub stops : stopAfter s points ≡ stopAfter (newStop 0 0 0) (run stepAt t (worldIn v₀ d₀ m₀))
 
-pub left-start : (t : Bytes) (v : List ℕ) (d m : Bytes) → Left t v d m 0 v d m (newStop 0 0 0)
-left-start t v d m =
+pub runLeft-start : (t : Bytes) (v : List ℕ) (d m : Bytes) → RunLeft t v d m 0 v d m (newStop 0 0 0)
+runLeft-start t v d m =
     record {
       count = 0;
       points = run stepAt t (worldIn v d m);
@@ -149,10 +149,10 @@ left-start t v d m =
       stops = refl;
     }
 
-module _ (t : Bytes) (v₀ : List ℕ) (d₀ m₀ : Bytes) (at : ℕ) (v : List ℕ) (d m : Bytes) (s : Stop) (l : Left t v₀ d₀ m₀ at v d m s) where
-  pub left-more : at < length t → (u : List ℕ) (e k : Bytes) (r : Reply) → RunsCommand t at v d m u e k r → Left t v₀ d₀ m₀ (r .next) u e k (newStop at (r .number) (r .byte))
-  left-more h u e k r c =
-      let f = further t (l .runs) h in
+module _ (t : Bytes) (v₀ : List ℕ) (d₀ m₀ : Bytes) (at : ℕ) (v : List ℕ) (d m : Bytes) (s : Stop) (l : RunLeft t v₀ d₀ m₀ at v d m s) where
+  pub runLeft-more : at < length t → (u : List ℕ) (e k : Bytes) (r : Reply) → RunsCommand t at v d m u e k r → RunLeft t v₀ d₀ m₀ (r .next) u e k (newStop at (r .number) (r .byte))
+  runLeft-more h u e k r c =
+      let f = run-next t (l .runs) h in
       let o = stepAt t at (worldIn v d m) in
       let p = c .performs in
       record {
@@ -167,8 +167,8 @@ module _ (t : Bytes) (v₀ : List ℕ) (d₀ m₀ : Bytes) (at : ℕ) (v : List 
         stops = rw (p .answer, c .byte) (sym (f .last s)) ∙ l .stops;
       }
 
-  pub left-end : length t ≤ at → length t < 18446744073709551616 → DemandsMet t (worldIn v₀ d₀ m₀) → RunsTape t v₀ d₀ m₀ v d m s
-  left-end h q x =
+  pub runLeft-end : length t ≤ at → length t < 18446744073709551616 → DemandsMet t (worldIn v₀ d₀ m₀) → RunsTape t v₀ d₀ m₀ v d m s
+  runLeft-end h q x =
       let f = ended t (l .runs) h in
       let n : storesIn v ≡ counted (storesIn v₀) (storesAfter 0 (run stepAt t (worldIn v₀ d₀ m₀))) = l .capped ∙ ap (counted (storesIn v₀)) (sym (f .1) ∙ l .total) in
       record {
@@ -231,6 +231,6 @@ module _ (x : Card) (b : ℕ) (d m : Bytes) where
     into-block l e = e
 
 -- ---- where a block's bytes stand
-pub part-wide : (b : ℕ) (w : World) (p : Part) → p ≡ partOf b w → _≡_ {A = wide.Part} (record { number = p .number; slice = p .slice; from = p .from; length = p .length }) (partIn b w)
+pub part-wide : (b : ℕ) (w : World) (p : BlockPart) → p ≡ partOf b w → _≡_ {A = wide.Part} (record { number = p .number; slice = p .slice; from = p .from; length = p .length }) (partIn b w)
 unfolding partIn
 part-wide b w p e = rw e

@@ -3,8 +3,8 @@
 use Rattle.model.proofs.Base.{ℕ, zero, suc, _+_, _-_, _/_, _%_, _≤_, _<_, min, arith, decLt, add-one, add-zero, _≡_, refl, sym}
 use Rattle.model.proofs.Base.{ap, _∙_, Bool, true, false, cond, not, true≢false, List, [], _∷_, map, length, getD, length-map}
 use Rattle.model.proofs.Base.{List·getD-map, eqb, ltb, eq-eqb, ne-eqb, lt-ltb, le-ltb, ltb-true, below, any, Bytes}
-use Rattle.model.specs.Layout.{Held, newHeld, pairAt, pairsIn, heldIn, blockCount, nameCount, stampIn}
-use Rattle.model.specs.Journal.{journalAt, heldBy, blocksOf, took}
+use Rattle.model.specs.Layout.{Tag, newTag, pairAt, pairsIn, tagsIn, blockCount, nameCount, stampIn}
+use Rattle.model.specs.Journal.{journalAt, tagsOf, blocksOf, took}
 use Rattle.model.specs.Recovery.{placeOf}
 use Rattle.model.specs.declared.Shape.{Shape}
 use Rattle.model.specs.declared.Committed.{Committed}
@@ -13,7 +13,7 @@ use Rattle.model.specs.declared.Found.the-variants.{Whole, Miss}
 use Rattle.model.proofs.Lists.{cases, length-below, getD-map-below}
 use Rattle.model.proofs.Records.{length-blocksOf}
 use Rattle.layout.proofs.Loops.{Missed, missed-more, some-not}
-use Rattle.journal.specs.Slots.{slotOf, isFilled, entry, foundAs, foundAt, Sized, filledFrom, blocksIn}
+use Rattle.journal.specs.Slots.{slotOf, isFilled, entry, foundAs, foundAt, SizedCommitted, filledFrom, descriptorBlocks}
 use Rattle.journal.proofs.Slots.{empty-slot, filled-slot}
 
 -- ---- a slot
@@ -89,7 +89,7 @@ pub whole-known : (t : Bool) (x e : Committed) → cond t Miss (Whole x) ≡ Who
 whole-known true x e h = let z : _≡_ {A = ℕ} 0 1 = cc in absurd (omega arith)
 whole-known false x e h = (refl, (cc))
 
-pub found-sized : (s : Shape) (d : Bytes) (ks set : List ℕ) (i : ℕ) (r : Found) (e : Committed) → r ≡ foundAt s d ks set i → r ≡ Whole e → Sized s e
+pub found-sized : (s : Shape) (d : Bytes) (ks set : List ℕ) (i : ℕ) (r : Found) (e : Committed) → r ≡ foundAt s d ks set i → r ≡ Whole e → SizedCommitted s e
 unfolding foundAt foundAs entry
 found-sized s d ks set i r e q h =
     let v = slotOf s set i in
@@ -117,38 +117,38 @@ unfolding placeOf Unlike
 place-none b [] p = refl
 place-none b (x ∷ xs) p = rw (p 0 (omega arith)) (ap suc (place-none b xs (unlike-rest b x xs (length xs) p)))
 
-length-blocksIn : (f : Bytes) (n : ℕ) → length (blocksIn f n) ≡ n
-unfolding blocksIn heldIn pairsIn
+length-blocksIn : (f : Bytes) (n : ℕ) → length (descriptorBlocks f n) ≡ n
+unfolding descriptorBlocks tagsIn pairsIn
 length-blocksIn f n = simp (length-map, length-below)
 
-pub block-at : (f : Bytes) (n i : ℕ) → i < n → getD (blocksIn f n) i 0 ≡ (pairAt newHeld f 16 i) .block
-unfolding blocksIn heldIn pairsIn
-block-at f n i h = List·getD-map (λ (x : Held). x .block) (map (pairAt newHeld f 16) (below n)) i (newHeld 0 0) ∙ rw (getD-map-below (pairAt newHeld f 16) n i (newHeld 0 0) h)
+pub block-at : (f : Bytes) (n i : ℕ) → i < n → getD (descriptorBlocks f n) i 0 ≡ (pairAt newTag f 16 i) .block
+unfolding descriptorBlocks tagsIn pairsIn
+block-at f n i h = List·getD-map (λ (x : Tag). x .block) (map (pairAt newTag f 16) (below n)) i (newTag 0 0) ∙ rw (getD-map-below (pairAt newTag f 16) n i (newTag 0 0) h)
 
 -- the i-th block of descriptor f is block b
 unfoldable pub isBlock : Bytes → ℕ → ℕ → Bool
-isBlock f b i = eqb b ((pairAt newHeld f 16 i) .block)
+isBlock f b i = eqb b ((pairAt newTag f 16 i) .block)
 
 module _ (f : Bytes) (n b j : ℕ) (w : Missed (isBlock f b) n j) where
-  unlike : Unlike b (blocksIn f n) j
+  unlike : Unlike b (descriptorBlocks f n) j
   unfolding Unlike isBlock
   unlike i h = ap (eqb b) (block-at f n i (omega (arith, w .most))) ∙ some-not (isBlock f b) j (w .fails) i h
 
-  pub place-end : n ≤ j → j ≡ placeOf b (blocksIn f n)
+  pub place-end : n ≤ j → j ≡ placeOf b (descriptorBlocks f n)
   place-end q =
-      let e : j ≡ length (blocksIn f n) = omega (arith, w .most, length-blocksIn f n) in
-      e ∙ sym (place-none b (blocksIn f n) (rw e at unlike))
+      let e : j ≡ length (descriptorBlocks f n) = omega (arith, w .most, length-blocksIn f n) in
+      e ∙ sym (place-none b (descriptorBlocks f n) (rw e at unlike))
 
-  module _ (x : ℕ) (e : x ≡ (pairAt newHeld f 16 j) .block) (l : j < n) where
-    pub place-hit : x ≡ b → j ≡ placeOf b (blocksIn f n)
-    place-hit h = sym (place-at b (blocksIn f n) j unlike (omega (arith, length-blocksIn f n)) (eq-eqb b (getD (blocksIn f n) j 0) (omega (arith, block-at f n j l))))
+  module _ (x : ℕ) (e : x ≡ (pairAt newTag f 16 j) .block) (l : j < n) where
+    pub place-hit : x ≡ b → j ≡ placeOf b (descriptorBlocks f n)
+    place-hit h = sym (place-at b (descriptorBlocks f n) j unlike (omega (arith, length-blocksIn f n)) (eq-eqb b (getD (descriptorBlocks f n) j 0) (omega (arith, block-at f n j l))))
 
     pub place-more : (x ≡ b → ⊥) → Missed (isBlock f b) n (j + 1)
     unfolding isBlock
-    place-more h = missed-more (isBlock f b) n j false w (sym (ne-eqb b ((pairAt newHeld f 16 j) .block) (λ y. h (e ∙ sym y)))) refl l
+    place-more h = missed-more (isBlock f b) n j false w (sym (ne-eqb b ((pairAt newTag f 16 j) .block) (λ y. h (e ∙ sym y)))) refl l
 
-pub place-is : (s : Shape) (d : Bytes) (e : Committed) (b r : ℕ) (f : Bytes) → f ≡ journalAt s d (e .core) (e .position) → r ≡ placeOf b (blocksIn f (e .count)) → r ≡ placeOf b (blocksOf s d e)
-unfolding blocksIn blocksOf heldBy
+pub place-is : (s : Shape) (d : Bytes) (e : Committed) (b r : ℕ) (f : Bytes) → f ≡ journalAt s d (e .core) (e .position) → r ≡ placeOf b (descriptorBlocks f (e .count)) → r ≡ placeOf b (blocksOf s d e)
+unfolding descriptorBlocks blocksOf tagsOf
 place-is s d e b r f q h = h ∙ rw q
 
 -- it took the block where that has a place

@@ -16,9 +16,9 @@ use Rattle.model.proofs.Lists.{cases, and-left, and-right}
 use Rattle.model.proofs.Journal.{found-cases, record-known, records-hit, records-miss, records-length}
 use Rattle.model.proofs.Limits.{InRange}
 use Rattle.journal.specs.declared.walk.Walk.{Walk}
-use Rattle.journal.specs.declared.walk.Step.{Step}
-use Rattle.journal.specs.Slots.{tailIn, numbersOf, slotOf, foundAt, listOf, entriesOf}
-use Rattle.journal.specs.Walk.{readAt, ended, stepOf, start, resumed, Reads}
+use Rattle.journal.specs.declared.walk.WalkStep.{WalkStep}
+use Rattle.journal.specs.Slots.{tailFor, numbersOf, slotOf, foundAt, listOf, entriesOf}
+use Rattle.journal.specs.Walk.{walkRecord, ended, stepOf, start, resumed, Reads}
 use Rattle.journal.proofs.Slots.{number-at, entry-read, empty-slot, filled-slot, entries-before}
 
 none-left : (l : List Committed) → 2 * length l ≤ 0 → l ≡ []
@@ -30,26 +30,26 @@ module _ (s : Shape) (d : Bytes) (ts : List Tail) (most : List ℕ) where
   rest c w = recordsFrom (w .most) s d c (w .number) (w .at) (w .left)
 
   abbrev whole : ℕ → List Committed
-  whole c = journal s d c (tailIn ts c) (getD most c 0)
+  whole c = journal s d c (tailFor ts c) (getD most c 0)
 
   -- before core c's j-th slot: the slots filled and what the walk reads on are its journal; each slot takes two blocks
-  pub record Under (out : List ℕ) (w : Walk) (c j : ℕ) : Type 0 where
+  pub record CoreReading (out : List ℕ) (w : Walk) (c j : ℕ) : Type 0 where
     pub few : w .left + 2 * j ≤ 24
-    pub number : 1 ≤ w .left → w .number ≡ (tailIn ts c) .number + j
+    pub number : 1 ≤ w .left → w .number ≡ (tailFor ts c) .number + j
     pub same : c < s .cores → entriesOf s d (numbersOf ts) out c j ++ rest c w ≡ whole c
 
   empty-rest : (c : ℕ) (w : Walk) → w .left ≡ 0 → rest c w ≡ []
   empty-rest c w h = none-left (rest c w) (omega (arith, records-length s d c (w .most) (w .number) (w .at) (w .left)))
 
-  missed-rest : (c : ℕ) (w : Walk) → c < s .cores → readAt s d c w ≡ Miss → rest c w ≡ []
-  unfolding readAt recordsFrom
+  missed-rest : (c : ℕ) (w : Walk) → c < s .cores → walkRecord s d c w ≡ Miss → rest c w ≡ []
+  unfolding walkRecord recordsFrom
   missed-rest c w l h =
       cases (leb 1 (w .most))
       (λ t. records-miss s d c (w .number) (w .at) (w .left) (w .most) (rw (lt-ltb c (s .cores) l, t) at h))
       (λ f. let z : w .most ≡ 0 = omega (arith, leb-false 1 (w .most) f) in rw (z, recordsFrom))
 
   -- ---- a step
-  module _ (out : List ℕ) (w : Walk) (c j : ℕ) (u : Under out w c j) (l : j < 12) (size : 12 * c + j < length out) (low : w .at < 256) (lim : InRange s) where
+  module _ (out : List ℕ) (w : Walk) (c j : ℕ) (u : CoreReading out w c j) (l : j < 12) (size : 12 * c + j < length out) (low : w .at < 256) (lim : InRange s) where
     more-entries : (x : ℕ) → entriesOf s d (numbersOf ts) (set out (12 * c + j) x) c (suc j)
         ≡ entriesOf s d (numbersOf ts) out c j ++ listOf (foundAt s d (numbersOf ts) (set out (12 * c + j) x) (12 * c + j))
     unfolding entriesOf
@@ -61,7 +61,7 @@ module _ (s : Shape) (d : Bytes) (ts : List Tail) (most : List ℕ) where
         let q : (12 * c + j) / 12 ≡ c = omega arith in
         rw (q, lt-ltb c (s .cores) h, getD-set-same out (12 * c + j) x 0 size) (omega arith)
 
-    missed : readAt s d c w ≡ Miss → Under (set out (12 * c + j) 0) ((ended w) .next) c (suc j)
+    missed : walkRecord s d c w ≡ Miss → CoreReading (set out (12 * c + j) 0) ((ended w) .next) c (suc j)
     unfolding listOf
     missed h =
         record {
@@ -74,14 +74,14 @@ module _ (s : Shape) (d : Bytes) (ts : List Tail) (most : List ℕ) where
         }
 
     hit : (e : Committed) → c < s .cores → 1 ≤ w .most → recordAt s d c (w .number) (w .at) (w .left) ≡ Whole e
-        → Under (set out (12 * c + j) (w .at + 1)) ((stepOf s w (Whole e)) .next) c (suc j)
+        → CoreReading (set out (12 * c + j) (w .at + 1)) ((stepOf s w (Whole e)) .next) c (suc j)
     unfolding listOf stepOf
     hit e g m h =
         let known = record-known s d c (w .number) (w .at) (w .left) e h in
-        let number : w .number ≡ (tailIn ts c) .number + j = u .number (omega (arith, known .2)) in
+        let number : w .number ≡ (tailFor ts c) .number + j = u .number (omega (arith, known .2)) in
         let q : (12 * c + j) / 12 ≡ c = omega arith in
         let r : (12 * c + j) % 12 ≡ j = omega arith in
-        let k : (tailIn ts c) .number + j ≡ w .number = sym number in
+        let k : (tailFor ts c) .number + j ≡ w .number = sym number in
         let z : w .most ≡ suc (w .most - 1) = omega arith in
         let found : foundAt s d (numbersOf ts) (set out (12 * c + j) (w .at + 1)) (12 * c + j) ≡ Whole e =
         filled-slot s d (numbersOf ts) (set out (12 * c + j) (w .at + 1)) (12 * c + j) (w .at + 1) (stored-slot (w .at + 1) (omega arith) g) (omega arith)
@@ -95,8 +95,8 @@ module _ (s : Shape) (d : Bytes) (ts : List Tail) (most : List ℕ) where
           same = λ p. rw (more-entries (w .at + 1), found, append-assoc) (rw on at (u .same g));
         }
 
-    stepped : (f : Found) → readAt s d c w ≡ f → Under (set out (12 * c + j) ((stepOf s w f) .slot)) ((stepOf s w f) .next) c (suc j)
-    unfolding stepOf readAt
+    stepped : (f : Found) → walkRecord s d c w ≡ f → CoreReading (set out (12 * c + j) ((stepOf s w f) .slot)) ((stepOf s w f) .next) c (suc j)
+    unfolding stepOf walkRecord
     stepped Miss h = missed h
     stepped (Whole e) h =
         cases (ltb c (s .cores) && leb 1 (w .most))
@@ -109,18 +109,18 @@ module _ (s : Shape) (d : Bytes) (ts : List Tail) (most : List ℕ) where
     pub within : i ≤ 96
     pub size : length out ≡ 96
     pub done : (c : ℕ) → 12 * c + 12 ≤ i → c < s .cores → entriesOf s d (numbersOf ts) out c 12 ≡ whole c
-    pub under : (i % 12 ≡ 0 → ⊥) → Under out w (i / 12) (i % 12)
+    pub under : (i % 12 ≡ 0 → ⊥) → CoreReading out w (i / 12) (i % 12)
 
   pub reading-none : (out : List ℕ) (w : Walk) → length out ≡ 96 → Reading out w 0
   reading-none out w h = record { within = omega arith; size = h; done = λ c l g. absurd (omega arith); under = λ n. absurd (n refl) }
 
-  started : InRange s → (out : List ℕ) (c : ℕ) → Under out (start s (tailIn ts c) (getD most c 0)) c 0
+  started : InRange s → (out : List ℕ) (c : ℕ) → CoreReading out (start s (tailFor ts c) (getD most c 0)) c 0
   unfolding start journal entriesOf
   started l out c = record { few = omega (arith, l .short); number = λ g. omega arith; same = λ g. refl }
 
-  module _ (l : InRange s) (out : List ℕ) (w r : Walk) (i : ℕ) (v : Reading out w i) (e : r ≡ resumed s (tailIn ts (i / 12)) (getD most (i / 12) 0) (i % 12) w)
+  module _ (l : InRange s) (out : List ℕ) (w r : Walk) (i : ℕ) (v : Reading out w i) (e : r ≡ resumed s (tailFor ts (i / 12)) (getD most (i / 12) 0) (i % 12) w)
       (h : i < 96) (low : r .at < 256) where
-    resumed-under : Under out r (i / 12) (i % 12)
+    resumed-under : CoreReading out r (i / 12) (i % 12)
     unfolding resumed
     resumed-under =
         elim (ℕ-discrete (i % 12) 0) [
@@ -128,17 +128,17 @@ module _ (s : Shape) (d : Bytes) (ts : List Tail) (most : List ℕ) where
           | no z ↦ rw (e, ne-eqb (i % 12) 0 z) (v .under z)
         ]
 
-    module _ (x : Step) (q : x ≡ stepOf s r (readAt s d (i / 12) r)) where
-      next-under : Under (set out i (x .slot)) (x .next) (i / 12) (suc (i % 12))
+    module _ (x : WalkStep) (q : x ≡ stepOf s r (walkRecord s d (i / 12) r)) where
+      next-under : CoreReading (set out i (x .slot)) (x .next) (i / 12) (suc (i % 12))
       next-under =
           let z : 12 * (i / 12) + i % 12 ≡ i = omega arith in
-          rw (q) (rw z at (stepped out r (i / 12) (i % 12) resumed-under (omega arith) (omega (arith, v .size)) low l (readAt s d (i / 12) r) refl))
+          rw (q) (rw z at (stepped out r (i / 12) (i % 12) resumed-under (omega arith) (omega (arith, v .size)) low l (walkRecord s d (i / 12) r) refl))
 
       last-slot : (c : ℕ) → 12 * c + 12 ≡ i + 1 → c < s .cores → entriesOf s d (numbersOf ts) (set out i (x .slot)) c 12 ≡ whole c
       last-slot c z g =
           let a : i / 12 ≡ c = omega arith in
           let b : suc (i % 12) ≡ 12 = omega arith in
-          let u : Under (set out i (x .slot)) (x .next) c 12 = rw (a, b) at next-under in
+          let u : CoreReading (set out i (x .slot)) (x .next) c 12 = rw (a, b) at next-under in
           let none : rest c (x .next) ≡ [] = empty-rest c (x .next) (omega (arith, u .few)) in
           sym (append-nil (entriesOf s d (numbersOf ts) (set out i (x .slot)) c 12)) ∙ (rw none at (u .same g))
 
@@ -170,29 +170,29 @@ no-room s d c k p left h =
     found-cases (recordAt s d c k p left) (λ m. m) (λ e w. absurd (omega (arith, record-known s d c k p left e w .2)))
 
 module _ (s : Shape) (d : Bytes) (c : ℕ) (w : Walk) where
-  nothing-read : readAt s d c w ≡ Miss → ended w ≡ stepOf s w (readAt s d c w)
+  nothing-read : walkRecord s d c w ≡ Miss → ended w ≡ stepOf s w (walkRecord s d c w)
   unfolding stepOf
   nothing-read h = rw h
 
-  pub step-absent : s .cores ≤ c → ended w ≡ stepOf s w (readAt s d c w)
-  step-absent h = nothing-read (unfold readAt in rw (le-ltb c (s .cores) h))
+  pub step-absent : s .cores ≤ c → ended w ≡ stepOf s w (walkRecord s d c w)
+  step-absent h = nothing-read (unfold walkRecord in rw (le-ltb c (s .cores) h))
 
-  pub step-counted : c < s .cores → w .most < 1 → ended w ≡ stepOf s w (readAt s d c w)
-  step-counted h m = nothing-read (unfold readAt in rw (lt-ltb c (s .cores) h, lt-leb 1 (w .most) m))
+  pub step-counted : c < s .cores → w .most < 1 → ended w ≡ stepOf s w (walkRecord s d c w)
+  step-counted h m = nothing-read (unfold walkRecord in rw (lt-ltb c (s .cores) h, lt-leb 1 (w .most) m))
 
   module _ (h : c < s .cores) (m : 1 ≤ w .most) where
-    reads-record : readAt s d c w ≡ recordAt s d c (w .number) (w .at) (w .left)
-    unfolding readAt
+    reads-record : walkRecord s d c w ≡ recordAt s d c (w .number) (w .at) (w .left)
+    unfolding walkRecord
     reads-record = rw (lt-ltb c (s .cores) h, le-leb 1 (w .most) m)
 
-    pub step-full : w .left < 2 → ended w ≡ stepOf s w (readAt s d c w)
+    pub step-full : w .left < 2 → ended w ≡ stepOf s w (walkRecord s d c w)
     step-full l = nothing-read (reads-record ∙ no-room s d c (w .number) (w .at) (w .left) l)
 
     module _ (r : Found) (e : r ≡ recordAt s d c (w .number) (w .at) (w .left)) where
-      pub step-miss : r ≡ Miss → ended w ≡ stepOf s w (readAt s d c w)
+      pub step-miss : r ≡ Miss → ended w ≡ stepOf s w (walkRecord s d c w)
       step-miss z = nothing-read (reads-record ∙ sym e ∙ z)
 
-      pub step-hit : (x : Committed) (y : Step) → r ≡ Whole x → y ≡ stepOf s w (Whole x) → y ≡ stepOf s w (readAt s d c w)
+      pub step-hit : (x : Committed) (y : WalkStep) → r ≡ Whole x → y ≡ stepOf s w (Whole x) → y ≡ stepOf s w (walkRecord s d c w)
       step-hit x y z q = q ∙ rw (reads-record, ← e, z)
 
 -- what is known of a record just read
@@ -219,7 +219,7 @@ pub wrapped : (s : Shape) (a : ℕ) → InRange s → a % s .journal < 256
 wrapped s a l = let z : 0 < s .journal = omega (arith, l .long) in omega (arith, mod-lt a z, l .short)
 
 pub past-record : (s : Shape) (w : Walk) (e : Committed)
-    → _≡_ {A = Step} (record {
+    → _≡_ {A = WalkStep} (record {
       slot = w .at + 1;
       next = record { number = w .number + 1; at = (w .at + (e .count + 2)) % s .journal; left = w .left - (e .count + 2); most = w .most - 1 };
     }) (stepOf s w (Whole e))

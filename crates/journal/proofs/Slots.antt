@@ -12,12 +12,12 @@ use Rattle.model.specs.declared.Found.the-variants.{Whole, Miss}
 use Rattle.model.proofs.Lists.{flatMap-append, getD-map-below}
 use Rattle.model.proofs.Journal.{record-known}
 use Rattle.model.proofs.Limits.{InRange}
-use Rattle.journal.specs.Slots.{tailIn, numbersOf, slotOf, entry, foundAs, foundAt, listOf, entriesTo, entries, entriesOf}
+use Rattle.journal.specs.Slots.{tailFor, numbersOf, slotOf, entry, foundAs, foundAt, listOf, entriesTo, entries, entriesOf}
 use Rattle.journal.specs.Walk.{Reads}
 
-pub number-at : (ts : List Tail) (c : ℕ) → c < 8 → getD (numbersOf ts) c 0 ≡ (tailIn ts c) .number
+pub number-at : (ts : List Tail) (c : ℕ) → c < 8 → getD (numbersOf ts) c 0 ≡ (tailFor ts c) .number
 unfolding numbersOf
-number-at ts c h = getD-map-below (λ (c : ℕ). (tailIn ts c) .number) 8 c 0 h
+number-at ts c h = getD-map-below (λ (c : ℕ). (tailFor ts c) .number) 8 c 0 h
 
 -- ---- one slot
 -- a record that was read is what its slot gives
@@ -79,14 +79,14 @@ module _ (s : Shape) (d : Bytes) (ks : List ℕ) where
 -- ---- the slots read are the journals
 module _ (s : Shape) (d : Bytes) (ts : List Tail) (most : List ℕ) (set : List ℕ) (r : Reads s d ts most set) where
   cores-read : (n : ℕ) → n ≤ s .cores
-      → entriesTo s d (numbersOf ts) set (12 * n) ≡ flatMap (λ (c : ℕ). journal s d c (tailIn ts c) (getD most c 0)) (below n)
+      → entriesTo s d (numbersOf ts) set (12 * n) ≡ flatMap (λ (c : ℕ). journal s d c (tailFor ts c) (getD most c 0)) (below n)
   unfolding entriesTo below flatMap Reads
   cores-read zero h = refl
   cores-read (suc n) h =
       let e : 12 * suc n ≡ 12 * n + 12 = omega arith in
       rw (e, entries-split s d (numbersOf ts) set n 12, cores-read n (omega arith), r n (omega arith), flatMap-append, append-nil)
 
-  pub reads-journals : InRange s → entries s d (numbersOf ts) set ≡ journals s d (tailIn ts) (λ (c : ℕ). getD most c 0)
+  pub reads-journals : InRange s → entries s d (numbersOf ts) set ≡ journals s d (tailFor ts) (λ (c : ℕ). getD most c 0)
   unfolding entries journals
   reads-journals l =
       let e : 96 ≡ 12 * (s .cores + (8 - s .cores)) = omega (arith, l .few-cores) in

@@ -8,7 +8,7 @@ use lib.Dec.{ltb, eqb}
 use Rattle.model.specs.Lists.{below}
 use Rattle.model.specs.Bytes.{Bytes}
 use Rattle.model.specs.Card.{newTail}
-use Rattle.model.specs.Layout.{Held, blockCount, heldIn, stampIn, nameCount}
+use Rattle.model.specs.Layout.{Tag, blockCount, tagsIn, stampIn, nameCount}
 use Rattle.model.specs.Journal.{journalAt}
 use Rattle.model.specs.declared.Shape.{Shape}
 use Rattle.model.specs.declared.Tail.{Tail}
@@ -17,12 +17,12 @@ use Rattle.model.specs.declared.Found.{Found}
 use Rattle.model.specs.declared.Found.the-variants.{Whole, Miss}
 
 -- ---- tails as an array holds them
-abbrev pub tailIn : List Tail → ℕ → Tail
-tailIn ts c = getD ts c (newTail 0 0)
+abbrev pub tailFor : List Tail → ℕ → Tail
+tailFor ts c = getD ts c (newTail 0 0)
 
 -- the tail numbers alone: all that the names of transactions need
 unfoldable pub numbersOf : List Tail → List ℕ
-numbersOf ts = map (λ (c : ℕ). (tailIn ts c) .number) (below 8)
+numbersOf ts = map (λ (c : ℕ). (tailFor ts c) .number) (below 8)
 
 -- ---- what a slot gives
 -- slot i, no higher than a position can make it; the slots of a core that the disk has not are empty
@@ -66,7 +66,7 @@ entriesOf s d ks set c zero = []
 entriesOf s d ks set c (suc n) = entriesOf s d ks set c n ++ listOf (foundAt s d ks set (12 * c + n))
 
 -- what functions over a transaction ask of it: a core that the disk has, and counts that a record can have
-pub record Sized (s : Shape) (e : Committed) : Type 0 where
+pub record SizedCommitted (s : Shape) (e : Committed) : Type 0 where
   pub core : e .core < s .cores
   pub few : e .count ≤ 8
   pub short : e .named ≤ 12
@@ -77,5 +77,5 @@ filledFrom s set a zero = 0
 filledFrom s set a (suc n) = filledFrom s set a n + cond (isFilled s set (a + n)) 1 0
 
 -- the blocks of the first n that a descriptor has
-unfoldable pub blocksIn : Bytes → ℕ → List ℕ
-blocksIn b n = map (λ (h : Held). h .block) (heldIn b n)
+unfoldable pub descriptorBlocks : Bytes → ℕ → List ℕ
+descriptorBlocks b n = map (λ (h : Tag). h .block) (tagsIn b n)

@@ -12,18 +12,18 @@ use Rattle.model.specs.declared.Tail.{Tail}
 use Rattle.model.specs.declared.Found.{Found}
 use Rattle.model.specs.declared.Found.the-variants.{Whole, Miss}
 use Rattle.journal.specs.declared.walk.Walk.{Walk}
-use Rattle.journal.specs.declared.walk.Step.{Step}
-use Rattle.journal.specs.Slots.{tailIn, numbersOf, entriesOf}
+use Rattle.journal.specs.declared.walk.WalkStep.{WalkStep}
+use Rattle.journal.specs.Slots.{tailFor, numbersOf, entriesOf}
 
 -- the record where the walk of core c stands, if more of them count
-unfoldable pub readAt : Shape → Bytes → ℕ → Walk → Found
-readAt s d c w = cond (ltb c (s .cores) && leb 1 (w .most)) (recordAt s d c (w .number) (w .at) (w .left)) Miss
+unfoldable pub walkRecord : Shape → Bytes → ℕ → Walk → Found
+walkRecord s d c w = cond (ltb c (s .cores) && leb 1 (w .most)) (recordAt s d c (w .number) (w .at) (w .left)) Miss
 
 -- a miss leaves no blocks, so that nothing more is read
-abbrev pub ended : Walk → Step
+abbrev pub ended : Walk → WalkStep
 ended w = record { slot = 0; next = record { number = w .number; at = w .at; left = 0; most = w .most } }
 
-unfoldable pub stepOf : Shape → Walk → Found → Step
+unfoldable pub stepOf : Shape → Walk → Found → WalkStep
 stepOf s w Miss = ended w
 stepOf s w (Whole e) =
     record {
@@ -40,4 +40,4 @@ resumed s t most j w = cond (eqb j 0) (start s t most) w
 
 -- each core's slots give its journal, as far as it counts
 unfoldable pub Reads : Shape → Bytes → List Tail → List ℕ → List ℕ → Type 0
-Reads s d ts most set = (c : ℕ) → c < s .cores → entriesOf s d (numbersOf ts) set c 12 ≡ journal s d c (tailIn ts c) (getD most c 0)
+Reads s d ts most set = (c : ℕ) → c < s .cores → entriesOf s d (numbersOf ts) set c 12 ≡ journal s d c (tailFor ts c) (getD most c 0)

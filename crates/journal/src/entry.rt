@@ -6,7 +6,7 @@ ghost use lib.ListN.{length};
 ghost use Rattle.model.proofs.Limits.{InRange};
 ghost use Rattle.model.specs.Journal.{blocksOf, took};
 ghost use Rattle.model.specs.Recovery.{placeOf};
-ghost use Rattle.journal.specs.Slots.{slotOf, isFilled, entry, foundAt, Sized, filledFrom, blocksIn};
+ghost use Rattle.journal.specs.Slots.{slotOf, isFilled, entry, foundAt, SizedCommitted, filledFrom, descriptorBlocks};
 use crate::record::journal_part;
 use model::Committed;
 use model::Found;
@@ -115,11 +115,11 @@ pub fn entry_at(s: Shape, disk: &[u8], set: &[u16; 96], i: usize) -> Found
 // The place of block b among the first n of a descriptor, or n.
 fn place_in(block: &[u8], n: usize, b: u32) -> usize
     requires { ⌜ (length (now block) ≡ 128) × (n ≤ 8) ⌝ }
-    ensures { λ r. ⌜ (r ≡ placeOf b (blocksIn (now (block .entry)) n)) × (r ≤ n) ⌝ }
+    ensures { λ r. ⌜ (r ≡ placeOf b (descriptorBlocks (now (block .entry)) n)) × (r ≤ n) ⌝ }
 {
     let mut i: usize = 0;
     while i < n {
-        if layout::held_block(block, i) == b {
+        if layout::tag_block(block, i) == b {
             return i;
         }
         i += 1;
@@ -129,7 +129,7 @@ fn place_in(block: &[u8], n: usize, b: u32) -> usize
 
 // The place of block b among those that a transaction took, or their count.
 pub fn place_of(s: Shape, disk: &[u8], e: Committed, b: u32) -> usize
-    requires { ⌜ InRange s × (length (now disk) ≡ 32896) × Sized s e ⌝ }
+    requires { ⌜ InRange s × (length (now disk) ≡ 32896) × SizedCommitted s e ⌝ }
     ensures { λ r. ⌜ (r ≡ placeOf b (blocksOf s (now (disk .entry)) e)) × (r ≤ e .count) ⌝ }
 {
     let block = journal_part(s, disk, e.core, e.position as usize);
@@ -138,7 +138,7 @@ pub fn place_of(s: Shape, disk: &[u8], e: Committed, b: u32) -> usize
 
 // Whether a transaction took block b. No public entry.
 pub fn took_block(s: Shape, disk: &[u8], e: Committed, b: u32) -> bool
-    requires { ⌜ InRange s × (length (now disk) ≡ 32896) × Sized s e ⌝ }
+    requires { ⌜ InRange s × (length (now disk) ≡ 32896) × SizedCommitted s e ⌝ }
     ensures { λ r. ⌜ r ≡ took s (now (disk .entry)) b e ⌝ }
 {
     place_of(s, disk, e, b) < e.count as usize

@@ -4,7 +4,7 @@ ghost use Prim.Native.Nat.{_+_, _≤_, _<_};
 ghost use lib.ListN.{length};
 ghost use Rattle.model.proofs.Limits.{InRange};
 ghost use Rattle.model.specs.declared.Found.the-variants.{Whole};
-ghost use Rattle.journal.specs.Walk.{readAt, stepOf, resumed, Reads};
+ghost use Rattle.journal.specs.Walk.{walkRecord, stepOf, resumed, Reads};
 ghost use Rattle.model.specs.Limits.{maxNumber};
 use crate::record::read_record;
 use model::Committed;
@@ -22,19 +22,19 @@ pub struct Walk {
 }
 
 // One slot read, and the walk after it.
-pub struct Step {
+pub struct WalkStep {
     pub slot: u16,
     pub next: Walk,
 }
 
 // The slot of a record that was read, and the walk past it.
-fn advance(s: Shape, w: Walk, e: Committed) -> Step
+fn advance(s: Shape, w: Walk, e: Committed) -> WalkStep
     requires { ⌜ InRange s × (e .count + 2 ≤ w .left) × (1 ≤ w .most) × (w .number ≤ maxNumber) ⌝ }
     ensures { λ r. ⌜ r ≡ stepOf s w (Whole e) ⌝ }
 {
     let size = e.count as usize + 2;
     let at = (w.at as usize + size) % s.journal as usize;
-    Step {
+    WalkStep {
         slot: w.at as u16 + 1,
         next: Walk {
             number: w.number + 1,
@@ -46,11 +46,11 @@ fn advance(s: Shape, w: Walk, e: Committed) -> Step
 }
 
 // One slot of core c. A miss leaves no blocks, so that nothing more of this journal is read.
-fn read_step(s: Shape, disk: &[u8], c: u8, w: Walk) -> Step
+fn read_step(s: Shape, disk: &[u8], c: u8, w: Walk) -> WalkStep
     requires { ⌜ InRange s × (length (now disk) ≡ 32896) ⌝ }
-    ensures { λ r. ⌜ r ≡ stepOf s w (readAt s (now (disk .entry)) c w) ⌝ }
+    ensures { λ r. ⌜ r ≡ stepOf s w (walkRecord s (now (disk .entry)) c w) ⌝ }
 {
-    let end = Step {
+    let end = WalkStep {
         slot: 0,
         next: Walk {
             number: w.number,

@@ -6,11 +6,11 @@ use Rattle.model.proofs.Base.{flatMap, below}
 use lib.ListN.{List·getD-eq-default}
 use lib.Seq.{getD-append-add}
 use Rattle.model.specs.Card.{newName}
-use Rattle.model.specs.Layout.{mark, pairWords, Held, newHeld, descriptorWords, commitWords}
+use Rattle.model.specs.Layout.{mark, pairWords, Tag, newTag, descriptorWords, commitWords}
 use Rattle.model.specs.declared.Name.{Name}
 use Rattle.model.proofs.Lists.{length-below, getD-map-below}
 use Rattle.model.proofs.Encoding.{length-pairs}
-use Rattle.layout.specs.Words.{pairWord, heldOf, descriptorFrom}
+use Rattle.layout.specs.Words.{pairWord, tagsFrom, descriptorFrom}
 
 -- the length of an array of structs, as its type gives it
 pub length-mapped : {A B : Type 0} (f : A → B) (l : List A) (n : ℕ) → length (map f l) ≡ n → length l ≡ n
@@ -52,41 +52,41 @@ module _ {A : Type 0} (f g : A → ℕ) where
     word-rest h q = sym (after h ∙ List·getD-eq-default (pairWords f g xs) 0 (omega (arith, length-pairs f g xs)))
 
 -- ---- descriptor
-length-heldOf : (n : ℕ) (bs fs : List ℕ) → length (heldOf n bs fs) ≡ n
-unfolding heldOf
-length-heldOf n bs fs = length-map (below n) (λ (i : ℕ). newHeld (getD bs i 0) (getD fs i 0)) ∙ length-below n
+length-tagsFrom : (n : ℕ) (bs fs : List ℕ) → length (tagsFrom n bs fs) ≡ n
+unfolding tagsFrom
+length-tagsFrom n bs fs = length-map (below n) (λ (i : ℕ). newTag (getD bs i 0) (getD fs i 0)) ∙ length-below n
 
 pub length-descriptor : (k count : ℕ) (bs fs : List ℕ) → length (descriptorFrom k (min count 8) bs fs) ≤ 32
 unfolding descriptorFrom descriptorWords
 length-descriptor k count bs fs =
     let n = min count 8 in
-    omega (arith, length-pairs (λ (h : Held). h .block) (λ (h : Held). h .flag) (heldOf n bs fs), length-heldOf n bs fs)
+    omega (arith, length-pairs (λ (h : Tag). h .block) (λ (h : Tag). h .flag) (tagsFrom n bs fs), length-tagsFrom n bs fs)
 
 -- the count that the code has is n
 module _ (k n m : ℕ) (e : m ≡ n) (bs fs : List ℕ) (i : ℕ) where
   descriptorHead : List ℕ
-  descriptorHead = mark ∷ 1 ∷ k ∷ length (heldOf n bs fs) ∷ []
+  descriptorHead = mark ∷ 1 ∷ k ∷ length (tagsFrom n bs fs) ∷ []
 
   pub descriptor-head : i < 4 → getD (mark ∷ 1 ∷ k ∷ m ∷ []) i 0 ≡ getD (descriptorFrom k n bs fs) i 0
   unfolding descriptorFrom descriptorWords descriptorHead
   descriptor-head h =
-      let l : m ≡ length (heldOf n bs fs) = e ∙ sym (length-heldOf n bs fs) in
-      rw l (word-head (λ (h : Held). h .block) (λ (h : Held). h .flag) descriptorHead 4 refl (heldOf n bs fs) i h)
+      let l : m ≡ length (tagsFrom n bs fs) = e ∙ sym (length-tagsFrom n bs fs) in
+      rw l (word-head (λ (h : Tag). h .block) (λ (h : Tag). h .flag) descriptorHead 4 refl (tagsFrom n bs fs) i h)
 
   pub descriptor-rest : 4 ≤ i → m ≤ (i - 4) / 2 → 0 ≡ getD (descriptorFrom k n bs fs) i 0
   unfolding descriptorFrom descriptorWords descriptorHead
-  descriptor-rest h q = word-rest (λ (h : Held). h .block) (λ (h : Held). h .flag) descriptorHead 4 refl (heldOf n bs fs) i h (omega (arith, length-heldOf n bs fs))
+  descriptor-rest h q = word-rest (λ (h : Tag). h .block) (λ (h : Tag). h .flag) descriptorHead 4 refl (tagsFrom n bs fs) i h (omega (arith, length-tagsFrom n bs fs))
 
   pub descriptor-pair : (x a b : ℕ) → x ≡ pairWord a b (i - 4) → a ≡ getD bs ((i - 4) / 2) 0 → b ≡ getD fs ((i - 4) / 2) 0
       → 4 ≤ i → (i - 4) / 2 < m → x ≡ getD (descriptorFrom k n bs fs) i 0
-  unfolding descriptorFrom descriptorWords descriptorHead heldOf
+  unfolding descriptorFrom descriptorWords descriptorHead tagsFrom
   descriptor-pair x a b v p r h q =
       let j = (i - 4) / 2 in
-      let t : getD (heldOf n bs fs) j (newHeld 0 0) ≡ newHeld (getD bs j 0) (getD fs j 0) = getD-map-below (λ (i : ℕ). newHeld (getD bs i 0) (getD fs i 0)) n j (newHeld 0 0) (omega arith) in
+      let t : getD (tagsFrom n bs fs) j (newTag 0 0) ≡ newTag (getD bs j 0) (getD fs j 0) = getD-map-below (λ (i : ℕ). newTag (getD bs i 0) (getD fs i 0)) n j (newTag 0 0) (omega arith) in
       v
       ∙ rw (p, r)
-      (ap (λ (h : Held). pairWord (h .block) (h .flag) (i - 4)) (sym t)
-      ∙ word-pair (λ (h : Held). h .block) (λ (h : Held). h .flag) descriptorHead 4 refl (heldOf n bs fs) i (newHeld 0 0) h (omega (arith, length-heldOf n bs fs)))
+      (ap (λ (h : Tag). pairWord (h .block) (h .flag) (i - 4)) (sym t)
+      ∙ word-pair (λ (h : Tag). h .block) (λ (h : Tag). h .flag) descriptorHead 4 refl (tagsFrom n bs fs) i (newTag 0 0) h (omega (arith, length-tagsFrom n bs fs)))
 
 -- ---- commit
 pub length-commit : (k stamp n : ℕ) (ns : List Name) → length ns ≡ 12 → length (commitWords k stamp (take n ns)) ≤ 32

@@ -4,7 +4,7 @@ ghost use mathlib.Core.List.{map};
 ghost use Prim.Native.Nat.{ℕ, _≤_, _<_, min};
 ghost use lib.ListN.{length, getD};
 ghost use Rattle.model.specs.Lists.{below};
-ghost use Rattle.model.specs.Layout.{newHeld, descriptorBlock, pairAt, isHeld, isDescriptor, blockCount};
+ghost use Rattle.model.specs.Layout.{newTag, descriptorBlock, pairAt, isTag, isDescriptor, blockCount};
 ghost use Rattle.layout.specs.Words.{descriptorFrom};
 ghost use Rattle.layout.specs.Loops.{every};
 ghost use Rattle.layout.specs.Distinct.{isNew};
@@ -39,7 +39,7 @@ pub fn write_descriptor(block: &mut [u8], number: u32, count: u8, blocks: [u8; 8
     requires { ⌜ length (now block) ≡ 128 ⌝ }
     ensures { λ _. ⌜
         now (block .exit)
-        ≡ descriptorBlock number (map (λ (i : ℕ). newHeld (getD blocks i 0) (getD flags i 0)) (below (min count 8)))
+        ≡ descriptorBlock number (map (λ (i : ℕ). newTag (getD blocks i 0) (getD flags i 0)) (below (min count 8)))
         ⌝ }
 {
     let mut i: usize = 0;
@@ -59,39 +59,39 @@ pub fn block_count(block: &[u8]) -> u32
 }
 
 // The i-th block of a descriptor.
-pub fn held_block(block: &[u8], i: usize) -> u32
+pub fn tag_block(block: &[u8], i: usize) -> u32
     requires { ⌜ (length (now block) ≡ 128) × (i < 8) ⌝ }
-    ensures { λ r. ⌜ r ≡ (pairAt newHeld (now (block .entry)) 16 i) .block ⌝ }
+    ensures { λ r. ⌜ r ≡ (pairAt newTag (now (block .entry)) 16 i) .block ⌝ }
 {
     get_word(block, 16 + 8 * i)
 }
 
 // The flag of the i-th block of a descriptor.
-pub fn held_flag(block: &[u8], i: usize) -> u32
+pub fn tag_flag(block: &[u8], i: usize) -> u32
     requires { ⌜ (length (now block) ≡ 128) × (i < 8) ⌝ }
-    ensures { λ r. ⌜ r ≡ (pairAt newHeld (now (block .entry)) 16 i) .flag ⌝ }
+    ensures { λ r. ⌜ r ≡ (pairAt newTag (now (block .entry)) 16 i) .flag ⌝ }
 {
     get_word(block, 16 + 8 * i + 4)
 }
 
 // The i-th block is one that the disk has, and its flag is 0 or 1.
-fn is_held(s: Shape, block: &[u8], i: usize) -> bool
+fn is_tag(s: Shape, block: &[u8], i: usize) -> bool
     requires { ⌜ (length (now block) ≡ 128) × (i < 8) ⌝ }
-    ensures { λ r. ⌜ r ≡ isHeld s (pairAt newHeld (now (block .entry)) 16 i) ⌝ }
+    ensures { λ r. ⌜ r ≡ isTag s (pairAt newTag (now (block .entry)) 16 i) ⌝ }
 {
-    if s.blocks as u32 <= held_block(block, i) {
+    if s.blocks as u32 <= tag_block(block, i) {
         return false;
     }
-    held_flag(block, i) <= 1
+    tag_flag(block, i) <= 1
 }
 
-fn are_held(s: Shape, block: &[u8], n: usize) -> bool
+fn are_tags(s: Shape, block: &[u8], n: usize) -> bool
     requires { ⌜ (length (now block) ≡ 128) × (n ≤ 8) ⌝ }
-    ensures { λ r. ⌜ r ≡ every n (λ (i : ℕ). isHeld s (pairAt newHeld (now (block .entry)) 16 i)) ⌝ }
+    ensures { λ r. ⌜ r ≡ every n (λ (i : ℕ). isTag s (pairAt newTag (now (block .entry)) 16 i)) ⌝ }
 {
     let mut i: usize = 0;
     while i < n {
-        if !is_held(s, block, i) {
+        if !is_tag(s, block, i) {
             return false;
         }
         i += 1;
@@ -104,10 +104,10 @@ fn is_new(block: &[u8], i: usize) -> bool
     requires { ⌜ (length (now block) ≡ 128) × (i < 8) ⌝ }
     ensures { λ r. ⌜ r ≡ isNew (now (block .entry)) i ⌝ }
 {
-    let x = held_block(block, i);
+    let x = tag_block(block, i);
     let mut j: usize = 0;
     while j < i {
-        if held_block(block, j) == x {
+        if tag_block(block, j) == x {
             return false;
         }
         j += 1;
@@ -144,7 +144,7 @@ pub fn is_descriptor(s: Shape, number: u32, block: &[u8]) -> bool
     if 8 < n {
         return false;
     }
-    if !are_held(s, block, n as usize) {
+    if !are_tags(s, block, n as usize) {
         return false;
     }
     are_new(block, n as usize)

@@ -10,7 +10,7 @@ use borrow.Author.Tests.{ltb-true}
 use Rattle.model.specs.Lists.{all, Each}
 use Rattle.model.specs.Bytes.{Bytes}
 use Rattle.model.specs.Card.{coreOf}
-use Rattle.model.specs.Command.{Outcome, refusal, First, here, later, Clear, refusedWith, unless, Decided, refused, carried-out, World, wrongLength}
+use Rattle.model.specs.Command.{Outcome, refusal, First, here, there, Clear, refusedWith, unless, Decided, refused, carried-out, World, wrongLength}
 use Rattle.model.specs.Tape.{Command, FORMAT, WRITE, CLOSE, STORE, CHECKPOINT, CUT, RECOVER, Read, whole, unknown, early, readAt, obeyed, commandAt, isEarly, isUnknown}
 use Rattle.model.specs.Format.{formatConditions, formatted}
 use Rattle.model.specs.Write.{writeConditions, written}
@@ -32,16 +32,16 @@ positive ns h = mem-each (λ (n : ℕ). 0 < n) ns (λ n m. ltb-true 0 n (all-mem
 pub first-refusal : {n : ℕ} {ts : List (Bool × ℕ)} → First n ts → refusal ts ≡ n
 unfolding refusal
 first-refusal (here h e) = rw (h, e)
-first-refusal (later h f) = rw h (first-refusal f)
+first-refusal (there h f) = rw h (first-refusal f)
 
 pub refusal-first : (ts : List (Bool × ℕ)) {n : ℕ} → refusal ts ≡ n → 0 < n → First n ts
 unfolding refusal
 refusal-first [] h p = absurd (omega arith)
-refusal-first (t ∷ ts) {n} h p = cases (t .0) (λ k. here k (rw k at h)) (λ k. later k (refusal-first ts (rw k at h) p))
+refusal-first (t ∷ ts) {n} h p = cases (t .0) (λ k. here k (rw k at h)) (λ k. there k (refusal-first ts (rw k at h) p))
 
 pub first-number : {n : ℕ} {ts : List (Bool × ℕ)} → First n ts → List·Memᴰ n (map (λ (t : Bool × ℕ). t .1) ts)
 first-number (here h e) = List·Memᴰ·head (sym e)
-first-number (later h f) = List·Memᴰ·tail (first-number f)
+first-number (there h f) = List·Memᴰ·tail (first-number f)
 
 pub clear-refusal : (ts : List (Bool × ℕ)) → Clear ts → refusal ts ≡ 0
 unfolding refusal
@@ -61,7 +61,7 @@ refusal-clear (t ∷ ts) p h = let r = refusal-passed (t .0) (t .1) ts (p .0) h 
 -- the same of two lists joined
 first-joined : {n : ℕ} {xs : List (Bool × ℕ)} (ys : List (Bool × ℕ)) → First n xs → First n (xs ++ ys)
 first-joined ys (here h e) = here h e
-first-joined ys (later h f) = later h (first-joined ys f)
+first-joined ys (there h f) = there h (first-joined ys f)
 
 clear-joined : (xs ys : List (Bool × ℕ)) → Clear xs → refusal (xs ++ ys) ≡ refusal ys
 unfolding refusal

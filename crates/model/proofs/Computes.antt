@@ -4,14 +4,14 @@ use Rattle.model.specs.Lists.{below, all, any, select}
 use Rattle.model.specs.Bytes.{bytes, number, part, be4, replaced, blockAt, store, padded, words, block, zeroDisk, zeroMemory}
 use Rattle.model.specs.Shape.{between, inRange, checked, journalBlock, nearest, clamped}
 use Rattle.model.specs.Card.{sameName, taken, listed, lists, withName, recordSize, freshCard, emptyCard, blankCard, downCard, shapeOf, tailOf, coreOf, holderOf, committedCount}
-use Rattle.model.specs.Layout.{hasHead, pairWords, pairAt, pairsIn, masterWords, masterBlock, shapeIn, tailIn, isTail, isMaster, descriptorWords, descriptorBlock, blockCount, heldIn, distinct, isHeld, isDescriptor, commitWords, commitBlock, stampIn, nameCount, namesIn, isListable, isCommit, flagOf, escaped, unescaped}
-use Rattle.model.specs.Journal.{journalAt, recordAt, recordsFrom, journal, journals, heldBy, blocksOf, namesOf, took, imageOf}
+use Rattle.model.specs.Layout.{hasHead, pairWords, pairAt, pairsIn, masterWords, masterBlock, shapeIn, tailIn, isTail, isMaster, descriptorWords, descriptorBlock, blockCount, tagsIn, distinct, isTag, isDescriptor, commitWords, commitBlock, stampIn, nameCount, namesIn, isListable, isCommit, flagOf, escaped, unescaped}
+use Rattle.model.specs.Journal.{journalAt, recordAt, recordsFrom, journal, journals, tagsOf, blocksOf, namesOf, took, imageOf}
 use Rattle.model.specs.Shrink.{strike, shrinkIn, shrink}
 use Rattle.model.specs.Valid.{isIn, isMet, namesMet, validSet, blocksHeld, later, newest}
 use Rattle.model.specs.Command.{refusal, unless, wrongLength, noCore, noBlock}
 use Rattle.model.specs.Format.{formatConditions, formatted, format}
-use Rattle.model.specs.Write.{writer, writerName, isRunning, ruleFor, writerAfter, passesNames, listsFull, closedBlocks, journalFull, writeConditions, writtenCard, writtenMemory, written, write}
-use Rattle.model.specs.Commit.{copyBlock, copied, closeConditions, closedCard, closed, close, heldCopies, nextStored, nextPosition, coreStored, storeConditions, stored, storeNext}
+use Rattle.model.specs.Write.{writer, writerName, isRunningIn, ruleFor, writerAfter, passesNames, listsFull, closedBlocks, journalFull, writeConditions, writtenCard, writtenMemory, written, write}
+use Rattle.model.specs.Commit.{copyBlock, copied, closeConditions, closedCard, closed, close, copyTags, nextStored, nextPosition, coreStored, storeConditions, stored, storeNext}
 use Rattle.model.specs.Checkpoint.{committedNow, validNow, committedOf, oldest, share, sharesLower, checkpointConditions, storedHome, released, retiredCard, storedMaster, checkpointed, checkpoint}
 use Rattle.model.specs.Recovery.{cutConditions, cut, shapeOn, tailOn, committedOn, validOn, recoverConditions, blocksLeft, placeOf, imageFound, newestImage, emptiedTail, broughtUp, recoverStep, recovered, recover}
 use Rattle.model.specs.Reading.{readConditions, readNumber, readBlock}
@@ -21,5 +21,5 @@ use Rattle.model.specs.Printing.{homeCount, isZero, homeLines, printed, 
 use Rattle.model.specs.Cases.{outcomeOf, cases}
 
 unfoldable pub computes : Unit {0}
-unfolding flatMap below all any select bytes number part be4 replaced blockAt store padded words block zeroDisk zeroMemory between inRange checked journalBlock nearest clamped sameName taken listed lists withName recordSize freshCard emptyCard blankCard downCard shapeOf tailOf coreOf holderOf committedCount hasHead pairWords pairAt pairsIn masterWords masterBlock shapeIn tailIn isTail isMaster descriptorWords descriptorBlock blockCount heldIn distinct isHeld isDescriptor commitWords commitBlock stampIn nameCount namesIn isListable isCommit flagOf escaped unescaped journalAt recordAt recordsFrom journal journals heldBy blocksOf namesOf took imageOf strike shrinkIn shrink isIn isMet namesMet validSet blocksHeld later newest refusal unless wrongLength noCore noBlock formatConditions formatted format writer writerName isRunning ruleFor writerAfter passesNames listsFull closedBlocks journalFull writeConditions writtenCard writtenMemory written write copyBlock copied closeConditions closedCard closed close heldCopies nextStored nextPosition coreStored storeConditions stored storeNext committedNow validNow committedOf oldest share sharesLower checkpointConditions storedHome released retiredCard storedMaster checkpointed checkpoint cutConditions cut shapeOn tailOn committedOn validOn recoverConditions blocksLeft placeOf imageFound newestImage emptiedTail broughtUp recoverStep recovered recover readConditions readNumber readBlock operandLengths operandLength decoded commandByte operandsAt wholeOrEarly readAt offsetPast nextOffset obeyed commandAt runFrom run worldAfter heard conditionsOf doneBy step stepAt conditionsOn doneOn homeCount isZero homeLines printed blankWorld outcomeOf cases
+unfolding flatMap below all any select bytes number part be4 replaced blockAt store padded words block zeroDisk zeroMemory between inRange checked journalBlock nearest clamped sameName taken listed lists withName recordSize freshCard emptyCard blankCard downCard shapeOf tailOf coreOf holderOf committedCount hasHead pairWords pairAt pairsIn masterWords masterBlock shapeIn tailIn isTail isMaster descriptorWords descriptorBlock blockCount tagsIn distinct isTag isDescriptor commitWords commitBlock stampIn nameCount namesIn isListable isCommit flagOf escaped unescaped journalAt recordAt recordsFrom journal journals tagsOf blocksOf namesOf took imageOf strike shrinkIn shrink isIn isMet namesMet validSet blocksHeld later newest refusal unless wrongLength noCore noBlock formatConditions formatted format writer writerName isRunningIn ruleFor writerAfter passesNames listsFull closedBlocks journalFull writeConditions writtenCard writtenMemory written write copyBlock copied closeConditions closedCard closed close copyTags nextStored nextPosition coreStored storeConditions stored storeNext committedNow validNow committedOf oldest share sharesLower checkpointConditions storedHome released retiredCard storedMaster checkpointed checkpoint cutConditions cut shapeOn tailOn committedOn validOn recoverConditions blocksLeft placeOf imageFound newestImage emptiedTail broughtUp recoverStep recovered recover readConditions readNumber readBlock operandLengths operandLength decoded commandByte operandsAt wholeOrEarly readAt offsetPast nextOffset obeyed commandAt runFrom run worldAfter heard conditionsOf doneBy step stepAt conditionsOn doneOn homeCount isZero homeLines printed blankWorld outcomeOf cases
 computes = tt

@@ -14,7 +14,7 @@ use Rattle.model.specs.Lists.{below, all, Each}
 use Rattle.model.specs.Bytes.{Bytes, bytes, number, part, be4, block}
 use Rattle.model.specs.Shape.{between}
 use Rattle.model.specs.Card.{newTail, newName}
-use Rattle.model.specs.Layout.{mark, hasHead, pairWords, pairAt, pairsIn, masterWords, masterBlock, shapeIn, tailIn, isTail, isMaster, Held, newHeld, descriptorWords, descriptorBlock, blockCount, heldIn, distinct, isHeld, isDescriptor, commitWords, commitBlock, stampIn, nameCount, namesIn, isListable, isCommit, flagOf, escaped, unescaped}
+use Rattle.model.specs.Layout.{mark, hasHead, pairWords, pairAt, pairsIn, masterWords, masterBlock, shapeIn, tailIn, isTail, isMaster, Tag, newTag, descriptorWords, descriptorBlock, blockCount, tagsIn, distinct, isTag, isDescriptor, commitWords, commitBlock, stampIn, nameCount, namesIn, isListable, isCommit, flagOf, escaped, unescaped}
 use Rattle.model.specs.Limits.{maxNumber}
 use Rattle.model.specs.declared.Shape.{Shape}
 use Rattle.model.specs.declared.Tail.{Tail}
@@ -136,11 +136,11 @@ module _ {s : Shape} (l : InRange s) (tailAt : ℕ → Tail) where
         simp (master-shape, master-word 0, master-word 1, test-range s l, t)
 
 -- ---- a transaction that keeps the rules of the format: its number, the blocks that it took, its stamp, its names
-pub record Sound (s : Shape) (k : ℕ) (hs : List Held) (stamp : ℕ) (ns : List Name) : Type 0 where
+pub record Encodable (s : Shape) (k : ℕ) (hs : List Tag) (stamp : ℕ) (ns : List Name) : Type 0 where
   pub shape : InRange s
   pub number : k ≤ maxNumber
   pub few : length hs ≤ 8
-  pub held : all (isHeld s) hs ≡ true
+  pub held : all (isTag s) hs ≡ true
   pub apart : distinct hs ≡ true
   pub stamped : 1 ≤ stamp
   pub stamp-fits : stamp < 18446744073709551616
@@ -149,28 +149,28 @@ pub record Sound (s : Shape) (k : ℕ) (hs : List Held) (stamp : ℕ) (ns : List
   pub numbers : Each (λ (n : Name). IsWord (n .number)) ns
 
 -- ---- descriptor
-pub length-descriptor : (k : ℕ) (hs : List Held) → length hs ≤ 8 → length (descriptorBlock k hs) ≡ 128
+pub length-descriptor : (k : ℕ) (hs : List Tag) → length hs ≤ 8 → length (descriptorBlock k hs) ≡ 128
 unfolding descriptorBlock descriptorWords
-length-descriptor k hs h = length-block _ (omega (arith, length-pairs (λ (h : Held). h .block) (λ (h : Held). h .flag) hs))
+length-descriptor k hs h = length-block _ (omega (arith, length-pairs (λ (h : Tag). h .block) (λ (h : Tag). h .flag) hs))
 
 pub length-commit : (k stamp : ℕ) (ns : List Name) → length ns ≤ 12 → length (commitBlock k stamp ns) ≡ 128
 unfolding commitBlock commitWords
 length-commit k stamp ns h = length-block _ (omega (arith, length-pairs (λ (n : Name). n .core) (λ (n : Name). n .number) ns))
 
-held-limits : (s : Shape) (h : Held) → isHeld s h ≡ true → (h .block < s .blocks) × (h .flag ≤ 1)
-unfolding isHeld
+held-limits : (s : Shape) (h : Tag) → isTag s h ≡ true → (h .block < s .blocks) × (h .flag ≤ 1)
+unfolding isTag
 held-limits s h e = (ltb-true (h .block) (s .blocks) (and-left _ _ e), leb-true (h .flag) 1 (and-right (ltb (h .block) (s .blocks)) _ e))
 
 listable-core : (s : Shape) (n : Name) → isListable s n ≡ true → n .core < s .cores
 unfolding isListable
 listable-core s n e = ltb-true (n .core) (s .cores) (and-left _ _ e)
 
-module _ {s : Shape} {k : ℕ} {hs : List Held} {stamp : ℕ} {ns : List Name} (g : Sound s k hs stamp ns) where
+module _ {s : Shape} {k : ℕ} {hs : List Tag} {stamp : ℕ} {ns : List Name} (g : Encodable s k hs stamp ns) where
   descriptor-fit : Each IsWord (descriptorWords k hs)
   unfolding descriptorWords
   descriptor-fit =
-      let pairs : Each (λ (h : Held). IsWord (h .block) × IsWord (h .flag)) hs = mem-each _ hs (λ h m. let r = held-limits s h (all-mem (isHeld s) hs (g .held) m) in (omega (arith, g .shape .few-blocks), omega arith)) in
-      (omega arith, (omega arith, (omega (arith, g .number), (omega (arith, g .few), each-pairs (λ (h : Held). h .block) (λ (h : Held). h .flag) hs pairs))))
+      let pairs : Each (λ (h : Tag). IsWord (h .block) × IsWord (h .flag)) hs = mem-each _ hs (λ h m. let r = held-limits s h (all-mem (isTag s) hs (g .held) m) in (omega (arith, g .shape .few-blocks), omega arith)) in
+      (omega arith, (omega arith, (omega (arith, g .number), (omega (arith, g .few), each-pairs (λ (h : Tag). h .block) (λ (h : Tag). h .flag) hs pairs))))
 
   descriptor-word : (i : ℕ) → be4 (descriptorBlock k hs) (4 * i) ≡ getD (descriptorWords k hs) i 0
   unfolding descriptorBlock descriptorWords
@@ -184,14 +184,14 @@ module _ {s : Shape} {k : ℕ} {hs : List Held} {stamp : ℕ} {ns : List Name} (
   unfolding blockCount descriptorWords
   descriptor-count = descriptor-word 3
 
-  pub descriptor-held : heldIn (descriptorBlock k hs) (length hs) ≡ hs
-  unfolding heldIn descriptorBlock descriptorWords
-  descriptor-held = pairs-of (λ (h : Held). h .block) (λ (h : Held). h .flag) newHeld (λ h. refl) (descriptorWords k hs) descriptor-fit hs 4 refl
+  pub descriptor-tags : tagsIn (descriptorBlock k hs) (length hs) ≡ hs
+  unfolding tagsIn descriptorBlock descriptorWords
+  descriptor-tags = pairs-of (λ (h : Tag). h .block) (λ (h : Tag). h .flag) newTag (λ h. refl) (descriptorWords k hs) descriptor-fit hs 4 refl
 
   pub descriptor-read : isDescriptor s k (descriptorBlock k hs) ≡ true
   unfolding isDescriptor
   descriptor-read =
-      simp (descriptor-head, descriptor-count, descriptor-held, le-leb k maxNumber (g .number), le-leb (length hs) 8 (g .few), g .held, g .apart)
+      simp (descriptor-head, descriptor-count, descriptor-tags, le-leb k maxNumber (g .number), le-leb (length hs) 8 (g .few), g .held, g .apart)
 
   commit-fit : Each IsWord (commitWords k stamp ns)
   unfolding commitWords

@@ -15,8 +15,8 @@ use lib.Dec.{leb}
 use borrow.Author.Tests.{le-leb, leb-true}
 use Rattle.model.specs.Bytes.{Bytes, blockAt, store, be4, part, number}
 use Rattle.model.specs.Shape.{journalBlock}
-use Rattle.model.specs.Layout.{Held, newHeld, hasHead, descriptorBlock, blockCount, isDescriptor, commitBlock, stampIn, nameCount, isCommit, flagOf, escaped}
-use Rattle.model.specs.Journal.{journalAt, recordAt, recordsFrom, heldBy, namesOf, imageOf}
+use Rattle.model.specs.Layout.{Tag, newTag, hasHead, descriptorBlock, blockCount, isDescriptor, commitBlock, stampIn, nameCount, isCommit, flagOf, escaped}
+use Rattle.model.specs.Journal.{journalAt, recordAt, recordsFrom, tagsOf, namesOf, imageOf}
 use Rattle.model.specs.declared.Shape.{Shape}
 use Rattle.model.specs.declared.Name.{Name}
 use Rattle.model.specs.declared.Committed.{Committed}
@@ -28,7 +28,7 @@ use Rattle.model.proofs.Lists.{cases, and-left, and-right, each-append,
 use Rattle.model.proofs.Store.{length-store, block-stored, block-other}
 use Rattle.model.proofs.Words.{IsByte}
 use Rattle.model.proofs.Limits.{InRange}
-use Rattle.model.proofs.Encoding.{Sound, length-descriptor, length-commit, descriptor-count, descriptor-held, descriptor-read, commit-stamp, commit-count, commit-names, commit-read, length-escaped, unescaped-escaped}
+use Rattle.model.proofs.Encoding.{Encodable, length-descriptor, length-commit, descriptor-count, descriptor-tags, descriptor-read, commit-stamp, commit-count, commit-names, commit-read, length-escaped, unescaped-escaped}
 
 -- ---- where the blocks of a journal stand
 pub journal-low : {s : Shape} → InRange s → (c p : ℕ) → c < s .cores → journalBlock s c p < 257
@@ -76,8 +76,8 @@ unfoldable pub storesAt : Shape → ℕ → ℕ → List Bytes → Bytes → Byt
 storesAt s c p [] d = d
 storesAt s c p (b ∷ bs) d = storesAt s c (p + 1) bs (store d (journalBlock s c p) b)
 
-abbrev pub IsBlock : Bytes → Type 0
-IsBlock b = length b ≡ 128
+abbrev pub IsLong : Bytes → Type 0
+IsLong b = length b ≡ 128
 
 next : (p i : ℕ) → p + suc i ≡ p + 1 + i
 next p i = omega arith
@@ -87,7 +87,7 @@ module _ {s : Shape} (l : InRange s) (c : ℕ) (in-range : c < s .cores) where
   fits p d n = omega (arith, journal-low l c p in-range)
 
   -- what is elsewhere stays
-  pub stores-other : (bs : List Bytes) (p : ℕ) (d : Bytes) → Each IsBlock bs → length d ≡ 32896 → (k : ℕ)
+  pub stores-other : (bs : List Bytes) (p : ℕ) (d : Bytes) → Each IsLong bs → length d ≡ 32896 → (k : ℕ)
       → ((i : ℕ) → i < length bs → k ≢ journalBlock s c (p + i)) → blockAt (storesAt s c p bs d) k ≡ blockAt d k
   unfolding storesAt
   stores-other [] p d z n k h = refl
@@ -101,7 +101,7 @@ module _ {s : Shape} (l : InRange s) (c : ℕ) (in-range : c < s .cores) where
       rw (← next p i)
       (subst (λ (q : ℕ). journalBlock s c q ≢ journalBlock s c (p + suc i)) (add-zero p) (journal-apart s c p 0 (suc i) (omega arith) h (omega arith)))
 
-  pub stores-in : (bs : List Bytes) (p : ℕ) (d : Bytes) → Each IsBlock bs → length d ≡ 32896 → length bs ≤ s .journal → (i : ℕ) → i < length bs
+  pub stores-in : (bs : List Bytes) (p : ℕ) (d : Bytes) → Each IsLong bs → length d ≡ 32896 → length bs ≤ s .journal → (i : ℕ) → i < length bs
       → journalAt s (storesAt s c p bs d) c (p + i) ≡ getD bs i []
   unfolding storesAt journalAt
   stores-in [] p d z n m i h = absurd (omega arith)
@@ -115,20 +115,20 @@ module _ {s : Shape} (l : InRange s) (c : ℕ) (in-range : c < s .cores) where
       rw (next p i) (stores-in bs (p + 1) (store d (journalBlock s c p) b) (z .1) n₂ (omega arith) i (omega arith))
 
 -- ---- one record: its blocks in the order stored, and where they stand
-unfoldable pub recordBlocks : ℕ → List Held → ℕ → List Name → List Bytes → List Bytes
-recordBlocks k hs stamp ns images = descriptorBlock k hs ∷ (map escaped images ++ (commitBlock k stamp ns ∷ []))
+unfoldable pub encodedRecord : ℕ → List Tag → ℕ → List Name → List Bytes → List Bytes
+encodedRecord k hs stamp ns images = descriptorBlock k hs ∷ (map escaped images ++ (commitBlock k stamp ns ∷ []))
 
-module _ (k : ℕ) (hs : List Held) (stamp : ℕ) (ns : List Name) (images : List Bytes) where
-  pub length-recordBlocks : length (recordBlocks k hs stamp ns images) ≡ length images + 2
-  unfolding recordBlocks
-  length-recordBlocks = simp length-append (omega (arith, length-map images escaped))
+module _ (k : ℕ) (hs : List Tag) (stamp : ℕ) (ns : List Name) (images : List Bytes) where
+  pub length-encodedRecord : length (encodedRecord k hs stamp ns images) ≡ length images + 2
+  unfolding encodedRecord
+  length-encodedRecord = simp length-append (omega (arith, length-map images escaped))
 
   -- what holds of the descriptor, of each image as it is stored and of the commit holds of each block
-  pub recordBlocks-each : (P : ℕ → Bytes → Type 0) → P 0 (descriptorBlock k hs) → ((i : ℕ) → i < length images → P (suc i) (escaped (getD images i [])))
-      → P (suc (length images)) (commitBlock k stamp ns) → (i : ℕ) → i < length images + 2 → P i (getD (recordBlocks k hs stamp ns images) i [])
-  unfolding recordBlocks
-  recordBlocks-each P a b c zero h = a
-  recordBlocks-each P a b c (suc i) h =
+  pub encodedRecord-each : (P : ℕ → Bytes → Type 0) → P 0 (descriptorBlock k hs) → ((i : ℕ) → i < length images → P (suc i) (escaped (getD images i [])))
+      → P (suc (length images)) (commitBlock k stamp ns) → (i : ℕ) → i < length images + 2 → P i (getD (encodedRecord k hs stamp ns images) i [])
+  unfolding encodedRecord
+  encodedRecord-each P a b c zero h = a
+  encodedRecord-each P a b c (suc i) h =
       let n = length-map images escaped in
       let last = commitBlock k stamp ns in
       let at : getD (map escaped images) i [] ≡ escaped (getD images i []) = unfold escaped be4 part number in List·getD-map escaped images i [] in
@@ -140,34 +140,34 @@ module _ (k : ℕ) (hs : List Held) (stamp : ℕ) (ns : List Name) (images : Lis
       ]
 
 -- blocks of bytes, with the flags that the descriptor has for them
-pub record Images (hs : List Held) (images : List Bytes) : Type 0 where
-  pub flags : map (λ (h : Held). h .flag) hs ≡ map flagOf images
-  pub sizes : Each IsBlock images
+pub record Images (hs : List Tag) (images : List Bytes) : Type 0 where
+  pub flags : map (λ (h : Tag). h .flag) hs ≡ map flagOf images
+  pub sizes : Each IsLong images
   pub bytes : Each (Each IsByte) images
 
-images-length : {hs : List Held} {images : List Bytes} → Images hs images → length images ≡ length hs
+images-length : {hs : List Tag} {images : List Bytes} → Images hs images → length images ≡ length hs
 images-length {hs} {images} z =
-    sym (length-map images flagOf) ∙ ap length (sym (z .flags)) ∙ length-map hs (λ (h : Held). h .flag)
+    sym (length-map images flagOf) ∙ ap length (sym (z .flags)) ∙ length-map hs (λ (h : Tag). h .flag)
 
-image-flag : {hs : List Held} {images : List Bytes} → Images hs images → (i : ℕ) → (getD hs i (newHeld 0 0)) .flag ≡ flagOf (getD images i [])
+image-flag : {hs : List Tag} {images : List Bytes} → Images hs images → (i : ℕ) → (getD hs i (newTag 0 0)) .flag ≡ flagOf (getD images i [])
 unfolding flagOf be4 part number
 image-flag {hs} {images} z i =
-    sym (List·getD-map (λ (h : Held). h .flag) hs i (newHeld 0 0)) ∙ ap (λ (l : List ℕ). getD l i 0) (z .flags) ∙ List·getD-map flagOf images i []
+    sym (List·getD-map (λ (h : Tag). h .flag) hs i (newTag 0 0)) ∙ ap (λ (l : List ℕ). getD l i 0) (z .flags) ∙ List·getD-map flagOf images i []
 
-pub record Stands (s : Shape) (d : Bytes) (c p k : ℕ) (hs : List Held) (stamp : ℕ) (ns : List Name) (images : List Bytes) : Type 0 where
+pub record Stands (s : Shape) (d : Bytes) (c p k : ℕ) (hs : List Tag) (stamp : ℕ) (ns : List Name) (images : List Bytes) : Type 0 where
   pub descriptor : journalAt s d c p ≡ descriptorBlock k hs
   pub data-blocks : (i : ℕ) → i < length hs → journalAt s d c (p + (i + 1)) ≡ escaped (getD images i [])
   pub commit : journalAt s d c (p + (length hs + 1)) ≡ commitBlock k stamp ns
 
-each-escaped : (images : List Bytes) → Each IsBlock images → Each IsBlock (map escaped images)
+each-escaped : (images : List Bytes) → Each IsLong images → Each IsLong (map escaped images)
 each-escaped [] z = tt
 each-escaped (b ∷ bs) z = (length-escaped b (omega (arith, z .0)) ∙ z .0, each-escaped bs (z .1))
 
 -- a record whose blocks stand one after the other stands
-pub record-stands : {s : Shape} {d : Bytes} {c p k : ℕ} {hs : List Held} {stamp : ℕ} {ns : List Name} {images : List Bytes} → length images ≡ length hs
-    → ((q : ℕ) → q < length hs + 2 → journalAt s d c (p + q) ≡ getD (recordBlocks k hs stamp ns images) q [])
+pub record-stands : {s : Shape} {d : Bytes} {c p k : ℕ} {hs : List Tag} {stamp : ℕ} {ns : List Name} {images : List Bytes} → length images ≡ length hs
+    → ((q : ℕ) → q < length hs + 2 → journalAt s d c (p + q) ≡ getD (encodedRecord k hs stamp ns images) q [])
     → Stands s d c p k hs stamp ns images
-unfolding recordBlocks
+unfolding encodedRecord
 record-stands {k = k} {hs = hs} {stamp = stamp} {ns = ns} {images = images} n read =
     let m : length (map escaped images) ≡ length hs = length-map images escaped ∙ n in
     record {
@@ -180,33 +180,33 @@ record-stands {k = k} {hs = hs} {stamp = stamp} {ns = ns} {images = images} n re
     }
 
 -- a record stored block by block stands
-pub stored-stands : {s : Shape} {k : ℕ} {hs : List Held} {stamp : ℕ} {ns : List Name} {images : List Bytes} → Sound s k hs stamp ns → Images hs images
+pub stored-stands : {s : Shape} {k : ℕ} {hs : List Tag} {stamp : ℕ} {ns : List Name} {images : List Bytes} → Encodable s k hs stamp ns → Images hs images
     → (d : Bytes) (c p : ℕ) → c < s .cores → length d ≡ 32896 → length hs + 2 ≤ s .journal
-    → Stands s (storesAt s c p (recordBlocks k hs stamp ns images) d) c p k hs stamp ns images
+    → Stands s (storesAt s c p (encodedRecord k hs stamp ns images) d) c p k hs stamp ns images
 stored-stands {s} {k} {hs} {stamp} {ns} {images} g z d c p h n j =
-    let size : length (recordBlocks k hs stamp ns images) ≡ length hs + 2 = length-recordBlocks k hs stamp ns images ∙ ap (λ (i : ℕ). i + 2) (images-length z) in
-    let whole : Each IsBlock (recordBlocks k hs stamp ns images) =
-    unfold recordBlocks in (
+    let size : length (encodedRecord k hs stamp ns images) ≡ length hs + 2 = length-encodedRecord k hs stamp ns images ∙ ap (λ (i : ℕ). i + 2) (images-length z) in
+    let whole : Each IsLong (encodedRecord k hs stamp ns images) =
+    unfold encodedRecord in (
       length-descriptor k hs (g .few),
-      each-append IsBlock (map escaped images) (commitBlock k stamp ns ∷ []) (each-escaped images (z .sizes)) (length-commit k stamp ns (g .short), tt),
+      each-append IsLong (map escaped images) (commitBlock k stamp ns ∷ []) (each-escaped images (z .sizes)) (length-commit k stamp ns (g .short), tt),
     ) in
-    record-stands (images-length z) (λ q l. stores-in (g .shape) c h (recordBlocks k hs stamp ns images) p d whole n (omega arith) q (omega arith))
+    record-stands (images-length z) (λ q l. stores-in (g .shape) c h (encodedRecord k hs stamp ns images) p d whole n (omega arith) q (omega arith))
 
 -- ---- the record at a position
 -- the record as it is read
-abbrev pub asRead : ℕ → ℕ → ℕ → List Held → ℕ → List Name → Committed
+abbrev pub asRead : ℕ → ℕ → ℕ → List Tag → ℕ → List Name → Committed
 asRead c p k hs stamp ns = record { core = c; number = k; position = p; count = length hs; stamp = stamp; named = length ns }
 
-module _ {s : Shape} {d : Bytes} {c p k : ℕ} {hs : List Held} {stamp : ℕ} {ns : List Name} {images : List Bytes} (g : Sound s k hs stamp ns)
+module _ {s : Shape} {d : Bytes} {c p k : ℕ} {hs : List Tag} {stamp : ℕ} {ns : List Name} {images : List Bytes} (g : Encodable s k hs stamp ns)
     (st : Stands s d c p k hs stamp ns images) where
   pub record-read : (left : ℕ) → length hs + 2 ≤ left → recordAt s d c k p left ≡ Whole (asRead c p k hs stamp ns)
   unfolding recordAt
   record-read left h =
       simp (st .descriptor, descriptor-count g, st .commit, descriptor-read g, le-leb (length hs + 2) left h, commit-read g, commit-stamp g, commit-count g)
 
-  pub held-read : heldBy s d (asRead c p k hs stamp ns) ≡ hs
-  unfolding heldBy
-  held-read = rw (st .descriptor) (descriptor-held g)
+  pub tags-read : tagsOf s d (asRead c p k hs stamp ns) ≡ hs
+  unfolding tagsOf
+  tags-read = rw (st .descriptor) (descriptor-tags g)
 
   pub names-read : namesOf s d (asRead c p k hs stamp ns) ≡ ns
   unfolding namesOf
@@ -216,8 +216,8 @@ module _ {s : Shape} {d : Bytes} {c p k : ℕ} {hs : List Held} {stamp : ℕ} {n
   unfolding imageOf
   image-read z i h =
       let n : i < length images = omega (arith, images-length z) in
-      let size : length (getD images i []) ≡ 128 = each-getD IsBlock images (z .sizes) i [] n in
-      rw (held-read, st .data-blocks i h, image-flag z i) (unescaped-escaped (getD images i []) (omega arith) (each-getD (Each IsByte) images (z .bytes) i [] n))
+      let size : length (getD images i []) ≡ 128 = each-getD IsLong images (z .sizes) i [] n in
+      rw (tags-read, st .data-blocks i h, image-flag z i) (unescaped-escaped (getD images i []) (omega arith) (each-getD (Each IsByte) images (z .bytes) i [] n))
 
 -- ---- a step of the reading
 module _ (s : Shape) (d : Bytes) (c k p left : ℕ) where
@@ -243,7 +243,7 @@ module _ (s : Shape) (d : Bytes) (c k p left : ℕ) where
 
 -- ---- a record that was read
 -- what is known of a record of core c with number k
-pub record Known (s : Shape) (d : Bytes) (c k : ℕ) (e : Committed) : Type 0 where
+pub record KnownRecord (s : Shape) (d : Bytes) (c k : ℕ) (e : Committed) : Type 0 where
   pub core : e .core ≡ c
   pub number : e .number ≡ k
   pub few : e .count ≤ 8
@@ -267,7 +267,7 @@ found-cases (Whole e) f g = g e refl
 found-cases Miss f g = f refl
 
 module _ (s : Shape) (d : Bytes) (c : ℕ) where
-  pub record-known : (k p left : ℕ) (e : Committed) → recordAt s d c k p left ≡ Whole e → Known s d c k e × (e .position ≡ p) × (e .count + 2 ≤ left)
+  pub record-known : (k p left : ℕ) (e : Committed) → recordAt s d c k p left ≡ Whole e → KnownRecord s d c k e × (e .position ≡ p) × (e .count + 2 ≤ left)
   unfolding recordAt
   record-known k p left e h =
       let b = journalAt s d c p in
@@ -284,7 +284,7 @@ module _ (s : Shape) (d : Bytes) (c : ℕ) where
       let q : Whole x ≡ Whole e = sym w ∙ h in
       let same : x ≡ e = cc in
       let size : n + 2 ≤ left = leb-true (n + 2) left (and-right (isDescriptor s k b) (leb (n + 2) left) dl) in
-      let known : Known s d c k x =
+      let known : KnownRecord s d c k x =
       record {
         core = refl;
         number = refl;
@@ -296,7 +296,7 @@ module _ (s : Shape) (d : Bytes) (c : ℕ) where
         stamp = refl;
         named = refl;
       } in
-      subst (λ (r : Committed). Known s d c k r × (r .position ≡ p) × (r .count + 2 ≤ left)) same (known, refl, size))
+      subst (λ (r : Committed). KnownRecord s d c k r × (r .position ≡ p) × (r .count + 2 ≤ left)) same (known, refl, size))
       (λ y.
       let w : cond t (Whole x) Miss ≡ Miss = rw y in
       let q : Whole e ≡ Miss = sym h ∙ w in
@@ -305,7 +305,7 @@ module _ (s : Shape) (d : Bytes) (c : ℕ) where
 
   -- every record read is a whole one, their numbers follow one another, and they stand at positions below J
   pub records-known : (most k p left i : ℕ) (z : Committed) → i < length (recordsFrom most s d c k p left)
-      → Known s d c (k + i) (getD (recordsFrom most s d c k p left) i z) × (p < s .journal → (getD (recordsFrom most s d c k p left) i z) .position < s .journal)
+      → KnownRecord s d c (k + i) (getD (recordsFrom most s d c k p left) i z) × (p < s .journal → (getD (recordsFrom most s d c k p left) i z) .position < s .journal)
   records-known zero k p left i z h = let l : i < 0 = unfold recordsFrom in h in absurd (omega arith)
   records-known (suc most) k p left i z h =
       found-cases (recordAt s d c k p left)
@@ -319,9 +319,9 @@ module _ (s : Shape) (d : Bytes) (c : ℕ) where
       (step e (recordsFrom most s d c (k + 1) q rest) (known .0, λ j. omega (arith, known .1))
       (λ n l. let r = records-known most (k + 1) q rest n z l in (r .0, λ j. r .1 (mod-lt (p + (e .count + 2)) (omega arith)))) i (omega (arith, ap length eq))))
     where
-      step : (e : Committed) (r : List Committed) → Known s d c k e × (p < s .journal → e .position < s .journal)
-          → ((n : ℕ) → n < length r → Known s d c (k + 1 + n) (getD r n z) × (p < s .journal → (getD r n z) .position < s .journal)) → (i : ℕ) → i < suc (length r)
-          → Known s d c (k + i) (getD (e ∷ r) i z) × (p < s .journal → (getD (e ∷ r) i z) .position < s .journal)
+      step : (e : Committed) (r : List Committed) → KnownRecord s d c k e × (p < s .journal → e .position < s .journal)
+          → ((n : ℕ) → n < length r → KnownRecord s d c (k + 1 + n) (getD r n z) × (p < s .journal → (getD r n z) .position < s .journal)) → (i : ℕ) → i < suc (length r)
+          → KnownRecord s d c (k + i) (getD (e ∷ r) i z) × (p < s .journal → (getD (e ∷ r) i z) .position < s .journal)
       step e r a b zero l = rw (add-zero k) a
       step e r a b (suc n) l = rw (next k n) (b n (omega arith))
 

@@ -16,8 +16,8 @@ pub cases : {A : Type 0} (t : Bool) → (t ≡ true → A) → (t ≡ false → 
 cases true f g = f refl
 cases false f g = g refl
 
-pub both-ways : {a b : Bool} → (a ≡ true → b ≡ true) → (b ≡ true → a ≡ true) → a ≡ b
-both-ways {a} {b} f g = cases a (λ h. h ∙ sym (f h)) (λ h. cases b (λ k. g k ∙ sym k) (λ k. h ∙ sym k))
+pub bool-ext : {a b : Bool} → (a ≡ true → b ≡ true) → (b ≡ true → a ≡ true) → a ≡ b
+bool-ext {a} {b} f g = cases a (λ h. h ∙ sym (f h)) (λ h. cases b (λ k. g k ∙ sym k) (λ k. h ∙ sym k))
 
 pub and-both : {a b : Bool} → a ≡ true → b ≡ true → (a && b) ≡ true
 and-both p q = rw (p, q)

@@ -17,7 +17,7 @@ use Rattle.model.specs.Valid.{blocksHeld}
 use Rattle.model.specs.Command.{World, Outcome, wrongLength, noCore, Clear, refusedWith, Decided, refused, carried-out}
 use Rattle.model.specs.Format.{formatConditions, formatted, format}
 use Rattle.model.specs.Write.{written}
-use Rattle.model.specs.Commit.{closed, copyBlock, heldCopies, closedNumber, storeConditions, stored, nextStored, nextPosition}
+use Rattle.model.specs.Commit.{closed, copyBlock, copyTags, closedNumber, storeConditions, stored, nextStored, nextPosition}
 use Rattle.model.specs.Checkpoint.{committedOf, oldest, checkpointConditions, storedHome, storedMaster, retiredCard, checkpointed}
 use Rattle.model.specs.Recovery.{shapeOn, tailOn, committedOn, validOn, recoverConditions, blocksLeft, imageFound, newestImage, emptiedTail, recoverStep, recovered}
 use Rattle.model.specs.Step.{step, conditionsOf, doneBy}
@@ -61,19 +61,19 @@ right-lengths w h =
     (λ a. let z : true ≡ false = rw a at h in absurd (true≢false z))
 
 -- ---- what a command stores
-pub data Stored (s : Shape) : ℕ → Type 0 where
-  master : Stored s 0
-  home : {b : ℕ} → b < s .blocks → Stored s (homeBlock b)
-  position : {c : ℕ} → c < s .cores → (p : ℕ) → Stored s (journalBlock s c p)
+pub data StorePlace (s : Shape) : ℕ → Type 0 where
+  master : StorePlace s 0
+  home : {b : ℕ} → b < s .blocks → StorePlace s (homeBlock b)
+  position : {c : ℕ} → c < s .cores → (p : ℕ) → StorePlace s (journalBlock s c p)
 
 pub data OneStore (s : Shape) (d : Bytes) (o : Outcome World) : Type 0 where
   none-stored : o .world .disk ≡ d → o .stores ≡ 0 → OneStore s d o
-  one-stored : {k : ℕ} → Stored s k → (b : Bytes) → length b ≡ 128 → o .world .disk ≡ store d k b → o .stores ≡ 1 → OneStore s d o
+  one-stored : {k : ℕ} → StorePlace s k → (b : Bytes) → length b ≡ 128 → o .world .disk ≡ store d k b → o .stores ≡ 1 → OneStore s d o
 
-pub stored-low : {s : Shape} {k : ℕ} → InRange s → Stored s k → k < 257
-stored-low l master = omega arith
-stored-low l (home h) = omega arith
-stored-low l (position h p) = journal-low l _ p h
+pub storePlace-low : {s : Shape} {k : ℕ} → InRange s → StorePlace s k → k < 257
+storePlace-low l master = omega arith
+storePlace-low l (home h) = omega arith
+storePlace-low l (position h p) = journal-low l _ p h
 
 -- ---- STORE
 pub few-taken : (t : Transaction) → FitsTransaction t → length (taken t) ≤ 8
@@ -84,17 +84,17 @@ few-listed : (t : Transaction) → FitsTransaction t → length (listed t) ≤ 1
 unfolding listed
 few-listed t f = simp length-take (omega arith)
 
-length-heldCopies : (c : ℕ) (bs : List ℕ) (m : Bytes) → length (heldCopies c bs m) ≡ length bs
-unfolding heldCopies
-length-heldCopies c bs m = simp (length-map, length-below)
+length-copyTags : (c : ℕ) (bs : List ℕ) (m : Bytes) → length (copyTags c bs m) ≡ length bs
+unfolding copyTags
+length-copyTags c bs m = simp (length-map, length-below)
 
 length-nextStored : (c : ℕ) (k : Core) (m : Bytes) → FitsCore k → c < 8 → length m ≡ 16384 → length (nextStored c k m) ≡ 128
 unfolding nextStored copyBlock
 length-nextStored c k m f h n =
     let t = k .closed in
     let l = few-taken t (f .closed) in
-    let g : length (heldCopies c (taken t) m) ≤ 8 = rw length-heldCopies l in
-    of-cond (λ (b : Bytes). length b ≡ 128) (eqb (k .stored) 0) (length-descriptor (closedNumber k) (heldCopies c (taken t) m) g)
+    let g : length (copyTags c (taken t) m) ≤ 8 = rw length-copyTags l in
+    of-cond (λ (b : Bytes). length b ≡ 128) (eqb (k .stored) 0) (length-descriptor (closedNumber k) (copyTags c (taken t) m) g)
     (cases (leb (k .stored) (length (taken t)))
     (λ a.
     let j : k .stored ≤ length (taken t) = leb-true _ _ a in

@@ -11,8 +11,8 @@ use borrow.Author.Tests.{ltb-true}
 use Rattle.model.specs.Lists.{below, all, Each}
 use Rattle.model.specs.Bytes.{Bytes}
 use Rattle.model.specs.Shape.{journalBlock}
-use Rattle.model.specs.Layout.{Held, pairsIn, hasHead, blockCount, heldIn, distinct, isHeld, isDescriptor}
-use Rattle.model.specs.Journal.{nameOf, journalAt, journal, journals, heldBy, blocksOf, took, imageOf}
+use Rattle.model.specs.Layout.{Tag, pairsIn, hasHead, blockCount, tagsIn, distinct, isTag, isDescriptor}
+use Rattle.model.specs.Journal.{nameOf, journalAt, journal, journals, tagsOf, blocksOf, took, imageOf}
 use Rattle.model.specs.Valid.{later, newest}
 use Rattle.model.specs.Checkpoint.{oldest}
 use Rattle.model.specs.Limits.{maxNumber}
@@ -26,47 +26,47 @@ use Rattle.model.proofs.Limits.{InRange}
 use Rattle.model.proofs.Lists.{and-left, and-right, all-mem, getD-mem, mem-getD, mem-flatMap, mem-below, length-below}
 use Rattle.model.proofs.Store.{length-blockAt}
 use Rattle.model.proofs.Encoding.{length-unescaped}
-use Rattle.model.proofs.Journal.{journal-low, Known, records-known}
+use Rattle.model.proofs.Journal.{journal-low, KnownRecord, records-known}
 use Rattle.model.proofs.Shrink.{Distinct}
 use Rattle.model.proofs.Command.{of-cond}
 
 pub length-blocksOf : (s : Shape) (d : Bytes) (e : Committed) → length (blocksOf s d e) ≡ e .count
-unfolding blocksOf heldBy heldIn pairsIn
+unfolding blocksOf tagsOf tagsIn pairsIn
 length-blocksOf s d e = simp (length-map, length-below)
 
 -- a block of a record read is below B
-pub known-below : (s : Shape) (d : Bytes) (c k : ℕ) (e : Committed) → Known s d c k e → (i : ℕ) → i < e .count → getD (blocksOf s d e) i 0 < s .blocks
-unfolding isDescriptor blocksOf heldBy isHeld
+pub known-below : (s : Shape) (d : Bytes) (c k : ℕ) (e : Committed) → KnownRecord s d c k e → (i : ℕ) → i < e .count → getD (blocksOf s d e) i 0 < s .blocks
+unfolding isDescriptor blocksOf tagsOf isTag
 known-below s d c k e r i h =
     let b = journalAt s d c (e .position) in
     let n = blockCount b in
-    let a : all (isHeld s) (heldIn b n) ≡ true =
-    and-right (hasHead 1 k b && leb k maxNumber && leb n 8) (all (isHeld s) (heldIn b n)) (and-left _ (distinct (heldIn b n)) (r .descriptor)) in
-    let a₂ : all (isHeld s) (heldBy s d e) ≡ true = rw (r .core, ← r .count) a in
+    let a : all (isTag s) (tagsIn b n) ≡ true =
+    and-right (hasHead 1 k b && leb k maxNumber && leb n 8) (all (isTag s) (tagsIn b n)) (and-left _ (distinct (tagsIn b n)) (r .descriptor)) in
+    let a₂ : all (isTag s) (tagsOf s d e) ≡ true = rw (r .core, ← r .count) a in
     let l : i < length (blocksOf s d e) = rw length-blocksOf h in
-    let m = Memᴰ·of-map (λ (x : Held). x .block) (heldBy s d e) (getD-mem (blocksOf s d e) i 0 l) in
-    rw (← m .2) (ltb-true ((m .0) .block) (s .blocks) (and-left (ltb ((m .0) .block) (s .blocks)) _ (all-mem (isHeld s) (heldBy s d e) a₂ (m .1))))
+    let m = Memᴰ·of-map (λ (x : Tag). x .block) (tagsOf s d e) (getD-mem (blocksOf s d e) i 0 l) in
+    rw (← m .2) (ltb-true ((m .0) .block) (s .blocks) (and-left (ltb ((m .0) .block) (s .blocks)) _ (all-mem (isTag s) (tagsOf s d e) a₂ (m .1))))
 
 -- the one at index i, with its number
 journal-at : (s : Shape) (d : Bytes) (c : ℕ) (t : Tail) (most i : ℕ) → i < length (journal s d c t most)
-    → Known s d c (t .number + i) (getD (journal s d c t most) i (oldest []))
+    → KnownRecord s d c (t .number + i) (getD (journal s d c t most) i (oldest []))
 unfolding journal
 journal-at s d c t most i h = records-known s d c most (t .number) (t .position) (s .journal) i (oldest []) h .0
 
 pub journal-known : (s : Shape) (d : Bytes) (c : ℕ) (t : Tail) (most : ℕ) (e : Committed) → List·Memᴰ e (journal s d c t most)
-    → (i : ℕ) × Known s d c (t .number + i) e
+    → (i : ℕ) × KnownRecord s d c (t .number + i) e
 journal-known s d c t most e m =
     let i = mem-getD m (oldest []) in
-    (i .0, subst (λ (e : Committed). Known s d c (t .number + i .0) e) (i .2) (journal-at s d c t most (i .0) (i .1)))
+    (i .0, subst (λ (e : Committed). KnownRecord s d c (t .number + i .0) e) (i .2) (journal-at s d c t most (i .0) (i .1)))
 
 pub journals-known : (s : Shape) (d : Bytes) (tailAt : ℕ → Tail) (most : ℕ → ℕ) (e : Committed) → List·Memᴰ e (journals s d tailAt most)
-    → (e .core < s .cores) × ((i : ℕ) × Known s d (e .core) ((tailAt (e .core)) .number + i) e)
+    → (e .core < s .cores) × ((i : ℕ) × KnownRecord s d (e .core) ((tailAt (e .core)) .number + i) e)
 unfolding journals
 journals-known s d tailAt most e m =
     let r = mem-flatMap (λ (c : ℕ). journal s d c (tailAt c) (most c)) (below (s .cores)) m in
     let i = journal-known s d (r .0) (tailAt (r .0)) (most (r .0)) e (r .2) in
     let q : r .0 ≡ e .core = sym (i .1 .core) in
-    (subst (λ (c : ℕ). c < s .cores) q (mem-below (s .cores) (r .1)), (i .0, subst (λ (c : ℕ). Known s d c ((tailAt c) .number + i .0) e) q (i .1)))
+    (subst (λ (c : ℕ). c < s .cores) q (mem-below (s .cores) (r .1)), (i .0, subst (λ (c : ℕ). KnownRecord s d c ((tailAt c) .number + i .0) e) q (i .1)))
 
 -- one with a block is one of the list
 pub oldest-mem : (es : List Committed) (i : ℕ) → i < (oldest es) .count → List·Memᴰ (oldest es) es
@@ -100,9 +100,9 @@ journals-distinct s d tailAt most t u m n e =
         → ((i : ℕ) × (i < length (journal s d c (tailAt c) (most c))) × (getD (journal s d c (tailAt c) (most c)) i (oldest []) ≡ t))
         → ((i : ℕ) × (i < length (journal s d c₂ (tailAt c₂) (most c₂))) × (getD (journal s d c₂ (tailAt c₂) (most c₂)) i (oldest []) ≡ u)) → t ≡ u
     same c c₂ x y =
-        let a : Known s d c ((tailAt c) .number + x .0) t = subst (λ (t : Committed). Known s d c ((tailAt c) .number + x .0) t) (x .2) (journal-at s d c (tailAt c) (most c) (x .0) (x .1)) in
-        let b : Known s d c₂ ((tailAt c₂) .number + y .0) u =
-        subst (λ (u : Committed). Known s d c₂ ((tailAt c₂) .number + y .0) u) (y .2) (journal-at s d c₂ (tailAt c₂) (most c₂) (y .0) (y .1)) in
+        let a : KnownRecord s d c ((tailAt c) .number + x .0) t = subst (λ (t : Committed). KnownRecord s d c ((tailAt c) .number + x .0) t) (x .2) (journal-at s d c (tailAt c) (most c) (x .0) (x .1)) in
+        let b : KnownRecord s d c₂ ((tailAt c₂) .number + y .0) u =
+        subst (λ (u : Committed). KnownRecord s d c₂ ((tailAt c₂) .number + y .0) u) (y .2) (journal-at s d c₂ (tailAt c₂) (most c₂) (y .0) (y .1)) in
         let g : c ≡ c₂ = sym (a .core) ∙ (ap (λ (n : Name). n .core) e ∙ b .core) in
         let k : (tailAt c) .number + x .0 ≡ (tailAt c₂) .number + y .0 = sym (a .number) ∙ (ap (λ (n : Name). n .number) e ∙ b .number) in
         let r : (tailAt c) .number ≡ (tailAt c₂) .number = rw g in

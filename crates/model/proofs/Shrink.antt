@@ -10,7 +10,7 @@ use lib.ListN.{length, length-map}
 use lib.Dec.{eqb}
 use borrow.Author.Tests.{eqb-true, eqb-false}
 use Rattle.model.specs.Lists.{all, any}
-use Rattle.model.specs.Shrink.{Closed, Within, strike, shrinkIn, shrink, DependsOn, lists-it, through}
+use Rattle.model.specs.Shrink.{AllStay, Within, strike, shrinkIn, shrink, DependsOn, lists-it, through}
 use Rattle.model.proofs.Lists.{cases, all-mem, mem-all, any-mem, mem-any, or-cases, or-left, or-right}
 use Rattle.model.proofs.Select.{select-length, mem-select, select-mem, select-all, select-map}
 
@@ -19,22 +19,22 @@ abbrev pub Monotone : {A : Type 0} → (List A → A → Bool) → Type 0
 Monotone {A} stays = (ss es : List A) → Within ss es → (e : A) → stays ss e ≡ true → stays es e ≡ true
 
 module _ {A : Type 0} (stays : List A → A → Bool) where
-  pub settled : (n : ℕ) (es : List A) → eqb (length (strike stays es)) (length es) ≡ true → shrinkIn (suc n) stays es ≡ es
+  pub shrinkIn-settled : (n : ℕ) (es : List A) → eqb (length (strike stays es)) (length es) ≡ true → shrinkIn (suc n) stays es ≡ es
   unfolding shrinkIn
-  settled n es h = rw (h, shrinkIn)
+  shrinkIn-settled n es h = rw (h, shrinkIn)
 
-  pub goes-on : (n : ℕ) (es : List A) → eqb (length (strike stays es)) (length es) ≡ false → shrinkIn (suc n) stays es ≡ shrinkIn n stays (strike stays es)
+  pub shrinkIn-again : (n : ℕ) (es : List A) → eqb (length (strike stays es)) (length es) ≡ false → shrinkIn (suc n) stays es ≡ shrinkIn n stays (strike stays es)
   unfolding shrinkIn
-  goes-on n es h = rw (h, shrinkIn)
+  shrinkIn-again n es h = rw (h, shrinkIn)
 
-  shrinkIn-closed : (n : ℕ) (es : List A) → length es ≤ n → Closed stays (shrinkIn n stays es)
+  shrinkIn-closed : (n : ℕ) (es : List A) → length es ≤ n → AllStay stays (shrinkIn n stays es)
   unfolding shrinkIn strike
   shrinkIn-closed zero [] h = λ e m. elim m [ ]
   shrinkIn-closed zero (x ∷ es) h = absurd (omega arith)
   shrinkIn-closed (suc n) es h =
       cases (eqb (length (strike stays es)) (length es))
-      (λ k. rw (settled n es k) (select-all (stays es) es (eqb-true _ _ k)))
-      (λ k. rw (goes-on n es k)
+      (λ k. rw (shrinkIn-settled n es k) (select-all (stays es) es (eqb-true _ _ k)))
+      (λ k. rw (shrinkIn-again n es k)
       (shrinkIn-closed n (strike stays es) (omega (arith, select-length (stays es) es, eqb-false (length (strike stays es)) (length es) k))))
 
   shrinkIn-within : (n : ℕ) (es : List A) → Within (shrinkIn n stays es) es
@@ -42,8 +42,8 @@ module _ {A : Type 0} (stays : List A → A → Bool) where
   shrinkIn-within zero es e m = m
   shrinkIn-within (suc n) es e m =
       cases (eqb (length (strike stays es)) (length es))
-      (λ k. rw (settled n es k) at m)
-      (λ k. select-mem (stays es) es e (shrinkIn-within n (strike stays es) e (rw (goes-on n es k) at m)) .0)
+      (λ k. rw (shrinkIn-settled n es k) at m)
+      (λ k. select-mem (stays es) es e (shrinkIn-within n (strike stays es) e (rw (shrinkIn-again n es k) at m)) .0)
 
   shrinkIn-largest : (P : A → Type 0) → ((es : List A) → ((e : A) → P e → List·Memᴰ e es) → (e : A) → P e → stays es e ≡ true)
       → (n : ℕ) (es : List A) → ((e : A) → P e → List·Memᴰ e es) → (e : A) → P e → List·Memᴰ e (shrinkIn n stays es)
@@ -51,11 +51,11 @@ module _ {A : Type 0} (stays : List A → A → Bool) where
   shrinkIn-largest P c zero es s e p = s e p
   shrinkIn-largest P c (suc n) es s e p =
       cases (eqb (length (strike stays es)) (length es))
-      (λ k. rw (settled n es k) (s e p))
-      (λ k. rw (goes-on n es k) (shrinkIn-largest P c n (strike stays es) (λ x q. mem-select (stays es) es x (s x q) (c es s x q)) e p))
+      (λ k. rw (shrinkIn-settled n es k) (s e p))
+      (λ k. rw (shrinkIn-again n es k) (shrinkIn-largest P c n (strike stays es) (λ x q. mem-select (stays es) es x (s x q) (c es s x q)) e p))
 
   -- each meets the test in what is left
-  pub shrink-closed : (es : List A) → Closed stays (shrink stays es)
+  pub shrink-closed : (es : List A) → AllStay stays (shrink stays es)
   unfolding shrink
   shrink-closed es = shrinkIn-closed (length es) es (omega arith)
 
@@ -69,7 +69,7 @@ module _ {A : Type 0} (stays : List A → A → Bool) where
   unfolding shrink
   shrink-has P c es = shrinkIn-largest P c (length es) es
 
-  pub shrink-largest : Monotone stays → (es ss : List A) → Within ss es → Closed stays ss → Within ss (shrink stays es)
+  pub shrink-largest : Monotone stays → (es ss : List A) → Within ss es → AllStay stays ss → Within ss (shrink stays es)
   shrink-largest mono es ss s c = shrink-has (λ e. List·Memᴰ e ss) (λ es′ s′ e m. mono ss es′ s′ e (c e m)) es s
 
 -- ---- shrinking commutes with a function under which the test stays
@@ -84,12 +84,12 @@ module _ {A B : Type 0} (f : A → B) (stays : List A → A → Bool) (stays₂ 
       let same : eqb (length (strike stays₂ (map f es))) (length (map f es)) ≡ eqb (length (strike stays es)) (length es) =
       rw (strike-map es, length-map (strike stays es) f, length-map es f) refl in
       cases (eqb (length (strike stays es)) (length es))
-      (λ e. settled stays₂ n (map f es) (same ∙ e) ∙ ap (map f) (sym (settled stays n es e)))
+      (λ e. shrinkIn-settled stays₂ n (map f es) (same ∙ e) ∙ ap (map f) (sym (shrinkIn-settled stays n es e)))
       (λ e.
-      goes-on stays₂ n (map f es) (same ∙ e)
+      shrinkIn-again stays₂ n (map f es) (same ∙ e)
       ∙ ap (shrinkIn n stays₂) (strike-map es)
       ∙ shrinkIn-map n (strike stays es)
-      ∙ ap (map f) (sym (goes-on stays n es e)))
+      ∙ ap (map f) (sym (shrinkIn-again stays n es e)))
 
   pub shrink-map : (es : List A) → shrink stays₂ (map f es) ≡ map f (shrink stays es)
   unfolding shrink

@@ -26,12 +26,12 @@ use Rattle.model.proofs.Encoding.{length-master}
 use Rattle.model.proofs.Command.{of-cond, command-decided}
 use Rattle.model.proofs.Tape.{Runs, at-end, one-more, OfData, length-data, whole-data}
 use Rattle.model.proofs.Arrays.{Arrays, core-fits, empty-arrays, done-arrays}
-use Rattle.model.proofs.OneStore.{shape-limits, right-lengths, few-taken, OneStore, none-stored, one-stored, stored-low, format-limits, done-store, isFormat, stored-limits}
+use Rattle.model.proofs.OneStore.{shape-limits, right-lengths, few-taken, OneStore, none-stored, one-stored, storePlace-low, format-limits, done-store, isFormat, stored-limits}
 use Rattle.model.specs.Step.{conditionsOf, conditionsOn, doneBy, doneOn, stepAt}
 use Rattle.model.specs.declared.Shape.{Shape}
 use Rattle.model.specs.declared.Phase.the-variants.{Blank}
 
-pub record Sized (w : World) : Type 0 where
+pub record SizedWorld (w : World) : Type 0 where
   pub disk : length (w .disk) ≡ 32896
   pub memory : length (w .memory) ≡ 16384
   pub arrays : Arrays (w .card)
@@ -39,7 +39,7 @@ pub record Sized (w : World) : Type 0 where
 -- ---- the disk
 one-length : {s : Shape} {d : Bytes} {o : Outcome World} → InRange s → length d ≡ 32896 → OneStore s d o → length (o .world .disk) ≡ 32896
 one-length l n (none-stored e z) = ap length e ∙ n
-one-length {d = d} l n (one-stored {k} p b h e z) = ap length e ∙ (length-store d k b (omega (arith, stored-low l p)) h ∙ n)
+one-length {d = d} l n (one-stored {k} p b h e z) = ap length e ∙ (length-store d k b (omega (arith, storePlace-low l p)) h ∙ n)
 
 formatted-disk : (s : Shape) → InRange s → length ((formatted s) .world .disk) ≡ 32896
 unfolding formatted zeroDisk
@@ -89,7 +89,7 @@ unfolding zeroMemory
 length-zeroMemory = length-replicate {A = ℕ} 16384 0
 
 -- ---- every command
-done-memory : (k : Command) (w : World) → OfData (λ (v : Bytes). length v ≡ 4) k → Sized w → Clear (conditionsOf k w) → length ((doneBy k w) .world .memory) ≡ 16384
+done-memory : (k : Command) (w : World) → OfData (λ (v : Bytes). length v ≡ 4) k → SizedWorld w → Clear (conditionsOf k w) → length ((doneBy k w) .world .memory) ≡ 16384
 unfolding conditionsOf doneBy formatted stored recovered
 done-memory (FORMAT c b j) w four z cl = length-zeroMemory
 done-memory (WRITE c b o v) w four z cl = length-written c b o v w four cl
@@ -99,10 +99,10 @@ done-memory (CHECKPOINT c) w four z cl = rw (checkpointed-memory c w) (z .memory
 done-memory CUT w four z cl = length-zeroMemory
 done-memory RECOVER w four z cl = rw (recoverStep-memory (blocksLeft w) w) (z .memory)
 
-stored-disk : (k : Command) (w : World) → Sized w → isFormat k ≡ false → Clear (conditionsOf k w) → length ((doneBy k w) .world .disk) ≡ 32896
+stored-disk : (k : Command) (w : World) → SizedWorld w → isFormat k ≡ false → Clear (conditionsOf k w) → length ((doneBy k w) .world .disk) ≡ 32896
 stored-disk k w z h cl = one-length (stored-limits k w cl) (z .disk) (done-store k w (z .arrays) h cl)
 
-done-disk : (k : Command) (w : World) → Sized w → Clear (conditionsOf k w) → length ((doneBy k w) .world .disk) ≡ 32896
+done-disk : (k : Command) (w : World) → SizedWorld w → Clear (conditionsOf k w) → length ((doneBy k w) .world .disk) ≡ 32896
 done-disk (FORMAT c b j) w z cl = unfold doneBy in formatted-disk (newShape c b j) (format-limits c b j w (unfold conditionsOf in cl))
 done-disk (WRITE c b o v) w z cl = stored-disk (WRITE c b o v) w z refl cl
 done-disk (CLOSE c) w z cl = stored-disk (CLOSE c) w z refl cl
@@ -111,30 +111,30 @@ done-disk (CHECKPOINT c) w z cl = stored-disk (CHECKPOINT c) w z refl cl
 done-disk CUT w z cl = stored-disk CUT w z refl cl
 done-disk RECOVER w z cl = stored-disk RECOVER w z refl cl
 
-pub done-sized : (k : Command) (w : World) → OfData (λ (v : Bytes). length v ≡ 4) k → Sized w → Clear (conditionsOf k w) → Sized ((doneBy k w) .world)
+pub done-sized : (k : Command) (w : World) → OfData (λ (v : Bytes). length v ≡ 4) k → SizedWorld w → Clear (conditionsOf k w) → SizedWorld ((doneBy k w) .world)
 done-sized k w four z cl = record { disk = done-disk k w z cl; memory = done-memory k w four z cl; arrays = done-arrays k w (z .arrays) }
 
-decided-sized : {ts : List (Bool × ℕ)} {w : World} {done o : Outcome World} → Decided ts w done o → Sized w → (Clear ts → Sized (done .world)) → Sized (o .world)
-decided-sized {w = w} (refused n p f e) z h = subst (λ (o : Outcome World). Sized (o .world)) (sym e) z
-decided-sized (carried-out c e) z h = subst (λ (o : Outcome World). Sized (o .world)) (sym e) (h c)
+decided-sized : {ts : List (Bool × ℕ)} {w : World} {done o : Outcome World} → Decided ts w done o → SizedWorld w → (Clear ts → SizedWorld (done .world)) → SizedWorld (o .world)
+decided-sized {w = w} (refused n p f e) z h = subst (λ (o : Outcome World). SizedWorld (o .world)) (sym e) z
+decided-sized (carried-out c e) z h = subst (λ (o : Outcome World). SizedWorld (o .world)) (sym e) (h c)
 
-read-sized : (r : Read) (w : World) → ((k : Command) → r ≡ whole k → OfData (λ (v : Bytes). length v ≡ 4) k) → Sized w → Clear (conditionsOn r w) → Sized ((doneOn r w) .world)
+read-sized : (r : Read) (w : World) → ((k : Command) → r ≡ whole k → OfData (λ (v : Bytes). length v ≡ 4) k) → SizedWorld w → Clear (conditionsOn r w) → SizedWorld ((doneOn r w) .world)
 unfolding conditionsOn doneOn
 read-sized (whole k) w four z cl = done-sized k w (four k refl) z cl
 read-sized unknown w four z cl = z
 read-sized early w four z cl = z
 
-pub command-sized : (t : Bytes) (at : ℕ) (w : World) → Sized w → Sized ((stepAt t at w) .world)
+pub command-sized : (t : Bytes) (at : ℕ) (w : World) → SizedWorld w → SizedWorld ((stepAt t at w) .world)
 command-sized t at w z = decided-sized (command-decided t at w) z (read-sized (readAt t at) w (λ k e. whole-data t at (λ (v : Bytes). length v ≡ 4) k e (length-data t at k e)) z)
 
 -- ---- a whole tape
-pub run-sized : (t : Bytes) {at n : ℕ} {w : World} {ps : List (Point World)} → Runs stepAt t at n w ps → Sized w → Each (λ (p : Point World). Sized (p .before) × Sized (p .outcome .world)) ps
+pub run-sized : (t : Bytes) {at n : ℕ} {w : World} {ps : List (Point World)} → Runs stepAt t at n w ps → SizedWorld w → Each (λ (p : Point World). SizedWorld (p .before) × SizedWorld (p .outcome .world)) ps
 run-sized t (at-end h) z = tt
 run-sized t (one-more {at} {w = w} {p = p} h e r) z =
-    let y : Sized (p .outcome .world) = subst (λ (p : Point World). Sized (p .outcome .world)) (sym e) (command-sized t at w z) in
-    ((subst (λ (p : Point World). Sized (p .before)) (sym e) z, y), run-sized t r y)
+    let y : SizedWorld (p .outcome .world) = subst (λ (p : Point World). SizedWorld (p .outcome .world)) (sym e) (command-sized t at w z) in
+    ((subst (λ (p : Point World). SizedWorld (p .before)) (sym e) z, y), run-sized t r y)
 
 -- 'The tape starts on a blank card, over slices of the stated lengths and any content.'
-pub blank-sized : (d m : Bytes) → length d ≡ 32896 → length m ≡ 16384 → Sized (record { card = blankCard; disk = d; memory = m })
+pub blank-sized : (d m : Bytes) → length d ≡ 32896 → length m ≡ 16384 → SizedWorld (record { card = blankCard; disk = d; memory = m })
 unfolding blankCard
 blank-sized d m h g = record { disk = h; memory = g; arrays = empty-arrays Blank }

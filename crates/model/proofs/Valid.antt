@@ -11,7 +11,7 @@ use borrow.Author.Tests.{eqb-true, eq-eqb, le-ltb}
 use Rattle.model.specs.Bytes.{Bytes}
 use Rattle.model.specs.Card.{newName, sameName}
 use Rattle.model.specs.Journal.{nameOf, namesOf, journals}
-use Rattle.model.specs.Shrink.{Closed, Within, DependsOn}
+use Rattle.model.specs.Shrink.{AllStay, Within, DependsOn}
 use Rattle.model.specs.Valid.{isIn, isMet, namesMet, validSet}
 use Rattle.model.specs.declared.Shape.{Shape}
 use Rattle.model.specs.declared.Tail.{Tail}
@@ -42,7 +42,7 @@ module _ (s : Shape) (d : Bytes) (tailAt : ℕ → Tail) where
   unfolding namesMet isMet isIn
   namesMet-monotone = named-monotone (namesOf s d) nameOf sameName sameName-true sameName-refl (belowTail tailAt)
 
-  pub valid-closed : (es : List Committed) → Closed (namesMet s d tailAt) (validSet s d tailAt es)
+  pub valid-closed : (es : List Committed) → AllStay (namesMet s d tailAt) (validSet s d tailAt es)
   unfolding validSet
   valid-closed = shrink-closed (namesMet s d tailAt)
 
@@ -50,7 +50,7 @@ module _ (s : Shape) (d : Bytes) (tailAt : ℕ → Tail) where
   unfolding validSet
   valid-within = shrink-within (namesMet s d tailAt)
 
-  pub valid-largest : (es ss : List Committed) → Within ss es → Closed (namesMet s d tailAt) ss → Within ss (validSet s d tailAt es)
+  pub valid-largest : (es ss : List Committed) → Within ss es → AllStay (namesMet s d tailAt) ss → Within ss (validSet s d tailAt es)
   unfolding validSet
   valid-largest = shrink-largest (namesMet s d tailAt) namesMet-monotone
 

@@ -25,7 +25,7 @@ refusal (t ∷ ts) = cond (t .0) (t .1) (refusal ts)
 -- n is the number of the first condition that holds
 pub data First (n : ℕ) : List (Bool × ℕ) → Type 0 where
   here : {t : Bool × ℕ} {ts : List (Bool × ℕ)} → t .0 ≡ true → t .1 ≡ n → First n (t ∷ ts)
-  later : {t : Bool × ℕ} {ts : List (Bool × ℕ)} → t .0 ≡ false → First n ts → First n (t ∷ ts)
+  there : {t : Bool × ℕ} {ts : List (Bool × ℕ)} → t .0 ≡ false → First n ts → First n (t ∷ ts)
 
 -- no condition holds
 abbrev pub Clear : List (Bool × ℕ) → Type 0

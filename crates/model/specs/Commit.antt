@@ -9,7 +9,7 @@ use Rattle.model.specs.Lists.{below}
 use Rattle.model.specs.Bytes.{Bytes, blockAt, store}
 use Rattle.model.specs.Shape.{journalBlock}
 use Rattle.model.specs.Card.{noTransaction, taken, listed, stamped, recordSize, shapeOf, tailOf, coreOf, withCore}
-use Rattle.model.specs.Layout.{Held, newHeld, descriptorBlock, commitBlock, flagOf, escaped}
+use Rattle.model.specs.Layout.{Tag, newTag, descriptorBlock, commitBlock, flagOf, escaped}
 use Rattle.model.specs.Command.{World, Outcome, unstored, storing, unless, notUp, noCore}
 use Rattle.model.specs.declared.Core.{Core}
 use Rattle.model.specs.declared.Card.{Card}
@@ -57,8 +57,8 @@ close c w = unless (closeConditions c w) w (closed c w)
 
 -- ---- STORE
 -- the blocks with their flags, as the closed copies give them
-unfoldable pub heldCopies : ℕ → List ℕ → Bytes → List Held
-heldCopies c bs m = map (λ (i : ℕ). newHeld (getD bs i 0) (flagOf (blockAt m (copyBlock c i)))) (below (length bs))
+unfoldable pub copyTags : ℕ → List ℕ → Bytes → List Tag
+copyTags c bs m = map (λ (i : ℕ). newTag (getD bs i 0) (flagOf (blockAt m (copyBlock c i)))) (below (length bs))
 
 -- the number of the closed transaction
 abbrev pub closedNumber : Core → ℕ
@@ -68,7 +68,7 @@ closedNumber k = k .next - 1
 unfoldable pub nextStored : ℕ → Core → Bytes → Bytes
 nextStored c k m =
     let t = k .closed in
-    cond (eqb (k .stored) 0) (descriptorBlock (closedNumber k) (heldCopies c (taken t) m))
+    cond (eqb (k .stored) 0) (descriptorBlock (closedNumber k) (copyTags c (taken t) m))
     (cond (leb (k .stored) (length (taken t))) (escaped (blockAt m (copyBlock c (k .stored - 1))))
     (commitBlock (closedNumber k) (t .stamp) (listed t)))
 

@@ -8,7 +8,7 @@ use Rattle.model.specs.Lists.{below, any}
 use Rattle.model.specs.Bytes.{Bytes, blockAt}
 use Rattle.model.specs.Shape.{journalBlock}
 use Rattle.model.specs.Card.{newName}
-use Rattle.model.specs.Layout.{Held, newHeld, isDescriptor, blockCount, heldIn, isCommit, stampIn, nameCount, namesIn, unescaped}
+use Rattle.model.specs.Layout.{Tag, newTag, isDescriptor, blockCount, tagsIn, isCommit, stampIn, nameCount, namesIn, unescaped}
 use Rattle.model.specs.declared.Shape.{Shape}
 use Rattle.model.specs.declared.Tail.{Tail}
 use Rattle.model.specs.declared.Name.{Name}
@@ -50,11 +50,11 @@ journals s d tailAt most = flatMap (λ (c : ℕ). journal s d c (tailAt c) (most
 abbrev pub nameOf : Committed → Name
 nameOf e = newName (e .core) (e .number)
 
-unfoldable pub heldBy : Shape → Bytes → Committed → List Held
-heldBy s d e = heldIn (journalAt s d (e .core) (e .position)) (e .count)
+unfoldable pub tagsOf : Shape → Bytes → Committed → List Tag
+tagsOf s d e = tagsIn (journalAt s d (e .core) (e .position)) (e .count)
 
 unfoldable pub blocksOf : Shape → Bytes → Committed → List ℕ
-blocksOf s d e = map (λ (h : Held). h .block) (heldBy s d e)
+blocksOf s d e = map (λ (h : Tag). h .block) (tagsOf s d e)
 
 unfoldable pub namesOf : Shape → Bytes → Committed → List Name
 namesOf s d e = namesIn (journalAt s d (e .core) (e .position + (e .count + 1))) (e .named)
@@ -65,4 +65,4 @@ took s d b e = any (eqb b) (blocksOf s d e)
 
 -- the image of its i-th block
 unfoldable pub imageOf : Shape → Bytes → Committed → ℕ → Bytes
-imageOf s d e i = unescaped ((getD (heldBy s d e) i (newHeld 0 0)) .flag) (journalAt s d (e .core) (e .position + (i + 1)))
+imageOf s d e i = unescaped ((getD (tagsOf s d e) i (newTag 0 0)) .flag) (journalAt s d (e .core) (e .position + (i + 1)))

@@ -56,40 +56,40 @@ isMaster m =
     let s = shapeIn m in
     eqb (be4 m 0) mark && eqb (be4 m 4) 4 && inRange (s .cores) (s .blocks) (s .journal) && all (λ (c : ℕ). isTail s (tailIn m c)) (below (s .cores))
 
--- ---- 'Descriptor, type 1: 12-15 block count n; from 16, per block, block number (4), flag (4)'
-pub record Held : Type 0 where
+-- ---- 'Descriptor, type 1: 12-15 block count n; from 16, per block, block number (4), flag (4)': its tags
+pub record Tag : Type 0 where
   pub block : ℕ
   pub flag : ℕ
 
-abbrev pub newHeld : ℕ → ℕ → Held
-newHeld b f = record { block = b; flag = f }
+abbrev pub newTag : ℕ → ℕ → Tag
+newTag b f = record { block = b; flag = f }
 
-unfoldable pub descriptorWords : ℕ → List Held → List ℕ
-descriptorWords k hs = mark ∷ 1 ∷ k ∷ length hs ∷ pairWords (λ (h : Held). h .block) (λ (h : Held). h .flag) hs
+unfoldable pub descriptorWords : ℕ → List Tag → List ℕ
+descriptorWords k hs = mark ∷ 1 ∷ k ∷ length hs ∷ pairWords (λ (h : Tag). h .block) (λ (h : Tag). h .flag) hs
 
-unfoldable pub descriptorBlock : ℕ → List Held → Bytes
+unfoldable pub descriptorBlock : ℕ → List Tag → Bytes
 descriptorBlock k hs = block (descriptorWords k hs)
 
 unfoldable pub blockCount : Bytes → ℕ
 blockCount b = be4 b 12
 
-unfoldable pub heldIn : Bytes → ℕ → List Held
-heldIn b n = pairsIn newHeld b 16 n
+unfoldable pub tagsIn : Bytes → ℕ → List Tag
+tagsIn b n = pairsIn newTag b 16 n
 
 -- no two of the blocks are the same
-unfoldable pub distinct : List Held → Bool
+unfoldable pub distinct : List Tag → Bool
 distinct [] = true
-distinct (h ∷ hs) = all (λ (g : Held). not (eqb (h .block) (g .block))) hs && distinct hs
+distinct (h ∷ hs) = all (λ (g : Tag). not (eqb (h .block) (g .block))) hs && distinct hs
 
 -- 'blocks below B, flags 0 or 1'
-unfoldable pub isHeld : Shape → Held → Bool
-isHeld s h = ltb (h .block) (s .blocks) && leb (h .flag) 1
+unfoldable pub isTag : Shape → Tag → Bool
+isTag s h = ltb (h .block) (s .blocks) && leb (h .flag) 1
 
 -- 'a descriptor with the expected number, at most 4,000,000,000, n up to 8, distinct blocks below B, flags 0 or 1'
 unfoldable pub isDescriptor : Shape → ℕ → Bytes → Bool
 isDescriptor s k b =
     let n = blockCount b in
-    hasHead 1 k b && leb k maxNumber && leb n maxTaken && all (isHeld s) (heldIn b n) && distinct (heldIn b n)
+    hasHead 1 k b && leb k maxNumber && leb n maxTaken && all (isTag s) (tagsIn b n) && distinct (tagsIn b n)
 
 -- ---- 'Commit, type 2: 12-19 stamp, 20-23 name count; from 24, per name, core (4), number (4)'
 unfoldable pub commitWords : ℕ → ℕ → List Name → List ℕ

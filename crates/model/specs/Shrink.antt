@@ -9,8 +9,8 @@ use Rattle.model.specs.Lists.{select}
 
 module _ {A : Type 0} where
   -- each of the set meets the test in it
-  abbrev pub Closed : (List A → A → Bool) → List A → Type 0
-  Closed stays es = (e : A) → List·Memᴰ e es → stays es e ≡ true
+  abbrev pub AllStay : (List A → A → Bool) → List A → Type 0
+  AllStay stays es = (e : A) → List·Memᴰ e es → stays es e ≡ true
 
   -- one set lies in another
   abbrev pub Within : List A → List A → Type 0

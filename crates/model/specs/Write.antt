@@ -23,8 +23,8 @@ unfoldable pub writerName : Card → ℕ → Name
 writerName x c = newName c ((coreOf x c) .next)
 
 -- the transaction of this name is running
-unfoldable pub isRunning : Card → Name → Bool
-isRunning x n = (coreOf x (n .core)) .running .live && eqb ((coreOf x (n .core)) .next) (n .number)
+unfoldable pub isRunningIn : Card → Name → Bool
+isRunningIn x n = (coreOf x (n .core)) .running .live && eqb ((coreOf x (n .core)) .next) (n .number)
 
 -- 'When T writes a block': which rule it meets
 unfoldable pub ruleFor : Card → ℕ → ℕ → Rule
@@ -32,7 +32,7 @@ ruleFor x c b =
     let h = holderOf x b in
     cond (not (h .held)) Free
     (cond (sameName (h .name) (writerName x c)) Own
-    (cond (isRunning x (h .name)) Running Closed))
+    (cond (isRunningIn x (h .name)) Running Closed))
 
 -- T takes the block: 'no holder', 'a closed U holds it'
 abbrev pub takesBlock : Rule → Bool

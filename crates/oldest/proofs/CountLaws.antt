@@ -11,7 +11,7 @@ use Rattle.model.specs.declared.Found.{Found}
 use Rattle.model.specs.declared.Found.the-variants.{Miss}
 use Rattle.model.proofs.Lists.{getD-map-below}
 use Rattle.layout.proofs.Loops.{Filled, filled-more}
-use Rattle.journal.specs.Slots.{tailIn}
+use Rattle.journal.specs.Slots.{tailFor}
 use Rattle.journal.specs.Walk.{Reads}
 use Rattle.cells.specs.Cells.{numberIn, transactionIn, cardIn, corePlace, closedPlace}
 use Rattle.cells.proofs.ReadLaws.{next-there, closed-live}
@@ -70,7 +70,7 @@ pub reads-card : (x : Card) (d : Bytes) (s : Shape) → s ≡ shapeOf x → (ts 
 unfolding Reads Counts
 reads-card x d s p ts y most slots q r c h =
     let e : getD most c 0 ≡ getD (counts x) c 0 = q c h ∙ sym (count-in x c (core-low x c h)) in
-    (rw (p, y) at r) c h ∙ ap (λ (n : ℕ). journal (shapeOf x) d c (tailIn (x .tails) c) n) e
+    (rw (p, y) at r) c h ∙ ap (λ (n : ℕ). journal (shapeOf x) d c (tailFor (x .tails) c) n) e
 
 pub core-below : (x : Card) (s : Shape) (c : ℕ) → s ≡ shapeOf x → c < (shapeOf x) .cores → c < s .cores
 core-below x s c e h = rw e h

@@ -15,12 +15,12 @@ use Rattle.model.specs.declared.Found.{Found}
 use Rattle.model.specs.declared.Found.the-variants.{Whole, Miss}
 use Rattle.model.proofs.Limits.{InRange}
 use Rattle.model.proofs.OneStore.{shape-limits}
-use Rattle.model.proofs.Journal.{Known, record-known, records-all}
+use Rattle.model.proofs.Journal.{KnownRecord, record-known, records-all}
 use Rattle.layout.specs.Loops.{some}
-use Rattle.journal.specs.Slots.{tailIn, numbersOf, isFilled, entries}
+use Rattle.journal.specs.Slots.{tailFor, numbersOf, isFilled, entries}
 use Rattle.journal.specs.Walk.{Reads}
 use Rattle.journal.proofs.Slots.{number-at}
-use Rattle.valid.specs.Sets.{numberIn, numbered, isHere}
+use Rattle.valid.specs.Sets.{tailNumber, numbered, isHere}
 use Rattle.valid.specs.Newest.{sharesBelow}
 use Rattle.valid.proofs.Commands.{slots-valid, slots-share}
 use Rattle.valid.proofs.Sets.{in-slot}
@@ -43,7 +43,7 @@ module _ (x : Card) (d : Bytes) (c : ℕ) where
     unfolding oldestAt
     at-tail = whole-known (eqb (countAt x c) 0) atTail e h .1
 
-    pub tail-known : Known (shapeOf x) d c ((tailOf x c) .number) e
+    pub tail-known : KnownRecord (shapeOf x) d c ((tailOf x c) .number) e
     tail-known = record-known (shapeOf x) d c ((tailOf x c) .number) ((tailOf x c) .position) ((shapeOf x) .journal) e at-tail .0
 
     was-read : length d ≡ 32896 → c < (shapeOf x) .cores → IsRead (shapeOf x) d e
@@ -53,7 +53,7 @@ module _ (x : Card) (d : Bytes) (c : ℕ) where
           long = n;
           range = shape-limits x;
           core = omega (arith, k .core);
-          known = subst (λ (n : ℕ). Known (shapeOf x) d (e .core) n e) (sym (k .number)) (subst (λ (i : ℕ). Known (shapeOf x) d i ((tailOf x c) .number) e) (sym (k .core)) k);
+          known = subst (λ (n : ℕ). KnownRecord (shapeOf x) d (e .core) n e) (sym (k .number)) (subst (λ (i : ℕ). KnownRecord (shapeOf x) d i ((tailOf x c) .number) e) (sym (k .core)) k);
         }
 
 module _ (x : Card) (d : Bytes) (c : ℕ) (most : List ℕ) (e : Committed) (h : IsOldest x d c most e) where
@@ -72,7 +72,7 @@ journal-capped s d c t n l =
       | no h ↦ (let z : min n 12 ≡ n = omega arith in rw z)
     ]
 
-card-tail : (x : Card) (c : ℕ) → c < (shapeOf x) .cores → tailIn (x .tails) c ≡ tailOf x c
+card-tail : (x : Card) (c : ℕ) → c < (shapeOf x) .cores → tailFor (x .tails) c ≡ tailOf x c
 unfolding tailOf
 card-tail x c h = refl
 
@@ -94,8 +94,8 @@ module _ (x : Card) (d m : Bytes) (slots : List ℕ) (r : Reads (shapeOf x) d (x
     valid-committed = slots-valid (shape-limits x) d (x .tails) (counts x) slots r (tailOf x) (committedCount x) (card-tail x) (card-bound x d) valid v
 
 -- ---- the valid set
-number-same : (x : Card) (c : ℕ) → c < 8 → numberIn (numbersOf (x .tails)) c ≡ (tailOf x c) .number
-unfolding numberIn tailOf
+number-same : (x : Card) (c : ℕ) → c < 8 → tailNumber (numbersOf (x .tails)) c ≡ (tailOf x c) .number
+unfolding tailNumber tailOf
 number-same x c h = rw (lt-ltb c 8 h) (number-at (x .tails) c h)
 
 here-first : (s : Shape) (set : List ℕ) (n c k : ℕ) → c < s .cores → k ≡ n → isHere s set n c k ≡ isFilled s set (12 * c)
@@ -107,10 +107,10 @@ oldest-slot : (x : Card) (d : Bytes) (c : ℕ) (e : Committed) → oldestAt x d 
     → isIn (entries (shapeOf x) d (numbersOf (x .tails)) set) (nameOf e) ≡ isFilled (shapeOf x) set (12 * c)
 oldest-slot x d c e h l set =
     let k = tail-known x d c e h in
-    let n : numberIn (numbersOf (x .tails)) (e .core) ≡ (tailOf x c) .number = ap (numberIn (numbersOf (x .tails))) (k .core) ∙ number-same x c (core-low x c l) in
-    let q : e .number ≡ numberIn (numbersOf (x .tails)) (e .core) = k .number ∙ sym n in
+    let n : tailNumber (numbersOf (x .tails)) (e .core) ≡ (tailOf x c) .number = ap (tailNumber (numbersOf (x .tails))) (k .core) ∙ number-same x c (core-low x c l) in
+    let q : e .number ≡ tailNumber (numbersOf (x .tails)) (e .core) = k .number ∙ sym n in
     in-slot (shapeOf x) d (numbersOf (x .tails)) set (shape-limits x) (nameOf e) (omega arith)
-    ∙ here-first (shapeOf x) set (numberIn (numbersOf (x .tails)) (e .core)) (e .core) (e .number) (omega (arith, k .core)) q
+    ∙ here-first (shapeOf x) set (tailNumber (numbersOf (x .tails)) (e .core)) (e .core) (e .number) (omega (arith, k .core)) q
     ∙ ap (λ (i : ℕ). isFilled (shapeOf x) set (12 * i)) (k .core)
 
 -- ---- those of lower stamp that share a block
@@ -127,7 +127,7 @@ module _ (x : Card) (d : Bytes) (c : ℕ) (most : List ℕ) (e : Committed) (h :
     (slots : List ℕ) (r : Reads s d ts most slots) (valid : List ℕ) (v : entries s d (numbersOf ts) valid ≡ validSet s d (numbered (numbersOf ts)) (entries s d (numbersOf ts) slots))
     (b : Bool) (q : b ≡ isFilled s valid (12 * c)) where
   all-read : Reads (shapeOf x) d (x .tails) (counts x) slots
-  all-read = reads-card x d s p ts y most slots (h .counted) r
+  all-read = reads-card x d s p ts y most slots (h .are-counts) r
 
   told : (m : Bytes) → b ≡ isIn (validNow (world x d m)) (nameOf e)
   told m =
@@ -135,18 +135,18 @@ module _ (x : Card) (d : Bytes) (c : ℕ) (most : List ℕ) (e : Committed) (h :
       (ap (λ (es : List Committed). isIn es (nameOf e)) (sym (valid-committed x d m slots all-read valid (rw (p, y) at v)))
       ∙ oldest-slot x d c e (h .first) (h .core) valid ∙ sym (rw p at q))
 
-  pub not-valid : not b ≡ true → (m : Bytes) → 32 ≡ refusal (oldestConditions e (world x d m))
+  pub oldestConditions-32 : not b ≡ true → (m : Bytes) → 32 ≡ refusal (oldestConditions e (world x d m))
   unfolding oldestConditions refusal
-  not-valid z m = rw (← told m, not-true b z)
+  oldestConditions-32 z m = rw (← told m, not-true b z)
 
   module _ (z : not b ≡ false) (g : Bool) (k : g ≡ lowerShares x s d slots e) where
     shares : (m : Bytes) → g ≡ sharesLower (world x d m) e
     shares m = (rw p at k) ∙ lower-parts x d m e slots all-read
 
-    pub shared-lower : g ≡ true → (m : Bytes) → 33 ≡ refusal (oldestConditions e (world x d m))
+    pub oldestConditions-33 : g ≡ true → (m : Bytes) → 33 ≡ refusal (oldestConditions e (world x d m))
     unfolding oldestConditions refusal
-    shared-lower t m = rw (← told m, not-false b z, ← shares m, t)
+    oldestConditions-33 t m = rw (← told m, not-false b z, ← shares m, t)
 
-    pub unshared-lower : g ≡ false → (m : Bytes) → 0 ≡ refusal (oldestConditions e (world x d m))
+    pub oldestConditions-none : g ≡ false → (m : Bytes) → 0 ≡ refusal (oldestConditions e (world x d m))
     unfolding oldestConditions refusal
-    unshared-lower t m = rw (← told m, not-false b z, ← shares m, t)
+    oldestConditions-none t m = rw (← told m, not-false b z, ← shares m, t)

@@ -4,19 +4,19 @@ use Rattle.model.proofs.Base.{ℕ, _+_, _≤_, _<_, arith, _≡_, sym, ap, subs
 use Rattle.model.proofs.Base.{take, getD, List·getD-map, eqb, eq-eqb, ne-eqb, lt-ltb, le-ltb, not-true, not-false, below, any}
 use Rattle.model.proofs.Base.{Bytes}
 use Rattle.model.specs.Card.{taken, shapeOf}
-use Rattle.model.specs.Layout.{Held, newHeld, pairAt, pairsIn, heldIn}
-use Rattle.model.specs.Journal.{journalAt, heldBy, blocksOf}
+use Rattle.model.specs.Layout.{Tag, newTag, pairAt, pairsIn, tagsIn}
+use Rattle.model.specs.Journal.{journalAt, tagsOf, blocksOf}
 use Rattle.model.specs.Checkpoint.{share}
 use Rattle.model.specs.declared.Shape.{Shape}
 use Rattle.model.specs.declared.Card.{Card}
 use Rattle.model.specs.declared.Committed.{Committed}
-use Rattle.model.proofs.Lists.{any-mem, mem-any, getD-mem, mem-getD, mem-below, below-mem, getD-map-below, both-ways}
+use Rattle.model.proofs.Lists.{any-mem, mem-any, getD-mem, mem-getD, mem-below, below-mem, getD-map-below, bool-ext}
 use Rattle.model.proofs.OneStore.{shape-limits}
 use Rattle.model.proofs.Limits.{InRange}
 use Rattle.model.proofs.Records.{length-blocksOf, known-below}
 use Rattle.layout.specs.Loops.{some}
 use Rattle.layout.proofs.Loops.{some-none, some-no, some-in, some-out}
-use Rattle.journal.specs.Slots.{entries, Sized}
+use Rattle.journal.specs.Slots.{entries, SizedCommitted}
 use Rattle.valid.specs.Newest.{sharesBelow}
 use Rattle.cells.specs.Cells.{byteIn, transactionIn, cardIn, closedPlace}
 use Rattle.cells.proofs.Parts.{any-hit, any-more, any-none, any-all}
@@ -31,15 +31,15 @@ pub core-low : (x : Card) (c : ℕ) → c < (shapeOf x) .cores → c < 8
 core-low x c h = omega (arith, shape-limits x .few-cores)
 
 -- ---- a transaction read
-block-there : (f : Bytes) (n i : ℕ) → i < n → getD (map (λ (h : Held). h .block) (heldIn f n)) i 0 ≡ (pairAt newHeld f 16 i) .block
-unfolding heldIn pairsIn
+block-there : (f : Bytes) (n i : ℕ) → i < n → getD (map (λ (h : Tag). h .block) (tagsIn f n)) i 0 ≡ (pairAt newTag f 16 i) .block
+unfolding tagsIn pairsIn
 block-there f n i h =
-    List·getD-map (λ (x : Held). x .block) (map (pairAt newHeld f 16) (below n)) i (newHeld 0 0) ∙ rw (getD-map-below (pairAt newHeld f 16) n i (newHeld 0 0) h)
+    List·getD-map (λ (x : Tag). x .block) (map (pairAt newTag f 16) (below n)) i (newTag 0 0) ∙ rw (getD-map-below (pairAt newTag f 16) n i (newTag 0 0) h)
 
 module _ (s : Shape) (d : Bytes) (e : Committed) (r : IsRead s d e) (i : ℕ) (b : Bytes) (p : b ≡ journalAt s d (e .core) (e .position)) (v : ℕ)
-    (q : v ≡ (pairAt newHeld b 16 i) .block) (h : i < e .count) where
+    (q : v ≡ (pairAt newTag b 16 i) .block) (h : i < e .count) where
   pub block-is : v ≡ getD (blocksOf s d e) i 0
-  unfolding blocksOf heldBy
+  unfolding blocksOf tagsOf
   block-is = q ∙ rw p (sym (block-there (journalAt s d (e .core) (e .position)) (e .count) i h))
 
   pub block-low : v < 64
@@ -48,7 +48,7 @@ module _ (s : Shape) (d : Bytes) (e : Committed) (r : IsRead s d e) (i : ℕ) (b
   pub block-fits : v < 256
   block-fits = omega (arith, block-low)
 
-pub is-sized : (s : Shape) (d : Bytes) (e : Committed) → IsRead s d e → Sized s e
+pub is-sized : (s : Shape) (d : Bytes) (e : Committed) → IsRead s d e → SizedCommitted s e
 is-sized s d e r = record { core = r .core; few = r .known .few; short = r .known .short }
 
 module _ (x : Card) (s : Shape) (q : s ≡ shapeOf x) where
@@ -89,7 +89,7 @@ sharesAt bs cs i = any (eqb (getD bs i 0)) cs
 some-share : (bs cs : List ℕ) → some (length bs) (sharesAt bs cs) ≡ share bs cs
 unfolding some share sharesAt
 some-share bs cs =
-    both-ways
+    bool-ext
     (λ h.
     let m = any-mem (λ (i : ℕ). any (eqb (getD bs i 0)) cs) (below (length bs)) h in
     mem-any (λ (b : ℕ). any (eqb b) cs) (getD-mem bs (m .0) 0 (mem-below (length bs) (m .1))) (m .2))

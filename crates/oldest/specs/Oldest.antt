@@ -20,7 +20,7 @@ use Rattle.model.specs.declared.Committed.{Committed}
 use Rattle.model.specs.declared.Found.{Found}
 use Rattle.model.specs.declared.Found.the-variants.{Whole, Miss}
 use Rattle.model.proofs.Limits.{InRange}
-use Rattle.model.proofs.Journal.{Known}
+use Rattle.model.proofs.Journal.{KnownRecord}
 use Rattle.layout.specs.Loops.{some}
 use Rattle.journal.specs.Slots.{entries}
 use Rattle.valid.specs.Newest.{sharesBelow}
@@ -47,13 +47,13 @@ pub record IsRead (s : Shape) (d : Bytes) (e : Committed) : Type 0 where
   pub long : length d ≡ 32896
   pub range : InRange s
   pub core : e .core < s .cores
-  pub known : Known s d (e .core) (e .number) e
+  pub known : KnownRecord s d (e .core) (e .number) e
 
 -- core c's oldest transaction, as it was found by the counts
 pub record IsOldest (x : Card) (d : Bytes) (c : ℕ) (most : List ℕ) (e : Committed) : Type 0 where
   pub long : length d ≡ 32896
   pub core : c < (shapeOf x) .cores
-  pub counted : Counts x most
+  pub are-counts : Counts x most
   pub first : oldestAt x d c ≡ Whole e
 
 -- ---- those closed, of lower stamp, that share a block with e

@@ -25,7 +25,7 @@ pub fn block_at(s: Shape, disk: &[u8], e: Committed, i: usize) -> u8
     ensures { λ r. ⌜ (r ≡ getD (blocksOf s (now (disk .entry)) e) i 0) × (r < 64) ⌝ }
 {
     let block = journal::journal_part(s, disk, e.core, e.position as usize);
-    layout::held_block(block, i) as u8
+    layout::tag_block(block, i) as u8
 }
 
 // Whether the transaction at a place took block b.

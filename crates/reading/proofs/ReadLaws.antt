@@ -15,7 +15,7 @@ use Rattle.cells.specs.Answer.{firstOf}
 use Rattle.cells.specs.Cells.{world}
 use Rattle.cells.proofs.RefusalLaws.{refusal-up, refusal-one}
 use Rattle.reading.specs.Part.{newPart, partOf, sliceOf}
-use Rattle.reading.specs.declared.Part.{Part}
+use Rattle.reading.specs.declared.BlockPart.{BlockPart}
 
 -- ---- the number
 pub read-stages : (x : Card) (b : ℕ) (d m : Bytes)
@@ -64,7 +64,7 @@ part-bytes b w =
     (λ t. rw t)
 
 -- the part p of one of the slices d and m is the bytes l
-record Stands (l d m : Bytes) (p : Part) : Type 0 where
+record PartIs (l d m : Bytes) (p : BlockPart) : Type 0 where
   small : p .from + p .length ≤ 32896
   memory-end : p .slice ≡ 2 → p .from + p .length ≤ length m
   disk-end : (p .slice ≡ 2 → ⊥) → p .from + p .length ≤ length d
@@ -72,7 +72,7 @@ record Stands (l d m : Bytes) (p : Part) : Type 0 where
   disk-bytes : (p .slice ≡ 2 → ⊥) → part (p .from) (p .length) d ≡ l
 
 module _ (x : Card) (b : ℕ) (d m : Bytes) where
-  in-memory : readNumber b (world x d m) ≡ 0 → (holderOf x b) .held ≡ true → Stands (readBlock b (world x d m)) d m (newPart 0 2 (128 * b) 128)
+  in-memory : readNumber b (world x d m) ≡ 0 → (holderOf x b) .held ≡ true → PartIs (readBlock b (world x d m)) d m (newPart 0 2 (128 * b) 128)
   unfolding readBlock blockAt
   in-memory t h =
       let r = readable x b d m _ refl t in
@@ -84,7 +84,7 @@ module _ (x : Card) (b : ℕ) (d m : Bytes) where
         disk-bytes = λ e. absurd (e refl);
       }
 
-  on-disk : readNumber b (world x d m) ≡ 0 → (holderOf x b) .held ≡ false → Stands (readBlock b (world x d m)) d m (newPart 0 1 (128 * homeBlock b) 128)
+  on-disk : readNumber b (world x d m) ≡ 0 → (holderOf x b) .held ≡ false → PartIs (readBlock b (world x d m)) d m (newPart 0 1 (128 * homeBlock b) 128)
   unfolding readBlock blockAt
   on-disk t h =
       let r = readable x b d m _ refl t in
@@ -96,7 +96,7 @@ module _ (x : Card) (b : ℕ) (d m : Bytes) where
         disk-bytes = λ e. rw (t, h);
       }
 
-  nowhere : (n : ℕ) → eqb (readNumber b (world x d m)) 0 ≡ false → Stands (readBlock b (world x d m)) d m (newPart n 0 0 0)
+  nowhere : (n : ℕ) → eqb (readNumber b (world x d m)) 0 ≡ false → PartIs (readBlock b (world x d m)) d m (newPart n 0 0 0)
   unfolding readBlock part
   nowhere n t =
       record {
@@ -107,7 +107,7 @@ module _ (x : Card) (b : ℕ) (d m : Bytes) where
         disk-bytes = λ e. rw t;
       }
 
-  stands : Stands (readBlock b (world x d m)) d m (partOf b (world x d m))
+  stands : PartIs (readBlock b (world x d m)) d m (partOf b (world x d m))
   unfolding partOf
   stands =
       cases (eqb (readNumber b (world x d m)) 0)
@@ -116,9 +116,9 @@ module _ (x : Card) (b : ℕ) (d m : Bytes) where
       (λ h. rw (t, h) (on-disk (eqb-true _ 0 t) h)))
       (λ t. rw t (nowhere _ t))
 
-  module _ (p : Part) (e : p ≡ partOf b (world x d m)) where
-    there : Stands (readBlock b (world x d m)) d m p
-    there = subst (Stands (readBlock b (world x d m)) d m) (sym e) stands
+  module _ (p : BlockPart) (e : p ≡ partOf b (world x d m)) where
+    there : PartIs (readBlock b (world x d m)) d m p
+    there = subst (PartIs (readBlock b (world x d m)) d m) (sym e) stands
 
     span : p .from + p .length - p .from ≡ p .length
     span = omega arith

@@ -9,13 +9,13 @@ use Rattle.model.specs.Card.{holderOf}
 use Rattle.model.specs.Command.{World}
 use Rattle.model.specs.Reading.{readNumber}
 use Rattle.model.specs.Limits.{blockSize}
-use Rattle.reading.specs.declared.Part.{Part}
+use Rattle.reading.specs.declared.BlockPart.{BlockPart}
 
-abbrev pub newPart : ℕ → ℕ → ℕ → ℕ → Part
+abbrev pub newPart : ℕ → ℕ → ℕ → ℕ → BlockPart
 newPart n s a l = record { number = n; slice = s; from = a; length = l }
 
 -- in memory while a transaction holds the block, otherwise on the disk; nowhere where reading is refused
-unfoldable pub partOf : ℕ → World → Part
+unfoldable pub partOf : ℕ → World → BlockPart
 partOf b w =
     cond (eqb (readNumber b w) 0)
     (cond ((holderOf (w .card) b) .held) (newPart 0 2 (blockSize * b) blockSize) (newPart 0 1 (blockSize * homeBlock b) blockSize))

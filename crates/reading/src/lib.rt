@@ -11,7 +11,7 @@ use cells::state_refusal;
 
 // Where the bytes of a block stand: in no slice (0), the disk (1) or memory (2), from where on, and how many. A refused reading has
 // its number and 0 of each.
-pub struct Part {
+pub struct BlockPart {
     pub number: u8,
     pub slice: u8,
     pub from: usize,
@@ -31,13 +31,13 @@ pub fn read_number(w: &[u64], b: u16, disk: &[u8], memory: &[u8]) -> u8
 }
 
 // Where the 128 bytes of block b stand: in memory while a transaction holds it, otherwise on the disk.
-pub fn read_part(w: &[u64], b: u16, disk: &[u8], memory: &[u8]) -> Part
+pub fn read_part(w: &[u64], b: u16, disk: &[u8], memory: &[u8]) -> BlockPart
     requires { ⌜ length (now w) ≡ 512 ⌝ }
     ensures { λ r. ⌜ r ≡ partOf b (worldIn (now (w .entry)) (now (disk .entry)) (now (memory .entry))) ⌝ }
 {
     let n = read_number(w, b, disk, memory);
     if n != 0 {
-        return Part {
+        return BlockPart {
             number: n,
             slice: 0,
             from: 0,
@@ -46,7 +46,7 @@ pub fn read_part(w: &[u64], b: u16, disk: &[u8], memory: &[u8]) -> Part
     }
     let block = b as u8;
     if is_held(w, block) {
-        return Part {
+        return BlockPart {
             number: 0,
             slice: 2,
             from: 128 * block as usize,
@@ -54,7 +54,7 @@ pub fn read_part(w: &[u64], b: u16, disk: &[u8], memory: &[u8]) -> Part
         };
     }
     let s = shape_of(w);
-    Part {
+    BlockPart {
         number: 0,
         slice: 1,
         from: 128 * s.home_block(block),

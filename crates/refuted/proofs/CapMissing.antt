@@ -71,7 +71,7 @@ module _ (f : TapeStep World) (k : Command) (b : ℕ) (is : decoded b [] ≡ som
     abbrev p : Point World
     p = pointAt f t at n w
 
-    record One : Type 0 where
+    record DoneThen : Type 0 where
       kept : PointKept n l w p
       answer : p .outcome .answer ≡ 0
       rest : List (Point World)
@@ -86,9 +86,9 @@ module _ (f : TapeStep World) (k : Command) (b : ℕ) (is : decoded b [] ≡ som
     unfolding enteredPoint heard entered
     entered-is a = ap (λ (r : Read). heard entered r (p .outcome .answer) l) read-is ∙ ap (λ (n : ℕ). entered k n l) a
 
-    one : (ps : List (Point World)) → Runs f t at n w ps → LedgerKept n l w ps → refusal (refusalsOf k l) ≡ 0 → One
-    one [] (at-end h) m z = absurd (omega (arith, on-tape))
-    one (q ∷ qs) (one-more h e r) m z =
+    done-then : (ps : List (Point World)) → Runs f t at n w ps → LedgerKept n l w ps → refusal (refusalsOf k l) ≡ 0 → DoneThen
+    done-then [] (at-end h) m z = absurd (omega (arith, on-tape))
+    done-then (q ∷ qs) (one-more h e r) m z =
         let r₁ : Runs f t (nextOffset t at) (p .stores) (p .outcome .world) qs = subst (λ (q : Point World). Runs f t (nextOffset t at) (q .stores) (q .outcome .world) qs) e r in
         let m₁ : LedgerKept n l w (p ∷ qs) = subst (λ (q : Point World). LedgerKept n l w (q ∷ qs)) e m in
         let a = answered (m₁ .0) z in
@@ -202,15 +202,15 @@ abbrev card : TapeStep World
 card = onTape capMissing
 
 module _ (t : Bytes) where
-  abbrev Stuck : ℕ → Type 0
-  Stuck k =
+  abbrev Refuted : ℕ → Type 0
+  Refuted k =
       (at n : ℕ) (first : ℕ → ℕ) (w : World) (ps : List (Point World)) → first 0 + k ≡ suc maxNumber → drop at t ≡ rounds (suc k)
       → Runs card t at n w ps → LedgerKept n (downBy first) w ps → ⊥
 
-  stuck-last : Stuck 0
+  refuted-last : Refuted 0
   unfolding rounds commandAt obeyed cutLedger freshLedger
-  stuck-last at n first w ps sum left runs kept =
-      let x = one card RECOVER 7 is-seven bare-seven t at (6 ∷ []) left n w (downBy first) ps runs kept (recover-answer first) in
+  refuted-last at n first w ps sum left runs kept =
+      let x = done-then card RECOVER 7 is-seven bare-seven t at (6 ∷ []) left n w (downBy first) ps runs kept (recover-answer first) in
       let r : readAt t at ≡ whole RECOVER = read-is card RECOVER 7 is-seven bare-seven t at (6 ∷ []) left in
       let o = card t at w in
       let phase : w .card .phase ≡ Down = x .kept .between .phase in
@@ -226,23 +226,23 @@ module _ (t : Bytes) where
       (x .kept .between .journals (ap isBlank phase))
       (blocksLeft w) last
 
-  stuck-more : (k : ℕ) → Stuck k → Stuck (suc k)
+  refuted-more : (k : ℕ) → Refuted k → Refuted (suc k)
   unfolding rounds
-  stuck-more k ih at n first w ps sum left runs kept =
+  refuted-more k ih at n first w ps sum left runs kept =
       let ks = rounds (suc k) in
-      let x = one card RECOVER 7 is-seven bare-seven t at (6 ∷ ks) left n w (downBy first) ps runs kept (recover-answer first) in
+      let x = done-then card RECOVER 7 is-seven bare-seven t at (6 ∷ ks) left n w (downBy first) ps runs kept (recover-answer first) in
       let left₁ = left-next card RECOVER 7 is-seven bare-seven t at (6 ∷ ks) left in
       let p = pointAt card t at n w in
-      let y = one card CUT 6 is-six bare-six t (at + 1) ks left₁ (p .stores) (p .outcome .world) (freshLedger small [] (raised first)) (x .rest) (x .runs)
+      let y = done-then card CUT 6 is-six bare-six t (at + 1) ks left₁ (p .stores) (p .outcome .world) (freshLedger small [] (raised first)) (x .rest) (x .runs)
       (subst (λ (l : Ledger). LedgerKept (p .stores) l (p .outcome .world) (x .rest)) (recover-enters first) (x .ledger)) (cut-answer (raised first)) in
       let q = pointAt card t (at + 1) (p .stores) (p .outcome .world) in
       ih (at + 1 + 1) (q .stores) (raised first) (q .outcome .world) (y .rest) (omega arith)
       (left-next card CUT 6 is-six bare-six t (at + 1) ks left₁) (y .runs)
       (subst (λ (l : Ledger). LedgerKept (q .stores) l (q .outcome .world) (y .rest)) (cut-enters (raised first)) (y .ledger))
 
-  stuck : (k : ℕ) → Stuck k
-  stuck zero = stuck-last
-  stuck (suc k) = stuck-more k (stuck k)
+  refuted : (k : ℕ) → Refuted k
+  refuted zero = refuted-last
+  refuted (suc k) = refuted-more k (refuted k)
 
 abbrev emptySmall : Start
 emptySmall = from-down small zeroMemory
@@ -256,4 +256,4 @@ unfolding startLedger
 cap-missing h =
     let t = rounds (suc maxNumber) in
     let w = startWorld emptySmall in
-    stuck t maxNumber 0 0 (λ (c : ℕ). 1) w (run card t w) refl refl (run-runs card t w) (h t (rounds-bytes (suc maxNumber)) emptySmall small-fits)
+    refuted t maxNumber 0 0 (λ (c : ℕ). 1) w (run card t w) refl refl (run-runs card t w) (h t (rounds-bytes (suc maxNumber)) emptySmall small-fits)

@@ -111,8 +111,8 @@ pub answer-follows : (n : ℕ) (l : Ledger) (p : Point World) → PointKept n l 
 unfolding answerTest
 answer-follows n l p k = eq-eqb _ _ (k .answer)
 
-abbrev pub answers : Check
-answers = record { test = answerTest; follows = answer-follows }
+abbrev pub answerCheck : Check
+answerCheck = record { test = answerTest; follows = answer-follows }
 
 -- demand 1: a refused command stores nothing and leaves disk and memory as they were; the blocks of the shape are looked at
 unfoldable pub usedBytes : Shape → ℕ
@@ -172,8 +172,8 @@ pub count-follows : (k : Command) (l : Ledger) (w : World) (o : Outcome World) �
 unfolding countTest
 count-follows k l w o d = eq-eqb _ _ (d .stores)
 
-abbrev pub counts : Check
-counts = record { test = doneTest countTest; follows = done-follows countTest count-follows }
+abbrev pub countCheck : Check
+countCheck = record { test = doneTest countTest; follows = done-follows countTest count-follows }
 
 -- demand 2: the bytes stored; the blocks of the shape are looked at
 unfoldable pub bytesTest : Command → Ledger → World → Outcome World → Bool
@@ -183,8 +183,8 @@ pub bytes-follow : (k : Command) (l : Ledger) (w : World) (o : Outcome World) �
 unfolding bytesTest
 bytes-follow k l w o d = same-bytes (ap (take (usedBytes (l .shape))) (d .disk))
 
-abbrev pub stored : Check
-stored = record { test = doneTest bytesTest; follows = done-follows bytesTest bytes-follow }
+abbrev pub bytesCheck : Check
+bytesCheck = record { test = doneTest bytesTest; follows = done-follows bytesTest bytes-follow }
 
 -- what is left in memory: the block images of the shape are looked at
 unfoldable pub memoryTest : Command → Ledger → World → Outcome World → Bool

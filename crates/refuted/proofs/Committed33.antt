@@ -32,22 +32,22 @@ use Rattle.crash.specs.Ledger.{Ledger, validIn}
 use Rattle.crash.specs.Claims.{IsBytes, Start, StartFits, startWorld, startService, startLedger, AreaKept, LedgerKept, ReadingsKept, Claim, Demands, Readings}
 use Rattle.crash.proofs.Books.Tests.{clash, false-of, in-any, blockEquality}
 use Rattle.crash.proofs.Books.BookEntries.{oldestName, uncommittedName}
-use Rattle.crash.proofs.Blocks.History.{Event, Took, Status, Sound, Chain, older, kept-link}
+use Rattle.crash.proofs.Blocks.History.{Event, Took, Status, StatusSound, Chain, older, kept-link}
 use Rattle.crash.proofs.Books.Largest.{memberOf, stageOf, RetiredBelow, kept-largest, valid-is-kept}
 use Rattle.crash.proofs.Blocks.Invariant.{Inv, historyOf, homed, status, opened-of, sound-of}
 use Rattle.crash.proofs.Disk.ReadMaster.{shape-up}
 use Rattle.crash.proofs.Disk.ReadCheckpoint.{Lower, lowerClosed, closed-lower, oldest-is, oldest-name, none-committed, oldest-valid}
-use Rattle.crash.proofs.Commands.CardAnswers.{Same, none-left, then, same-refusal}
-use Rattle.crash.proofs.Runs.Points.{Goes, goes}
-use Rattle.crash.proofs.Runs.UpSteps.{UpAt, numbered}
-use Rattle.crash.proofs.Runs.Theorem.{blank-phase, At, at-blank, at-up, at-down, relates, claim, demands, readings, starts}
+use Rattle.crash.proofs.Commands.CardAnswers.{SameConditions, none-left, then, same-refusal}
+use Rattle.crash.proofs.Runs.RunClaims.{PointKeeps, point-keeps}
+use Rattle.crash.proofs.Runs.UpSteps.{RelatedUp, retired-below}
+use Rattle.crash.proofs.Runs.Theorem.{blank-phase, Related, related-blank, related-up, related-down, related-simulation, claim, demands, readings, starts}
 use Rattle.crash.proofs.Disk.Relation.{first-waiting}
 use Rattle.refuted.specs.Wrong.{sharesCommitted, committedConditions, onlyCommitted33}
 use Rattle.refuted.specs.Parts.{onTape}
 use Rattle.refuted.proofs.Parts.{other-checkpoint}
 
 -- ---- one block's history
-module _ {Txn : Type 0} (s : Status Txn) (sound : Sound s) (stored : Txn → Bool) {Image : Type 0} where
+module _ {Txn : Type 0} (s : Status Txn) (sound : StatusSound s) (stored : Txn → Bool) {Image : Type 0} where
   -- whoever took the block before a kept holder is kept
   kept-before : (e : Event Txn Image) (es : List (Event Txn Image)) → Chain s stored (e ∷ es) → So (s .kept (e .holder)) → (u : Txn) → Took u (e ∷ es) → So (s .kept u)
   kept-before e [] c h u k = ⊎-elim (λ p. rw p at h) (λ m. absurd m) k
@@ -85,7 +85,7 @@ module _ {home : ℕ → Bytes} {l : Ledger} (v : Inv home l) (below-tail : Reti
       let r = any-mem (λ (b : ℕ). any (eqb b) ((l .book .entry u) .blocks)) ((l .book .entry t) .blocks) (low .shares) in
       let b = r .0 in
       kept-largest (l .book) (opened-of (l .book) (v .known)) .sub u
-      (lower-kept (status l) (sound-of l (v .known) (v .retired-kept)) (homed l b) (historyOf l b) (v .good b .chain) t u
+      (lower-kept (status l) (sound-of l (v .known) (v .retired-kept)) (homed l b) (historyOf l b) (v .block-inv b .chain) t u
       (v .took b t (in-any blockEquality (r .1))) (v .took b u (r .2)) (valid-kept t valid) (low .is-closed) (low .lower))
 
 -- ---- the card
@@ -93,12 +93,12 @@ or-false : (a b : Bool) → b ≡ false → (a || b) ≡ a
 or-false true b h = refl
 or-false false b h = h
 
-module _ {l : Ledger} {w : World} (u : UpAt l w) (c : ℕ) (in-range : c < l .shape .cores) (some : l .book .oldest c < l .book .uncommitted c)
+module _ {l : Ledger} {w : World} (u : RelatedUp l w) (c : ℕ) (in-range : c < l .shape .cores) (some : l .book .oldest c < l .book .uncommitted c)
     (valid : memberOf (validIn (l .book)) (oldestName c (l .book)) ≡ true) where
   -- the closed one of a core that is not committed
   not-committed : (i : ℕ) → i < l .shape .cores → isCommitted (stageOf (l .book) (uncommittedName i (l .book))) ≡ false
   not-committed i h =
-      let r = u .up .fine .ranks i h in
+      let r = u .up .well-formed .ranks i h in
       elim (decLt (l .book .uncommitted i) (l .book .next i)) [
         | yes busy ↦ ap isCommitted (first-waiting r busy .1)
         | no free ↦ (let e : l .book .uncommitted i ≡ l .book .next i = omega (arith, r .mid) in
@@ -116,7 +116,7 @@ module _ {l : Ledger} {w : World} (u : UpAt l w) (c : ℕ) (in-range : c < l .sh
       let i : r .0 < l .shape .cores = subst (λ (s : Shape). r .0 < s .cores) (shape-up (u .up)) (mem-below ((shapeOf (w .card)) .cores) (r .1)) in
       let low = closed-lower (u .up) c e x (r .0) i (r .2) in
       clash
-      (lower-committed (u .inv) (numbered l (u .up .fine)) (oldestName c (l .book)) (uncommittedName (r .0) (l .book)) valid
+      (lower-committed (u .inv) (retired-below l (u .up .well-formed)) (oldestName c (l .book)) (uncommittedName (r .0) (l .book)) valid
       (subst (λ (t : Name). Lower l t (uncommittedName (r .0) (l .book))) (oldest-name (u .up) c in-range some) low))
       (not-committed (r .0) i))
 
@@ -125,19 +125,19 @@ module _ {l : Ledger} {w : World} (u : UpAt l w) (c : ℕ) (in-range : c < l .sh
   same-33 = sym (or-false (sharesCommitted w (oldest (committedOf w c))) _ none-closed)
 
 -- ---- one command in a world of a run
-module _ {l : Ledger} {w : World} (here : At l w) (c : ℕ) where
-  last-same : (a : At l w) → isBlank (w .card .phase) ≡ false → isDown (w .card .phase) ≡ false → noCore w c ≡ false
+module _ {l : Ledger} {w : World} (here : Related l w) (c : ℕ) where
+  last-same : (a : Related l w) → isBlank (w .card .phase) ≡ false → isDown (w .card .phase) ≡ false → noCore w c ≡ false
       → eqb (length (committedOf w c)) 0 ≡ false → not (isIn (validNow w) (nameOf (oldest (committedOf w c)))) ≡ false
       → sharesCommitted w (oldest (committedOf w c)) ≡ sharesLower w (oldest (committedOf w c))
   unfolding noCore
-  last-same (at-blank b) up low core some valid = clash (ap isBlank (blank-phase b)) up
-  last-same (at-down d) up low core some valid = clash (ap isDown (d .phase)) low
-  last-same (at-up u) up low core some valid =
+  last-same (related-blank b) up low core some valid = clash (ap isBlank (blank-phase b)) up
+  last-same (related-down d) up low core some valid = clash (ap isDown (d .phase)) low
+  last-same (related-up u) up low core some valid =
       let in-range : c < l .shape .cores = leb-false _ c (subst (λ (s : Shape). leb (s .cores) c ≡ false) (shape-up (u .up)) core) in
       let more : l .book .oldest c < l .book .uncommitted c = ltb-true _ _ (not-false _ (sym (none-committed (u .up) c in-range) ∙ some)) in
       same-33 u c in-range more (sym (oldest-valid (u .up) c in-range more) ∙ not-false _ valid)
 
-  same-conditions : Same (committedConditions c w) (checkpointConditions c w)
+  same-conditions : SameConditions (committedConditions c w) (checkpointConditions c w)
   unfolding checkpointConditions
   same-conditions =
       then refl (λ size.
@@ -148,7 +148,7 @@ module _ {l : Ledger} {w : World} (here : At l w) (c : ℕ) where
       then refl (λ valid.
       then (last-same here up low core some valid) (λ _. none-left)))))))
 
-pub same-step : (l : Ledger) (w : World) → At l w → (k : Command) → onlyCommitted33 k w ≡ step k w
+pub same-step : (l : Ledger) (w : World) → Related l w → (k : Command) → onlyCommitted33 k w ≡ step k w
 unfolding step conditionsOf doneBy
 same-step l w here =
     other-checkpoint w (λ (c : ℕ) (w : World). unless (committedConditions c w) w (checkpointed c w))
@@ -156,25 +156,25 @@ same-step l w here =
 
 -- ---- along a tape
 -- a card that does as the model's in every world of a run
-module _ (f : Step World) (same : (l : Ledger) (w : World) → At l w → (k : Command) → f k w ≡ step k w) (t : Bytes) (bytes : IsBytes t) where
-  obeyed-same : (l : Ledger) (w : World) → At l w → (r : Read) → obeyed step r w ≡ obeyed f r w
+module _ (f : Step World) (same : (l : Ledger) (w : World) → Related l w → (k : Command) → f k w ≡ step k w) (t : Bytes) (bytes : IsBytes t) where
+  obeyed-same : (l : Ledger) (w : World) → Related l w → (r : Read) → obeyed step r w ≡ obeyed f r w
   unfolding obeyed
   obeyed-same l w here (whole k) = sym (same l w here k)
   obeyed-same l w here unknown = refl
   obeyed-same l w here early = refl
 
-  command-same : (at : ℕ) (l : Ledger) (w : World) → At l w → stepAt t at w ≡ onTape f t at w
+  command-same : (at : ℕ) (l : Ledger) (w : World) → Related l w → stepAt t at w ≡ onTape f t at w
   unfolding stepAt commandAt
   command-same at l w here = ap (unless _ w) (obeyed-same l w here (readAt t at))
 
-  same-from : (most at n : ℕ) (l : Ledger) (w : World) → At l w → runFrom most stepAt t at n w ≡ runFrom most (onTape f) t at n w
+  same-from : (most at n : ℕ) (l : Ledger) (w : World) → Related l w → runFrom most stepAt t at n w ≡ runFrom most (onTape f) t at n w
   unfolding runFrom
   same-from zero at n l w here = refl
   same-from (suc most) at n l w here =
       cases (ltb at (length t))
       (λ h.
       let o = stepAt t at w in
-      let g : Goes At l w (readAt t at) o = goes At relates t bytes at l w here in
+      let g : PointKeeps Related l w (readAt t at) o = point-keeps Related related-simulation t bytes at l w here in
       let rest : runFrom most stepAt t (nextOffset t at) (n + o .stores) (o .world) ≡ runFrom most (onTape f) t (nextOffset t at) (n + o .stores) (o .world) =
       same-from most (nextOffset t at) (n + o .stores) _ (o .world) (g .next) in
       rw (h, runFrom)
@@ -183,7 +183,7 @@ module _ (f : Step World) (same : (l : Ledger) (w : World) → At l w → (k : C
       (command-same at l w here)))
       (λ h. rw (h, runFrom) refl)
 
-  run-same : (l : Ledger) (w : World) → At l w → run stepAt t w ≡ run (onTape f) t w
+  run-same : (l : Ledger) (w : World) → Related l w → run stepAt t w ≡ run (onTape f) t w
   unfolding run
   run-same l w here = same-from (length t) 0 0 l w here
 

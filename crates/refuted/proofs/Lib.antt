@@ -4,6 +4,6 @@ pub mod Parts
 pub mod Tapes
 pub mod PaperCards
 pub mod Refusals
-pub mod Others
+pub mod OtherCards
 pub mod CapMissing
 pub mod Committed33

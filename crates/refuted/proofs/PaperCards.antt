@@ -5,7 +5,7 @@ use Rattle.model.specs.Bytes.{Bytes}
 use Rattle.crash.specs.Claims.{Claim, Demands}
 use Rattle.refuted.specs.Parts.{onTape}
 use Rattle.refuted.specs.Wrong.{noNameForCommitted, newestByOrder, tailsCoreByCore, tailUnchanged, numbersFromOne, upBeforeHome, firstRecordOnly, inventedCount, nothingChanges, blankAlways, storeAlways30, checkpointAlways32}
-use Rattle.refuted.proofs.Checks.{refutes-claim, refutes-demands, answers, counts, stored}
+use Rattle.refuted.proofs.Checks.{refutes-claim, refutes-demands, answerCheck, countCheck, bytesCheck}
 use Rattle.refuted.proofs.Tapes.{tests, format, write, close, stores, checkpoints, cut, recovers, lostWriter, oneKept}
 
 -- ---- 'Where a card goes astray'
@@ -50,22 +50,22 @@ up-before-home = refutes-claim (onTape upBeforeHome) oneKept refl
 -- 'all shut out by demand 2': it stores the master where a home store is due
 pub up-before-home-store : Demands (onTape upBeforeHome) → ⊥
 unfolding tests
-up-before-home-store = refutes-demands (onTape upBeforeHome) stored oneKept refl
+up-before-home-store = refutes-demands (onTape upBeforeHome) bytesCheck oneKept refl
 
 pub first-record-only : Demands (onTape firstRecordOnly) → ⊥
 unfolding tests
 first-record-only =
-    refutes-demands (onTape firstRecordOnly) stored
+    refutes-demands (onTape firstRecordOnly) bytesCheck
     (format 1 1 6 ++ write 0 0 0 1 ++ close 0 ++ stores 0 3 ++ write 0 0 0 2 ++ close 0 ++ stores 0 1)
     refl
 
 pub invented-count : Demands (onTape inventedCount) → ⊥
 unfolding tests
-invented-count = refutes-demands (onTape inventedCount) counts (format 1 1 4 ++ write 0 0 0 1 ++ close 0) refl
+invented-count = refutes-demands (onTape inventedCount) countCheck (format 1 1 4 ++ write 0 0 0 1 ++ close 0) refl
 
 pub nothing-changes : Demands (onTape nothingChanges) → ⊥
 unfolding tests
-nothing-changes = refutes-demands (onTape nothingChanges) stored (format 1 1 4 ++ write 0 0 0 1 ++ close 0 ++ stores 0 1) refl
+nothing-changes = refutes-demands (onTape nothingChanges) bytesCheck (format 1 1 4 ++ write 0 0 0 1 ++ close 0 ++ stores 0 1) refl
 
 pub blank-always : Claim (onTape blankAlways) → ⊥
 unfolding tests
@@ -73,11 +73,11 @@ blank-always = refutes-claim (onTape blankAlways) oneKept refl
 
 pub store-always-30 : Demands (onTape storeAlways30) → ⊥
 unfolding tests
-store-always-30 = refutes-demands (onTape storeAlways30) answers (format 1 1 4 ++ write 0 0 0 1 ++ close 0 ++ stores 0 1) refl
+store-always-30 = refutes-demands (onTape storeAlways30) answerCheck (format 1 1 4 ++ write 0 0 0 1 ++ close 0 ++ stores 0 1) refl
 
 pub checkpoint-always-32 : Demands (onTape checkpointAlways32) → ⊥
 unfolding tests
 checkpoint-always-32 =
-    refutes-demands (onTape checkpointAlways32) answers
+    refutes-demands (onTape checkpointAlways32) answerCheck
     (format 1 1 4 ++ write 0 0 0 1 ++ close 0 ++ stores 0 3 ++ checkpoints 0 1)
     refl

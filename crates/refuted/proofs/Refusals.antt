@@ -19,7 +19,7 @@ use Rattle.crash.specs.Ledger.{blankLedger}
 use Rattle.crash.specs.Claims.{Demands}
 use Rattle.crash.proofs.Books.Tests.{clash}
 use Rattle.refuted.specs.Parts.{onTape, ignoring, ignoringAt, refusing}
-use Rattle.refuted.proofs.Checks.{answerTest, answers, holds, decidesTest, decides, areBytes, refutes-demands}
+use Rattle.refuted.proofs.Checks.{answerTest, answerCheck, holds, decidesTest, decides, areBytes, refutes-demands}
 use Rattle.refuted.proofs.Tapes.{tests, format, write, close, stores, checkpoints, cut, recovers, thirteenth}
 
 unfoldable failsAnswers : Step World → Bytes → Bool
@@ -53,7 +53,7 @@ conditions-fail = refl
 
 pub each-condition : (e : ℕ × Bytes) → List·Memᴰ e conditionTapes → Demands (onTape (ignoring (e .0))) → ⊥
 unfolding failsAnswers
-each-condition e m = refutes-demands (onTape (ignoring (e .0))) answers (e .1) (all-mem _ conditionTapes conditions-fail m)
+each-condition e m = refutes-demands (onTape (ignoring (e .0))) answerCheck (e .1) (all-mem _ conditionTapes conditions-fail m)
 
 -- 1 and 8 need other slices than runs start from, 2 and 3 are the tape's, and 27 needs numbers as `CapMissing` does: of each one
 -- command that meets it, with its world
@@ -91,4 +91,4 @@ always-fail = refl
 
 pub each-command : (e : ℕ × ℕ) → List·Memᴰ e alwaysRefused → Demands (onTape (refusing (e .0) (e .1))) → ⊥
 unfolding failsAnswers
-each-command e m = refutes-demands (onTape (refusing (e .0) (e .1))) answers allDone (all-mem _ alwaysRefused always-fail m)
+each-command e m = refutes-demands (onTape (refusing (e .0) (e .1))) answerCheck allDone (all-mem _ alwaysRefused always-fail m)

@@ -130,8 +130,8 @@ withMemory m o = record { answer = o .answer; world = record { card = o .world .
 abbrev pub withCard : World → Card → World
 withCard w x = record { card = x; disk = w .disk; memory = w .memory }
 
-abbrev pub withCloses : ℕ → Card → Card
-withCloses n x =
+abbrev pub putCloses : ℕ → Card → Card
+putCloses n x =
     record { phase = x .phase; shape = x .shape; closes = n; recovered = x .recovered; tails = x .tails; cores = x .cores; holders = x .holders }
 
 -- core c's running transaction, and its closed one, changed

@@ -9,7 +9,7 @@ use Rattle.model.specs.Lists.{below, select, any}
 use Rattle.model.specs.Bytes.{Bytes, blockAt, replaced}
 use Rattle.model.specs.Shape.{homeBlock, journalBlock}
 use Rattle.model.specs.Card.{taken, listed, lists, stamped, withBlock, newHolder, withHolder, recordSize, freshCard, shapeOf, tailOf, coreOf, holderOf, isDown}
-use Rattle.model.specs.Layout.{masterBlock, newHeld, descriptorBlock, commitBlock}
+use Rattle.model.specs.Layout.{masterBlock, newTag, descriptorBlock, commitBlock}
 use Rattle.model.specs.Journal.{journalAt, nameOf, blocksOf}
 use Rattle.model.specs.Shrink.{strike}
 use Rattle.model.specs.Valid.{isIn, namesMet, blocksHeld, newest}
@@ -31,7 +31,7 @@ use Rattle.model.specs.declared.Transaction.{Transaction}
 use Rattle.model.specs.declared.Core.{Core}
 use Rattle.model.specs.declared.Card.{Card}
 use Rattle.model.specs.declared.Committed.{Committed}
-use Rattle.refuted.specs.Parts.{otherWrite, otherClose, otherStore, otherCheckpoint, otherCut, otherRecover, refusing, writeAsking, patched, withMemory, withCard, withCloses, onRunning, onClosed, storeBy, recoverBy, recoverSet, recoverTail}
+use Rattle.refuted.specs.Parts.{otherWrite, otherClose, otherStore, otherCheckpoint, otherCut, otherRecover, refusing, writeAsking, patched, withMemory, withCard, putCloses, onRunning, onClosed, storeBy, recoverBy, recoverSet, recoverTail}
 
 -- ---- 'Where a card goes astray'
 -- 'No name for a holder already committed': the writer's list stays as it was
@@ -138,7 +138,7 @@ capMissing = recoverTail (λ (t n : ℕ). t + (n + 1))
 -- 'stamps start again at 1': they go on
 abbrev pub stampsGoOn : Step World
 stampsGoOn =
-    let goesOn : Command → World → Outcome World = λ k w. patched (withCloses (w .card .closes)) (step k w) in
+    let goesOn : Command → World → Outcome World = λ k w. patched (putCloses (w .card .closes)) (step k w) in
     otherCut (otherRecover step (goesOn RECOVER)) (goesOn CUT)
 
 -- ---- recovery
@@ -250,11 +250,11 @@ stampAtOpen =
     otherWrite
     (otherClose step (λ c w.
     let t = (coreOf (w .card) c) .running in
-    patched (λ x. withCloses (w .card .closes) (onClosed c (λ u. stamped u (t .stamp)) x)) (step (CLOSE c) w)))
+    patched (λ x. putCloses (w .card .closes) (onClosed c (λ u. stamped u (t .stamp)) x)) (step (CLOSE c) w)))
     (λ c b o v w.
     let n = w .card .closes in
     let done = step (WRITE c b o v) w in
-    cond ((coreOf (w .card) c) .running .live) done (patched (λ x. withCloses (n + 1) (onRunning c (λ t. stamped t (n + 1)) x)) done))
+    cond ((coreOf (w .card) c) .running .live) done (patched (λ x. putCloses (n + 1) (onRunning c (λ t. stamped t (n + 1)) x)) done))
 
 -- .. or when its commit is stored
 abbrev pub stampAtCommit : Step World
@@ -264,8 +264,8 @@ stampAtCommit =
     let x = w .card in
     let n = x .closes in
     let isCommit = ltb (length (taken ((coreOf x c) .closed))) ((coreOf x c) .stored) in
-    step (STORE c) (cond isCommit (withCard w (withCloses (n + 1) (onClosed c (λ t. stamped t (n + 1)) x))) w)))
-    (λ c w. patched (withCloses (w .card .closes)) (step (CLOSE c) w))
+    step (STORE c) (cond isCommit (withCard w (putCloses (n + 1) (onClosed c (λ t. stamped t (n + 1)) x))) w)))
+    (λ c w. patched (putCloses (w .card .closes)) (step (CLOSE c) w))
 
 -- ---- STORE
 abbrev rightPlace : Card → ℕ → ℕ
@@ -275,7 +275,7 @@ rightPlace x c = journalBlock (shapeOf x) c (nextPosition x c)
 abbrev pub noEscape : Step World
 noEscape =
     storeBy rightPlace (λ (c : ℕ) (k : Core) (m : Bytes).
-    cond (eqb (k .stored) 0) (descriptorBlock (closedNumber k) (map (λ (b : ℕ). newHeld b 0) (taken (k .closed))))
+    cond (eqb (k .stored) 0) (descriptorBlock (closedNumber k) (map (λ (b : ℕ). newTag b 0) (taken (k .closed))))
     (cond (leb (k .stored) (length (taken (k .closed)))) (blockAt m (copyBlock c (k .stored - 1))) (nextStored c k m)))
 
 -- 'A list has at most 12 names': the twelfth is not stored

@@ -18,8 +18,8 @@ use Rattle.cells.specs.Cells.{byteIn, transactionIn, cardIn, corePlace, running
 use Rattle.cells.specs.Changes.{openedOr}
 use Rattle.cells.proofs.ReadLaws.{used-there, running-read, running-there, closed-there, closed-live, blocks-long, names-long}
 use Rattle.cells.proofs.TransactionLaws.{open-live}
-use Rattle.rules.specs.Conditions.{ownFull, backFull, ninth, sizeAfter, namedBy, takenBy, afterBy, foundConditions}
-use Rattle.rules.specs.declared.Found.{Found}
+use Rattle.rules.specs.Conditions.{ownFull, backFull, ninth, sizeAfter, namedBy, takenBy, afterBy, roomConditions}
+use Rattle.rules.specs.declared.RuleMet.{RuleMet}
 use Rattle.rules.proofs.RuleLaws.{cond-not, cond-done}
 
 -- ---- 24, the list of a transaction
@@ -133,13 +133,13 @@ pub number-opens : (l p : Bool) → l ≡ false → p ≡ (not l && p)
 number-opens l p h = rw h
 
 -- ---- the refusals in turn
-module _ (w : List ℕ) (f : Found) (p : Bool) (own : p ≡ ownFull (f .rule) (writer (cardIn w) (f .core)) (f .holder)) where
-  pub refused-own : p ≡ true → 24 ≡ refusal (foundConditions (cardIn w) f)
+module _ (w : List ℕ) (f : RuleMet) (p : Bool) (own : p ≡ ownFull (f .rule) (writer (cardIn w) (f .core)) (f .holder)) where
+  pub refused-own : p ≡ true → 24 ≡ refusal (roomConditions (cardIn w) f)
   unfolding refusal
   refused-own h = rw (← own, h)
 
   module _ (p' : p ≡ false) (q : Bool) (back : q ≡ backFull (f .rule) ((coreOf (cardIn w) (f .holder .core)) .running) (f .own)) where
-    pub refused-back : q ≡ true → 24 ≡ refusal (foundConditions (cardIn w) f)
+    pub refused-back : q ≡ true → 24 ≡ refusal (roomConditions (cardIn w) f)
     unfolding refusal
     refused-back h = rw (← own, p', ← back, h)
 
@@ -147,7 +147,7 @@ module _ (w : List ℕ) (f : Found) (p : Bool) (own : p ≡ ownFull (f .rule) (w
       ninth-met : r ≡ ninth (f .rule) (writer (cardIn w) (f .core))
       ninth-met = ninth-is (f .rule) (writer (cardIn w) (f .core)) (writer-long w (f .core) core) k count r more
 
-      pub refused-ninth : r ≡ true → 25 ≡ refusal (foundConditions (cardIn w) f)
+      pub refused-ninth : r ≡ true → 25 ≡ refusal (roomConditions (cardIn w) f)
       unfolding refusal
       refused-ninth h = rw (← own, p', ← back, q', ← ninth-met, h)
 
@@ -155,7 +155,7 @@ module _ (w : List ℕ) (f : Found) (p : Bool) (own : p ≡ ownFull (f .rule) (w
         journal-met : t ≡ ltb ((shapeOf (cardIn w)) .journal) (closedBlocks (coreOf (cardIn w) (f .core)) + recordSize (afterBy (cardIn w) f))
         journal-met = full ∙ rw (shape, size-is (f .rule) (writer (cardIn w) (f .core)) (writer-long w (f .core) core) k count (f .holder) (f .block) r more r')
 
-        pub refused-journal : t ≡ true → 26 ≡ refusal (foundConditions (cardIn w) f)
+        pub refused-journal : t ≡ true → 26 ≡ refusal (roomConditions (cardIn w) f)
         unfolding refusal
         refused-journal h = rw (← own, p', ← back, q', ← ninth-met, r', ← journal-met, h)
 
@@ -163,12 +163,12 @@ module _ (w : List ℕ) (f : Found) (p : Bool) (own : p ≡ ownFull (f .rule) (w
           numbers-met : u ≡ (not ((coreOf (cardIn w) (f .core)) .running .live) && ltb maxNumber (f .own .number))
           numbers-met = last ∙ rw live
 
-          refused-last : refusal (foundConditions (cardIn w) f) ≡ cond u 27 0
+          refused-last : refusal (roomConditions (cardIn w) f) ≡ cond u 27 0
           unfolding refusal
           refused-last = rw (← own, p', ← back, q', ← ninth-met, r', ← journal-met, t', ← numbers-met)
 
-          pub refused-numbers : u ≡ true → 27 ≡ refusal (foundConditions (cardIn w) f)
+          pub refused-numbers : u ≡ true → 27 ≡ refusal (roomConditions (cardIn w) f)
           refused-numbers h = rw (refused-last, h)
 
-          pub refused-not : u ≡ false → 0 ≡ refusal (foundConditions (cardIn w) f)
+          pub refused-not : u ≡ false → 0 ≡ refusal (roomConditions (cardIn w) f)
           refused-not h = rw (refused-last, h)

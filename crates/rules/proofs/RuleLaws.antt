@@ -2,7 +2,7 @@
 -- one case of `ruleFor`.
 use Rattle.model.proofs.Base.{ℕ, _<_, _≡_, ap, _∙_, Bool, true, false, cond, not, _&&_, List, eqb, not-true, not-false}
 use Rattle.model.specs.Card.{newName, sameName, coreOf, holderOf}
-use Rattle.model.specs.Write.{writerName, isRunning, ruleFor}
+use Rattle.model.specs.Write.{writerName, isRunningIn, ruleFor}
 use Rattle.model.specs.declared.Name.{Name}
 use Rattle.model.specs.declared.Holder.{Holder}
 use Rattle.model.specs.declared.Card.{Card}
@@ -10,15 +10,15 @@ use Rattle.model.specs.declared.Rule.{Rule}
 use Rattle.model.specs.declared.Rule.the-variants.{Free, Own, Running, Closed}
 use Rattle.cells.specs.Cells.{numberIn, cardIn, corePlace}
 use Rattle.cells.proofs.ReadLaws.{next-there}
-use Rattle.rules.specs.Conditions.{foundAt}
+use Rattle.rules.specs.Conditions.{ruleMet}
 
 -- ---- a test g of the rule, that the code asks for by not g
 module _ (g a : Bool) (q : g ≡ a) where
-  pub both-not : (p : Bool) → not g ≡ true → false ≡ (a && p)
-  both-not p z = rw (← q, not-true g z)
+  pub and-not : (p : Bool) → not g ≡ true → false ≡ (a && p)
+  and-not p z = rw (← q, not-true g z)
 
-  pub both-test : (p f : Bool) → f ≡ p → not g ≡ false → f ≡ (a && p)
-  both-test p f s z = s ∙ rw (← q, not-false g z)
+  pub and-test : (p f : Bool) → f ≡ p → not g ≡ false → f ≡ (a && p)
+  and-test p f s z = s ∙ rw (← q, not-false g z)
 
   module _ {A : Type 0} (x y : A) where
     pub cond-not : not g ≡ true → y ≡ cond a x y
@@ -35,13 +35,13 @@ module _ (w : List ℕ) (c : ℕ) (h : c < 8) (p : ℕ) where
 
 -- ---- whether the transaction of a name runs
 module _ (w : List ℕ) (n : Name) (g : Bool) (q : g ≡ (coreOf (cardIn w) (n .core)) .running .live) where
-  pub runs-not : not g ≡ true → false ≡ isRunning (cardIn w) n
-  unfolding isRunning
-  runs-not z = both-not g _ q _ z
+  pub isRunningIn-no : not g ≡ true → false ≡ isRunningIn (cardIn w) n
+  unfolding isRunningIn
+  isRunningIn-no z = and-not g _ q _ z
 
-  pub runs : n .core < 8 → (p : ℕ) → p ≡ corePlace (n .core) → (k : ℕ) → k ≡ numberIn w p → not g ≡ false → eqb k (n .number) ≡ isRunning (cardIn w) n
-  unfolding isRunning
-  runs h p e k s z = both-test g _ q _ _ (ap (λ (m : ℕ). eqb m (n .number)) (next-there w (n .core) h p e k s)) z
+  pub isRunningIn-yes : n .core < 8 → (p : ℕ) → p ≡ corePlace (n .core) → (k : ℕ) → k ≡ numberIn w p → not g ≡ false → eqb k (n .number) ≡ isRunningIn (cardIn w) n
+  unfolding isRunningIn
+  isRunningIn-yes h p e k s z = and-test g _ q _ _ (ap (λ (m : ℕ). eqb m (n .number)) (next-there w (n .core) h p e k s)) z
 
 -- ---- the rule
 module _ (x : Card) (h : Holder) (own : Name) where
@@ -54,7 +54,7 @@ module _ (x : Card) (h : Holder) (own : Name) where
     unfolding ruleFor
     rule-own z c b e i = rw (← e, ← i, p, ← s, z)
 
-    module _ (f : Bool) (q : f ≡ isRunning x (h .name)) (z : g ≡ false) where
+    module _ (f : Bool) (q : f ≡ isRunningIn x (h .name)) (z : g ≡ false) where
       pub rule-closed : not f ≡ true → (c b : ℕ) → h ≡ holderOf x b → own ≡ writerName x c → Closed ≡ ruleFor x c b
       unfolding ruleFor
       rule-closed v c b e i = rw (← e, ← i, p, ← s, z, ← q, not-true f v)
@@ -64,6 +64,6 @@ module _ (x : Card) (h : Holder) (own : Name) where
       rule-running v c b e i = rw (← e, ← i, p, ← s, z, ← q, not-false f v)
 
 -- ---- what a WRITE of core c to block b finds
-pub found : (x : Card) (c b : ℕ) (h : Holder) → h ≡ holderOf x b → (own : Name) → own ≡ writerName x c → (r : Rule) → ((a d : ℕ) → h ≡ holderOf x d → own ≡ writerName x a → r ≡ ruleFor x a d)
-    → record { core = c; block = b; rule = r; holder = h .name; own = own } ≡ foundAt x c b
-found x c b h p own q r e = rw (e c b p q, q, p)
+pub ruleMet-found : (x : Card) (c b : ℕ) (h : Holder) → h ≡ holderOf x b → (own : Name) → own ≡ writerName x c → (r : Rule) → ((a d : ℕ) → h ≡ holderOf x d → own ≡ writerName x a → r ≡ ruleFor x a d)
+    → record { core = c; block = b; rule = r; holder = h .name; own = own } ≡ ruleMet x c b
+ruleMet-found x c b h p own q r e = rw (e c b p q, q, p)

@@ -10,14 +10,14 @@ use Rattle.model.specs.declared.Name.{Name}
 use Rattle.model.specs.declared.Transaction.{Transaction}
 use Rattle.model.specs.declared.Card.{Card}
 use Rattle.model.specs.declared.Rule.{Rule}
-use Rattle.rules.specs.declared.Found.{Found}
+use Rattle.rules.specs.declared.RuleMet.{RuleMet}
 
 -- ---- what a WRITE finds
 -- that of core c to block b
-abbrev pub foundAt : Card → ℕ → ℕ → Found
-foundAt x c b = record { core = c; block = b; rule = ruleFor x c b; holder = (holderOf x b) .name; own = writerName x c }
+abbrev pub ruleMet : Card → ℕ → ℕ → RuleMet
+ruleMet x c b = record { core = c; block = b; rule = ruleFor x c b; holder = (holderOf x b) .name; own = writerName x c }
 
-pub record Bounded (f : Found) : Type 0 where
+pub record Bounded (f : RuleMet) : Type 0 where
   pub core : f .core < 8
   pub block : f .block < 64
   pub holder : f .holder .core < 8
@@ -32,7 +32,7 @@ namedBy r t n = cond (namesHolder r) (withName t n) t
 unfoldable pub takenBy : Rule → Transaction → ℕ → Transaction
 takenBy r t b = cond (takesBlock r) (withBlock t b) t
 
-abbrev pub afterBy : Card → Found → Transaction
+abbrev pub afterBy : Card → RuleMet → Transaction
 afterBy x f = takenBy (f .rule) (namedBy (f .rule) (writer x (f .core)) (f .holder)) (f .block)
 
 -- ---- room
@@ -52,8 +52,8 @@ unfoldable pub sizeAfter : Rule → ℕ → ℕ
 sizeAfter r n = cond (takesBlock r) (n + 3) (n + 2)
 
 -- 24 to 27
-abbrev pub foundConditions : Card → Found → List (Bool × ℕ)
-foundConditions x f =
+abbrev pub roomConditions : Card → RuleMet → List (Bool × ℕ)
+roomConditions x f =
     (ownFull (f .rule) (writer x (f .core)) (f .holder) || backFull (f .rule) ((coreOf x (f .holder .core)) .running) (f .own), 24)
     ∷ (ninth (f .rule) (writer x (f .core)), 25)
     ∷ (ltb ((shapeOf x) .journal) (closedBlocks (coreOf x (f .core)) + recordSize (afterBy x f)), 26)

@@ -6,9 +6,9 @@ ghost use mathlib.Core.Path.{_≡_};
 ghost use Prim.Native.Nat.{ℕ, _<_};
 ghost use lib.ListN.{length};
 ghost use Rattle.model.specs.Card.{coreOf, holderOf};
-ghost use Rattle.model.specs.Write.{writerName, isRunning, ruleFor, takesBlock, namesHolder, isNamedBack, loadsImage};
+ghost use Rattle.model.specs.Write.{writerName, isRunningIn, ruleFor, takesBlock, namesHolder, isNamedBack, loadsImage};
 ghost use Rattle.cells.specs.Cells.{cardIn};
-ghost use Rattle.rules.specs.Conditions.{foundAt, Bounded};
+ghost use Rattle.rules.specs.Conditions.{ruleMet, Bounded};
 use cells::core_place;
 use cells::holder_at;
 use cells::is_live;
@@ -21,7 +21,7 @@ use model::Rule;
 pub use room::room_refusal;
 
 // A WRITE as its core, its block and what it meets there: the rule, the name of the block's holder, the writer's own name.
-pub struct Found {
+pub struct RuleMet {
     pub core: u8,
     pub block: u8,
     pub rule: Rule,
@@ -51,7 +51,7 @@ fn writer_name(w: &[u64], c: u8) -> Name
 // Whether the transaction of this name is running.
 fn is_running(w: &[u64], n: Name) -> bool
     requires { ⌜ (length (now w) ≡ 512) × (n .core < 8) ⌝ }
-    ensures { λ r. ⌜ r ≡ isRunning (cardIn (now (w .entry))) n ⌝ }
+    ensures { λ r. ⌜ r ≡ isRunningIn (cardIn (now (w .entry))) n ⌝ }
 {
     if !has_running(w, n.core) {
         return false;
@@ -79,14 +79,14 @@ fn rule_for(w: &[u64], h: Holder, own: Name) -> Rule
 }
 
 // What a WRITE of core c to block b meets.
-pub fn find(w: &[u64], c: u8, b: u8) -> Found
+pub fn find(w: &[u64], c: u8, b: u8) -> RuleMet
     requires { ⌜ (length (now w) ≡ 512) × (c < 8) × (b < 64) ⌝ }
-    ensures { λ r. ⌜ (r ≡ foundAt (cardIn (now (w .entry))) c b) × Bounded r ⌝ }
+    ensures { λ r. ⌜ (r ≡ ruleMet (cardIn (now (w .entry))) c b) × Bounded r ⌝ }
 {
     let h = holder_at(w, b);
     let own = writer_name(w, c);
     let holder = h.name;
-    Found {
+    RuleMet {
         core: c,
         block: b,
         rule: rule_for(w, h, own),

@@ -9,8 +9,8 @@ ghost use Rattle.model.specs.Command.{refusal};
 ghost use Rattle.model.specs.Write.{writer, takesBlock, passesNames, closedBlocks};
 ghost use Rattle.model.specs.Limits.{maxNumber};
 ghost use Rattle.cells.specs.Cells.{transactionIn, cardIn};
-ghost use Rattle.rules.specs.Conditions.{Bounded, ownFull, backFull, sizeAfter, foundConditions};
-use crate::Found;
+ghost use Rattle.rules.specs.Conditions.{Bounded, ownFull, backFull, sizeAfter, roomConditions};
+use crate::RuleMet;
 use crate::has_running;
 use crate::is_named_back;
 use crate::names_holder;
@@ -39,7 +39,7 @@ fn passes_names(w: &[u64], at: usize, n: Name) -> bool
 }
 
 // Refusal 24 for the writer's list; one that opens has no names. live: whether its core has a running transaction.
-fn own_full(w: &[u64], f: Found, live: bool) -> bool
+fn own_full(w: &[u64], f: RuleMet, live: bool) -> bool
     requires { ⌜ (length (now w) ≡ 512) × Bounded f × (live ≡ (coreOf (cardIn (now w)) (f .core)) .running .live) ⌝ }
     ensures { λ r. ⌜ r ≡ ownFull (f .rule) (writer (cardIn (now (w .entry))) (f .core)) (f .holder) ⌝ }
 {
@@ -54,7 +54,7 @@ fn own_full(w: &[u64], f: Found, live: bool) -> bool
 }
 
 // Refusal 24 for the holder's list.
-fn back_full(w: &[u64], f: Found) -> bool
+fn back_full(w: &[u64], f: RuleMet) -> bool
     requires { ⌜ (length (now w) ≡ 512) × Bounded f ⌝ }
     ensures { λ r. ⌜ r ≡ backFull (f .rule) ((coreOf (cardIn (now (w .entry))) (f .holder .core)) .running) (f .own) ⌝ }
 {
@@ -77,7 +77,7 @@ fn writer_count(w: &[u64], c: u8, live: bool) -> usize
 }
 
 // Refusal 25, for a writer that has so many blocks.
-fn ninth_block(f: Found, count: usize) -> bool
+fn ninth_block(f: RuleMet, count: usize) -> bool
     ensures { λ r. ⌜ r ≡ (takesBlock (f .rule) && leb 8 count) ⌝ }
 {
     let rule = f.rule;
@@ -101,7 +101,7 @@ fn closed_blocks(w: &[u64], c: u8) -> usize
 }
 
 // The blocks of the writer's record after this WRITE.
-fn size_after(f: Found, count: usize) -> usize
+fn size_after(f: RuleMet, count: usize) -> usize
     requires { ⌜ count ≤ 8 ⌝ }
     ensures { λ r. ⌜ (r ≡ sizeAfter (f .rule) count) × (r ≤ 11) ⌝ }
 {
@@ -113,7 +113,7 @@ fn size_after(f: Found, count: usize) -> usize
 }
 
 // Refusal 26.
-fn journal_full(w: &[u64], s: Shape, f: Found, count: usize) -> bool
+fn journal_full(w: &[u64], s: Shape, f: RuleMet, count: usize) -> bool
     requires { ⌜ (length (now w) ≡ 512) × Bounded f × (count ≤ 8) ⌝ }
     ensures { λ r. ⌜ r ≡ ltb (s .journal) (closedBlocks (coreOf (cardIn (now (w .entry))) (f .core)) + sizeAfter (f .rule) count) ⌝ }
 {
@@ -134,9 +134,9 @@ fn numbers_end(own: Name, live: bool) -> bool
 }
 
 // The number of the refusal, 0 for none.
-pub fn room_refusal(w: &[u64], s: Shape, f: Found) -> u8
+pub fn room_refusal(w: &[u64], s: Shape, f: RuleMet) -> u8
     requires { ⌜ (length (now w) ≡ 512) × (s ≡ shapeOf (cardIn (now w))) × Bounded f ⌝ }
-    ensures { λ r. ⌜ r ≡ refusal (foundConditions (cardIn (now (w .entry))) f) ⌝ }
+    ensures { λ r. ⌜ r ≡ refusal (roomConditions (cardIn (now (w .entry))) f) ⌝ }
 {
     let live = has_running(w, f.core);
     if own_full(w, f, live) {

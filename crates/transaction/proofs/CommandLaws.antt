@@ -20,10 +20,10 @@ use Rattle.cells.specs.Changes.{Frame}
 use Rattle.cells.proofs.RefusalLaws.{first-hit, first-pass, refusal-joined, refusal-next, refusal-one}
 use Rattle.cells.proofs.EntryLaws.{entry, entry-hit, entry-pass}
 use Rattle.cells.proofs.MeetLaws.{meets-refused, meets-done}
-use Rattle.rules.specs.Conditions.{foundAt, ownFull, backFull, ninth, namedBy, takenBy, foundConditions}
-use Rattle.rules.specs.declared.Found.{Found}
+use Rattle.rules.specs.Conditions.{ruleMet, ownFull, backFull, ninth, namedBy, takenBy, roomConditions}
+use Rattle.rules.specs.declared.RuleMet.{RuleMet}
 use Rattle.rules.proofs.RuleLaws.{cond-done}
-use Rattle.transaction.specs.Writing.{firstConditions, Passed, Room, loadedBy}
+use Rattle.transaction.specs.Writing.{firstConditions, Unrefused, Room, loadedBy}
 
 -- ---- what it meets first
 module _ (x : Card) (c b o : ℕ) (d m : Bytes) (n : ℕ) (e : n ≡ refusal (entry c (world x d m))) where
@@ -54,7 +54,7 @@ module _ (x : Card) (c b o : ℕ) (d m : Bytes) (n : ℕ) (e : n ≡ refusal (en
 first-numbered : (c b o : ℕ) (w : World) → Numbered (firstConditions c b o w)
 first-numbered c b o w = (omega arith, (omega arith, (omega arith, (omega arith, (omega arith, (omega arith, tt))))))
 
-pub passed : (x : Card) (c b o : ℕ) (d m : Bytes) (n : ℕ) → n ≡ refusal (firstConditions c b o (world x d m)) → n ≡ 0 → Passed x c b o d m
+pub passed : (x : Card) (c b o : ℕ) (d m : Bytes) (n : ℕ) → n ≡ refusal (firstConditions c b o (world x d m)) → n ≡ 0 → Unrefused x c b o d m
 unfolding noCore noBlock
 passed x c b o d m n e h =
     let k : Clear (firstConditions c b o (world x d m)) = refusal-clear _ (first-numbered c b o (world x d m)) (sym e ∙ h) in
@@ -96,18 +96,18 @@ or-false : (p q : Bool) → (p || q) ≡ false → (p ≡ false) × (q ≡ false
 or-false true q h = absurd (let z : _≡_ {A = ℕ} 0 1 = cc in omega arith)
 or-false false q h = (refl, h)
 
-pub room : (x : Card) (f : Found) (k : ℕ) → k ≡ refusal (foundConditions x f) → k ≡ 0 → Room x f
+pub room : (x : Card) (f : RuleMet) (k : ℕ) → k ≡ refusal (roomConditions x f) → k ≡ 0 → Room x f
 room x f k e h =
-    let c : Clear (foundConditions x f) = refusal-clear _ (omega arith, (omega arith, (omega arith, (omega arith, tt)))) (sym e ∙ h) in
+    let c : Clear (roomConditions x f) = refusal-clear _ (omega arith, (omega arith, (omega arith, (omega arith, tt)))) (sym e ∙ h) in
     let l = or-false _ _ (c .0) in
     record { list = l .0; back = l .1; blocks = c .1 .0 }
 
-pub found-own : (x : Card) (c b : ℕ) (f : Found) → f ≡ foundAt x c b → f ≡ foundAt x (f .core) (f .block)
-found-own x c b f e = e ∙ ap (λ (a : Found). foundAt x (a .core) (a .block)) (sym e)
+pub found-own : (x : Card) (c b : ℕ) (f : RuleMet) → f ≡ ruleMet x c b → f ≡ ruleMet x (f .core) (f .block)
+found-own x c b f e = e ∙ ap (λ (a : RuleMet). ruleMet x (a .core) (a .block)) (sym e)
 
 -- ---- the command
 joined : (x : Card) (c b o : ℕ) (d m : Bytes)
-    → refusal (writeConditions c b o (world x d m)) ≡ firstOf (refusal (firstConditions c b o (world x d m))) (refusal (foundConditions x (foundAt x c b)))
+    → refusal (writeConditions c b o (world x d m)) ≡ firstOf (refusal (firstConditions c b o (world x d m))) (refusal (roomConditions x (ruleMet x c b)))
 unfolding writeConditions listsFull journalFull writerAfter writerName ownFull backFull ninth namedBy takenBy
 joined x c b o d m = refusal-joined (firstConditions c b o (world x d m)) _ (first-numbered c b o (world x d m))
 
@@ -116,10 +116,10 @@ pub first-refused : (v : List ℕ) (c b o : ℕ) (bytes d m : Bytes) (n : ℕ) �
 unfolding write
 first-refused v c b o bytes d m n l e h = meets-refused _ v d m _ l n (first-hit n _ _ e h ∙ sym (joined (cardIn v) c b o d m)) h
 
-module _ (v : List ℕ) (c b o : ℕ) (bytes d m : Bytes) (l : length v ≡ 512) (p : Passed (cardIn v) c b o d m) (f : Found) (e : f ≡ foundAt (cardIn v) c b) (k : ℕ) (r : k ≡ refusal (foundConditions (cardIn v) f)) where
+module _ (v : List ℕ) (c b o : ℕ) (bytes d m : Bytes) (l : length v ≡ 512) (p : Unrefused (cardIn v) c b o d m) (f : RuleMet) (e : f ≡ ruleMet (cardIn v) c b) (k : ℕ) (r : k ≡ refusal (roomConditions (cardIn v) f)) where
   number : k ≡ refusal (writeConditions c b o (worldIn v d m))
   number =
-      first-pass 0 k _ _ (sym (p .none)) refl (r ∙ ap (λ (a : Found). refusal (foundConditions (cardIn v) a)) e)
+      first-pass 0 k _ _ (sym (p .none)) refl (r ∙ ap (λ (a : RuleMet). refusal (roomConditions (cardIn v) a)) e)
       ∙ sym (joined (cardIn v) c b o d m)
 
   pub ruled-refused : (k ≡ 0 → ⊥) → Meets (write c b o bytes (worldIn v d m)) v v d m (newAnswer k 0)
@@ -130,6 +130,6 @@ module _ (v : List ℕ) (c b o : ℕ) (bytes d m : Bytes) (l : length v ≡ 512)
       → Meets (write c b o bytes (worldIn v d m)) v w d t (newAnswer 0 0)
   unfolding write written writtenMemory loadedBy
   ruled-done h w t q i j =
-      let y : cardIn w ≡ writtenCard (cardIn v) c b = i ∙ ap (λ (a : Found). writtenCard (cardIn v) (a .core) (a .block)) e in
-      let z : t ≡ writtenMemory (worldIn v d m) c b o bytes = q ∙ ap (λ (a : Found). replaced (128 * b + o) 4 (loadedBy (a .rule) d m b) bytes) e in
+      let y : cardIn w ≡ writtenCard (cardIn v) c b = i ∙ ap (λ (a : RuleMet). writtenCard (cardIn v) (a .core) (a .block)) e in
+      let z : t ≡ writtenMemory (worldIn v d m) c b o bytes = q ∙ ap (λ (a : RuleMet). replaced (128 * b + o) 4 (loadedBy (a .rule) d m b) bytes) e in
       meets-done _ v d m _ l k number h w d t 0 (rw (y, z)) 0 512 j

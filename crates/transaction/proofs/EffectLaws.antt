@@ -3,7 +3,7 @@
 use Rattle.model.proofs.Base.{ℕ, _-_, _%_, _<_, arith, _≡_, refl, sym, ap, _∙_, Bool, true, false, not, _&&_, false≢true, List}
 use Rattle.model.proofs.Base.{getD-set-other, eqb, eq-eqb, eqb-true, leb-false, not-false}
 use Rattle.model.specs.Card.{newName, sameName, freshCore, withName, withRunning, withCore, coreOf, holderOf}
-use Rattle.model.specs.Write.{writer, writerName, isRunning, ruleFor, takesBlock, namesHolder, isNamedBack, passesNames, writerAfter, writtenCard}
+use Rattle.model.specs.Write.{writer, writerName, isRunningIn, ruleFor, takesBlock, namesHolder, isNamedBack, passesNames, writerAfter, writtenCard}
 use Rattle.model.specs.declared.Name.{Name}
 use Rattle.model.specs.declared.Transaction.{Transaction}
 use Rattle.model.specs.declared.Card.{Card}
@@ -13,8 +13,8 @@ use Rattle.cells.specs.Cells.{transactionIn, cardIn, holderPlace, runningPlace}
 use Rattle.cells.specs.Changes.{openedOr, Frame}
 use Rattle.cells.proofs.CellLaws.{running-put}
 use Rattle.cells.proofs.FitsLaws.{frame-then, frame-wider}
-use Rattle.rules.specs.Conditions.{foundAt, ownFull, backFull, ninth, namedBy, takenBy, afterBy}
-use Rattle.rules.specs.declared.Found.{Found}
+use Rattle.rules.specs.Conditions.{ruleMet, ownFull, backFull, ninth, namedBy, takenBy, afterBy}
+use Rattle.rules.specs.declared.RuleMet.{RuleMet}
 use Rattle.cells.proofs.ReadLaws.{running-there}
 use Rattle.rules.proofs.RuleLaws.{cond-done}
 use Rattle.rules.proofs.RoomLaws.{named-count}
@@ -60,7 +60,7 @@ pub block-room : (r : Rule) (t : Transaction) (g : Bool) → g ≡ takesBlock r 
 unfolding ninth
 block-room r t g q m z = leb-false 8 (t .count) (room-left g _ _ q m z)
 
-module _ (v : List ℕ) (f : Found) (h : f .core < 8) (p : ℕ) (e : p ≡ runningPlace (f .core)) (u : List ℕ) (i : transactionIn u p ≡ openedOr (transactionIn v p)) where
+module _ (v : List ℕ) (f : RuleMet) (h : f .core < 8) (p : ℕ) (e : p ≡ runningPlace (f .core)) (u : List ℕ) (i : transactionIn u p ≡ openedOr (transactionIn v p)) where
   writer-open : transactionIn u p ≡ writer (cardIn v) (f .core)
   unfolding openedOr writer
   writer-open = i ∙ rw (running-there v (f .core) h p e)
@@ -94,30 +94,30 @@ same-parts : (n : Name) (c k : ℕ) → n .core ≡ c → n .number ≡ k → sa
 unfolding sameName
 same-parts n c k p q = rw (p, q, eq-eqb c c refl, eq-eqb k k refl)
 
-runs-number : (x : Card) (n : Name) (c : ℕ) → n .core ≡ c → isRunning x n ≡ true → n .number ≡ (coreOf x c) .next
-unfolding isRunning
+runs-number : (x : Card) (n : Name) (c : ℕ) → n .core ≡ c → isRunningIn x n ≡ true → n .number ≡ (coreOf x c) .next
+unfolding isRunningIn
 runs-number x n c e i = sym (eqb-true _ _ (and-right ((coreOf x (n .core)) .running .live) (eqb ((coreOf x (n .core)) .next) (n .number)) i)) ∙ ap (λ (k : ℕ). (coreOf x k) .next) e
 
 other-core : (x : Card) (c b : ℕ) → isNamedBack (ruleFor x c b) ≡ true → ((holderOf x b) .name) .core ≡ c → ⊥
-unfolding ruleFor isRunning writerName
+unfolding ruleFor isRunningIn writerName
 other-core x c b h e =
     cases (not ((holderOf x b) .held))
     (λ t. false≢true (rw t at h))
     (λ t. cases (sameName ((holderOf x b) .name) (writerName x c))
     (λ s. false≢true (rw (t, s) at h))
-    (λ s. cases (isRunning x ((holderOf x b) .name))
+    (λ s. cases (isRunningIn x ((holderOf x b) .name))
     (λ i. false≢true (sym s ∙ same-parts ((holderOf x b) .name) c ((coreOf x c) .next) e (runs-number x ((holderOf x b) .name) c e i)))
     (λ i. false≢true (rw (t, s, i) at h))))
 
-module _ (x : Card) (f : Found) (e : f ≡ foundAt x (f .core) (f .block)) where
+module _ (x : Card) (f : RuleMet) (e : f ≡ ruleMet x (f .core) (f .block)) where
   rule-is : f .rule ≡ ruleFor x (f .core) (f .block)
-  rule-is = ap (λ (a : Found). a .rule) e
+  rule-is = ap (λ (a : RuleMet). a .rule) e
 
   holder-is : f .holder ≡ (holderOf x (f .block)) .name
-  holder-is = ap (λ (a : Found). a .holder) e
+  holder-is = ap (λ (a : RuleMet). a .holder) e
 
   own-is : f .own ≡ writerName x (f .core)
-  own-is = ap (λ (a : Found). a .own) e
+  own-is = ap (λ (a : RuleMet). a .own) e
 
   core-beside : coreOf (namedBack (f .rule) x (f .holder .core) (f .own)) (f .core) ≡ coreOf x (f .core)
   unfolding namedBack coreOf

@@ -15,28 +15,28 @@ use Rattle.model.specs.declared.Card.{Card}
 use Rattle.model.specs.declared.Rule.{Rule}
 use Rattle.cells.specs.Cells.{world}
 use Rattle.rules.specs.Conditions.{ownFull, backFull, ninth}
-use Rattle.rules.specs.declared.Found.{Found}
+use Rattle.rules.specs.declared.RuleMet.{RuleMet}
 
 -- ---- before the rule: 1, 20, 22, 5 to 7
 abbrev pub firstConditions : ℕ → ℕ → ℕ → World → List (Bool × ℕ)
 firstConditions c b o w = notUp w ((noCore w c, 5) ∷ (noBlock w b, 6) ∷ (ltb 124 o, 7) ∷ [])
 
 -- the four bytes lie in the image of a block
-pub record Within (d m : Bytes) (b o : ℕ) : Type 0 where
+pub record InImage (d m : Bytes) (b o : ℕ) : Type 0 where
   pub disk : length d ≡ 32896
   pub memory : length m ≡ 16384
   pub block : b < 64
   pub offset : o ≤ 124
 
 -- what is known of a WRITE that met none of them
-pub record Passed (x : Card) (c b o : ℕ) (d m : Bytes) : Type 0 where
+pub record Unrefused (x : Card) (c b o : ℕ) (d m : Bytes) : Type 0 where
   pub none : refusal (firstConditions c b o (world x d m)) ≡ 0
   pub core : c < 8
-  pub within : Within d m b o
+  pub within : InImage d m b o
 
 -- ---- room
 -- what 24 and 25 leave: room for the names and the block
-pub record Room (x : Card) (f : Found) : Type 0 where
+pub record Room (x : Card) (f : RuleMet) : Type 0 where
   pub list : ownFull (f .rule) (writer x (f .core)) (f .holder) ≡ false
   pub back : backFull (f .rule) ((coreOf x (f .holder .core)) .running) (f .own) ≡ false
   pub blocks : ninth (f .rule) (writer x (f .core)) ≡ false

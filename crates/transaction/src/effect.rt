@@ -9,7 +9,7 @@ ghost use Rattle.model.specs.declared.Card.{Card};
 ghost use Rattle.model.specs.declared.Transaction.{Transaction};
 ghost use Rattle.cells.specs.Cells.{transactionIn, cardIn};
 ghost use Rattle.cells.specs.Changes.{IsPlace, Changed, ChangedAt};
-ghost use Rattle.rules.specs.Conditions.{foundAt, Bounded, ownFull, backFull, ninth, namedBy, takenBy, afterBy};
+ghost use Rattle.rules.specs.Conditions.{ruleMet, Bounded, ownFull, backFull, ninth, namedBy, takenBy, afterBy};
 ghost use Rattle.transaction.specs.Writing.{Room, namedBack, heldBy};
 use cells::hold;
 use cells::running_place;
@@ -18,13 +18,13 @@ use lists::add_name;
 use lists::open_at;
 use model::Name;
 use model::Rule;
-use rules::Found;
+use rules::RuleMet;
 use rules::is_named_back;
 use rules::names_holder;
 use rules::takes_block;
 
 // The holder's list, naming the writer where the rule asks for it.
-fn name_back(w: &mut [u64], f: Found)
+fn name_back(w: &mut [u64], f: RuleMet)
     requires { ⌜ (length (now w) ≡ 512) × Bounded f
         × (backFull (f .rule) ((coreOf (cardIn (now w)) (f .holder .core)) .running) (f .own) ≡ false) ⌝ }
     ensures { λ _. ⌜
@@ -62,7 +62,7 @@ fn block_own(w: &mut [u64], at: usize, rule: Rule, b: u8)
 }
 
 // The writer, opened if its core has none: its list and its blocks.
-fn write_own(w: &mut [u64], f: Found)
+fn write_own(w: &mut [u64], f: RuleMet)
     requires { ⌜ (length (now w) ≡ 512) × Bounded f
         × (ownFull (f .rule) (writer (cardIn (now w)) (f .core)) (f .holder) ≡ false)
         × (ninth (f .rule) (writer (cardIn (now w)) (f .core)) ≡ false) ⌝ }
@@ -79,7 +79,7 @@ fn write_own(w: &mut [u64], f: Found)
 }
 
 // The block's holder: the writer where it takes the block.
-fn take_hold(w: &mut [u64], f: Found)
+fn take_hold(w: &mut [u64], f: RuleMet)
     requires { ⌜ (length (now w) ≡ 512) × Bounded f ⌝ }
     ensures { λ _. ⌜
         Changed (λ (x : Card). heldBy (f .rule) x (f .block) (f .own)) (now (w .entry)) (now (w .exit)) 0 512
@@ -93,8 +93,8 @@ fn take_hold(w: &mut [u64], f: Found)
 }
 
 // What a WRITE makes of the cells: the holder's list, the writer, the block's holder.
-pub fn write_state(w: &mut [u64], f: Found)
-    requires { ⌜ (length (now w) ≡ 512) × Bounded f × (f ≡ foundAt (cardIn (now w)) (f .core) (f .block)) × Room (cardIn (now w)) f ⌝ }
+pub fn write_state(w: &mut [u64], f: RuleMet)
+    requires { ⌜ (length (now w) ≡ 512) × Bounded f × (f ≡ ruleMet (cardIn (now w)) (f .core) (f .block)) × Room (cardIn (now w)) f ⌝ }
     ensures { λ _. ⌜
         Changed (λ (x : Card). writtenCard x (f .core) (f .block)) (now (w .entry)) (now (w .exit)) 0 512
         ⌝ }

@@ -3,14 +3,14 @@ ghost use mathlib.Core.Path.{_≡_};
 ghost use Prim.Native.Nat.{_+_, _*_, _≤_};
 ghost use lib.ListN.{length};
 ghost use Rattle.model.specs.Bytes.{replaced};
-ghost use Rattle.transaction.specs.Writing.{Within, loadedBy};
+ghost use Rattle.transaction.specs.Writing.{InImage, loadedBy};
 use model::Rule;
 use model::Shape;
 use rules::loads_image;
 
 // Block b's image loaded where the rule asks for it.
 fn load_image(s: Shape, rule: Rule, b: u8, disk: &[u8], memory: &mut [u8])
-    requires { ⌜ Within (now disk) (now memory) b 0 ⌝ }
+    requires { ⌜ InImage (now disk) (now memory) b 0 ⌝ }
     ensures { λ _. ⌜ now (memory .exit) ≡ loadedBy rule (now (disk .entry)) (now (memory .entry)) b ⌝ }
 {
     if !loads_image(rule) {
@@ -44,7 +44,7 @@ pub fn write_memory(
     disk: &[u8],
     memory: &mut [u8],
 )
-    requires { ⌜ Within (now disk) (now memory) b o ⌝ }
+    requires { ⌜ InImage (now disk) (now memory) b o ⌝ }
     ensures { λ _. ⌜ now (memory .exit) ≡ replaced (128 * b + o) 4 (loadedBy rule (now (disk .entry)) (now (memory .entry)) b) bytes ⌝ }
 {
     load_image(s, rule, b, disk, memory);

@@ -9,7 +9,7 @@ ghost use Rattle.model.specs.Command.{refusal};
 ghost use Rattle.model.specs.Write.{write};
 ghost use Rattle.cells.specs.Answer.{Meets};
 ghost use Rattle.cells.specs.Cells.{worldIn, cardIn};
-ghost use Rattle.transaction.specs.Writing.{firstConditions, Passed};
+ghost use Rattle.transaction.specs.Writing.{firstConditions, Unrefused};
 use crate::effect::write_state;
 use crate::image::write_memory;
 use cells::Answer;
@@ -48,7 +48,7 @@ fn write_ruled(
     disk: &[u8],
     memory: &mut [u8],
 ) -> Answer
-    requires { ⌜ (length (now w) ≡ 512) × Passed (cardIn (now w)) c b o (now disk) (now memory) ⌝ }
+    requires { ⌜ (length (now w) ≡ 512) × Unrefused (cardIn (now w)) c b o (now disk) (now memory) ⌝ }
     ensures { λ r. ⌜
         Meets (write c b o bytes (worldIn (now (w .entry)) (now (disk .entry)) (now (memory .entry))))
         (now (w .entry)) (now (w .exit)) (now (disk .entry)) (now (memory .exit)) r ⌝ }

@@ -7,26 +7,26 @@ use Rattle.model.specs.declared.Shape.{Shape}
 use Rattle.model.specs.declared.Tail.{Tail}
 use Rattle.model.specs.declared.Committed.{Committed}
 use Rattle.model.proofs.Limits.{InRange}
-use Rattle.journal.specs.Slots.{tailIn, numbersOf, entries}
+use Rattle.journal.specs.Slots.{tailFor, numbersOf, entries}
 use Rattle.journal.specs.Walk.{Reads}
-use Rattle.valid.specs.Sets.{numberIn, numbered}
+use Rattle.valid.specs.Sets.{tailNumber, numbered}
 use Rattle.valid.specs.Newest.{sharesBelow}
 use Rattle.journal.proofs.Slots.{number-at, reads-journals}
 use Rattle.valid.proofs.Model.{shares-numbers, valid-tails, journals-tails}
 
 -- ---- any reading, of tails that an array holds and with bounds that do not cut it short
 module _ {s : Shape} (l : InRange s) (d : Bytes) (ts : List Tail) (most slots : List ℕ) (r : Reads s d ts most slots) (tailAt : ℕ → Tail) (mostAt : ℕ → ℕ)
-    (tails : (c : ℕ) → c < s .cores → tailIn ts c ≡ tailAt c)
+    (tails : (c : ℕ) → c < s .cores → tailFor ts c ≡ tailAt c)
     (bounds : (c : ℕ) → c < s .cores → journal s d c (tailAt c) (getD most c 0) ≡ journal s d c (tailAt c) (mostAt c)) where
-  pub core-journal : (c : ℕ) → c < s .cores → journal s d c (tailIn ts c) (getD most c 0) ≡ journal s d c (tailAt c) (mostAt c)
+  pub core-journal : (c : ℕ) → c < s .cores → journal s d c (tailFor ts c) (getD most c 0) ≡ journal s d c (tailAt c) (mostAt c)
   core-journal c h = ap (λ (t : Tail). journal s d c t (getD most c 0)) (tails c h) ∙ bounds c h
 
   -- the slots read are the journals
   pub slots-read : entries s d (numbersOf ts) slots ≡ journals s d tailAt mostAt
-  slots-read = reads-journals s d ts most slots r l ∙ journals-tails s d (tailIn ts) tailAt (λ (c : ℕ). getD most c 0) mostAt core-journal
+  slots-read = reads-journals s d ts most slots r l ∙ journals-tails s d (tailFor ts) tailAt (λ (c : ℕ). getD most c 0) mostAt core-journal
 
   same-number : (c : ℕ) → c < s .cores → (numbered (numbersOf ts) c) .number ≡ (tailAt c) .number
-  unfolding numbered numberIn
+  unfolding numbered tailNumber
   same-number c h =
       let e : c < 8 = omega (arith, l .few-cores) in
       rw (lt-ltb c 8 e) (number-at ts c e ∙ ap (λ (t : Tail). t .number) (tails c h))

@@ -3,8 +3,8 @@
 use Rattle.model.proofs.Base.{ℕ, zero, suc, _+_, _≤_, _<_, arith, decLt, _≡_, refl, sym, ap, _∙_, Bool, true, false, _||_}
 use Rattle.model.proofs.Base.{true≢false, List, [], _∷_, _++_, map, append-assoc, List·Memᴰ, List·Memᴰ·head, List·Memᴰ·tail, eqb}
 use Rattle.model.proofs.Base.{leb, lt-ltb, le-ltb, le-leb, leb-true, flatMap, below, any, select, Bytes}
-use Rattle.model.specs.Layout.{Held, newHeld, pairAt, pairsIn, heldIn}
-use Rattle.model.specs.Journal.{journalAt, heldBy, blocksOf, took}
+use Rattle.model.specs.Layout.{Tag, newTag, pairAt, pairsIn, tagsIn}
+use Rattle.model.specs.Journal.{journalAt, tagsOf, blocksOf, took}
 use Rattle.model.specs.Valid.{blocksHeld}
 use Rattle.model.specs.Checkpoint.{share}
 use Rattle.model.specs.declared.Shape.{Shape}
@@ -13,7 +13,7 @@ use Rattle.model.proofs.Lists.{cases, any-append, any-map, mem-below}
 use Rattle.model.proofs.Select.{select-mem}
 use Rattle.layout.specs.Loops.{some}
 use Rattle.layout.proofs.Loops.{some-map}
-use Rattle.journal.specs.Slots.{blocksIn}
+use Rattle.journal.specs.Slots.{descriptorBlocks}
 use Rattle.valid.specs.Newest.{firstOr, heldFrom, sharesBelow}
 use Rattle.valid.proofs.Sets.{select-append}
 
@@ -21,26 +21,26 @@ use Rattle.valid.proofs.Sets.{select-append}
 module _ (s : Shape) (d : Bytes) (g : Committed) (f : Bytes) where
   -- the i-th block of descriptor f is one that g took
   unfoldable pub tookAt : ℕ → Bool
-  tookAt i = took s d ((pairAt newHeld f 16 i) .block) g
+  tookAt i = took s d ((pairAt newTag f 16 i) .block) g
 
-  pub took-at : (i x : ℕ) (r : Bool) → x ≡ (pairAt newHeld f 16 i) .block → r ≡ took s d x g → r ≡ tookAt i
+  pub took-at : (i x : ℕ) (r : Bool) → x ≡ (pairAt newTag f 16 i) .block → r ≡ took s d x g → r ≡ tookAt i
   unfolding tookAt
   took-at i x r e q = q ∙ rw e
 
-  pub share-is : (n : ℕ) (r : Bool) → r ≡ some n tookAt → r ≡ share (blocksIn f n) (blocksOf s d g)
-  unfolding share blocksIn heldIn pairsIn took tookAt
+  pub share-is : (n : ℕ) (r : Bool) → r ≡ some n tookAt → r ≡ share (descriptorBlocks f n) (blocksOf s d g)
+  unfolding share descriptorBlocks tagsIn pairsIn took tookAt
   share-is n r e =
       let p : ℕ → Bool = λ b. any (eqb b) (blocksOf s d g) in
-      let q : Held → Bool = λ h. p (h .block) in
-      e ∙ some-map q (pairAt newHeld f 16) n ∙ sym (any-map (λ (h : Held). h .block) q p (λ h. refl) (map (pairAt newHeld f 16) (below n)))
+      let q : Tag → Bool = λ h. p (h .block) in
+      e ∙ some-map q (pairAt newTag f 16) n ∙ sym (any-map (λ (h : Tag). h .block) q p (λ h. refl) (map (pairAt newTag f 16) (below n)))
 
 module _ (s : Shape) (d : Bytes) (e g : Committed) where
   pub stamp-not : e .stamp ≤ g .stamp → false ≡ sharesBelow s d e g
   unfolding sharesBelow
   stamp-not h = rw (le-ltb (g .stamp) (e .stamp) h)
 
-  pub stamp-shares : (f : Bytes) (r : Bool) → f ≡ journalAt s d (e .core) (e .position) → r ≡ share (blocksIn f (e .count)) (blocksOf s d g) → g .stamp < e .stamp → r ≡ sharesBelow s d e g
-  unfolding sharesBelow blocksIn blocksOf heldBy
+  pub stamp-shares : (f : Bytes) (r : Bool) → f ≡ journalAt s d (e .core) (e .position) → r ≡ share (descriptorBlocks f (e .count)) (blocksOf s d g) → g .stamp < e .stamp → r ≡ sharesBelow s d e g
+  unfolding sharesBelow descriptorBlocks blocksOf tagsOf
   stamp-shares f r q h l = h ∙ rw (q, lt-ltb (g .stamp) (e .stamp) l)
 
 -- ---- the blocks that a set holds

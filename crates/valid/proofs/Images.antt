@@ -3,8 +3,8 @@
 use Rattle.model.proofs.Base.{ℕ, zero, suc, _+_, _≤_, _<_, arith, add-one, _≡_, refl, sym, ap, _∙_, Bool, false, cond, List, []}
 use Rattle.model.proofs.Base.{_∷_, _++_, map, getD, leb, lt-ltb, le-ltb, le-leb, lt-leb, below, any, Bytes}
 use Rattle.model.specs.Shape.{clamped, journalBlock}
-use Rattle.model.specs.Layout.{newHeld, pairAt, pairsIn, heldIn}
-use Rattle.model.specs.Journal.{journalAt, heldBy, blocksOf, took}
+use Rattle.model.specs.Layout.{newTag, pairAt, pairsIn, tagsIn}
+use Rattle.model.specs.Journal.{journalAt, tagsOf, blocksOf, took}
 use Rattle.model.specs.Valid.{later, newest}
 use Rattle.model.specs.Recovery.{placeOf}
 use Rattle.model.specs.declared.Shape.{Shape}
@@ -21,14 +21,14 @@ use Rattle.valid.specs.Newest.{imageAt, foundImage, laterOf, laterFound,
 use Rattle.journal.proofs.Entries.{took-is}
 
 -- ---- one image
-pub image-is : (s : Shape) (d : Bytes) (e : Committed) (i x k : ℕ) (f : Bytes) → f ≡ journalAt s d (e .core) (e .position) → x ≡ (pairAt newHeld f 16 i) .flag
+pub image-is : (s : Shape) (d : Bytes) (e : Committed) (i x k : ℕ) (f : Bytes) → f ≡ journalAt s d (e .core) (e .position) → x ≡ (pairAt newTag f 16 i) .flag
     → k ≡ journalBlock (clamped s) (e .core) (e .position + (i + 1)) → InRange s → i < e .count
     → _≡_ {A = Image} (record { stamp = e .stamp; block = k; flag = x }) (imageAt s d e i)
-unfolding imageAt heldBy heldIn pairsIn
+unfolding imageAt tagsOf tagsIn pairsIn
 image-is s d e i x k f q h p l m =
-    let z : getD (map (pairAt newHeld (journalAt s d (e .core) (e .position)) 16) (below (e .count))) i (newHeld 0 0) ≡ pairAt newHeld (journalAt s d (e .core) (e .position)) 16 i =
-    getD-map-below (pairAt newHeld (journalAt s d (e .core) (e .position)) 16) (e .count) i (newHeld 0 0) m in
-    let g : x ≡ (getD (map (pairAt newHeld (journalAt s d (e .core) (e .position)) 16) (below (e .count))) i (newHeld 0 0)) .flag = h ∙ rw (q, z) in
+    let z : getD (map (pairAt newTag (journalAt s d (e .core) (e .position)) 16) (below (e .count))) i (newTag 0 0) ≡ pairAt newTag (journalAt s d (e .core) (e .position)) 16 i =
+    getD-map-below (pairAt newTag (journalAt s d (e .core) (e .position)) 16) (e .count) i (newTag 0 0) m in
+    let g : x ≡ (getD (map (pairAt newTag (journalAt s d (e .core) (e .position)) 16) (below (e .count))) i (newTag 0 0)) .flag = h ∙ rw (q, z) in
     let b : k ≡ journalBlock s (e .core) (e .position + (i + 1)) = p ∙ rw (clamped-same s l) in
     rw (← g, ← b)
 

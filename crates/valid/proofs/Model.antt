@@ -5,7 +5,7 @@ use Rattle.model.proofs.Base.{[], _∷_, map, map-append, List·Memᴰ, List·M
 use Rattle.model.proofs.Base.{ltb-true, below, any, all, select, Bytes}
 use Rattle.model.specs.Bytes.{blockAt}
 use Rattle.model.specs.Layout.{hasHead, stampIn, nameCount, namesIn, isListable, isCommit, unescaped}
-use Rattle.model.specs.Journal.{journalAt, journal, journals, namesOf, blocksOf, heldBy, took, imageOf}
+use Rattle.model.specs.Journal.{journalAt, journal, journals, namesOf, blocksOf, tagsOf, took, imageOf}
 use Rattle.model.specs.Shrink.{strike, shrinkIn, shrink}
 use Rattle.model.specs.Valid.{isMet, namesMet, validSet, blocksHeld, later, newest}
 use Rattle.model.specs.Recovery.{shapeOn, placeOf, imageFound}
@@ -17,11 +17,11 @@ use Rattle.model.specs.declared.Found.{Found}
 use Rattle.model.specs.declared.Found.the-variants.{Whole, Miss}
 use Rattle.model.proofs.Lists.{cases, and-left, and-right, all-mem, flatMap-below}
 use Rattle.model.proofs.Select.{select-mem}
-use Rattle.model.proofs.Shrink.{settled, goes-on}
+use Rattle.model.proofs.Shrink.{shrinkIn-settled, shrinkIn-again}
 use Rattle.model.proofs.Limits.{InRange}
-use Rattle.model.proofs.Journal.{Known}
+use Rattle.model.proofs.Journal.{KnownRecord}
 use Rattle.model.proofs.Records.{journals-known}
-use Rattle.journal.specs.Slots.{tailIn, numbersOf, slotOf, entry, foundAs, foundAt, listOf, entriesTo, entries, filledFrom}
+use Rattle.journal.specs.Slots.{tailFor, numbersOf, slotOf, entry, foundAs, foundAt, listOf, entriesTo, entries, filledFrom}
 use Rattle.journal.specs.Walk.{Reads}
 use Rattle.valid.specs.Newest.{imageAt, foundImage, firstOr, heldFrom, sharesBelow}
 use Rattle.valid.proofs.Sets.{core-length}
@@ -77,7 +77,7 @@ later-plain Miss e = refl
 later-plain (Whole a) e = cases (leb (a .stamp) (e .stamp)) (λ t. rw t) (λ t. rw t)
 
 took-plain : (s : Shape) (d : Bytes) (b : ℕ) (e : Committed) → took s d b (unnumbered e) ≡ took s d b e
-unfolding took blocksOf heldBy unnumbered
+unfolding took blocksOf tagsOf unnumbered
 took-plain s d b e = refl
 
 found-cond : (t : Bool) (f g : Found) → cond t (unnumberedFound f) (unnumberedFound g) ≡ unnumberedFound (cond t f g)
@@ -93,12 +93,12 @@ newest-plain s d b (e ∷ es) f =
     ∙ newest-plain s d b es (cond (took s d b e) (Whole (later f e)) f)
 
 image-plain : (s : Shape) (d : Bytes) (b : ℕ) (f : Found) → foundImage s d b (unnumberedFound f) ≡ foundImage s d b f
-unfolding foundImage imageAt blocksOf heldBy unnumbered unnumberedFound
+unfolding foundImage imageAt blocksOf tagsOf unnumbered unnumberedFound
 image-plain s d b Miss = refl
 image-plain s d b (Whole e) = refl
 
 shares-plain : (s : Shape) (d : Bytes) (e f : Committed) → sharesBelow s d e (unnumbered f) ≡ sharesBelow s d e f
-unfolding sharesBelow blocksOf heldBy unnumbered
+unfolding sharesBelow blocksOf tagsOf unnumbered
 shares-plain s d e f = refl
 
 module _ (s : Shape) (d : Bytes) (set ks ms : List ℕ) where
@@ -150,19 +150,19 @@ module _ {A : Type 0} where
     shrinkIn-cong (suc n) es h =
         let z : strike p es ≡ strike q es = strike-cong es h in
         cases (eqb (length (strike p es)) (length es))
-        (λ t. settled p n es t ∙ sym (settled q n es (rw z at t)))
+        (λ t. shrinkIn-settled p n es t ∙ sym (shrinkIn-settled q n es (rw z at t)))
         (λ t.
-        goes-on p n es t
+        shrinkIn-again p n es t
         ∙ shrinkIn-cong n (strike p es) (λ ss e m. h ss e (strike-within es e m))
         ∙ ap (shrinkIn n q) z
-        ∙ sym (goes-on q n es (rw z at t)))
+        ∙ sym (shrinkIn-again q n es (rw z at t)))
 
     shrink-cong : (es : List A) → ((ss : List A) (e : A) → List·Memᴰ e es → p ss e ≡ q ss e) → shrink p es ≡ shrink q es
     unfolding shrink
     shrink-cong es h = shrinkIn-cong (length es) es h
 
 -- each name that a record read lists is of a core that the disk has
-listed-core : (s : Shape) (d : Bytes) (c k : ℕ) (e : Committed) → Known s d c k e → (n : Name) → List·Memᴰ n (namesOf s d e) → n .core < s .cores
+listed-core : (s : Shape) (d : Bytes) (c k : ℕ) (e : Committed) → KnownRecord s d c k e → (n : Name) → List·Memᴰ n (namesOf s d e) → n .core < s .cores
 unfolding namesOf isCommit isListable
 listed-core s d c k e r n m =
     let f = journalAt s d c (e .position + (e .count + 1)) in
@@ -189,6 +189,6 @@ journals-tails s d t₁ t₂ m₁ m₂ h = flatMap-below _ _ (s .cores) h
 
 -- ---- a core's slots that are filled are as many as its records
 pub read-count : {s : Shape} → InRange s → (d : Bytes) (ts : List Tail) (most set : List ℕ) → Reads s d ts most set → (c : ℕ) → c < s .cores
-    → filledFrom s set (12 * c) 12 ≡ length (journal s d c (tailIn ts c) (getD most c 0))
+    → filledFrom s set (12 * c) 12 ≡ length (journal s d c (tailFor ts c) (getD most c 0))
 unfolding Reads
 read-count {s} l d ts most set r c h = sym (core-length s d (numbersOf ts) set c 12) ∙ ap length (r c h)

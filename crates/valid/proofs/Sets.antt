@@ -17,13 +17,13 @@ use Rattle.model.specs.declared.Name.{Name}
 use Rattle.model.specs.declared.Committed.{Committed}
 use Rattle.model.specs.declared.Found.{Found}
 use Rattle.model.specs.declared.Found.the-variants.{Whole, Miss}
-use Rattle.model.proofs.Lists.{cases, both-ways, and-left, and-right, any-mem, mem-any, getD-map-below}
+use Rattle.model.proofs.Lists.{cases, bool-ext, and-left, and-right, any-mem, mem-any, getD-map-below}
 use Rattle.model.proofs.Limits.{InRange}
 use Rattle.model.proofs.Valid.{sameName-true, sameName-refl}
 use Rattle.layout.specs.Loops.{every}
 use Rattle.layout.proofs.Loops.{every-map, Filled, filled-all}
-use Rattle.journal.specs.Slots.{tailIn, numbersOf, slotOf, isFilled, entry, foundAs, foundAt, listOf, entriesTo, entries, entriesOf, filledFrom}
-use Rattle.valid.specs.Sets.{numberIn, numbered, isHere, slotMet, nameMet, keeps, kept, struck, SameTo}
+use Rattle.journal.specs.Slots.{tailFor, numbersOf, slotOf, isFilled, entry, foundAs, foundAt, listOf, entriesTo, entries, entriesOf, filledFrom}
+use Rattle.valid.specs.Sets.{tailNumber, numbered, isHere, slotMet, nameMet, keepsSlot, keptSlot, struck, SameTo}
 use Rattle.journal.proofs.Slots.{empty-slot, filled-slot}
 use Rattle.journal.proofs.Entries.{slot-core}
 
@@ -100,21 +100,21 @@ module _ (s : Shape) (d : Bytes) (ks set : List ℕ) where
 
   -- ---- a name looked up by its slot
   module _ (l : InRange s) where
-    in-range : (c : ℕ) → c < s .cores → numberIn ks c ≡ getD ks c 0
-    unfolding numberIn
+    in-range : (c : ℕ) → c < s .cores → tailNumber ks c ≡ getD ks c 0
+    unfolding tailNumber
     in-range c h = rw (lt-ltb c 8 (omega (arith, l .few-cores)))
 
     here-at : (i c k : ℕ) → i / 12 < s .cores → isFilled s set i ≡ true → c ≡ i / 12 → k ≡ getD ks (i / 12) 0 + i % 12
-        → isHere s set (numberIn ks c) c k ≡ true
+        → isHere s set (tailNumber ks c) c k ≡ true
     unfolding isHere
     here-at i c k there filled e q =
-        let t : numberIn ks c ≡ getD ks (i / 12) 0 = ap (numberIn ks) e ∙ in-range (i / 12) there in
-        let j : k - numberIn ks c ≡ i % 12 = omega arith in
+        let t : tailNumber ks c ≡ getD ks (i / 12) 0 = ap (tailNumber ks) e ∙ in-range (i / 12) there in
+        let j : k - tailNumber ks c ≡ i % 12 = omega arith in
         let z : 12 * c + i % 12 ≡ i = omega arith in
         let y : c < s .cores = omega arith in
         rw (j, z, filled, lt-ltb c (s .cores) y, lt-ltb (i % 12) 12 (omega arith))
 
-    here-yes : (n : Name) → isIn (entries s d ks set) n ≡ true → isHere s set (numberIn ks (n .core)) (n .core) (n .number) ≡ true
+    here-yes : (n : Name) → isIn (entries s d ks set) n ≡ true → isHere s set (tailNumber ks (n .core)) (n .core) (n .number) ≡ true
     unfolding isIn entries entry
     here-yes n h =
         let r = any-mem (λ (e : Committed). sameName n (nameOf e)) (entriesTo s d ks set 96) h in
@@ -125,10 +125,10 @@ module _ (s : Shape) (d : Bytes) (ks set : List ℕ) where
         (ap (λ (x : Name). x .core) q ∙ ap (λ (x : Committed). x .core) e)
         (ap (λ (x : Name). x .number) q ∙ ap (λ (x : Committed). x .number) e)
 
-    here-in : (n : Name) → numberIn ks (n .core) ≤ n .number → isHere s set (numberIn ks (n .core)) (n .core) (n .number) ≡ true → isIn (entries s d ks set) n ≡ true
+    here-in : (n : Name) → tailNumber ks (n .core) ≤ n .number → isHere s set (tailNumber ks (n .core)) (n .core) (n .number) ≡ true → isIn (entries s d ks set) n ≡ true
     unfolding isIn entries isHere entry
     here-in n g h =
-        let t = numberIn ks (n .core) in
+        let t = tailNumber ks (n .core) in
         let j = n .number - t in
         let i = 12 * n .core + j in
         let a = and-left (ltb (n .core) (s .cores) && ltb j 12) (isFilled s set i) h in
@@ -144,13 +144,13 @@ module _ (s : Shape) (d : Bytes) (ks set : List ℕ) where
         mem-any (λ (e : Committed). sameName n (nameOf e)) (entries-mem 96 i x low (holds-found i f)) (rw same (sameName-refl n))
 
     -- a name at or above its core's tail number is that of a transaction in the set exactly where its slot is filled
-    pub in-slot : (n : Name) → numberIn ks (n .core) ≤ n .number → isIn (entries s d ks set) n ≡ isHere s set (numberIn ks (n .core)) (n .core) (n .number)
-    in-slot n g = both-ways (here-yes n) (here-in n g)
+    pub in-slot : (n : Name) → tailNumber ks (n .core) ≤ n .number → isIn (entries s d ks set) n ≡ isHere s set (tailNumber ks (n .core)) (n .core) (n .number)
+    in-slot n g = bool-ext (here-yes n) (here-in n g)
 
     pub met-slot : (n : Name) → isMet (numbered ks) (entries s d ks set) n ≡ slotMet s ks set (n .core) (n .number)
     unfolding isMet slotMet numbered
     met-slot n =
-        cases (ltb (n .number) (numberIn ks (n .core)))
+        cases (ltb (n .number) (tailNumber ks (n .core)))
         (λ t. rw t)
         (λ t. rw t (in-slot n (ltb-false _ _ t)))
 
@@ -178,13 +178,13 @@ module _ (s : Shape) (d : Bytes) (ks set : List ℕ) where
   stays = namesMet s d (numbered ks) (entries s d ks set)
 
   -- its names do not depend on its number
-  keeps-number : (ms : List ℕ) (i : ℕ) → keeps s d ks set (foundAt s d ms set i) ≡ keeps s d ks set (foundAt s d ks set i)
-  unfolding foundAt foundAs keeps namesMet namesOf entry
+  keeps-number : (ms : List ℕ) (i : ℕ) → keepsSlot s d ks set (foundAt s d ms set i) ≡ keepsSlot s d ks set (foundAt s d ks set i)
+  unfolding foundAt foundAs keepsSlot namesMet namesOf entry
   keeps-number ms i = cases (eqb (slotOf s set i) 0) (λ t. rw t) (λ t. rw t)
 
-  struck-at : (i : ℕ) → i < 96 → getD (struck s d ks set) i 0 ≡ cond (keeps s d ks set (foundAt s d ks set i)) (getD set i 0) 0
-  unfolding struck kept
-  struck-at i h = getD-map-below (kept s d ks set) 96 i 0 h ∙ rw (keeps-number [] i)
+  struck-at : (i : ℕ) → i < 96 → getD (struck s d ks set) i 0 ≡ cond (keepsSlot s d ks set (foundAt s d ks set i)) (getD set i 0) 0
+  unfolding struck keptSlot
+  struck-at i h = getD-map-below (keptSlot s d ks set) 96 i 0 h ∙ rw (keeps-number [] i)
 
   slot-same : (a b : List ℕ) (i : ℕ) → getD a i 0 ≡ getD b i 0 → foundAt s d ks a i ≡ foundAt s d ks b i
   unfolding foundAt slotOf
@@ -195,14 +195,14 @@ module _ (s : Shape) (d : Bytes) (ks set : List ℕ) where
   slot-none a i h = empty-slot s d ks a i (rw h (cases (ltb (i / 12) (s .cores)) (λ t. rw t) (λ t. rw t)))
 
   -- what a round leaves of one slot
-  left-of : (i : ℕ) (f : Found) → foundAt s d ks set i ≡ f → i < 96 → foundAt s d ks (struck s d ks set) i ≡ cond (keeps s d ks set f) f Miss
+  left-of : (i : ℕ) (f : Found) → foundAt s d ks set i ≡ f → i < 96 → foundAt s d ks (struck s d ks set) i ≡ cond (keepsSlot s d ks set f) f Miss
   left-of i f e h =
-      cases (keeps s d ks set f)
+      cases (keepsSlot s d ks set f)
       (λ t. rw t (slot-same (struck s d ks set) set i (struck-at i h ∙ rw (e, t)) ∙ e))
       (λ t. rw t (slot-none (struck s d ks set) i (struck-at i h ∙ rw (e, t))))
 
-  left-list : (f : Found) → listOf (cond (keeps s d ks set f) f Miss) ≡ select stays (listOf f)
-  unfolding listOf keeps select
+  left-list : (f : Found) → listOf (cond (keepsSlot s d ks set f) f Miss) ≡ select stays (listOf f)
+  unfolding listOf keepsSlot select
   left-list Miss = refl
   left-list (Whole e) = cases (stays e) (λ t. rw t) (λ t. rw t)
 
@@ -234,16 +234,16 @@ module _ (s : Shape) (set : List ℕ) (n c k : ℕ) where
 
 module _ (s : Shape) (ks set : List ℕ) (c k : ℕ) where
   pub met-absent : InRange s → 8 ≤ c → false ≡ slotMet s ks set c k
-  unfolding slotMet numberIn
+  unfolding slotMet tailNumber
   met-absent l h = rw (le-ltb c 8 h, le-ltb k 0 (omega arith), ← here-absent s set 0 c k (omega (arith, l .few-cores)))
 
   module _ (n : ℕ) (e : n ≡ getD ks c 0) (h : c < 8) where
     pub met-below : k < n → true ≡ slotMet s ks set c k
-    unfolding slotMet numberIn
+    unfolding slotMet tailNumber
     met-below g = rw (lt-ltb c 8 h, ← e, lt-ltb k n g)
 
     pub met-here : (r : Bool) → r ≡ isHere s set n c k → n ≤ k → r ≡ slotMet s ks set c k
-    unfolding slotMet numberIn
+    unfolding slotMet tailNumber
     met-here r q g = q ∙ rw (lt-ltb c 8 h, ← e, le-ltb k n g)
 
 module _ (s : Shape) (d : Bytes) (ks set : List ℕ) where
@@ -267,17 +267,17 @@ module _ (s : Shape) (d : Bytes) (ks set : List ℕ) where
       names-are (entry s d c k v) f r g (er ∙ ap (λ (n : ℕ). every n (nameMet s ks set f)) a) l
 
   module _ (i v : ℕ) (e : v ≡ slotOf s set i) where
-    pub kept-none : v ≡ 0 → 0 ≡ kept s d ks set i
-    unfolding kept keeps
+    pub kept-none : v ≡ 0 → 0 ≡ keptSlot s d ks set i
+    unfolding keptSlot keepsSlot
     kept-none h = rw (empty-slot s d [] set i (sym e ∙ h))
 
     module _ (h : v ≡ 0 → ⊥) (r : Bool) (q : (k : ℕ) → r ≡ namesMet s d (numbered ks) (entries s d ks set) (entry s d (i / 12) k v)) where
-      pub kept-in : r ≡ true → getD set i 0 ≡ kept s d ks set i
-      unfolding kept keeps
+      pub kept-in : r ≡ true → getD set i 0 ≡ keptSlot s d ks set i
+      unfolding keptSlot keepsSlot
       kept-in t = rw (filled-slot s d [] set i v (sym e) h, ← q (getD [] (i / 12) 0 + i % 12), t)
 
-      pub kept-out : r ≡ false → 0 ≡ kept s d ks set i
-      unfolding kept keeps
+      pub kept-out : r ≡ false → 0 ≡ keptSlot s d ks set i
+      unfolding keptSlot keepsSlot
       kept-out t = rw (filled-slot s d [] set i v (sym e) h, ← q (getD [] (i / 12) 0 + i % 12), t)
 
 -- ---- the same slots
@@ -306,15 +306,15 @@ module _ (a b : List ℕ) where
   unfolding entries
   entries-same s d ks w = entries-to s d ks 96 w
 
-pub all-struck : (s : Shape) (d : Bytes) (ks set next : List ℕ) (i : ℕ) → Filled (kept s d ks set) 96 next i → 96 ≤ i → next ≡ struck s d ks set
+pub all-struck : (s : Shape) (d : Bytes) (ks set next : List ℕ) (i : ℕ) → Filled (keptSlot s d ks set) 96 next i → 96 ≤ i → next ≡ struck s d ks set
 unfolding struck
-all-struck s d ks set next i w h = filled-all (kept s d ks set) 96 next i w h
+all-struck s d ks set next i w h = filled-all (keptSlot s d ks set) 96 next i w h
 
 -- the tail numbers, one after another
 unfoldable pub numberAt : List Tail → ℕ → ℕ
-numberAt ts c = (tailIn ts c) .number
+numberAt ts c = (tailFor ts c) .number
 
-pub number-is : (ts : List Tail) (c n : ℕ) (t : Tail) → t ≡ tailIn ts c → n ≡ t .number → n ≡ numberAt ts c
+pub number-is : (ts : List Tail) (c n : ℕ) (t : Tail) → t ≡ tailFor ts c → n ≡ t .number → n ≡ numberAt ts c
 unfolding numberAt
 number-is ts c n t e q = q ∙ rw e
 

@@ -6,7 +6,7 @@ use Rattle.model.specs.Valid.{namesMet, validSet}
 use Rattle.model.specs.declared.Shape.{Shape}
 use Rattle.model.specs.declared.Tail.{Tail}
 use Rattle.model.proofs.Lists.{cases}
-use Rattle.model.proofs.Shrink.{settled, goes-on}
+use Rattle.model.proofs.Shrink.{shrinkIn-settled, shrinkIn-again}
 use Rattle.model.proofs.Select.{select-length, select-all, select-same}
 use Rattle.journal.specs.Slots.{numbersOf, entries, filledFrom}
 use Rattle.valid.specs.Sets.{numbered, struck, SameTo}
@@ -20,16 +20,16 @@ module _ {A : Type 0} (stays : List A → A → Bool) where
   enough : (n m : ℕ) (es : List A) → length es ≤ n → length es ≤ m → shrinkIn n stays es ≡ shrinkIn m stays es
   unfolding shrinkIn strike select
   enough zero zero es p q = refl
-  enough zero (suc m) [] p q = sym (settled stays m [] (eq-eqb 0 0 refl))
+  enough zero (suc m) [] p q = sym (shrinkIn-settled stays m [] (eq-eqb 0 0 refl))
   enough zero (suc m) (x ∷ es) p q = absurd (omega arith)
-  enough (suc n) zero [] p q = settled stays n [] (eq-eqb 0 0 refl)
+  enough (suc n) zero [] p q = shrinkIn-settled stays n [] (eq-eqb 0 0 refl)
   enough (suc n) zero (x ∷ es) p q = absurd (omega arith)
   enough (suc n) (suc m) es p q =
       cases (eqb (length (strike stays es)) (length es))
-      (λ t. settled stays n es t ∙ sym (settled stays m es t))
+      (λ t. shrinkIn-settled stays n es t ∙ sym (shrinkIn-settled stays m es t))
       (λ t.
       let l : length (strike stays es) < length es = omega (arith, strike-length es, eqb-false (length (strike stays es)) (length es) t) in
-      goes-on stays n es t ∙ enough n m (strike stays es) (omega arith) (omega arith) ∙ sym (goes-on stays m es t))
+      shrinkIn-again stays n es t ∙ enough n m (strike stays es) (omega arith) (omega arith) ∙ sym (shrinkIn-again stays m es t))
 
   -- where none goes, the set is the one that shrinking leaves
   pub shrink-stop : (es : List A) → length (strike stays es) ≡ length es → strike stays es ≡ shrink stays es
@@ -37,7 +37,7 @@ module _ {A : Type 0} (stays : List A → A → Bool) where
   shrink-stop [] h = refl
   shrink-stop (x ∷ es) h =
       select-same (stays (x ∷ es)) (x ∷ es) (select-all (stays (x ∷ es)) (x ∷ es) h)
-      ∙ sym (settled stays (length es) (x ∷ es) (eq-eqb _ _ h))
+      ∙ sym (shrinkIn-settled stays (length es) (x ∷ es) (eq-eqb _ _ h))
 
   -- one round first changes nothing
   pub shrink-again : (es : List A) → shrink stays (strike stays es) ≡ shrink stays es
@@ -48,7 +48,7 @@ module _ {A : Type 0} (stays : List A → A → Bool) where
       (λ t. ap (shrink stays) (select-same (stays (x ∷ es)) (x ∷ es) (select-all (stays (x ∷ es)) (x ∷ es) (eqb-true (length (strike stays (x ∷ es))) (length (x ∷ es)) t))))
       (λ t.
       let l : length (strike stays (x ∷ es)) < length (x ∷ es) = omega (arith, strike-length (x ∷ es), eqb-false (length (strike stays (x ∷ es))) (length (x ∷ es)) t) in
-      enough (length (strike stays (x ∷ es))) (length es) (strike stays (x ∷ es)) (omega arith) (omega arith) ∙ sym (goes-on stays (length es) (x ∷ es) t))
+      enough (length (strike stays (x ∷ es))) (length es) (strike stays (x ∷ es)) (omega arith) (omega arith) ∙ sym (shrinkIn-again stays (length es) (x ∷ es) t))
 
 -- ---- the recursion over slots: ys is what a round leaves of xs
 module _ (s : Shape) (d : Bytes) (ks xs ys : List ℕ) (m n : ℕ) (e : ys ≡ struck s d ks xs) (p : m ≡ filledFrom s ys 0 96) (q : n ≡ filledFrom s xs 0 96) where

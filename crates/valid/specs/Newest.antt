@@ -7,8 +7,8 @@ use lib.Dec.{ltb, leb}
 use Rattle.model.specs.Lists.{select}
 use Rattle.model.specs.Bytes.{Bytes}
 use Rattle.model.specs.Shape.{homeBlock, journalBlock}
-use Rattle.model.specs.Layout.{newHeld}
-use Rattle.model.specs.Journal.{heldBy, blocksOf, took}
+use Rattle.model.specs.Layout.{newTag}
+use Rattle.model.specs.Journal.{tagsOf, blocksOf, took}
 use Rattle.model.specs.Valid.{blocksHeld}
 use Rattle.model.specs.Recovery.{placeOf}
 use Rattle.model.specs.Checkpoint.{share}
@@ -21,7 +21,7 @@ use Rattle.valid.specs.declared.newest.Image.{Image}
 -- the image of the i-th block of a transaction
 unfoldable pub imageAt : Shape → Bytes → Committed → ℕ → Image
 imageAt s d e i =
-    record { stamp = e .stamp; block = journalBlock s (e .core) (e .position + (i + 1)); flag = (getD (heldBy s d e) i (newHeld 0 0)) .flag }
+    record { stamp = e .stamp; block = journalBlock s (e .core) (e .position + (i + 1)); flag = (getD (tagsOf s d e) i (newTag 0 0)) .flag }
 
 -- the image of block b in the transaction found, or the one at home
 unfoldable pub foundImage : Shape → Bytes → ℕ → Found → Image

@@ -17,12 +17,12 @@ use Rattle.model.specs.declared.Found.the-variants.{Whole, Miss}
 use Rattle.journal.specs.Slots.{isFilled, foundAt, entries}
 
 -- core c's tail number, of the eight that ks holds
-unfoldable pub numberIn : List ℕ → ℕ → ℕ
-numberIn ks c = cond (ltb c 8) (getD ks c 0) 0
+unfoldable pub tailNumber : List ℕ → ℕ → ℕ
+tailNumber ks c = cond (ltb c 8) (getD ks c 0) 0
 
 -- tails with these numbers
 unfoldable pub numbered : List ℕ → ℕ → Tail
-numbered ks c = newTail (numberIn ks c) 0
+numbered ks c = newTail (tailNumber ks c) 0
 
 -- transaction k of core c, where n is the core's tail number, is in the set
 unfoldable pub isHere : Shape → List ℕ → ℕ → ℕ → ℕ → Bool
@@ -30,22 +30,22 @@ isHere s set n c k = ltb c (s .cores) && ltb (k - n) 12 && isFilled s set (12 * 
 
 -- it is, or lies below the tail number; ks are the tail numbers
 unfoldable pub slotMet : Shape → List ℕ → List ℕ → ℕ → ℕ → Bool
-slotMet s ks set c k = ltb k (numberIn ks c) || isHere s set (numberIn ks c) c k
+slotMet s ks set c k = ltb k (tailNumber ks c) || isHere s set (tailNumber ks c) c k
 
 -- the i-th name that a commit lists is met
 unfoldable pub nameMet : Shape → List ℕ → List ℕ → Bytes → ℕ → Bool
 nameMet s ks set f i = slotMet s ks set ((pairAt newName f 24 i) .core) ((pairAt newName f 24 i) .number)
 
 -- a slot stays where each name of its transaction is met
-unfoldable pub keeps : Shape → Bytes → List ℕ → List ℕ → Found → Bool
-keeps s d ks set Miss = false
-keeps s d ks set (Whole e) = namesMet s d (numbered ks) (entries s d ks set) e
+unfoldable pub keepsSlot : Shape → Bytes → List ℕ → List ℕ → Found → Bool
+keepsSlot s d ks set Miss = false
+keepsSlot s d ks set (Whole e) = namesMet s d (numbered ks) (entries s d ks set) e
 
-unfoldable pub kept : Shape → Bytes → List ℕ → List ℕ → ℕ → ℕ
-kept s d ks set i = cond (keeps s d ks set (foundAt s d [] set i)) (getD set i 0) 0
+unfoldable pub keptSlot : Shape → Bytes → List ℕ → List ℕ → ℕ → ℕ
+keptSlot s d ks set i = cond (keepsSlot s d ks set (foundAt s d [] set i)) (getD set i 0) 0
 
 unfoldable pub struck : Shape → Bytes → List ℕ → List ℕ → List ℕ
-struck s d ks set = map (kept s d ks set) (below 96)
+struck s d ks set = map (keptSlot s d ks set) (below 96)
 
 -- the first n slots of two sets are the same
 unfoldable pub SameTo : List ℕ → List ℕ → ℕ → Type 0

@@ -9,7 +9,7 @@ ghost use Rattle.model.specs.Journal.{blocksOf, took};
 ghost use Rattle.model.specs.Valid.{newest};
 ghost use Rattle.model.specs.Checkpoint.{share};
 ghost use Rattle.model.specs.declared.Found.the-variants.{Miss};
-ghost use Rattle.journal.specs.Slots.{foundAt, entries, Sized, blocksIn};
+ghost use Rattle.journal.specs.Slots.{foundAt, entries, SizedCommitted, descriptorBlocks};
 ghost use Rattle.valid.specs.Newest.{imageAt, foundImage, laterOf, laterFound, heldFrom, sharesBelow, asks};
 use journal::entry_at;
 use journal::journal_part;
@@ -28,11 +28,11 @@ pub struct Image {
 
 // The image of the i-th block of a transaction.
 pub fn image_at(s: Shape, disk: &[u8], e: Committed, i: usize) -> Image
-    requires { ⌜ InRange s × (length (now disk) ≡ 32896) × Sized s e × (i < e .count) ⌝ }
+    requires { ⌜ InRange s × (length (now disk) ≡ 32896) × SizedCommitted s e × (i < e .count) ⌝ }
     ensures { λ r. ⌜ (r ≡ imageAt s (now (disk .entry)) e i) × (r .block < 257) ⌝ }
 {
     let at = e.position as usize;
-    let flag = layout::held_flag(journal_part(s, disk, e.core, at), i);
+    let flag = layout::tag_flag(journal_part(s, disk, e.core, at), i);
     Image {
         stamp: e.stamp,
         block: s.journal_block(e.core, at + (i + 1)),
@@ -42,7 +42,7 @@ pub fn image_at(s: Shape, disk: &[u8], e: Committed, i: usize) -> Image
 
 // The later of two images of block b: the best so far, and the one that a transaction has. Of equal stamps the last wins.
 fn later_of(s: Shape, disk: &[u8], e: Committed, b: u8, best: Image) -> Image
-    requires { ⌜ InRange s × (length (now disk) ≡ 32896) × Sized s e × (best .block < 257) ⌝ }
+    requires { ⌜ InRange s × (length (now disk) ≡ 32896) × SizedCommitted s e × (best .block < 257) ⌝ }
     ensures { λ r. ⌜ (r ≡ laterOf s (now (disk .entry)) b e best) × (r .block < 257) ⌝ }
 {
     let i = place_of(s, disk, e, b as u32);
@@ -140,13 +140,13 @@ pub fn next_held(s: Shape, disk: &[u8], set: &[u16; 96], from: u8) -> u8
 // Whether a transaction took one of the first n blocks of a descriptor.
 fn share_in(s: Shape, disk: &[u8], block: &[u8], n: usize, f: Committed) -> bool
     requires { ⌜
-        InRange s × (length (now disk) ≡ 32896) × (length (now block) ≡ 128) × (n ≤ 8) × Sized s f
+        InRange s × (length (now disk) ≡ 32896) × (length (now block) ≡ 128) × (n ≤ 8) × SizedCommitted s f
         ⌝ }
-    ensures { λ r. ⌜ r ≡ share (blocksIn (now (block .entry)) n) (blocksOf s (now (disk .entry)) f) ⌝ }
+    ensures { λ r. ⌜ r ≡ share (descriptorBlocks (now (block .entry)) n) (blocksOf s (now (disk .entry)) f) ⌝ }
 {
     let mut i: usize = 0;
     while i < n {
-        if took_block(s, disk, f, layout::held_block(block, i)) {
+        if took_block(s, disk, f, layout::tag_block(block, i)) {
             return true;
         }
         i += 1;
@@ -156,7 +156,7 @@ fn share_in(s: Shape, disk: &[u8], block: &[u8], n: usize, f: Committed) -> bool
 
 // Whether the transaction in slot i has a lower stamp than e and shares a block with it.
 fn slot_shares(s: Shape, disk: &[u8], set: &[u16; 96], i: usize, e: Committed) -> bool
-    requires { ⌜ InRange s × (length (now disk) ≡ 32896) × (i < 96) × Sized s e ⌝ }
+    requires { ⌜ InRange s × (length (now disk) ≡ 32896) × (i < 96) × SizedCommitted s e ⌝ }
     ensures { λ r. ⌜
         r ≡ asks (sharesBelow s (now (disk .entry)) e) (foundAt s (now (disk .entry)) [] (now (set .entry)) i)
         ⌝ }
@@ -173,7 +173,7 @@ fn slot_shares(s: Shape, disk: &[u8], set: &[u16; 96], i: usize, e: Committed) -
 
 // Whether a transaction of the set has a lower stamp than e and shares a block with it. No public entry.
 pub fn shares_lower(s: Shape, disk: &[u8], set: &[u16; 96], e: Committed) -> bool
-    requires { ⌜ InRange s × (length (now disk) ≡ 32896) × Sized s e ⌝ }
+    requires { ⌜ InRange s × (length (now disk) ≡ 32896) × SizedCommitted s e ⌝ }
     ensures { λ r. ⌜
         r ≡ any (sharesBelow s (now (disk .entry)) e) (entries s (now (disk .entry)) [] (now (set .entry)))
         ⌝ }

@@ -8,7 +8,7 @@ ghost use Rattle.model.specs.Shrink.{shrink};
 ghost use Rattle.model.specs.Valid.{namesMet, validSet};
 ghost use Rattle.layout.specs.Loops.{every};
 ghost use Rattle.journal.specs.Slots.{numbersOf, entry, entries, isFilled, filledFrom};
-ghost use Rattle.valid.specs.Sets.{numbered, isHere, slotMet, nameMet, kept, struck, SameTo};
+ghost use Rattle.valid.specs.Sets.{numbered, isHere, slotMet, nameMet, keptSlot, struck, SameTo};
 use journal::at_most;
 use journal::count_slots;
 use journal::is_filled;
@@ -92,7 +92,7 @@ fn names_met(s: Shape, disk: &[u8], numbers: &[u32; 8], set: &[u16; 96], c: u8, 
 // Slot i after one round: struck where a name is unmet.
 fn keep_slot(s: Shape, disk: &[u8], numbers: &[u32; 8], set: &[u16; 96], i: usize) -> u16
     requires { ⌜ InRange s × (length (now disk) ≡ 32896) × (i < 96) ⌝ }
-    ensures { λ r. ⌜ r ≡ kept s (now (disk .entry)) (now (numbers .entry)) (now (set .entry)) i ⌝ }
+    ensures { λ r. ⌜ r ≡ keptSlot s (now (disk .entry)) (now (numbers .entry)) (now (set .entry)) i ⌝ }
 {
     let v = slot_of(s, set, i);
     if v == 0 {

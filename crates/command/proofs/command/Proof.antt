@@ -1,13 +1,13 @@
 -- `command::command` meets its contract: refused, or carried out with the operands between its byte and the next command.
 use native.Mathlib.Omega.{arith}
 use Rattle.model.specs.Tape.{commandByte}
-use Rattle.command.proofs.TapeLaws.{Whole, at-refused, at-whole, at-done}
+use Rattle.command.proofs.TapeLaws.{WholeCommand, at-refused, at-whole, at-done}
 use borrow.Author.Needs.{needs}
 use Rattle.command.proofs.command.Statement.{statement}
 use Rattle.command.proofs.command.Tie as tie
 
 -- what is known of the operands after the first test
-whole : (c : tie.Else1) → Whole (c .before .before .before .before .before .before .before .before .before .before .args .tape .now) (c .before .before .before .before .before .before .before .before .before .before .args .at) (c .before .before .before .before .before .byte-at .result) (c .before .before .before .before .next-offset .result)
+whole : (c : tie.Else1) → WholeCommand (c .before .before .before .before .before .before .before .before .before .before .args .tape .now) (c .before .before .before .before .before .before .before .before .before .before .args .at) (c .before .before .before .before .before .byte-at .result) (c .before .before .before .before .next-offset .result)
 whole c = at-whole _ _ (c .before .before .before .before .before .before .before .before .before .before .args .w .now) _ _ _ (c .before .tape-refusal .ensures) (c .if1 .left) _ (c .before .before .before .before .before .byte-at .ensures) _ (c .before .before .before .before .next-offset .ensures)
 
 returns : tie.Need-returns

@@ -8,7 +8,7 @@ use Rattle.model.specs.declared.Name.{Name}
 use Rattle.model.specs.declared.Shape.{Shape}
 use Rattle.model.proofs.Lists.{cases, map-same, getD-map}
 use Rattle.model.proofs.Valid.{sameName-true, sameName-refl}
-use Rattle.crash.specs.Book.{Stage, absent, running, closed, committed, isClosed, Entry, Write, emptyBook, begin, store, checkpoint, holderIn, Meeting, meets, ruled, holderAfter, note, wrote, Book}
+use Rattle.crash.specs.Book.{Stage, absent, running, closed, committed, isClosed, Entry, Write, emptyBook, begin, storeBook, checkpointBook, bookHolder, Meeting, meets, ruled, holderAfter, note, writeBook, Book}
 use Rattle.crash.specs.Ledger.{Ledger, freshLedger, withBook, imageNow, closeLedger}
 use Rattle.crash.proofs.Books.Tests.{clash, false-of, in-any, blockEquality}
 use Rattle.crash.proofs.Books.BookEntries.{nextName, uncommittedName, oldestName}
@@ -16,8 +16,8 @@ use Rattle.crash.proofs.Books.BookSteps.{begun, begun-by, begun-running
 use Rattle.crash.proofs.Blocks.History.{Event, value, upto}
 use Rattle.crash.proofs.Books.Largest.{stageOf}
 use Rattle.crash.proofs.Blocks.Invariant.{image-history, areaBefore, historyOf, imageAt, tookIn, Inv}
-use Rattle.crash.proofs.Blocks.InvariantSteps.{Moved, moved-each, moved-blocks, begin-moved, close-moved, store-moved, retire-moved, home-moved}
-use Rattle.crash.proofs.Blocks.InvariantWrite.{Edits, withWrite, lastHolder, open-last, meets-ruled, rule-edits, rule-open}
+use Rattle.crash.proofs.Blocks.InvariantSteps.{Staged, staged-each, staged-blocks, begin-staged, close-staged, store-staged, retire-staged, home-staged}
+use Rattle.crash.proofs.Blocks.InvariantWrite.{WriteEdits, withWrite, lastHolder, open-last, meets-ruled, rule-edits, rule-open}
 
 abbrev pub Imaged : Ledger → Type 0
 Imaged l = (t : Name) → So (isClosed (stageOf (l .book) t)) → l .images t ≡ map (imageAt l t) ((l .book .entry t) .blocks)
@@ -32,7 +32,7 @@ unfolding freshLedger emptyBook
 imaged-fresh s saved first = λ t h. clash h refl
 
 -- ---- commands that write nothing
-module _ {t : Name} {g : Stage} {l l′ : Ledger} (m : Moved t g l l′) where
+module _ {t : Name} {g : Stage} {l l′ : Ledger} (m : Staged t g l l′) where
   moved-image : (u : Name) → imageAt l′ u ≡ imageAt l u
   moved-image u = fun-ext (λ b. rw (m .saved, m .writes) refl)
 
@@ -40,12 +40,12 @@ module _ {t : Name} {g : Stage} {l l′ : Ledger} (m : Moved t g l l′) where
   imaged-moved closing imaged u h =
       cases (isClosed (stageOf (l .book) u))
       (λ was. m .images u was ∙ imaged u was)
-      (λ was. moved-each m (λ u e. isClosed (stageOf (l .book) u) ≡ false → So (isClosed (e .stage)) → l′ .images u ≡ map (imageAt l u) ((l .book .entry u) .blocks))
+      (λ was. staged-each m (λ u e. isClosed (stageOf (l .book) u) ≡ false → So (isClosed (e .stage)) → l′ .images u ≡ map (imageAt l u) ((l .book .entry u) .blocks))
       closing (λ u n p q. clash q p) u was h)
-      ∙ rw (moved-image u, moved-blocks m u) refl
+      ∙ rw (moved-image u, staged-blocks m u) refl
 
 imaged-begin : (l : Ledger) → Imaged l → (t : Name) → stageOf (l .book) t ≡ absent → Imaged (withBook l (begin t (l .book)))
-imaged-begin l imaged t r = imaged-moved (begin-moved l t r) (λ p q. clash q refl) imaged
+imaged-begin l imaged t r = imaged-moved (begin-staged l t r) (λ p q. clash q refl) imaged
 
 upto-last : (t : Name) (es : List (Event Name Bytes)) → lastHolder es ≡ some t → upto (sameName t) es ≡ es
 upto-last t [] q = refl
@@ -60,23 +60,23 @@ module _ {home : ℕ → Bytes} {l : Ledger} (v : Inv home l) (imaged : Imaged l
   module _ (c : ℕ) where
     pub imaged-close : stageOf (l .book) (nextName c (l .book)) ≡ running → Imaged (closeLedger c l)
     imaged-close r =
-        imaged-moved (close-moved v c r)
+        imaged-moved (close-staged v c r)
         (λ runs q. close-images l c
         ∙ map-same (imageNow l) (imageAt l (nextName c (l .book))) ((l .book .entry (nextName c (l .book))) .blocks) (λ b m. image-now b (nextName c (l .book)) runs (in-any blockEquality m)))
         imaged
 
-    pub imaged-store : (n : ℕ) → stageOf (l .book) (uncommittedName c (l .book)) ≡ closed n → Imaged (withBook l (store c (l .book)))
-    imaged-store n r = imaged-moved (store-moved v c n r) (λ p q. clash (rw r refl) p) imaged
+    pub imaged-store : (n : ℕ) → stageOf (l .book) (uncommittedName c (l .book)) ≡ closed n → Imaged (withBook l (storeBook c (l .book)))
+    imaged-store n r = imaged-moved (store-staged v c n r) (λ p q. clash (rw r refl) p) imaged
 
     module _ (m : ℕ) (r : stageOf (l .book) (oldestName c (l .book)) ≡ committed m) where
-      pub imaged-retire : length ((l .book .entry (oldestName c (l .book))) .blocks) ≤ m → Imaged (withBook l (checkpoint c (l .book)))
-      imaged-retire h = imaged-moved (retire-moved v c m r h) (λ p q. clash (rw r refl) p) imaged
+      pub imaged-retire : length ((l .book .entry (oldestName c (l .book))) .blocks) ≤ m → Imaged (withBook l (checkpointBook c (l .book)))
+      imaged-retire h = imaged-moved (retire-staged v c m r h) (λ p q. clash (rw r refl) p) imaged
 
-      pub imaged-home-store : m < length ((l .book .entry (oldestName c (l .book))) .blocks) → Imaged (withBook l (checkpoint c (l .book)))
-      imaged-home-store h = imaged-moved (home-moved v c m r h) (λ p q. clash (rw r refl) p) imaged
+      pub imaged-home-store : m < length ((l .book .entry (oldestName c (l .book))) .blocks) → Imaged (withBook l (checkpointBook c (l .book)))
+      imaged-home-store h = imaged-moved (home-staged v c m r h) (λ p q. clash (rw r refl) p) imaged
 
 -- ---- WRITE
-module _ (l : Ledger) (w : Write) (entry : Name → Entry) (edits : (u : Name) → Edits (l .book .entry u) (entry u))
+module _ (l : Ledger) (w : Write) (entry : Name → Entry) (edits : (u : Name) → WriteEdits (l .book .entry u) (entry u))
     (open-holder : isClosed (stageOf (l .book) (w .holder)) ≡ false) (imaged : Imaged l) where
   -- the write is held by one that has not closed
   written-image : (t : Name) → So (isClosed (stageOf (l .book) t)) → (b : ℕ) → imageAt (withWrite l w entry) t b ≡ imageAt l t b
@@ -92,15 +92,15 @@ module _ (l : Ledger) (w : Write) (entry : Name → Entry) (edits : (u : Name) �
 imaged-note : (l : Ledger) → Imaged l → (t : Name) → isClosed (stageOf (l .book) t) ≡ false → (b o : ℕ) (bytes : Bytes) → Imaged (withBook l (note t b o bytes (l .book)))
 unfolding note
 imaged-note l imaged t runs b o bytes =
-    let m : Meeting = meets (l .book) t (holderIn (l .book) b (l .book .writes)) in
+    let m : Meeting = meets (l .book) t (bookHolder (l .book) b (l .book .writes)) in
     imaged-written l (record { writer = t; holder = holderAfter m t; block = b; offset = o; bytes = bytes }) (ruled m t b (l .book .entry))
     (rule-edits l t runs b m (meets-ruled l t b)) (rule-open l t runs b m (meets-ruled l t b)) imaged
 
-pub imaged-wrote : (l : Ledger) → Imaged l → (c b o : ℕ) (bytes : Bytes)
+pub imaged-write : (l : Ledger) → Imaged l → (c b o : ℕ) (bytes : Bytes)
     → (stageOf (l .book) (nextName c (l .book)) ≡ absent) ⊎ (stageOf (l .book) (nextName c (l .book)) ≡ running)
-    → Imaged (withBook l (wrote c b o bytes (l .book)))
-unfolding wrote
-imaged-wrote l imaged c b o bytes current =
+    → Imaged (withBook l (writeBook c b o bytes (l .book)))
+unfolding writeBook
+imaged-write l imaged c b o bytes current =
     let t : Name = nextName c (l .book) in
     imaged-note (withBook l (begun c (l .book)))
     (begun-by (l .book) c current (λ (k : Book). Imaged (withBook l k)) (λ e. imaged) (λ e. imaged-begin l imaged t e)) t

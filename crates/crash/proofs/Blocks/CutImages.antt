@@ -9,7 +9,7 @@ use Rattle.model.proofs.Lists.{cases, and-left, and-right, and-both}
 use Rattle.crash.specs.Book.{Write, isRetired, kept, keptWrites, image, blank}
 use Rattle.crash.specs.Ledger.{Ledger, validIn}
 use Rattle.crash.proofs.Books.Tests.{clash, any-in, in-any, nameEquality}
-use Rattle.crash.proofs.Blocks.History.{value, keep, Pick, recovered, recovers}
+use Rattle.crash.proofs.Blocks.History.{value, keep, NewestKept, recoveredImage, recovers}
 use Rattle.crash.proofs.Books.Largest.{memberOf, stageOf, RetiredBelow, valid-is-kept}
 use Rattle.crash.proofs.Blocks.Invariant.{history, image-history, areaBefore, historyOf, tookIn, homed, status, Inv, opened-of, sound-of}
 
@@ -43,15 +43,15 @@ NewestHolder l b (some t) =
 
 -- there is one, or none took the block
 module _ (p : Name → Bool) (f : Name → ℕ) where
-  abbrev Highest : List Name → Option Name → Type 0
-  Highest ts none = (t : Name) → List·Memᴰ t ts → So (p t) → ⊥
-  Highest ts (some t) = List·Memᴰ t ts × So (p t) × ((u : Name) → List·Memᴰ u ts → So (p u) → f u ≤ f t)
+  abbrev HighestOf : List Name → Option Name → Type 0
+  HighestOf ts none = (t : Name) → List·Memᴰ t ts → So (p t) → ⊥
+  HighestOf ts (some t) = List·Memᴰ t ts × So (p t) × ((u : Name) → List·Memᴰ u ts → So (p u) → f u ≤ f t)
 
-  highest : (ts : List Name) → (o : Option Name) × Highest ts o
+  highest : (ts : List Name) → (o : Option Name) × HighestOf ts o
   highest [] = (none, λ t m h. List·Memᴰ·not-nil m)
   highest (x ∷ ts) = cases (p x) (λ h. with-x h (highest ts)) (λ h. without-x h (highest ts))
     where
-      with-x : So (p x) → (o : Option Name) × Highest ts o → (o : Option Name) × Highest (x ∷ ts) o
+      with-x : So (p x) → (o : Option Name) × HighestOf ts o → (o : Option Name) × HighestOf (x ∷ ts) o
       with-x h (none, k) =
           (some x, (List·Memᴰ·head refl, h, λ u m q. ⊎-elim (λ e. rw e (omega arith)) (λ n. absurd (k u n q)) (List·Memᴰ·cases-cons m)))
       with-x h (some t, k) =
@@ -66,7 +66,7 @@ module _ (p : Name → Bool) (f : Name → ℕ) where
             ),
           ))
 
-      without-x : p x ≡ false → (o : Option Name) × Highest ts o → (o : Option Name) × Highest (x ∷ ts) o
+      without-x : p x ≡ false → (o : Option Name) × HighestOf ts o → (o : Option Name) × HighestOf (x ∷ ts) o
       without-x h (none, k) = (none, λ t m q. ⊎-elim (λ e. clash (rw e at q) h) (λ n. k t n q) (List·Memᴰ·cases-cons m))
       without-x h (some t, k) =
           (some t, (List·Memᴰ·tail (k .0), k .1, λ u m q. ⊎-elim (λ e. clash (rw e at q) h) (λ n. k .2 u n q) (List·Memᴰ·cases-cons m)))
@@ -74,13 +74,13 @@ module _ (p : Name → Bool) (f : Name → ℕ) where
 pub newest-holder : (l : Ledger) (b : ℕ) → (o : Option Name) × NewestHolder l b o
 newest-holder l b = as-tests (highest (tookIn (l .book) b) (l .stamp) (validIn (l .book)))
   where
-    as-tests : (o : Option Name) × Highest (tookIn (l .book) b) (l .stamp) (validIn (l .book)) o → (o : Option Name) × NewestHolder l b o
+    as-tests : (o : Option Name) × HighestOf (tookIn (l .book) b) (l .stamp) (validIn (l .book)) o → (o : Option Name) × NewestHolder l b o
     as-tests (none, k) = (none, λ t m q. k t (any-in nameEquality t _ m) q)
     as-tests (some t, k) = (some t, (in-any nameEquality (k .0), k .1, λ u m q. k .2 u (any-in nameEquality u _ m) q))
 
 -- what the block then holds: the image of the one found, `imageAt l t b`, or what stood at home, `home b`
 abbrev blockAfter : (ℕ → Bytes) → Ledger → ℕ → Option Name → Bytes
-blockAfter home l b = recovered nameEquality (areaBefore l b) (home b) (historyOf l b)
+blockAfter home l b = recoveredImage nameEquality (areaBefore l b) (home b) (historyOf l b)
 
 module _ {home : ℕ → Bytes} {l : Ledger} (v : Inv home l) (numbered : RetiredBelow (l .book)) (b : ℕ) where
   valid-is : (t : Name) → memberOf (validIn (l .book)) t ≡ (memberOf (kept (l .book)) t && not (isRetired (stageOf (l .book) t)))
@@ -89,7 +89,7 @@ module _ {home : ℕ → Bytes} {l : Ledger} (v : Inv home l) (numbered : Retire
   to-valid : (t : Name) → So (memberOf (kept (l .book)) t) → isRetired (stageOf (l .book) t) ≡ false → So (memberOf (validIn (l .book)) t)
   to-valid t h r = rw (valid-is t) (and-both h (rw r refl))
 
-  newest-pick : (o : Option Name) → NewestHolder l b o → Pick (status l) (historyOf l b) o
+  newest-pick : (o : Option Name) → NewestHolder l b o → NewestKept (status l) (historyOf l b) o
   newest-pick none k = λ t m h. cases (isRetired (stageOf (l .book) t)) (λ r. r) (λ r. absurd (k t (to-valid t h r) (v .taken b t m)))
   newest-pick (some t) k =
       let h : So (memberOf (kept (l .book)) t && not (isRetired (stageOf (l .book) t))) = rw (valid-is t) at (k .0) in (
@@ -99,7 +99,7 @@ module _ {home : ℕ → Bytes} {l : Ledger} (v : Inv home l) (numbered : Retire
         λ u m h r. k .2 u (to-valid u h r) (v .taken b u m),
       )
 
-  pub gives : (o : Option Name) → NewestHolder l b o → blockAfter home l b o ≡ image blank (keptWrites (l .book) ++ l .saved) b
-  gives o k =
-      recovers nameEquality (status l) (sound-of l (v .known) (v .retired-kept)) (homed l b) (areaBefore l b) (home b) (historyOf l b) (v .good b) o (newest-pick o k)
+  pub newest-target : (o : Option Name) → NewestHolder l b o → blockAfter home l b o ≡ image blank (keptWrites (l .book) ++ l .saved) b
+  newest-target o k =
+      recovers nameEquality (status l) (sound-of l (v .known) (v .retired-kept)) (homed l b) (areaBefore l b) (home b) (historyOf l b) (v .block-inv b) o (newest-pick o k)
       ∙ sym (kept-image l b)

@@ -3,7 +3,7 @@
 -- valid holder has exactly these, and where no holder is valid, home has them already. Nothing is said of bytes.
 use Rattle.model.proofs.Base.{ℕ, _≤_, _<_, arith, _≡_, refl, ap, _∙_, _⊎_, inl, inr, ⊎-elim, Bool, true, false, cond, So, Option}
 use Rattle.model.proofs.Base.{none, some, List, [], _∷_}
-use Rattle.model.proofs.Lists.{cases, both-ways}
+use Rattle.model.proofs.Lists.{cases, bool-ext}
 use Rattle.crash.proofs.Books.Tests.{clash, false-of, Equality, impossible}
 
 -- ---- a history
@@ -77,7 +77,7 @@ pub record Status (Txn : Type 0) : Type 0 where
 
 module _ {Txn : Type 0} (s : Status Txn) where
   -- kept ones are closed and have what they name; retired ones are kept (fact 4)
-  pub record Sound : Type 0 where
+  pub record StatusSound : Type 0 where
     pub kept-closed : (t : Txn) → So (s .kept t) → So (s .closed t)
     pub kept-names : (t u : Txn) → So (s .kept t) → So (s .names t u) → So (s .kept u)
     pub retired-kept : (t : Txn) → So (s .retired t) → So (s .kept t)
@@ -95,17 +95,17 @@ module _ {Txn : Type 0} (s : Status Txn) where
     Link t u = (t ≡ u) ⊎ (Older t u × (So (s .names t u) ⊎ So (s .retired u)))
 
     -- the writer is the holder, or each names the other (fact 1); a holder retires after it has stored home
-    pub record Own {Image : Type 0} (e : Event Txn Image) : Type 0 where
+    pub record WriterHolds {Image : Type 0} (e : Event Txn Image) : Type 0 where
       pub writer-holder : (e .writer ≡ e .holder) ⊎ (So (s .names (e .writer) (e .holder)) × So (s .names (e .holder) (e .writer)))
       pub stored : So (s .retired (e .holder)) → So (homed (e .holder))
 
-    abbrev pub Next : {Image : Type 0} → Txn → List (Event Txn Image) → Type 0
-    Next t [] = Unit {0}
-    Next t (e ∷ es) = Link t (e .holder)
+    abbrev pub LinkNext : {Image : Type 0} → Txn → List (Event Txn Image) → Type 0
+    LinkNext t [] = Unit {0}
+    LinkNext t (e ∷ es) = Link t (e .holder)
 
     abbrev pub Chain : {Image : Type 0} → List (Event Txn Image) → Type 0
     Chain [] = Unit {0}
-    Chain (e ∷ es) = Own e × Next (e .holder) es × Chain es
+    Chain (e ∷ es) = WriterHolds e × LinkNext (e .holder) es × Chain es
 
     older-link : {t u v : Txn} → (So (s .retired u) → So (homed u)) → Link t u → (u ≡ v) ⊎ Older u v → (t ≡ v) ⊎ Older t v
     older-link st (inl p) r = rw p r
@@ -125,26 +125,26 @@ module _ {Txn : Type 0} (s : Status Txn) where
     older e (x ∷ es) c t k = ⊎-elim inl (λ m. older-link (c .2 .0 .stored) (c .1) (older x es (c .2) t m)) k
 
   -- the block's home image has the history up to the last holder that stored home, and only kept ones do (fact 3)
-  pub record Good (homed : Txn → Bool) {Image : Type 0} (base home : Image) (es : List (Event Txn Image)) : Type 0 where
+  pub record BlockInv (homed : Txn → Bool) {Image : Type 0} (base home : Image) (es : List (Event Txn Image)) : Type 0 where
     pub chain : Chain homed es
     pub at-home : home ≡ value base (upto homed es)
     pub homed-kept : (t : Txn) → So (homed t) → So (s .kept t)
 
   -- ---- the kept writes are the oldest ones
-  module _ (sound : Sound) (homed : Txn → Bool) where
+  module _ (sound : StatusSound) (homed : Txn → Bool) where
     pub kept-link : {t u : Txn} → Link homed t u → So (s .kept t) → So (s .kept u)
     kept-link (inl p) h = rw p at h
     kept-link (inr (l, inl d)) h = sound .kept-names _ _ h d
     kept-link (inr (l, inr r)) h = sound .retired-kept _ r
 
-  module _ (sound : Sound) (homed : Txn → Bool) {Image : Type 0} where
-    kept-writer : (e : Event Txn Image) → Own homed e → s .kept (e .writer) ≡ s .kept (e .holder)
+  module _ (sound : StatusSound) (homed : Txn → Bool) {Image : Type 0} where
+    kept-writer : (e : Event Txn Image) → WriterHolds homed e → s .kept (e .writer) ≡ s .kept (e .holder)
     kept-writer e o =
         ⊎-elim (ap (s .kept))
-        (λ d. both-ways (λ h. sound .kept-names _ _ h (d .0)) (λ h. sound .kept-names _ _ h (d .1)))
+        (λ d. bool-ext (λ h. sound .kept-names _ _ h (d .0)) (λ h. sound .kept-names _ _ h (d .1)))
         (o .writer-holder)
 
-    kept-next : (t : Txn) (es : List (Event Txn Image)) → Next homed t es → So (s .kept t) → upto (s .kept) es ≡ es
+    kept-next : (t : Txn) (es : List (Event Txn Image)) → LinkNext homed t es → So (s .kept t) → upto (s .kept) es ≡ es
     kept-next t [] n h = refl
     kept-next t (x ∷ es) n h = rw (kept-link sound homed n h) refl
 
@@ -162,20 +162,20 @@ module _ {Txn : Type 0} (s : Status Txn) where
 
   -- ---- recovery
   -- of those that took the block, are kept and not retired, one of highest stamp, if there is any
-  abbrev pub Pick : {Image : Type 0} → List (Event Txn Image) → Option Txn → Type 0
-  Pick es none = (t : Txn) → Took t es → So (s .kept t) → So (s .retired t)
-  Pick es (some t) =
+  abbrev pub NewestKept : {Image : Type 0} → List (Event Txn Image) → Option Txn → Type 0
+  NewestKept es none = (t : Txn) → Took t es → So (s .kept t) → So (s .retired t)
+  NewestKept es (some t) =
       Took t es × So (s .kept t) × (s .retired t ≡ false)
       × ((u : Txn) → Took u es → So (s .kept u) → s .retired u ≡ false → s .stamp u ≤ s .stamp t)
 
 module _ {Txn Image : Type 0} (E : Equality Txn) where
   -- the block's home image after recovery: the picked one's image, or as it was
-  abbrev pub recovered : Image → Image → List (Event Txn Image) → Option Txn → Image
-  recovered base home es none = home
-  recovered base home es (some t) = value base (upto (E .is t) es)
+  abbrev pub recoveredImage : Image → Image → List (Event Txn Image) → Option Txn → Image
+  recoveredImage base home es none = home
+  recoveredImage base home es (some t) = value base (upto (E .is t) es)
 
-  module _ (s : Status Txn) (sound : Sound s) (homed : Txn → Bool) (base home : Image) (es : List (Event Txn Image)) (good : Good s homed base home es) where
-    recovers-none : (o : Option Txn) → Pick s es o → upto (s .kept) es ≡ [] → recovered base home es o ≡ base
+  module _ (s : Status Txn) (sound : StatusSound s) (homed : Txn → Bool) (base home : Image) (es : List (Event Txn Image)) (good : BlockInv s homed base home es) where
+    recovers-none : (o : Option Txn) → NewestKept s es o → upto (s .kept) es ≡ [] → recoveredImage base home es o ≡ base
     recovers-none none k at = good .at-home ∙ ap (value base) (upto-none _ homed (good .homed-kept) es at)
     recovers-none (some t) k at = absurd (rw at at (took-upto (s .kept) t es (k .0) (k .1)))
 
@@ -191,27 +191,27 @@ module _ {Txn Image : Type 0} (E : Equality Txn) where
       last-took = upto-took (s .kept) (e .holder) es (rw at (inl refl))
 
       -- an older holder is retired, or its stamp is not the highest
-      not-older : (t : Txn) → Pick s es (some t) → Older s homed (e .holder) t → ⊥
+      not-older : (t : Txn) → NewestKept s es (some t) → Older s homed (e .holder) t → ⊥
       not-older t k o =
           cases (s .retired (e .holder))
           (λ h. clash (o .retires-first (last-chain .0 .stored h)) (k .2))
           (λ h. omega (arith, k .3 _ last-took last-kept h, o .lower (sound .kept-closed _ last-kept)))
 
-      picks-last : (t : Txn) → Pick s es (some t) → e .holder ≡ t
+      picks-last : (t : Txn) → NewestKept s es (some t) → e .holder ≡ t
       picks-last t k =
           ⊎-elim (λ p. p) (λ o. absurd (not-older t k o))
           (older s homed e r last-chain t (rw at at (took-upto (s .kept) t es (k .0) (k .1))))
 
-      recovers-some : (o : Option Txn) → Pick s es o → recovered base home es o ≡ value base (e ∷ r)
+      recovers-some : (o : Option Txn) → NewestKept s es o → recoveredImage base home es o ≡ value base (e ∷ r)
       recovers-some none k =
           good .at-home ∙ ap (value base) (upto-sub _ homed (good .homed-kept) es at (last-chain .0 .stored (k _ last-took last-kept)))
       recovers-some (some t) k =
           ap (value base) (upto-sub _ (E .is t) (λ u h. rw (E .is-true t u h) at (k .1)) es at (rw (picks-last t k) (E .is-refl t)))
 
     -- Recovery gives the base with the kept writes.
-    pub recovers : (o : Option Txn) → Pick s es o → recovered base home es o ≡ value base (keep (s .kept) es)
+    pub recovers : (o : Option Txn) → NewestKept s es o → recoveredImage base home es o ≡ value base (keep (s .kept) es)
     recovers o k = rw (prefix s sound homed es (good .chain)) (by-last (upto (s .kept) es) refl)
       where
-        by-last : (r : List (Event Txn Image)) → upto (s .kept) es ≡ r → recovered base home es o ≡ value base (upto (s .kept) es)
+        by-last : (r : List (Event Txn Image)) → upto (s .kept) es ≡ r → recoveredImage base home es o ≡ value base (upto (s .kept) es)
         by-last [] at = rw at (recovers-none o k at)
         by-last (e ∷ r) at = rw at (recovers-some e r at o k)

@@ -1,6 +1,6 @@
 -- What holds of a ledger and the home area from one coming up to the next cut: `Inv`.
--- The history of each block is good, with what the ledger knows of the transactions; a transaction took the blocks that
--- it held after some write. Where a command only adds to what is known of transactions (`Grows`), good histories stay good.
+-- Each block has its invariant (`BlockInv`), by what the ledger knows of the transactions; a transaction took the blocks that
+-- it held after some write. Where a command only adds to what is known of transactions (`Grows`), these stay.
 use Rattle.model.proofs.Base.{ℕ, _≤_, _<_, arith, _≡_, refl, subst, fun-ext, inl, inr, ⊎-elim, Bool, true, false, cond, So, List}
 use Rattle.model.proofs.Base.{[], _∷_, List·Memᴰ, take, eqb, any, Bytes}
 use Rattle.model.specs.Bytes.{replaced}
@@ -11,8 +11,8 @@ use Rattle.crash.specs.Book.{Stage, absent, running, closed, committed, 
 use Rattle.crash.specs.Ledger.{Ledger}
 use Rattle.crash.proofs.Books.Tests.{clash}
 use Rattle.crash.proofs.Books.BookEntries.{by-stage}
-use Rattle.crash.proofs.Blocks.History.{Event, value, upto, Took, Status, Sound, Chain, Good}
-use Rattle.crash.proofs.Blocks.Steps.{Extends, extend}
+use Rattle.crash.proofs.Blocks.History.{Event, value, upto, Took, Status, StatusSound, Chain, BlockInv}
+use Rattle.crash.proofs.Blocks.Steps.{Extends, blockInv-extends}
 use Rattle.crash.proofs.Books.Largest.{memberOf, stageOf, listsName, kept-largest, kept-more}
 
 -- ---- the histories of a list of writes
@@ -89,21 +89,21 @@ open-not-homed b bs =
     by-stage (λ g. isClosed g ≡ false → homedBy b bs g ≡ false) (λ h. refl) (λ h. refl) (λ n h. refl) (λ n h. clash refl h) (λ h. clash refl h)
 
 -- ---- the invariant
-abbrev pub Known : Book → Type 0
-Known k = (t : Name) → So (isOpened (stageOf k t)) → List·Memᴰ t (k .opened)
+abbrev pub AllOpened : Book → Type 0
+AllOpened k = (t : Name) → So (isOpened (stageOf k t)) → List·Memᴰ t (k .opened)
 
 pub record Inv (home : ℕ → Bytes) (l : Ledger) : Type 0 where
-  pub good : (b : ℕ) → Good (status l) (homed l b) (areaBefore l b) (home b) (historyOf l b)
+  pub block-inv : (b : ℕ) → BlockInv (status l) (homed l b) (areaBefore l b) (home b) (historyOf l b)
   pub took : (b : ℕ) (t : Name) → So (tookIn (l .book) b t) → Took t (historyOf l b)
   pub taken : (b : ℕ) (t : Name) → Took t (historyOf l b) → So (tookIn (l .book) b t)
   pub stamps : (t : Name) → So (isClosed (stageOf (l .book) t)) → l .stamp t ≤ l .closes
-  pub known : Known (l .book)
+  pub known : AllOpened (l .book)
   pub retired-kept : (t : Name) → So (isRetired (stageOf (l .book) t)) → So (memberOf (kept (l .book)) t)
 
-pub opened-of : (k : Book) → Known k → (t : Name) → So (isCommitted (stageOf k t)) → List·Memᴰ t (k .opened)
+pub opened-of : (k : Book) → AllOpened k → (t : Name) → So (isCommitted (stageOf k t)) → List·Memᴰ t (k .opened)
 opened-of k known t h = known t (closed-opened (stageOf k t) (committed-closed (stageOf k t) h))
 
-pub sound-of : (l : Ledger) → Known (l .book) → ((t : Name) → So (isRetired (stageOf (l .book) t)) → So (memberOf (kept (l .book)) t)) → Sound (status l)
+pub sound-of : (l : Ledger) → AllOpened (l .book) → ((t : Name) → So (isRetired (stageOf (l .book) t)) → So (memberOf (kept (l .book)) t)) → StatusSound (status l)
 sound-of l known r =
     record {
       kept-closed = λ t h. committed-closed (stageOf (l .book) t) (kept-largest (l .book) (opened-of (l .book) known) .sub t h);
@@ -118,7 +118,7 @@ stored-in s h (e ∷ es) c t (inr k) r = stored-in s h es (c .2) t k r
 
 -- a retired transaction has stored its blocks home
 pub retired-homed : {home : ℕ → Bytes} {l : Ledger} → Inv home l → (b : ℕ) (t : Name) → Took t (historyOf l b) → So (isRetired (stageOf (l .book) t)) → So (homed l b t)
-retired-homed {l = l} v b t = stored-in (status l) (homed l b) (historyOf l b) (v .good b .chain) t
+retired-homed {l = l} v b t = stored-in (status l) (homed l b) (historyOf l b) (v .block-inv b .chain) t
 
 -- ---- growth
 -- what any command may do to a transaction: it never goes back, and from its close on its names and its stamp are fixed
@@ -131,7 +131,7 @@ pub record Grows (l l′ : Ledger) (t : Name) : Type 0 where
   pub stamp-fixed : So (isClosed (stageOf (l .book) t)) → l′ .stamp t ≡ l .stamp t
   pub stamp-new : isClosed (stageOf (l .book) t) ≡ false → So (isClosed (stageOf (l′ .book) t)) → l .closes < l′ .stamp t
 
-module _ {home : ℕ → Bytes} {l : Ledger} (v : Inv home l) (l′ : Ledger) (known : Known (l′ .book)) (grows : (t : Name) → Grows l l′ t) where
+module _ {home : ℕ → Bytes} {l : Ledger} (v : Inv home l) (l′ : Ledger) (known : AllOpened (l′ .book)) (grows : (t : Name) → Grows l l′ t) where
   pub extends : Extends (status l) (status l′)
   extends =
       record {
@@ -148,10 +148,10 @@ module _ {home : ℕ → Bytes} {l : Ledger} (v : Inv home l) (l′ : Ledger) (k
             (λ h. omega (arith, grows t .stamp-new h ct, v .stamps u cu)));
       }
 
-  -- a history good with h as those that stored home is so after the command, where h is then said by the ledger
-  pub good-grown : (b : ℕ) (image : Bytes) (h : Name → Bool) → Good (status l) h (areaBefore l b) image (historyOf l b)
+  -- the invariant with h as those that stored home holds after the command, where h is then said by the ledger
+  pub blockInv-grown : (b : ℕ) (image : Bytes) (h : Name → Bool) → BlockInv (status l) h (areaBefore l b) image (historyOf l b)
       → ((t : Name) → Took t (historyOf l b) → So (isRetired (stageOf (l′ .book) t)) → So (h t)) → ((t : Name) → h t ≡ homed l′ b t)
-      → Good (status l′) (homed l′ b) (areaBefore l b) image (historyOf l b)
-  good-grown b image h g r e =
-      subst (λ (h : Name → Bool). Good (status l′) h (areaBefore l b) image (historyOf l b)) (fun-ext e)
-      (extend (status l) (status l′) extends h (areaBefore l b) image (historyOf l b) r g)
+      → BlockInv (status l′) (homed l′ b) (areaBefore l b) image (historyOf l b)
+  blockInv-grown b image h g r e =
+      subst (λ (h : Name → Bool). BlockInv (status l′) h (areaBefore l b) image (historyOf l b)) (fun-ext e)
+      (blockInv-extends (status l) (status l′) extends h (areaBefore l b) image (historyOf l b) r g)

@@ -10,21 +10,21 @@ use Rattle.model.specs.declared.Name.{Name}
 use Rattle.model.specs.declared.Shape.{Shape}
 use Rattle.model.proofs.Lists.{cases, and-both, or-left, or-right, mem-any, any-append, getD-mem}
 use Rattle.model.proofs.Valid.{sameName-refl}
-use Rattle.crash.specs.Book.{Stage, absent, running, closed, committed, retired, isClosed, isCommitted, isRetired, Entry, Write, Book, emptyBook, change, staged, begin, close, store, checkpoint, kept, image, blank}
+use Rattle.crash.specs.Book.{Stage, absent, running, closed, committed, retired, isClosed, isCommitted, isRetired, Entry, Write, Book, emptyBook, change, staged, begin, closeBook, storeBook, checkpointBook, kept, image, blank}
 use Rattle.crash.specs.Ledger.{Ledger, freshLedger, withBook, closeLedger, sharesLowerIn}
 use Rattle.crash.proofs.Books.Tests.{clash, any-in, in-any, nameEquality, blockEquality}
 use Rattle.crash.proofs.Books.BookEntries.{same-or-not, sameName-false, change-at, change-other, change-each, nextName, uncommittedName, oldestName}
 use Rattle.crash.proofs.Books.BookSteps.{close-stamp, close-images-other, close-stamp-other}
-use Rattle.crash.proofs.Blocks.History.{Took, Good}
-use Rattle.crash.proofs.Blocks.Steps.{with-one, store-home}
+use Rattle.crash.proofs.Blocks.History.{Took, BlockInv}
+use Rattle.crash.proofs.Blocks.Steps.{with-one, blockInv-home}
 use Rattle.crash.proofs.Books.Largest.{memberOf, stageOf}
-use Rattle.crash.proofs.Blocks.Invariant.{history, areaBefore, historyOf, imageAt, tookIn, homedBy, homed, status, isOpened, closed-opened, Known, Inv, sound-of, retired-homed, Grows, extends, good-grown}
+use Rattle.crash.proofs.Blocks.Invariant.{history, areaBefore, historyOf, imageAt, tookIn, homedBy, homed, status, isOpened, closed-opened, AllOpened, Inv, sound-of, retired-homed, Grows, extends, blockInv-grown}
 
 pub inv-fresh : (s : Shape) (saved : List Write) (first : ℕ → ℕ) → Inv (image blank saved) (freshLedger s saved first)
 unfolding freshLedger emptyBook any
 inv-fresh s saved first =
     record {
-      good = λ b. record { chain = tt; at-home = refl; homed-kept = λ t h. clash h refl };
+      block-inv = λ b. record { chain = tt; at-home = refl; homed-kept = λ t h. clash h refl };
       took = λ b t h. clash h refl;
       taken = λ b t k. absurd k;
       stamps = λ t h. clash h refl;
@@ -55,7 +55,7 @@ onward stores-home = record { closed = λ h. refl; committed = λ h. refl; retir
 onward retires = record { closed = λ h. refl; committed = λ h. refl; retired = λ h. refl }
 
 -- the ledger l′ is l with t at stage g; one that closes gets the next stamp
-pub record Moved (t : Name) (g : Stage) (l l′ : Ledger) : Type 0 where
+pub record Staged (t : Name) (g : Stage) (l l′ : Ledger) : Type 0 where
   pub moves : Moves (stageOf (l .book) t) g
   pub saved : l′ .saved ≡ l .saved
   pub writes : l′ .book .writes ≡ l .book .writes
@@ -67,39 +67,39 @@ pub record Moved (t : Name) (g : Stage) (l l′ : Ledger) : Type 0 where
   pub stamp-new : isClosed (stageOf (l .book) t) ≡ false → So (isClosed g) → (l′ .stamp t ≡ l′ .closes) × (l .closes < l′ .closes)
   pub images : (u : Name) → So (isClosed (stageOf (l .book) u)) → l′ .images u ≡ l .images u
 
-module _ {t : Name} {g : Stage} {l l′ : Ledger} (m : Moved t g l l′) where
-  moved-t : l′ .book .entry t ≡ staged g (l .book .entry t)
-  moved-t = m .entry t ∙ change-at t (staged g) (l .book .entry)
+module _ {t : Name} {g : Stage} {l l′ : Ledger} (m : Staged t g l l′) where
+  staged-t : l′ .book .entry t ≡ staged g (l .book .entry t)
+  staged-t = m .entry t ∙ change-at t (staged g) (l .book .entry)
 
-  moved-other : (u : Name) → u ≢ t → l′ .book .entry u ≡ l .book .entry u
-  moved-other u h = m .entry u ∙ change-other t (staged g) (l .book .entry) u h
+  staged-other : (u : Name) → u ≢ t → l′ .book .entry u ≡ l .book .entry u
+  staged-other u h = m .entry u ∙ change-other t (staged g) (l .book .entry) u h
 
-  pub moved-each : (P : Name → Entry → Type 0) → P t (staged g (l .book .entry t)) → ((u : Name) → u ≢ t → P u (l .book .entry u))
+  pub staged-each : (P : Name → Entry → Type 0) → P t (staged g (l .book .entry t)) → ((u : Name) → u ≢ t → P u (l .book .entry u))
       → (u : Name) → P u (l′ .book .entry u)
-  moved-each P a b u = rw (m .entry u) (change-each P t (staged g) (l .book .entry) a b u)
+  staged-each P a b u = rw (m .entry u) (change-each P t (staged g) (l .book .entry) a b u)
 
-  pub moved-blocks : (u : Name) → (l′ .book .entry u) .blocks ≡ (l .book .entry u) .blocks
-  moved-blocks = moved-each (λ u e. e .blocks ≡ (l .book .entry u) .blocks) refl (λ u h. refl)
+  pub staged-blocks : (u : Name) → (l′ .book .entry u) .blocks ≡ (l .book .entry u) .blocks
+  staged-blocks = staged-each (λ u e. e .blocks ≡ (l .book .entry u) .blocks) refl (λ u h. refl)
 
-  moved-known : Known (l .book) → Known (l′ .book)
-  moved-known known =
-      moved-each (λ u e. So (isOpened (e .stage)) → List·Memᴰ u (l′ .book .opened)) (λ h. m .opened-t) (λ u n h. m .opened u (known u h))
+  staged-known : AllOpened (l .book) → AllOpened (l′ .book)
+  staged-known known =
+      staged-each (λ u e. So (isOpened (e .stage)) → List·Memᴰ u (l′ .book .opened)) (λ h. m .opened-t) (λ u n h. m .opened u (known u h))
 
-  moved-grows : (u : Name) → Grows l l′ u
-  moved-grows u =
+  staged-grows : (u : Name) → Grows l l′ u
+  staged-grows u =
       same-or-not u t
-      (λ e. let g-is : stageOf (l′ .book) t ≡ g = ap (λ e. e .stage) moved-t in
+      (λ e. let g-is : stageOf (l′ .book) t ≡ g = ap (λ e. e .stage) staged-t in
       rw e
       (record {
         closed = λ h. rw g-is (onward (m .moves) .closed h);
         committed = λ h. rw g-is (onward (m .moves) .committed h);
         retired = λ h. rw g-is (onward (m .moves) .retired h);
-        names = λ u h. rw moved-t h;
-        names-fixed = λ h. rw moved-t refl;
+        names = λ u h. rw staged-t h;
+        names-fixed = λ h. rw staged-t refl;
         stamp-fixed = m .stamp t;
         stamp-new = λ p q. let n : (l′ .stamp t ≡ l′ .closes) × (l .closes < l′ .closes) = m .stamp-new p (rw g-is at q) in omega arith;
       }))
-      (λ ne. let same : l′ .book .entry u ≡ l .book .entry u = moved-other u ne in
+      (λ ne. let same : l′ .book .entry u ≡ l .book .entry u = staged-other u ne in
       let stage : stageOf (l′ .book) u ≡ stageOf (l .book) u = ap (λ e. e .stage) same in
       record {
         closed = λ h. rw stage h;
@@ -112,56 +112,56 @@ module _ {t : Name} {g : Stage} {l l′ : Ledger} (m : Moved t g l l′) where
       })
 
   module _ {home : ℕ → Bytes} (v : Inv home l) where
-    moved-stamps : (u : Name) → So (isClosed (stageOf (l′ .book) u)) → l′ .stamp u ≤ l′ .closes
-    moved-stamps u q =
+    staged-stamps : (u : Name) → So (isClosed (stageOf (l′ .book) u)) → l′ .stamp u ≤ l′ .closes
+    staged-stamps u q =
         cases (isClosed (stageOf (l .book) u))
         (λ h. omega (arith, m .closes, m .stamp u h, v .stamps u h))
-        (λ h. moved-each (λ u e. isClosed (stageOf (l .book) u) ≡ false → So (isClosed (e .stage)) → l′ .stamp u ≤ l′ .closes)
+        (λ h. staged-each (λ u e. isClosed (stageOf (l .book) u) ≡ false → So (isClosed (e .stage)) → l′ .stamp u ≤ l′ .closes)
         (λ h q. omega (arith, m .stamp-new h q .0)) (λ u n h q. clash q h) u h q)
 
-    -- a history good with h as those that stored home stays good, where the ledger says then of each that it is in h
-    moved-good : (b : ℕ) (image : Bytes) (h : Name → Bool) → Good (status l) h (areaBefore l b) image (historyOf l b)
+    -- the invariant with h as those that stored home stays, where the ledger says then of each that it is in h
+    staged-blockInv : (b : ℕ) (image : Bytes) (h : Name → Bool) → BlockInv (status l) h (areaBefore l b) image (historyOf l b)
         → ((u : Name) → Took u (historyOf l b) → So (isRetired (stageOf (l′ .book) u)) → So (h u))
         → h t ≡ homedBy b ((l .book .entry t) .blocks) g → ((u : Name) → u ≢ t → h u ≡ homed l b u)
-        → Good (status l′) (homed l′ b) (areaBefore l b) image (historyOf l b)
-    moved-good b image h good stored at-t others =
-        good-grown v l′ (moved-known (v .known)) moved-grows b image h good stored (moved-each (λ u e. h u ≡ homedBy b (e .blocks) (e .stage)) at-t others)
+        → BlockInv (status l′) (homed l′ b) (areaBefore l b) image (historyOf l b)
+    staged-blockInv b image h good stored at-t others =
+        blockInv-grown v l′ (staged-known (v .known)) staged-grows b image h good stored (staged-each (λ u e. h u ≡ homedBy b (e .blocks) (e .stage)) at-t others)
 
     -- whoever retires is kept and has stored its blocks home
     module _ (retiring : So (isRetired g) → So (memberOf (kept (l .book)) t) × ((b : ℕ) → So (tookIn (l .book) b t) → So (homed l b t))) where
-      moved-retired : (u : Name) → So (isRetired (stageOf (l′ .book) u)) → So (memberOf (kept (l .book)) u)
-      moved-retired =
-          moved-each (λ u e. So (isRetired (e .stage)) → So (memberOf (kept (l .book)) u)) (λ r. retiring r .0) (λ u h r. v .retired-kept u r)
+      staged-retired : (u : Name) → So (isRetired (stageOf (l′ .book) u)) → So (memberOf (kept (l .book)) u)
+      staged-retired =
+          staged-each (λ u e. So (isRetired (e .stage)) → So (memberOf (kept (l .book)) u)) (λ r. retiring r .0) (λ u h r. v .retired-kept u r)
 
-      moved-stored : (b : ℕ) (u : Name) → Took u (historyOf l b) → So (isRetired (stageOf (l′ .book) u)) → So (homed l b u)
-      moved-stored b u k r =
-          moved-each (λ u e. Took u (historyOf l b) → So (isRetired (e .stage)) → So (homed l b u))
+      staged-stored : (b : ℕ) (u : Name) → Took u (historyOf l b) → So (isRetired (stageOf (l′ .book) u)) → So (homed l b u)
+      staged-stored b u k r =
+          staged-each (λ u e. Took u (historyOf l b) → So (isRetired (e .stage)) → So (homed l b u))
           (λ k r. retiring r .1 b (v .taken b t k)) (λ u h k r. retired-homed v b u k r) u k r
 
-      -- the home area may change too, as long as the histories are good
-      inv-by-good : {home′ : ℕ → Bytes} → ((b : ℕ) → Good (status l′) (homed l′ b) (areaBefore l b) (home′ b) (historyOf l b)) → Inv home′ l′
-      inv-by-good {home′} good =
+      -- the home area may change too, as long as each block has its invariant
+      inv-by-blockInv : {home′ : ℕ → Bytes} → ((b : ℕ) → BlockInv (status l′) (homed l′ b) (areaBefore l b) (home′ b) (historyOf l b)) → Inv home′ l′
+      inv-by-blockInv {home′} good =
           record {
-            good =
-                λ b. subst (λ (saved : List Write). Good (status l′) (homed l′ b) (image blank saved b) (home′ b) (historyOf l′ b)) (sym (m .saved))
-                (subst (λ (ws : List Write). Good (status l′) (homed l′ b) (areaBefore l b) (home′ b) (history b ws)) (sym (m .writes)) (good b));
-            took = λ b u h. rw (m .writes) (v .took b u (rw (moved-blocks u) at h));
-            taken = λ b u k. rw (moved-blocks u) (v .taken b u (rw (m .writes) at k));
-            stamps = moved-stamps;
-            known = moved-known (v .known);
-            retired-kept = λ u r. extends v l′ (moved-known (v .known)) moved-grows .kept u (moved-retired u r);
+            block-inv =
+                λ b. subst (λ (saved : List Write). BlockInv (status l′) (homed l′ b) (image blank saved b) (home′ b) (historyOf l′ b)) (sym (m .saved))
+                (subst (λ (ws : List Write). BlockInv (status l′) (homed l′ b) (areaBefore l b) (home′ b) (history b ws)) (sym (m .writes)) (good b));
+            took = λ b u h. rw (m .writes) (v .took b u (rw (staged-blocks u) at h));
+            taken = λ b u k. rw (staged-blocks u) (v .taken b u (rw (m .writes) at k));
+            stamps = staged-stamps;
+            known = staged-known (v .known);
+            retired-kept = λ u r. extends v l′ (staged-known (v .known)) staged-grows .kept u (staged-retired u r);
           }
 
-      inv-moved : ((b : ℕ) → homedBy b ((l .book .entry t) .blocks) g ≡ homed l b t) → Inv home l′
-      inv-moved homes =
-          inv-by-good (λ b. moved-good b (home b) (homed l b) (v .good b) (moved-stored b) (sym (homes b)) (λ u h. refl))
+      inv-staged : ((b : ℕ) → homedBy b ((l .book .entry t) .blocks) g ≡ homed l b t) → Inv home l′
+      inv-staged homes =
+          inv-by-blockInv (λ b. staged-blockInv b (home b) (homed l b) (v .block-inv b) (staged-stored b) (sym (homes b)) (λ u h. refl))
 
 -- a command that changes the book alone
-book-moved : (l : Ledger) (k : Book) (t : Name) (g : Stage) → Moves (stageOf (l .book) t) g → k .writes ≡ l .book .writes
+book-staged : (l : Ledger) (k : Book) (t : Name) (g : Stage) → Moves (stageOf (l .book) t) g → k .writes ≡ l .book .writes
     → ((u : Name) → List·Memᴰ u (l .book .opened) → List·Memᴰ u (k .opened)) → List·Memᴰ t (k .opened)
     → ((u : Name) → k .entry u ≡ change t (staged g) (l .book .entry) u) → (So (isClosed g) → So (isClosed (stageOf (l .book) t)))
-    → Moved t g l (withBook l k)
-book-moved l k t g moves writes opened opened-t entry was-closed =
+    → Staged t g l (withBook l k)
+book-staged l k t g moves writes opened opened-t entry was-closed =
     record {
       moves = moves;
       saved = refl;
@@ -188,13 +188,13 @@ lower-retired {l = l} v t none-lower b k u k′ h low =
     none-lower)
 
 -- ---- a WRITE that opens a transaction
-pub begin-moved : (l : Ledger) (t : Name) → stageOf (l .book) t ≡ absent → Moved t running l (withBook l (begin t (l .book)))
+pub begin-staged : (l : Ledger) (t : Name) → stageOf (l .book) t ≡ absent → Staged t running l (withBook l (begin t (l .book)))
 unfolding begin
-begin-moved l t r =
-    book-moved l (begin t (l .book)) t running (rw r opens) refl (λ u h. List·Memᴰ·tail h) (List·Memᴰ·head refl) (λ u. refl) (λ h. clash h refl)
+begin-staged l t r =
+    book-staged l (begin t (l .book)) t running (rw r opens) refl (λ u h. List·Memᴰ·tail h) (List·Memᴰ·head refl) (λ u. refl) (λ h. clash h refl)
 
 pub inv-begin : {home : ℕ → Bytes} {l : Ledger} → Inv home l → (t : Name) → stageOf (l .book) t ≡ absent → Inv home (withBook l (begin t (l .book)))
-inv-begin {l = l} v t r = inv-moved (begin-moved l t r) v (λ h. clash h refl) (λ b. rw r refl)
+inv-begin {l = l} v t r = inv-staged (begin-staged l t r) v (λ h. clash h refl) (λ b. rw r refl)
 
 module _ {home : ℕ → Bytes} {l : Ledger} (v : Inv home l) (c : ℕ) where
   -- ---- CLOSE
@@ -202,9 +202,9 @@ module _ {home : ℕ → Bytes} {l : Ledger} (v : Inv home l) (c : ℕ) where
     closed-other : (u : Name) → So (isClosed (stageOf (l .book) u)) → u ≢ nextName c (l .book)
     closed-other u h e = clash h (rw (e, r) refl)
 
-    pub close-moved : Moved (nextName c (l .book)) (closed 0) l (closeLedger c l)
-    unfolding closeLedger close
-    close-moved =
+    pub close-staged : Staged (nextName c (l .book)) (closed 0) l (closeLedger c l)
+    unfolding closeLedger closeBook
+    close-staged =
         record {
           moves = rw r closes;
           saved = refl;
@@ -219,24 +219,24 @@ module _ {home : ℕ → Bytes} {l : Ledger} (v : Inv home l) (c : ℕ) where
         }
 
     pub inv-close : Inv home (closeLedger c l)
-    inv-close = inv-moved close-moved v (λ h. clash h refl) (λ b. rw r refl)
+    inv-close = inv-staged close-staged v (λ h. clash h refl) (λ b. rw r refl)
 
   -- ---- STORE: the last one commits
   module _ (n : ℕ) (r : stageOf (l .book) (uncommittedName c (l .book)) ≡ closed n) where
     abbrev isLastStore : Bool
     isLastStore = leb (length ((l .book .entry (uncommittedName c (l .book))) .blocks) + 2) (suc n)
 
-    pub store-moved : Moved (uncommittedName c (l .book)) (cond isLastStore (committed 0) (closed (suc n))) l (withBook l (store c (l .book)))
-    unfolding store
-    store-moved =
-        book-moved l (store c (l .book)) (uncommittedName c (l .book)) (cond isLastStore (committed 0) (closed (suc n)))
+    pub store-staged : Staged (uncommittedName c (l .book)) (cond isLastStore (committed 0) (closed (suc n))) l (withBook l (storeBook c (l .book)))
+    unfolding storeBook
+    store-staged =
+        book-staged l (storeBook c (l .book)) (uncommittedName c (l .book)) (cond isLastStore (committed 0) (closed (suc n)))
         (rw r (cases isLastStore (λ h. rw h commits) (λ h. rw h stores)))
         refl (λ u h. h) (v .known (uncommittedName c (l .book)) (rw r refl)) (λ u. rw r refl) (λ h. rw r refl)
 
-    pub inv-store : Inv home (withBook l (store c (l .book)))
+    pub inv-store : Inv home (withBook l (storeBook c (l .book)))
     unfolding any
     inv-store =
-        inv-moved store-moved v
+        inv-staged store-staged v
         (λ h. cases isLastStore (λ e. clash (rw e at h) refl) (λ e. clash (rw e at h) refl))
         (λ b. rw r (cases isLastStore (λ h. rw h refl) (λ h. rw h refl)))
 
@@ -246,27 +246,27 @@ module _ {home : ℕ → Bytes} {l : Ledger} (v : Inv home l) (c : ℕ) where
     oldestBlocks = (l .book .entry (oldestName c (l .book))) .blocks
 
     abbrev checkpointed : Ledger
-    checkpointed = withBook l (checkpoint c (l .book))
+    checkpointed = withBook l (checkpointBook c (l .book))
 
-    checkpoint-moved : (g : Stage) → cond (leb (length oldestBlocks + 1) (suc m)) retired (committed (suc m)) ≡ g → Moves (committed m) g
-        → Moved (oldestName c (l .book)) g l checkpointed
-    unfolding checkpoint
-    checkpoint-moved g e moves =
-        book-moved l (checkpoint c (l .book)) (oldestName c (l .book)) g (rw r moves)
+    checkpoint-staged : (g : Stage) → cond (leb (length oldestBlocks + 1) (suc m)) retired (committed (suc m)) ≡ g → Moves (committed m) g
+        → Staged (oldestName c (l .book)) g l checkpointed
+    unfolding checkpointBook
+    checkpoint-staged g e moves =
+        book-staged l (checkpointBook c (l .book)) (oldestName c (l .book)) g (rw r moves)
         refl (λ u h. h) (v .known (oldestName c (l .book)) (rw r refl)) (λ u. rw (r, e) refl) (λ h. rw r refl)
 
-    pub retire-moved : length oldestBlocks ≤ m → Moved (oldestName c (l .book)) retired l (withBook l (checkpoint c (l .book)))
-    retire-moved h = checkpoint-moved retired (rw (le-leb (length oldestBlocks + 1) (suc m) (omega arith)) refl) retires
+    pub retire-staged : length oldestBlocks ≤ m → Staged (oldestName c (l .book)) retired l (withBook l (checkpointBook c (l .book)))
+    retire-staged h = checkpoint-staged retired (rw (le-leb (length oldestBlocks + 1) (suc m) (omega arith)) refl) retires
 
-    pub home-moved : m < length oldestBlocks → Moved (oldestName c (l .book)) (committed (suc m)) l (withBook l (checkpoint c (l .book)))
-    home-moved h = checkpoint-moved (committed (suc m)) (rw (lt-leb (length oldestBlocks + 1) (suc m) (omega arith)) refl) stores-home
+    pub home-staged : m < length oldestBlocks → Staged (oldestName c (l .book)) (committed (suc m)) l (withBook l (checkpointBook c (l .book)))
+    home-staged h = checkpoint-staged (committed (suc m)) (rw (lt-leb (length oldestBlocks + 1) (suc m) (omega arith)) refl) stores-home
 
     module _ (is-kept : So (memberOf (kept (l .book)) (oldestName c (l .book)))) where
       -- the master store, after the home stores of all its blocks
-      pub inv-retire : length oldestBlocks ≤ m → Inv home (withBook l (checkpoint c (l .book)))
+      pub inv-retire : length oldestBlocks ≤ m → Inv home (withBook l (checkpointBook c (l .book)))
       inv-retire h =
           let whole : take m oldestBlocks ≡ oldestBlocks = take-all m oldestBlocks h in
-          inv-moved (retire-moved h) v (λ q. (is-kept, λ b k. rw (r, whole) k)) (λ b. rw (r, whole) refl)
+          inv-staged (retire-staged h) v (λ q. (is-kept, λ b k. rw (r, whole) k)) (λ b. rw (r, whole) refl)
 
       -- a home store, of its m-th block; 33 does not apply: each closed one that took the block with a lower stamp is retired
       module _ (less : m < length oldestBlocks)
@@ -282,28 +282,28 @@ module _ {home : ℕ → Bytes} {l : Ledger} (v : Inv home l) (c : ℕ) where
         unfolding any
         homed-next b = rw (r, take-suc oldestBlocks m 0 less, any-append (eqb b) (take m oldestBlocks) (homeBlock ∷ []), or-false (eqb b homeBlock)) refl
 
-        good-other : (b : ℕ) → eqb b homeBlock ≡ false → Good (status checkpointed) (homed checkpointed b) (areaBefore l b) (home b) (historyOf l b)
-        good-other b e =
-            moved-good (home-moved less) v b (home b) (homed l b) (v .good b)
-            (moved-stored (home-moved less) v (λ h. clash h refl) b)
+        blockInv-other : (b : ℕ) → eqb b homeBlock ≡ false → BlockInv (status checkpointed) (homed checkpointed b) (areaBefore l b) (home b) (historyOf l b)
+        blockInv-other b e =
+            staged-blockInv (home-staged less) v b (home b) (homed l b) (v .block-inv b)
+            (staged-stored (home-staged less) v (λ h. clash h refl) b)
             (sym (homed-next b ∙ rw e (or-false (homed l b (oldestName c (l .book)))))) (λ u h. refl)
 
-        good-here : Good (status checkpointed) (homed checkpointed homeBlock) (areaBefore l homeBlock) homeImage (historyOf l homeBlock)
-        good-here =
+        blockInv-here : BlockInv (status checkpointed) (homed checkpointed homeBlock) (areaBefore l homeBlock) homeImage (historyOf l homeBlock)
+        blockInv-here =
             let t : Name = oldestName c (l .book) in
-            moved-good (home-moved less) v homeBlock homeImage (with-one nameEquality (homed l homeBlock) t)
-            (store-home nameEquality (status l) (sound-of l (v .known) (v .retired-kept)) (homed l homeBlock) t is-kept
+            staged-blockInv (home-staged less) v homeBlock homeImage (with-one nameEquality (homed l homeBlock) t)
+            (blockInv-home nameEquality (status l) (sound-of l (v .known) (v .retired-kept)) (homed l homeBlock) t is-kept
             (areaBefore l homeBlock) (home homeBlock) (historyOf l homeBlock) (rw r refl)
             (v .took homeBlock t (in-any blockEquality (getD-mem oldestBlocks m 0 less)))
-            (λ u k. lower-retired u (v .taken homeBlock u k)) (v .good homeBlock))
-            (λ u k h. or-left _ (moved-stored (home-moved less) v (λ q. clash q refl) homeBlock u k h))
+            (λ u k. lower-retired u (v .taken homeBlock u k)) (v .block-inv homeBlock))
+            (λ u k h. or-left _ (staged-stored (home-staged less) v (λ q. clash q refl) homeBlock u k h))
             (or-right (homed l homeBlock t) (sameName-refl t)
             ∙ sym (homed-next homeBlock ∙ or-right (homed l homeBlock t) (blockEquality .is-refl homeBlock)))
             (λ u ne. rw (sameName-false t u (λ e. ne (sym e))) (or-false (homed l homeBlock u)))
 
-        pub inv-home-store : Inv (λ b. cond (eqb b (getD oldestBlocks m 0)) (imageAt l (oldestName c (l .book)) (getD oldestBlocks m 0)) (home b)) (withBook l (checkpoint c (l .book)))
+        pub inv-home-store : Inv (λ b. cond (eqb b (getD oldestBlocks m 0)) (imageAt l (oldestName c (l .book)) (getD oldestBlocks m 0)) (home b)) (withBook l (checkpointBook c (l .book)))
         inv-home-store =
-            inv-by-good (home-moved less) v (λ h. clash h refl)
+            inv-by-blockInv (home-staged less) v (λ h. clash h refl)
             (λ b. cases (eqb b homeBlock)
-            (λ e. rw (eqb-true b homeBlock e, blockEquality .is-refl homeBlock) good-here)
-            (λ e. rw e (good-other b e)))
+            (λ e. rw (eqb-true b homeBlock e, blockEquality .is-refl homeBlock) blockInv-here)
+            (λ e. rw e (blockInv-other b e)))

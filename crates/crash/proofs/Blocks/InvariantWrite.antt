@@ -8,27 +8,27 @@ use Rattle.model.specs.Card.{sameName}
 use Rattle.model.specs.declared.Name.{Name}
 use Rattle.model.proofs.Lists.{cases, or-cases, or-left, or-right, any-append}
 use Rattle.model.proofs.Valid.{sameName-refl}
-use Rattle.crash.specs.Book.{absent, running, isClosed, isRetired, Entry, Write, Book, change, taking, naming, holderIn, Meeting, no-holder, own, running-holder, closed-holder, meets, ruled, holderAfter, note, wrote, kept}
+use Rattle.crash.specs.Book.{absent, running, isClosed, isRetired, Entry, Write, Book, change, taking, naming, bookHolder, Meeting, no-holder, own, running-holder, closed-holder, meets, ruled, holderAfter, note, writeBook, kept}
 use Rattle.crash.specs.Ledger.{Ledger, withBook, imageNow}
 use Rattle.crash.proofs.Books.Tests.{clash, false-of, blockEquality, impossible}
 use Rattle.crash.proofs.Books.BookEntries.{change-at, change-other, change-each, nextName, same-or-not, sameName-false}
 use Rattle.crash.proofs.Books.BookSteps.{begun-by, begun-running}
-use Rattle.crash.proofs.Blocks.History.{Event, value, Took, Status, Link, Next, Chain, Good, older}
-use Rattle.crash.proofs.Blocks.Steps.{write}
+use Rattle.crash.proofs.Blocks.History.{Event, value, Took, Status, Link, LinkNext, Chain, BlockInv, older}
+use Rattle.crash.proofs.Blocks.Steps.{blockInv-write}
 use Rattle.crash.proofs.Books.Largest.{memberOf, stageOf}
-use Rattle.crash.proofs.Blocks.Invariant.{eventOf, history, image-history, areaBefore, historyOf, tookIn, homedBy, homed, status, retired-closed, open-not-homed, Known, Inv, sound-of, retired-homed, Grows, extends, good-grown}
+use Rattle.crash.proofs.Blocks.Invariant.{eventOf, history, image-history, areaBefore, historyOf, tookIn, homedBy, homed, status, retired-closed, open-not-homed, AllOpened, Inv, sound-of, retired-homed, Grows, extends, blockInv-grown}
 use Rattle.crash.proofs.Blocks.InvariantSteps.{inv-begin}
 
 -- ---- what a write may do to a transaction: add to its names and, before it closes, to its blocks
-pub record Edits (x y : Entry) : Type 0 where
+pub record WriteEdits (x y : Entry) : Type 0 where
   pub stage : y .stage ≡ x .stage
   pub names : (u : Name) → So (memberOf (x .names) u) → So (memberOf (y .names) u)
   pub fixed : So (isClosed (x .stage)) → (y .names ≡ x .names) × (y .blocks ≡ x .blocks)
 
-edits-none : (x : Entry) → Edits x x
+edits-none : (x : Entry) → WriteEdits x x
 edits-none x = record { stage = refl; names = λ u h. h; fixed = λ h. (refl, refl) }
 
-edits-both : {x y z : Entry} → Edits x y → Edits y z → Edits x z
+edits-both : {x y z : Entry} → WriteEdits x y → WriteEdits y z → WriteEdits x z
 edits-both p q =
     record {
       stage = q .stage ∙ p .stage;
@@ -36,10 +36,10 @@ edits-both p q =
       fixed = λ h. let k = q .fixed (rw (p .stage) h) in (k .0 ∙ p .fixed h .0, k .1 ∙ p .fixed h .1);
     }
 
-edits-taking : (b : ℕ) (x : Entry) → isClosed (x .stage) ≡ false → Edits x (taking b x)
+edits-taking : (b : ℕ) (x : Entry) → isClosed (x .stage) ≡ false → WriteEdits x (taking b x)
 edits-taking b x o = record { stage = refl; names = λ u h. h; fixed = λ h. clash h o }
 
-edits-naming : (n : Name) (x : Entry) → isClosed (x .stage) ≡ false → Edits x (naming n x)
+edits-naming : (n : Name) (x : Entry) → isClosed (x .stage) ≡ false → WriteEdits x (naming n x)
 edits-naming n x o =
     record {
       stage = refl;
@@ -55,10 +55,10 @@ naming-lists n x =
     (λ k. rw k k)
     (λ k. rw (k, any-append (sameName n) (x .names) (n ∷ [])) (or-right (memberOf (x .names) n) (or-left _ (sameName-refl n))))
 
-edits-change : (t : Name) (f : Entry → Entry) (entry : Name → Entry) → Edits (entry t) (f (entry t)) → (u : Name) → Edits (entry u) (change t f entry u)
-edits-change t f entry d = change-each (λ u e. Edits (entry u) e) t f entry d (λ u h. edits-none (entry u))
+edits-change : (t : Name) (f : Entry → Entry) (entry : Name → Entry) → WriteEdits (entry t) (f (entry t)) → (u : Name) → WriteEdits (entry u) (change t f entry u)
+edits-change t f entry d = change-each (λ u e. WriteEdits (entry u) e) t f entry d (λ u h. edits-none (entry u))
 
-edits-homed : (b : ℕ) (x y : Entry) → Edits x y → homedBy b (x .blocks) (x .stage) ≡ homedBy b (y .blocks) (y .stage)
+edits-homed : (b : ℕ) (x y : Entry) → WriteEdits x y → homedBy b (x .blocks) (x .stage) ≡ homedBy b (y .blocks) (y .stage)
 edits-homed b x y d =
     cases (isClosed (x .stage))
     (λ h. rw (d .stage, d .fixed h .1) refl)
@@ -78,11 +78,11 @@ withWrite l w entry =
     })
 
 module _ {home : ℕ → Bytes} {l : Ledger} (v : Inv home l) (w : Write) (entry : Name → Entry)
-    (edits : (u : Name) → Edits (l .book .entry u) (entry u)) where
+    (edits : (u : Name) → WriteEdits (l .book .entry u) (entry u)) where
   abbrev noted : Ledger
   noted = withWrite l w entry
 
-  noted-known : Known (noted .book)
+  noted-known : AllOpened (noted .book)
   noted-known u h = v .known u (rw (edits u .stage) at h)
 
   noted-grows : (u : Name) → Grows l noted u
@@ -97,9 +97,9 @@ module _ {home : ℕ → Bytes} {l : Ledger} (v : Inv home l) (w : Write) (entry
         stamp-new = λ p q. clash (rw (edits u .stage) at q) p;
       }
 
-  noted-good : (b : ℕ) → Good (status noted) (homed noted b) (areaBefore l b) (home b) (historyOf l b)
-  noted-good b =
-      good-grown v noted noted-known noted-grows b (home b) (homed l b) (v .good b)
+  noted-blockInv : (b : ℕ) → BlockInv (status noted) (homed noted b) (areaBefore l b) (home b) (historyOf l b)
+  noted-blockInv b =
+      blockInv-grown v noted noted-known noted-grows b (home b) (homed l b) (v .block-inv b)
       (λ u k r. retired-homed v b u k (rw (edits u .stage) at r))
       (λ u. edits-homed b (l .book .entry u) (entry u) (edits u))
 
@@ -122,17 +122,17 @@ module _ {home : ℕ → Bytes} {l : Ledger} (v : Inv home l) (w : Write) (entry
     noted-taken b u h (inr k) = same-blocks b u (v .taken b u k)
 
     inv-noted : (w .writer ≡ w .holder) ⊎ (So (memberOf ((entry (w .writer)) .names) (w .holder)) × So (memberOf ((entry (w .holder)) .names) (w .writer)))
-        → Next (status noted) (homed noted (w .block)) (w .holder) (historyOf l (w .block)) → Inv home noted
+        → LinkNext (status noted) (homed noted (w .block)) (w .holder) (historyOf l (w .block)) → Inv home noted
     inv-noted writer-holder next =
         record {
-          good =
+          block-inv =
               λ b. cases (eqb b (w .block))
               (λ h. rw (eqb-true b (w .block) h, blockEquality .is-refl (w .block))
-              (write (status noted) (sound-of noted noted-known noted-retired) (homed noted (w .block)) (areaBefore l (w .block)) (home (w .block))
+              (blockInv-write (status noted) (sound-of noted noted-known noted-retired) (homed noted (w .block)) (areaBefore l (w .block)) (home (w .block))
               (eventOf w) (historyOf l (w .block)) open-after
               (record { writer-holder = writer-holder; stored = λ r. clash (retired-closed ((entry (w .holder)) .stage) r) open-after })
-              next (noted-good (w .block))))
-              (λ h. rw h (noted-good b));
+              next (noted-blockInv (w .block))))
+              (λ h. rw h (noted-blockInv b));
           took = λ b u m. noted-took b u (more b u m);
           taken =
               λ b u k. cases (eqb b (w .block))
@@ -148,7 +148,7 @@ abbrev pub lastHolder : List (Event Name Bytes) → Option Name
 lastHolder [] = none
 lastHolder (e ∷ es) = some (e .holder)
 
-next-by : (s : Status Name) (h : Name → Bool) (t : Name) (es : List (Event Name Bytes)) → ((u : Name) → lastHolder es ≡ some u → Link s h t u) → Next s h t es
+next-by : (s : Status Name) (h : Name → Bool) (t : Name) (es : List (Event Name Bytes)) → ((u : Name) → lastHolder es ≡ some u → Link s h t u) → LinkNext s h t es
 next-by s h t [] f = tt
 next-by s h t (e ∷ es) f = f (e .holder) refl
 
@@ -160,8 +160,8 @@ abbrev unlessRetired : Book → Option Name → Option Name
 unlessRetired k none = none
 unlessRetired k (some u) = cond (isRetired (stageOf k u)) none (some u)
 
-holder-last : (k : Book) (b : ℕ) (ws : List Write) → holderIn k b ws ≡ unlessRetired k (lastHolder (history b ws))
-unfolding holderIn
+holder-last : (k : Book) (b : ℕ) (ws : List Write) → bookHolder k b ws ≡ unlessRetired k (lastHolder (history b ws))
+unfolding bookHolder
 holder-last k b [] = refl
 holder-last k b (w ∷ ws) = cases (eqb b (w .block)) (λ h. rw h refl) (λ h. rw h (holder-last k b ws))
 
@@ -172,7 +172,7 @@ Ruled l t b own = lastHolder (historyOf l b) ≡ some t
 Ruled l t b (running-holder u) = (lastHolder (historyOf l b) ≡ some u) × (isClosed (stageOf (l .book) u) ≡ false) × (u ≢ t)
 Ruled l t b (closed-holder u) = (lastHolder (historyOf l b) ≡ some u) × So (isClosed (stageOf (l .book) u))
 
-pub meets-ruled : (l : Ledger) (t : Name) (b : ℕ) → Ruled l t b (meets (l .book) t (holderIn (l .book) b (l .book .writes)))
+pub meets-ruled : (l : Ledger) (t : Name) (b : ℕ) → Ruled l t b (meets (l .book) t (bookHolder (l .book) b (l .book .writes)))
 unfolding meets
 meets-ruled l t b = rw (holder-last (l .book) b (l .book .writes)) (by-last (lastHolder (historyOf l b)) refl)
   where
@@ -189,7 +189,7 @@ meets-ruled l t b = rw (holder-last (l .book) b (l .book .writes)) (by-last (las
 -- ---- what the rules do to transactions
 module _ (l : Ledger) (t : Name) (runs : isClosed (stageOf (l .book) t) ≡ false) where
   -- the writer takes the block from a closed holder u
-  edits-closed : (b : ℕ) (u : Name) → Edits (l .book .entry t) (taking b (naming u (l .book .entry t)))
+  edits-closed : (b : ℕ) (u : Name) → WriteEdits (l .book .entry t) (taking b (naming u (l .book .entry t)))
   edits-closed b u = edits-both (edits-naming u (l .book .entry t) runs) (edits-taking b (naming u (l .book .entry t)) runs)
 
   -- writer and running holder u name each other
@@ -200,7 +200,7 @@ module _ (l : Ledger) (t : Name) (runs : isClosed (stageOf (l .book) t) ≡ fals
     abbrev bothName : Name → Entry
     bothName = change u (naming t) writerNames
 
-    both-edits : (x : Name) → Edits (l .book .entry x) (bothName x)
+    both-edits : (x : Name) → WriteEdits (l .book .entry x) (bothName x)
     both-edits x =
         edits-both (edits-change t (naming u) (l .book .entry) (edits-naming u (l .book .entry t) runs) x)
         (edits-change u (naming t) writerNames (edits-naming t (writerNames u) (rw (change-other t (naming u) (l .book .entry) u other) open-holder)) x)
@@ -217,7 +217,7 @@ module _ (l : Ledger) (t : Name) (runs : isClosed (stageOf (l .book) t) ≡ fals
     )
 
   module _ (b : ℕ) where
-    pub rule-edits : (r : Meeting) → Ruled l t b r → (u : Name) → Edits (l .book .entry u) (ruled r t b (l .book .entry) u)
+    pub rule-edits : (r : Meeting) → Ruled l t b r → (u : Name) → WriteEdits (l .book .entry u) (ruled r t b (l .book .entry) u)
     unfolding ruled
     rule-edits no-holder p = edits-change t (taking b) (l .book .entry) (edits-taking b (l .book .entry t) runs)
     rule-edits own p = λ u. edits-none (l .book .entry u)
@@ -237,12 +237,12 @@ module _ {home : ℕ → Bytes} {l : Ledger} (v : Inv home l) (t : Name) (runs :
   writeBy h = record { writer = t; holder = h; block = b; offset = o; bytes = bytes }
 
   -- the writer takes the block
-  module _ (f : Entry → Entry) (edits-t : Edits (l .book .entry t) (f (l .book .entry t)))
+  module _ (f : Entry → Entry) (edits-t : WriteEdits (l .book .entry t) (f (l .book .entry t)))
       (blocks : (f (l .book .entry t)) .blocks ≡ (l .book .entry t) .blocks ++ (b ∷ [])) where
     abbrev entryTaken : Name → Entry
     entryTaken = change t f (l .book .entry)
 
-    taken-edits : (u : Name) → Edits (l .book .entry u) (entryTaken u)
+    taken-edits : (u : Name) → WriteEdits (l .book .entry u) (entryTaken u)
     taken-edits = edits-change t f (l .book .entry) edits-t
 
     taken-t : (c : ℕ) → any (eqb c) ((f (l .book .entry t)) .blocks) ≡ (tookIn (l .book) c t || eqb c b)
@@ -278,7 +278,7 @@ module _ {home : ℕ → Bytes} {l : Ledger} (v : Inv home l) (t : Name) (runs :
         )))
 
   -- the holder stays
-  inv-stays : (entry : Name → Entry) (edits : (u : Name) → Edits (l .book .entry u) (entry u)) → ((u : Name) → (entry u) .blocks ≡ (l .book .entry u) .blocks)
+  inv-stays : (entry : Name → Entry) (edits : (u : Name) → WriteEdits (l .book .entry u) (entry u)) → ((u : Name) → (entry u) .blocks ≡ (l .book .entry u) .blocks)
       → (h : Name) → isClosed (stageOf (l .book) h) ≡ false → lastHolder (historyOf l b) ≡ some h
       → (t ≡ h) ⊎ (So (memberOf ((entry t) .names) h) × So (memberOf ((entry h) .names) t)) → Inv home (withWrite l (writeBy h) entry)
   inv-stays entry edits blocks h open-holder last writer-holder =
@@ -300,14 +300,14 @@ module _ {home : ℕ → Bytes} {l : Ledger} (v : Inv home l) (t : Name) (runs :
 
   inv-note : Inv home (withBook l (note t b o bytes (l .book)))
   unfolding note
-  inv-note = inv-rule (meets (l .book) t (holderIn (l .book) b (l .book .writes))) (meets-ruled l t b)
+  inv-note = inv-rule (meets (l .book) t (bookHolder (l .book) b (l .book .writes))) (meets-ruled l t b)
 
 -- WRITE by core c, whose transaction is running or opened by it
-pub inv-wrote : {home : ℕ → Bytes} {l : Ledger} → Inv home l → (c b o : ℕ) (bytes : Bytes)
+pub inv-write : {home : ℕ → Bytes} {l : Ledger} → Inv home l → (c b o : ℕ) (bytes : Bytes)
     → (stageOf (l .book) (nextName c (l .book)) ≡ absent) ⊎ (stageOf (l .book) (nextName c (l .book)) ≡ running)
-    → Inv home (withBook l (wrote c b o bytes (l .book)))
-unfolding wrote
-inv-wrote {home} {l} v c b o bytes current =
+    → Inv home (withBook l (writeBook c b o bytes (l .book)))
+unfolding writeBook
+inv-write {home} {l} v c b o bytes current =
     let t : Name = nextName c (l .book) in
     inv-note (begun-by (l .book) c current (λ (k : Book). Inv home (withBook l k)) (λ e. v) (λ e. inv-begin v t e)) t
     (ap isClosed (begun-running (l .book) c current)) b o bytes
@@ -315,7 +315,7 @@ inv-wrote {home} {l} v c b o bytes current =
 -- ---- a block and its holder
 module _ {home : ℕ → Bytes} {l : Ledger} (v : Inv home l) (b : ℕ) where
   -- a holder took the block
-  pub holder-took : (u : Name) → holderIn (l .book) b (l .book .writes) ≡ some u → So (tookIn (l .book) b u)
+  pub holder-took : (u : Name) → bookHolder (l .book) b (l .book .writes) ≡ some u → So (tookIn (l .book) b u)
   holder-took u h = v .taken b u (by-last (lastHolder (historyOf l b)) refl (rw (holder-last (l .book) b (l .book .writes)) at h))
     where
       by-last : (o : Option Name) → lastHolder (historyOf l b) ≡ o → unlessRetired (l .book) o ≡ some u → Took u (historyOf l b)
@@ -327,18 +327,18 @@ module _ {home : ℕ → Bytes} {l : Ledger} (v : Inv home l) (b : ℕ) where
 
   -- whoever took the block and has not closed is the last holder
   pub open-last : (t : Name) → isClosed (stageOf (l .book) t) ≡ false → So (tookIn (l .book) b t) → lastHolder (historyOf l b) ≡ some t
-  open-last t runs k = last-of (historyOf l b) (v .good b .chain) (v .took b t k)
+  open-last t runs k = last-of (historyOf l b) (v .block-inv b .chain) (v .took b t k)
     where
       last-of : (es : List (Event Name Bytes)) → Chain (status l) (homed l b) es → Took t es → lastHolder es ≡ some t
       last-of [] c m = absurd m
       last-of (e ∷ es) c m = ap some (⊎-elim (λ p. p) (λ o. clash (o .is-closed) runs) (older (status l) (homed l b) e es c t m))
 
-  pub open-holds : (t : Name) → isClosed (stageOf (l .book) t) ≡ false → So (tookIn (l .book) b t) → holderIn (l .book) b (l .book .writes) ≡ some t
+  pub open-holds : (t : Name) → isClosed (stageOf (l .book) t) ≡ false → So (tookIn (l .book) b t) → bookHolder (l .book) b (l .book .writes) ≡ some t
   open-holds t runs k =
       let live : isRetired (stageOf (l .book) t) ≡ false = false-of _ (λ r. clash (retired-closed (stageOf (l .book) t) r) runs) in
       holder-last (l .book) b (l .book .writes) ∙ rw (open-last t runs k, live) refl
 
-  current : (es : List (Event Name Bytes)) → Good (status l) (homed l b) (areaBefore l b) (home b) es → unlessRetired (l .book) (lastHolder es) ≡ none
+  current : (es : List (Event Name Bytes)) → BlockInv (status l) (homed l b) (areaBefore l b) (home b) es → unlessRetired (l .book) (lastHolder es) ≡ none
       → home b ≡ value (areaBefore l b) es
   current [] g h = g .at-home
   current (e ∷ es) g h =
@@ -347,7 +347,7 @@ module _ {home : ℕ → Bytes} {l : Ledger} (v : Inv home l) (b : ℕ) where
       (λ r. let e : some (e .holder) ≡ none = rw r at h in impossible cc)
 
   -- where there is no holder, the home image has all writes
-  pub home-current : holderIn (l .book) b (l .book .writes) ≡ none → home b ≡ imageNow l b
+  pub home-current : bookHolder (l .book) b (l .book .writes) ≡ none → home b ≡ imageNow l b
   unfolding imageNow
   home-current h =
-      current (historyOf l b) (v .good b) (sym (holder-last (l .book) b (l .book .writes)) ∙ h) ∙ sym (image-history (areaBefore l) (l .book .writes) b)
+      current (historyOf l b) (v .block-inv b) (sym (holder-last (l .book) b (l .book .writes)) ∙ h) ∙ sym (image-history (areaBefore l) (l .book .writes) b)

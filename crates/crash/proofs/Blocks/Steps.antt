@@ -1,10 +1,10 @@
 -- What each command does to a block's history: more is known of its transactions, one more write, one image stored home.
--- Each keeps the history good. A write is held by one that has not closed, so no image that is fixed changes; a home
+-- Each keeps the block's invariant. A write is held by one that has not closed, so no image that is fixed changes; a home
 -- store is of a kept transaction, and every older holder is retired.
 use Rattle.model.proofs.Base.{_<_, _≡_, refl, ap, inl, inr, ⊎-elim, ⊎-map, Bool, false, _||_, So, List, [], _∷_}
 use Rattle.model.proofs.Lists.{cases, or-cases, or-left, or-right}
 use Rattle.crash.proofs.Books.Tests.{clash, Equality, false-of}
-use Rattle.crash.proofs.Blocks.History.{Event, value, upto, Took, Status, Sound, Older, Link, Own, Next, Chain, Good, older}
+use Rattle.crash.proofs.Blocks.History.{Event, value, upto, Took, Status, StatusSound, Older, Link, WriterHolds, LinkNext, Chain, BlockInv, older}
 
 -- ---- a command that leaves the block alone: marks are only added, and one that closes gets the highest stamp so far
 pub record Extends {Txn : Type 0} (s s′ : Status Txn) : Type 0 where
@@ -29,14 +29,14 @@ module _ {Txn : Type 0} (s s′ : Status Txn) (x : Extends s s′) (homed : Txn 
 
 module _ {Txn Image : Type 0} (s s′ : Status Txn) (x : Extends s s′) (homed : Txn → Bool) where
   -- only those that have stored the block home retire
-  abbrev Stored : List (Event Txn Image) → Type 0
-  Stored es = (t : Txn) → Took t es → So (s′ .retired t) → So (homed t)
+  abbrev RetiredHomed : List (Event Txn Image) → Type 0
+  RetiredHomed es = (t : Txn) → Took t es → So (s′ .retired t) → So (homed t)
 
-  next-extends : (t : Txn) (es : List (Event Txn Image)) → Next s homed t es → Next s′ homed t es
+  next-extends : (t : Txn) (es : List (Event Txn Image)) → LinkNext s homed t es → LinkNext s′ homed t es
   next-extends t [] n = n
   next-extends t (e ∷ es) n = link-extends s s′ x homed n
 
-  chain-extends : (es : List (Event Txn Image)) → Stored es → Chain s homed es → Chain s′ homed es
+  chain-extends : (es : List (Event Txn Image)) → RetiredHomed es → Chain s homed es → Chain s′ homed es
   chain-extends [] st c = c
   chain-extends (e ∷ es) st c = (
     record {
@@ -47,14 +47,14 @@ module _ {Txn Image : Type 0} (s s′ : Status Txn) (x : Extends s s′) (homed 
     chain-extends es (λ t k. st t (inr k)) (c .2),
   )
 
-  pub extend : (base home : Image) (es : List (Event Txn Image)) → Stored es → Good s homed base home es → Good s′ homed base home es
-  extend base home es st g =
+  pub blockInv-extends : (base home : Image) (es : List (Event Txn Image)) → RetiredHomed es → BlockInv s homed base home es → BlockInv s′ homed base home es
+  blockInv-extends base home es st g =
       record { chain = chain-extends es st (g .chain); at-home = g .at-home; homed-kept = λ t h. x .kept t (g .homed-kept t h) }
 
 -- ---- a write of the block: its holder has not closed
-module _ {Txn Image : Type 0} (s : Status Txn) (sound : Sound s) (homed : Txn → Bool) (base home : Image) (e : Event Txn Image) (es : List (Event Txn Image)) where
-  pub write : s .closed (e .holder) ≡ false → Own s homed e → Next s homed (e .holder) es → Good s homed base home es → Good s homed base home (e ∷ es)
-  write open-holder o n g =
+module _ {Txn Image : Type 0} (s : Status Txn) (sound : StatusSound s) (homed : Txn → Bool) (base home : Image) (e : Event Txn Image) (es : List (Event Txn Image)) where
+  pub blockInv-write : s .closed (e .holder) ≡ false → WriterHolds s homed e → LinkNext s homed (e .holder) es → BlockInv s homed base home es → BlockInv s homed base home (e ∷ es)
+  blockInv-write open-holder o n g =
       record {
         chain = (o, n, g .chain);
         at-home = rw (false-of (homed (e .holder)) (λ h. clash (sound .kept-closed _ (g .homed-kept _ h)) open-holder)) (g .at-home);
@@ -66,7 +66,7 @@ module _ {Txn Image : Type 0} (s : Status Txn) (sound : Sound s) (homed : Txn �
 abbrev pub with-one : {Txn : Type 0} → Equality Txn → (Txn → Bool) → Txn → Txn → Bool
 with-one E p t u = p u || E .is t u
 
-module _ {Txn : Type 0} (E : Equality Txn) (s : Status Txn) (sound : Sound s) (homed : Txn → Bool) (t : Txn) (kept : So (s .kept t)) where
+module _ {Txn : Type 0} (E : Equality Txn) (s : Status Txn) (sound : StatusSound s) (homed : Txn → Bool) (t : Txn) (kept : So (s .kept t)) where
   link-home : {v u : Txn} → (So (s .closed u) → s .stamp u < s .stamp t → So (s .retired u)) → Link s homed v u → Link s (with-one E homed t) v u
   link-home first (inl p) = inl p
   link-home {v} {u} first (inr (o, d)) =
@@ -87,7 +87,7 @@ module _ {Txn : Type 0} (E : Equality Txn) (s : Status Txn) (sound : Sound s) (h
     abbrev LowerRetired : List (Event Txn Image) → Type 0
     LowerRetired es = (u : Txn) → Took u es → So (s .closed u) → s .stamp u < s .stamp t → So (s .retired u)
 
-    next-home : (v : Txn) (es : List (Event Txn Image)) → LowerRetired es → Next s homed v es → Next s (with-one E homed t) v es
+    next-home : (v : Txn) (es : List (Event Txn Image)) → LowerRetired es → LinkNext s homed v es → LinkNext s (with-one E homed t) v es
     next-home v [] first n = n
     next-home v (e ∷ es) first n = link-home (first _ (inl refl)) n
 
@@ -108,9 +108,9 @@ module _ {Txn : Type 0} (E : Equality Txn) (s : Status Txn) (sound : Sound s) (h
         let fresh : homed (e .holder) ≡ false = false-of _ (λ d. ⊎-elim other (λ o. clash (o .retires-first d) live) (older s homed e es c t k)) in
         rw (fresh, h) (upto-home es live (⊎-elim (λ p. absurd (other p)) (λ m. m) k) (c .2)))
 
-    pub store-home : (base home : Image) (es : List (Event Txn Image)) → s .retired t ≡ false → Took t es → LowerRetired es
-        → Good s homed base home es → Good s (with-one E homed t) base (value base (upto (E .is t) es)) es
-    store-home base home es live took first g =
+    pub blockInv-home : (base home : Image) (es : List (Event Txn Image)) → s .retired t ≡ false → Took t es → LowerRetired es
+        → BlockInv s homed base home es → BlockInv s (with-one E homed t) base (value base (upto (E .is t) es)) es
+    blockInv-home base home es live took first g =
         record {
           chain = chain-home es first (g .chain);
           at-home = ap (value base) (upto-home es live took (g .chain));

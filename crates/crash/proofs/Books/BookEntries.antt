@@ -16,7 +16,7 @@ use Rattle.model.specs.Card.{newName, sameName}
 use Rattle.model.specs.declared.Name.{Name}
 use Rattle.model.proofs.Lists.{cases}
 use Rattle.model.proofs.Valid.{sameName-true, sameName-refl}
-use Rattle.crash.specs.Book.{isClosed, isRetired, Entry, Write, Book, change, raise, taking, naming, holderIn, Meeting, no-holder, own, running-holder, closed-holder, meets, ruled, Stage, absent, running, closed, committed, retired}
+use Rattle.crash.specs.Book.{isClosed, isRetired, Entry, Write, Book, change, raise, taking, naming, bookHolder, Meeting, no-holder, own, running-holder, closed-holder, meets, ruled, Stage, absent, running, closed, committed, retired}
 use Rattle.crash.specs.Ledger.{recordBlocks}
 use Rattle.crash.proofs.Books.Tests.{impossible, clash}
 
@@ -198,19 +198,19 @@ ruled-names (closed-holder y) t b entry u x p =
 
 -- ---- the holder of a block
 pub holder-same : (k k′ : Book) → ((u : Name) → isRetired ((k′ .entry u) .stage) ≡ isRetired ((k .entry u) .stage)) → (b : ℕ) (ws : List Write)
-    → holderIn k′ b ws ≡ holderIn k b ws
-unfolding holderIn
+    → bookHolder k′ b ws ≡ bookHolder k b ws
+unfolding bookHolder
 holder-same k k′ same b [] = refl
 holder-same k k′ same b (w ∷ ws) = rw (same (w .holder), holder-same k k′ same b ws)
 
-pub holder-live : (k : Book) (b : ℕ) (ws : List Write) (u : Name) → holderIn k b ws ≡ some u → isRetired ((k .entry u) .stage) ≡ false
-unfolding holderIn
+pub holder-live : (k : Book) (b : ℕ) (ws : List Write) (u : Name) → bookHolder k b ws ≡ some u → isRetired ((k .entry u) .stage) ≡ false
+unfolding bookHolder
 holder-live k b [] u e = impossible cc
 holder-live k b (w ∷ ws) u e =
     cases (eqb b (w .block))
     (λ h. cases (isRetired ((k .entry (w .holder)) .stage))
-    (λ r. let p : holderIn k b (w ∷ ws) ≡ none = rw (h, r) in impossible cc)
-    (λ r. let p : holderIn k b (w ∷ ws) ≡ some (w .holder) = rw (h, r) in let q : w .holder ≡ u = cc in rw q at r))
+    (λ r. let p : bookHolder k b (w ∷ ws) ≡ none = rw (h, r) in impossible cc)
+    (λ r. let p : bookHolder k b (w ∷ ws) ≡ some (w .holder) = rw (h, r) in let q : w .holder ≡ u = cc in rw q at r))
     (λ h. holder-live k b ws u (rw h at e))
 
 -- ---- the blocks of the records

@@ -6,7 +6,7 @@ use mathlib.Core.Path.{_≡_, refl}
 use mathlib.Core.List.{List, [], _∷_, _++_, map}
 use Rattle.model.specs.Card.{newName}
 use Rattle.model.proofs.Computes.{computes}
-use Rattle.crash.specs.Book.{Write, emptyBook, change, raise, begin, holderIn, meets, ruled, holderAfter, note, wrote, close, store, checkpoint, committedIn, namesIn, kept, keptWrites, image, blank}
+use Rattle.crash.specs.Book.{Write, emptyBook, change, raise, begin, bookHolder, meets, ruled, holderAfter, note, writeBook, closeBook, storeBook, checkpointBook, committedIn, namesWithin, kept, keptWrites, image, blank}
 use Rattle.crash.specs.Service.{Service, emptyService, noted, cutService, fed, served}
 use Rattle.model.specs.Tape.{CHECKPOINT, CLOSE, CUT, Command, STORE, WRITE}
 use Rattle.model.specs.declared.Name.{Name}
@@ -29,7 +29,7 @@ abbrev keptBy : List Command → List Name
 keptBy ks = map (λ (w : Write). w .writer) ((fedAll (emptyService 1) ks) .saved)
 
 unfoldable pub books : Unit {0}
-unfolding computes emptyBook change raise begin holderIn meets ruled holderAfter note wrote close store checkpoint committedIn namesIn kept keptWrites image blank emptyService noted cutService served fed
+unfolding computes emptyBook change raise begin bookHolder meets ruled holderAfter note writeBook closeBook storeBook checkpointBook committedIn namesWithin kept keptWrites image blank emptyService noted cutService served fed
 books = tt
 
 -- Core 1 writes into core 0's block, core 0 commits, core 2 takes the block and commits: core 1 is lost, and so all are.

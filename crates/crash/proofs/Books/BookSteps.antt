@@ -16,7 +16,7 @@ use Rattle.model.specs.Card.{newName}
 use Rattle.model.specs.declared.Name.{Name}
 use Rattle.model.proofs.Lists.{cases}
 use Rattle.model.proofs.Valid.{sameName-refl}
-use Rattle.crash.specs.Book.{Stage, absent, running, closed, committed, retired, isRunning, isClosed, isRetired, counted, Entry, Write, Book, change, raise, staged, begin, holderIn, Meeting, no-holder, own, running-holder, closed-holder, meets, ruled, holderAfter, note, wrote, close, store, checkpoint, image}
+use Rattle.crash.specs.Book.{Stage, absent, running, closed, committed, retired, isRunning, isClosed, isRetired, stageCount, Entry, Write, Book, change, raise, staged, begin, bookHolder, Meeting, no-holder, own, running-holder, closed-holder, meets, ruled, holderAfter, note, writeBook, closeBook, storeBook, checkpointBook, image}
 use Rattle.crash.specs.Ledger.{Ledger, withBook, imageNow, closeLedger, recordBlocks}
 use Rattle.crash.proofs.Books.Tests.{impossible}
 use Rattle.crash.proofs.Books.BookEntries.{nextName, uncommittedName, oldestName, same-or-not, sameName-false, change-at, change-other, change-by, metHolder, meets-met, meets-same, ruled-other, ruled-stage, ruled-blocks-other, holder-same, holder-live, records-same}
@@ -53,23 +53,23 @@ module _ {k k′ : Book} {t : Name} {g : Stage} (r : Restages k k′ t g) where
   pub restages-records : (c i n : ℕ) → recordBlocks k′ c i n ≡ recordBlocks k c i n
   restages-records c i n = records-same k k′ c i n (λ j a b. ap length (r .blocks (newName c j)))
 
-  pub restages-holder : isRetired g ≡ isRetired ((k .entry t) .stage) → (b : ℕ) (ws : List Write) → holderIn k′ b ws ≡ holderIn k b ws
+  pub restages-holder : isRetired g ≡ isRetired ((k .entry t) .stage) → (b : ℕ) (ws : List Write) → bookHolder k′ b ws ≡ bookHolder k b ws
   restages-holder h = holder-same k k′ (restages-keep isRetired h)
 
 -- what the retired one held has no holder; all else stays
 module _ {k k′ : Book} {t : Name} (r : Restages k k′ t retired) (b : ℕ) where
-  pub retired-none : (ws : List Write) → holderIn k b ws ≡ some t → holderIn k′ b ws ≡ none
-  unfolding holderIn
+  pub retired-none : (ws : List Write) → bookHolder k b ws ≡ some t → bookHolder k′ b ws ≡ none
+  unfolding bookHolder
   retired-none [] h = impossible cc
   retired-none (w ∷ ws) h =
       cases (eqb b (w .block))
       (λ e. cases (isRetired ((k .entry (w .holder)) .stage))
-      (λ p. let q : holderIn k b (w ∷ ws) ≡ none = rw (e, p) in impossible cc)
-      (λ p. let q : holderIn k b (w ∷ ws) ≡ some (w .holder) = rw (e, p) in let s : w .holder ≡ t = cc in rw (e, s, r .stage)))
+      (λ p. let q : bookHolder k b (w ∷ ws) ≡ none = rw (e, p) in impossible cc)
+      (λ p. let q : bookHolder k b (w ∷ ws) ≡ some (w .holder) = rw (e, p) in let s : w .holder ≡ t = cc in rw (e, s, r .stage)))
       (λ e. rw e (retired-none ws (rw e at h)))
 
-  pub retired-other : (ws : List Write) → holderIn k b ws ≢ some t → holderIn k′ b ws ≡ holderIn k b ws
-  unfolding holderIn
+  pub retired-other : (ws : List Write) → bookHolder k b ws ≢ some t → bookHolder k′ b ws ≡ bookHolder k b ws
+  unfolding bookHolder
   retired-other [] h = refl
   retired-other (w ∷ ws) h =
       cases (eqb b (w .block))
@@ -80,15 +80,15 @@ module _ {k k′ : Book} {t : Name} (r : Restages k k′ t retired) (b : ℕ) wh
 
 -- ---- CLOSE
 module _ (c : ℕ) (k : Book) where
-  pub close-restages : Restages k (close c k) (nextName c k) (closed 0)
-  unfolding close
+  pub close-restages : Restages k (closeBook c k) (nextName c k) (closed 0)
+  unfolding closeBook
   close-restages = restages (nextName c k) (closed 0) (k .oldest) (k .uncommitted) (raise c (k .next)) k
 
-  pub close-holder : (k .entry (nextName c k)) .stage ≡ running → (b : ℕ) (ws : List Write) → holderIn (close c k) b ws ≡ holderIn k b ws
+  pub close-holder : (k .entry (nextName c k)) .stage ≡ running → (b : ℕ) (ws : List Write) → bookHolder (closeBook c k) b ws ≡ bookHolder k b ws
   close-holder e = restages-holder close-restages (sym (ap isRetired e))
 
 module _ (l : Ledger) (c : ℕ) where
-  pub close-book : (closeLedger c l) .book ≡ close c (l .book)
+  pub close-book : (closeLedger c l) .book ≡ closeBook c (l .book)
   unfolding closeLedger
   close-book = refl
 
@@ -111,40 +111,40 @@ module _ (l : Ledger) (c : ℕ) where
 -- ---- STORE and CHECKPOINT
 -- the stages that they give
 abbrev pub storedStage : Entry → Stage
-storedStage e = cond (leb (length (e .blocks) + 2) (suc (counted (e .stage)))) (committed 0) (closed (suc (counted (e .stage))))
+storedStage e = cond (leb (length (e .blocks) + 2) (suc (stageCount (e .stage)))) (committed 0) (closed (suc (stageCount (e .stage))))
 
 module _ (c : ℕ) (k : Book) where
-  pub store-restages : Restages k (store c k) (uncommittedName c k) (storedStage (k .entry (uncommittedName c k)))
-  unfolding store
-  store-restages = restages (uncommittedName c k) (storedStage (k .entry (uncommittedName c k))) (k .oldest) (store c k .uncommitted) (k .next) k
+  pub store-restages : Restages k (storeBook c k) (uncommittedName c k) (storedStage (k .entry (uncommittedName c k)))
+  unfolding storeBook
+  store-restages = restages (uncommittedName c k) (storedStage (k .entry (uncommittedName c k))) (k .oldest) (storeBook c k .uncommitted) (k .next) k
 
 -- which of the two it is
 module _ (c n : ℕ) (k : Book) where
   pub store-more : (k .entry (uncommittedName c k)) .stage ≡ closed n → n < length ((k .entry (uncommittedName c k)) .blocks) + 1
-      → store c k ≡ restaged (uncommittedName c k) (closed (suc n)) (k .oldest) (k .uncommitted) (k .next) k
-  unfolding store
+      → storeBook c k ≡ restaged (uncommittedName c k) (closed (suc n)) (k .oldest) (k .uncommitted) (k .next) k
+  unfolding storeBook
   store-more e h = rw (e, lt-leb (length ((k .entry (uncommittedName c k)) .blocks) + 2) (suc n) (omega arith))
 
   pub store-last : (k .entry (uncommittedName c k)) .stage ≡ closed n → n ≡ length ((k .entry (uncommittedName c k)) .blocks) + 1
-      → store c k ≡ restaged (uncommittedName c k) (committed 0) (k .oldest) (raise c (k .uncommitted)) (k .next) k
-  unfolding store
+      → storeBook c k ≡ restaged (uncommittedName c k) (committed 0) (k .oldest) (raise c (k .uncommitted)) (k .next) k
+  unfolding storeBook
   store-last e h = rw (e, le-leb (length ((k .entry (uncommittedName c k)) .blocks) + 2) (suc n) (omega arith))
 
   pub checkpoint-home : (k .entry (oldestName c k)) .stage ≡ committed n → n < length ((k .entry (oldestName c k)) .blocks)
-      → checkpoint c k ≡ restaged (oldestName c k) (committed (suc n)) (k .oldest) (k .uncommitted) (k .next) k
-  unfolding checkpoint
+      → checkpointBook c k ≡ restaged (oldestName c k) (committed (suc n)) (k .oldest) (k .uncommitted) (k .next) k
+  unfolding checkpointBook
   checkpoint-home e h = rw (e, lt-leb (length ((k .entry (oldestName c k)) .blocks) + 1) (suc n) (omega arith))
 
   pub checkpoint-retires : (k .entry (oldestName c k)) .stage ≡ committed n → n ≡ length ((k .entry (oldestName c k)) .blocks)
-      → checkpoint c k ≡ restaged (oldestName c k) retired (raise c (k .oldest)) (k .uncommitted) (k .next) k
-  unfolding checkpoint
+      → checkpointBook c k ≡ restaged (oldestName c k) retired (raise c (k .oldest)) (k .uncommitted) (k .next) k
+  unfolding checkpointBook
   checkpoint-retires e h = rw (e, le-leb (length ((k .entry (oldestName c k)) .blocks) + 1) (suc n) (omega arith))
 
-  pub store-holder : (k .entry (uncommittedName c k)) .stage ≡ closed n → (b : ℕ) (ws : List Write) → holderIn (store c k) b ws ≡ holderIn k b ws
+  pub store-holder : (k .entry (uncommittedName c k)) .stage ≡ closed n → (b : ℕ) (ws : List Write) → bookHolder (storeBook c k) b ws ≡ bookHolder k b ws
   store-holder e =
       let d = k .entry (uncommittedName c k) in
       restages-holder (store-restages c k)
-      (cases (leb (length (d .blocks) + 2) (suc (counted (d .stage)))) (λ h. rw h (sym (ap isRetired e))) (λ h. rw h (sym (ap isRetired e))))
+      (cases (leb (length (d .blocks) + 2) (suc (stageCount (d .stage)))) (λ h. rw h (sym (ap isRetired e))) (λ h. rw h (sym (ap isRetired e))))
 
 -- ---- WRITE
 -- before the rules: the writer's transaction is open
@@ -153,7 +153,7 @@ begun c k = cond (isRunning ((k .entry (nextName c k)) .stage)) k (begin (nextNa
 
 -- how a write of core c meets block b
 abbrev pub meeting : ℕ → ℕ → Book → Meeting
-meeting c b k = meets k (nextName c k) (holderIn k b (k .writes))
+meeting c b k = meets k (nextName c k) (bookHolder k b (k .writes))
 
 module _ (k : Book) (c : ℕ) (current : ((k .entry (nextName c k)) .stage ≡ absent) ⊎ ((k .entry (nextName c k)) .stage ≡ running)) where
   pub begun-by : (P : Book → Type 0) → ((k .entry (nextName c k)) .stage ≡ running → P k)
@@ -180,70 +180,70 @@ module _ (k : Book) (c : ℕ) (current : ((k .entry (nextName c k)) .stage ≡ a
   begun-running = begun-by (λ x. (x .entry (nextName c k)) .stage ≡ running) (λ e. e)
       (λ e. ap (λ e. e .stage) (change-at (nextName c k) (staged running) (k .entry)))
 
-  pub begun-holder : (x : ℕ) (ws : List Write) → holderIn (begun c k) x ws ≡ holderIn k x ws
+  pub begun-holder : (x : ℕ) (ws : List Write) → bookHolder (begun c k) x ws ≡ bookHolder k x ws
   begun-holder = holder-same k (begun c k) (begun-same (λ e. isRetired (e .stage)) (λ e. sym (ap isRetired e)))
 
-  pub begun-meets : (b : ℕ) → meets (begun c k) (nextName c k) (holderIn (begun c k) b (begun c k .writes)) ≡ meets k (nextName c k) (holderIn k b (k .writes))
+  pub begun-meets : (b : ℕ) → meets (begun c k) (nextName c k) (bookHolder (begun c k) b (begun c k .writes)) ≡ meets k (nextName c k) (bookHolder k b (k .writes))
   begun-meets b =
-      ap (meets (begun c k) (nextName c k)) (begun-holder b (begun c k .writes) ∙ ap (holderIn k b) (begun-fields .0))
-      ∙ meets-same k (nextName c k) (begun c k) (begun-same (λ e. isClosed (e .stage)) (λ e. sym (ap isClosed e))) (holderIn k b (k .writes))
+      ap (meets (begun c k) (nextName c k)) (begun-holder b (begun c k .writes) ∙ ap (bookHolder k b) (begun-fields .0))
+      ∙ meets-same k (nextName c k) (begun c k) (begun-same (λ e. isClosed (e .stage)) (λ e. sym (ap isClosed e))) (bookHolder k b (k .writes))
 
   module _ (b o : ℕ) (v : Bytes) where
-    pub wrote-entry : (wrote c b o v k) .entry ≡ ruled (meeting c b k) (nextName c k) b (begun c k .entry)
-    unfolding wrote note
-    wrote-entry = ap (λ m. ruled m (nextName c k) b (begun c k .entry)) (begun-meets b)
+    pub write-entry : (writeBook c b o v k) .entry ≡ ruled (meeting c b k) (nextName c k) b (begun c k .entry)
+    unfolding writeBook note
+    write-entry = ap (λ m. ruled m (nextName c k) b (begun c k .entry)) (begun-meets b)
 
-    wrote-writes : (wrote c b o v k) .writes
+    write-writes : (writeBook c b o v k) .writes
         ≡ record { writer = nextName c k; holder = holderAfter (meeting c b k) (nextName c k); block = b; offset = o; bytes = v } ∷ k .writes
-    unfolding wrote note
-    wrote-writes = rw (begun-meets b, begun-fields .0)
+    unfolding writeBook note
+    write-writes = rw (begun-meets b, begun-fields .0)
 
-    pub wrote-numbers : ((wrote c b o v k) .oldest ≡ k .oldest) × ((wrote c b o v k) .uncommitted ≡ k .uncommitted) × ((wrote c b o v k) .next ≡ k .next)
-    unfolding wrote note
-    wrote-numbers = (begun-fields .1, begun-fields .2, begun-fields .3)
+    pub write-numbers : ((writeBook c b o v k) .oldest ≡ k .oldest) × ((writeBook c b o v k) .uncommitted ≡ k .uncommitted) × ((writeBook c b o v k) .next ≡ k .next)
+    unfolding writeBook note
+    write-numbers = (begun-fields .1, begun-fields .2, begun-fields .3)
 
-    pub wrote-running : ((wrote c b o v k) .entry (nextName c k)) .stage ≡ running
-    wrote-running = rw wrote-entry (ruled-stage (meeting c b k) (nextName c k) b (begun c k .entry) (nextName c k) ∙ begun-running)
+    pub write-running : ((writeBook c b o v k) .entry (nextName c k)) .stage ≡ running
+    write-running = rw write-entry (ruled-stage (meeting c b k) (nextName c k) b (begun c k .entry) (nextName c k) ∙ begun-running)
 
-    pub wrote-stage : (u : Name) → u ≢ nextName c k → ((wrote c b o v k) .entry u) .stage ≡ (k .entry u) .stage
-    wrote-stage u ne = rw wrote-entry (ruled-stage (meeting c b k) (nextName c k) b (begun c k .entry) u ∙ ap (λ e. e .stage) (begun-other u ne))
+    pub write-stage : (u : Name) → u ≢ nextName c k → ((writeBook c b o v k) .entry u) .stage ≡ (k .entry u) .stage
+    write-stage u ne = rw write-entry (ruled-stage (meeting c b k) (nextName c k) b (begun c k .entry) u ∙ ap (λ e. e .stage) (begun-other u ne))
 
-    pub wrote-blocks-other : (u : Name) → u ≢ nextName c k → ((wrote c b o v k) .entry u) .blocks ≡ (k .entry u) .blocks
-    wrote-blocks-other u ne =
-        rw wrote-entry (ruled-blocks-other (meeting c b k) (nextName c k) b (begun c k .entry) u ne ∙ ap (λ e. e .blocks) (begun-other u ne))
+    pub write-blocks-other : (u : Name) → u ≢ nextName c k → ((writeBook c b o v k) .entry u) .blocks ≡ (k .entry u) .blocks
+    write-blocks-other u ne =
+        rw write-entry (ruled-blocks-other (meeting c b k) (nextName c k) b (begun c k .entry) u ne ∙ ap (λ e. e .blocks) (begun-other u ne))
 
-    pub wrote-other : (u : Name) → u ≢ nextName c k → meeting c b k ≢ running-holder u → (wrote c b o v k) .entry u ≡ k .entry u
-    wrote-other u ne nr = rw wrote-entry (ruled-other (meeting c b k) (nextName c k) b (begun c k .entry) u ne nr ∙ begun-other u ne)
+    pub write-other : (u : Name) → u ≢ nextName c k → meeting c b k ≢ running-holder u → (writeBook c b o v k) .entry u ≡ k .entry u
+    write-other u ne nr = rw write-entry (ruled-other (meeting c b k) (nextName c k) b (begun c k .entry) u ne nr ∙ begun-other u ne)
 
-    wrote-retired : (u : Name) → isRetired (((wrote c b o v k) .entry u) .stage) ≡ isRetired ((k .entry u) .stage)
-    wrote-retired u =
-        rw wrote-entry (ap isRetired (ruled-stage (meeting c b k) (nextName c k) b (begun c k .entry) u)
+    write-retired : (u : Name) → isRetired (((writeBook c b o v k) .entry u) .stage) ≡ isRetired ((k .entry u) .stage)
+    write-retired u =
+        rw write-entry (ap isRetired (ruled-stage (meeting c b k) (nextName c k) b (begun c k .entry) u)
         ∙ begun-same (λ e. isRetired (e .stage)) (λ e. sym (ap isRetired e)) u)
 
-    holder-stays : (m : Meeting) → meeting c b k ≡ m → isRetired (((wrote c b o v k) .entry (holderAfter m (nextName c k))) .stage) ≡ false
+    holder-stays : (m : Meeting) → meeting c b k ≡ m → isRetired (((writeBook c b o v k) .entry (holderAfter m (nextName c k))) .stage) ≡ false
     unfolding holderAfter
-    holder-stays no-holder e = ap isRetired wrote-running
-    holder-stays own e = ap isRetired wrote-running
+    holder-stays no-holder e = ap isRetired write-running
+    holder-stays own e = ap isRetired write-running
     holder-stays (running-holder u) e =
-        wrote-retired u ∙ holder-live k b (k .writes) u (meets-met k (nextName c k) (holderIn k b (k .writes)) u (ap metHolder e) .0)
-    holder-stays (closed-holder u) e = ap isRetired wrote-running
+        write-retired u ∙ holder-live k b (k .writes) u (meets-met k (nextName c k) (bookHolder k b (k .writes)) u (ap metHolder e) .0)
+    holder-stays (closed-holder u) e = ap isRetired write-running
 
-    pub wrote-holder : holderIn (wrote c b o v k) b ((wrote c b o v k) .writes) ≡ some (holderAfter (meeting c b k) (nextName c k))
-    unfolding holderIn
-    wrote-holder = rw (wrote-writes, eq-eqb b b refl, holder-stays (meeting c b k) refl)
+    pub write-holder : bookHolder (writeBook c b o v k) b ((writeBook c b o v k) .writes) ≡ some (holderAfter (meeting c b k) (nextName c k))
+    unfolding bookHolder
+    write-holder = rw (write-writes, eq-eqb b b refl, holder-stays (meeting c b k) refl)
 
-    pub wrote-holder-other : (x : ℕ) → x ≢ b → holderIn (wrote c b o v k) x ((wrote c b o v k) .writes) ≡ holderIn k x (k .writes)
-    unfolding holderIn
-    wrote-holder-other x ne =
-        holder-same k (wrote c b o v k) wrote-retired x ((wrote c b o v k) .writes) ∙ ap (holderIn k x) wrote-writes ∙ rw (ne-eqb x b ne)
+    pub write-holder-other : (x : ℕ) → x ≢ b → bookHolder (writeBook c b o v k) x ((writeBook c b o v k) .writes) ≡ bookHolder k x (k .writes)
+    unfolding bookHolder
+    write-holder-other x ne =
+        holder-same k (writeBook c b o v k) write-retired x ((writeBook c b o v k) .writes) ∙ ap (bookHolder k x) write-writes ∙ rw (ne-eqb x b ne)
 
 -- ---- the current images after a WRITE
 module _ (l : Ledger) (c b o : ℕ) (v : Bytes)
     (current : ((l .book .entry (nextName c (l .book))) .stage ≡ absent) ⊎ ((l .book .entry (nextName c (l .book))) .stage ≡ running)) where
-  pub wrote-image : imageNow (withBook l (wrote c b o v (l .book))) b ≡ replaced o 4 (imageNow l b) v
+  pub write-image : imageNow (withBook l (writeBook c b o v (l .book))) b ≡ replaced o 4 (imageNow l b) v
   unfolding imageNow image
-  wrote-image = rw (wrote-writes (l .book) c current b o v, eq-eqb b b refl)
+  write-image = rw (write-writes (l .book) c current b o v, eq-eqb b b refl)
 
-  pub wrote-image-other : (x : ℕ) → x ≢ b → imageNow (withBook l (wrote c b o v (l .book))) x ≡ imageNow l x
+  pub write-image-other : (x : ℕ) → x ≢ b → imageNow (withBook l (writeBook c b o v (l .book))) x ≡ imageNow l x
   unfolding imageNow image
-  wrote-image-other x ne = rw (wrote-writes (l .book) c current b o v, ne-eqb x b ne)
+  write-image-other x ne = rw (write-writes (l .book) c current b o v, ne-eqb x b ne)

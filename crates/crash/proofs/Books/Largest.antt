@@ -10,11 +10,11 @@ use Rattle.model.specs.Lists.{any, select}
 use Rattle.model.specs.Card.{sameName}
 use Rattle.model.specs.Shrink.{shrink, lists-it}
 use Rattle.model.specs.declared.Name.{Name}
-use Rattle.model.proofs.Lists.{cases, and-left, and-right, and-both, or-left, or-right, mem-all, mem-any, both-ways}
+use Rattle.model.proofs.Lists.{cases, and-left, and-right, and-both, or-left, or-right, mem-all, mem-any, bool-ext}
 use Rattle.model.proofs.Select.{mem-select, select-mem}
 use Rattle.model.proofs.Shrink.{allNamed, shrink-within, shrink-has, shrunk-names, depends-closed}
 use Rattle.model.proofs.Valid.{sameName-true, sameName-refl}
-use Rattle.crash.specs.Book.{Book, Stage, isCommitted, isRetired, committedIn, namesIn, kept}
+use Rattle.crash.specs.Book.{Book, Stage, isCommitted, isRetired, committedIn, namesWithin, kept}
 use Rattle.crash.specs.Ledger.{unretired, metIn, validIn}
 use Rattle.crash.specs.Claims.{LargestKept}
 use Rattle.crash.proofs.Books.Tests.{clash, any-in, in-any, nameEquality}
@@ -71,7 +71,7 @@ module _ {Txn : Type 0} where
 
     valid-kept : (t : Txn) → v t ≡ (k t && not (retired t))
     valid-kept t =
-        both-ways (λ h. and-both (valid-or-retired t (inl h)) (and-right (committed t) _ (lv .sub t h))) (kept-valid t)
+        bool-ext (λ h. and-both (valid-or-retired t (inl h)) (and-right (committed t) _ (lv .sub t h))) (kept-valid t)
 
 -- ---- the sets that shrinking leaves
 -- a list of names as a set
@@ -105,12 +105,12 @@ module _ (names : Name → List Name) (gone : Name → Bool) (es : List Name) wh
 
 member-select : (p : Name → Bool) (ts : List Name) → ((t : Name) → So (p t) → List·Memᴰ t ts) → (t : Name) → memberOf (select p ts) t ≡ p t
 member-select p ts f t =
-    both-ways
+    bool-ext
     (λ h. select-mem p ts t (any-in nameEquality t _ h) .1)
     (λ h. in-any nameEquality (mem-select p ts t (f t h) h))
 
 committed-largest : (k : Book) → Largest (memberOf (committedIn k)) (listsName k) (λ t. false) (memberOf (kept k))
-unfolding kept namesIn
+unfolding kept namesWithin
 committed-largest k = shrunk-largest (λ t. (k .entry t) .names) (λ t. false) (committedIn k)
 
 -- Kept is the largest set for the transitive relation.

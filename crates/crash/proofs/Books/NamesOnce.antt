@@ -16,7 +16,7 @@ use Rattle.model.specs.Recovery.{shapeOn, tailOn}
 use Rattle.model.specs.Tape.{Point, run, CHECKPOINT, CLOSE, CUT, Command, FORMAT, RECOVER, Read, STORE, WRITE, early, heard, unknown, whole}
 use Rattle.model.proofs.Lists.{cases, and-both, and-left, and-right, or-none, any-append, all-map, mem-all}
 use Rattle.model.proofs.Valid.{sameName-refl}
-use Rattle.crash.specs.Book.{Stage, Entry, Book, emptyBook, change, staged, taking, naming, hasRunning, hasClosed, hasCommitted, begin, holderIn, Meeting, no-holder, own, running-holder, closed-holder, meets, ruled, note, wrote, close, store, checkpoint}
+use Rattle.crash.specs.Book.{Stage, Entry, Book, emptyBook, change, staged, taking, naming, hasRunning, hasClosed, hasCommitted, begin, bookHolder, Meeting, no-holder, own, running-holder, closed-holder, meets, ruled, note, writeBook, closeBook, storeBook, checkpointBook}
 use Rattle.crash.specs.Service.{Service, emptyService, noted, cutService, fed, served}
 use Rattle.crash.specs.Ledger.{Ledger, Stored, freshLedger, blankLedger, closeLedger, cutLedger, recoverLedger, entered, storedOf, storedSince, carriedOut}
 use Rattle.crash.specs.Claims.{fedPoint, readAs, JournalsRead, LedgerKept, OnRuns, Start, StartFits, from-blank, from-down, enteredPoint, startLedger, startWorld}
@@ -92,29 +92,29 @@ ruled-once (closed-holder u) t b entry h = changed-once entry h t (λ (e : Entry
 
 note-once : (t : Name) (b o : ℕ) (v : Bytes) (k : Book) → NamesOnce k → NamesOnce (note t b o v k)
 unfolding note
-note-once t b o v k h = ruled-once (meets k t (holderIn k b (k .writes))) t b (k .entry) h
+note-once t b o v k h = ruled-once (meets k t (bookHolder k b (k .writes))) t b (k .entry) h
 
 begin-once : (t : Name) (k : Book) → NamesOnce k → NamesOnce (begin t k)
 unfolding begin
 begin-once t k h = staged-once (k .entry) h t _
 
 module _ (c : ℕ) (k : Book) (h : NamesOnce k) where
-  wrote-once : (b o : ℕ) (v : Bytes) → NamesOnce (wrote c b o v k)
-  unfolding wrote
-  wrote-once b o v =
+  write-once : (b o : ℕ) (v : Bytes) → NamesOnce (writeBook c b o v k)
+  unfolding writeBook
+  write-once b o v =
       let t = newName c (k .next c) in
       note-once t b o v (cond (hasRunning k c) k (begin t k)) (by-test NamesOnce (hasRunning k c) h (begin-once t k h))
 
-  close-once : NamesOnce (close c k)
-  unfolding close
+  close-once : NamesOnce (closeBook c k)
+  unfolding closeBook
   close-once = staged-once (k .entry) h _ _
 
-  store-once : NamesOnce (store c k)
-  unfolding store
+  store-once : NamesOnce (storeBook c k)
+  unfolding storeBook
   store-once = staged-once (k .entry) h _ _
 
-  checkpoint-once : NamesOnce (checkpoint c k)
-  unfolding checkpoint
+  checkpoint-once : NamesOnce (checkpointBook c k)
+  unfolding checkpointBook
   checkpoint-once = staged-once (k .entry) h _ _
 
 empty-once : (first : ℕ → ℕ) → NamesOnce (emptyBook first)
@@ -124,7 +124,7 @@ empty-once first t = refl
 noted-once : (k : Command) (b : Book) → NamesOnce b → NamesOnce (noted k b)
 unfolding noted
 noted-once (FORMAT c n j) b h = h
-noted-once (WRITE c n o v) b h = wrote-once c b h n o v
+noted-once (WRITE c n o v) b h = write-once c b h n o v
 noted-once (CLOSE c) b h = by-test NamesOnce (hasRunning b c) (close-once c b h) h
 noted-once (STORE c) b h = by-test NamesOnce (hasClosed b c) (store-once c b h) h
 noted-once (CHECKPOINT c) b h = by-test NamesOnce (hasCommitted b c) (checkpoint-once c b h) h

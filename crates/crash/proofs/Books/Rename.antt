@@ -17,7 +17,7 @@ use Rattle.model.specs.Card.{newName, sameName}
 use Rattle.model.proofs.Lists.{cases, all-map, any-map}
 use Rattle.model.proofs.Select.{select-map}
 use Rattle.model.proofs.Shrink.{shrink-map}
-use Rattle.crash.specs.Book.{running, closed, committed, retired, isRunning, isClosed, isCommitted, isRetired, counted, Entry, Write, Book, emptyBook, change, raise, staged, taking, naming, begin, holderIn, Meeting, no-holder, own, running-holder, closed-holder, meets, ruled, holderAfter, note, wrote, close, store, checkpoint, committedIn, namesIn, kept, keptWrites, image, hasRunning}
+use Rattle.crash.specs.Book.{running, closed, committed, retired, isRunning, isClosed, isCommitted, isRetired, stageCount, Entry, Write, Book, emptyBook, change, raise, staged, taking, naming, begin, bookHolder, Meeting, no-holder, own, running-holder, closed-holder, meets, ruled, holderAfter, note, writeBook, closeBook, storeBook, checkpointBook, committedIn, namesWithin, kept, keptWrites, image, hasRunning}
 use Rattle.crash.specs.Service.{noted}
 use Rattle.crash.proofs.Books.Tests.{cond-apply}
 use Rattle.crash.proofs.Books.BookEntries.{nextName, oldestName, uncommittedName}
@@ -135,12 +135,12 @@ module _ {shift : ℕ → ℕ} {k k′ : Book} (r : Renamed shift k k′) where
         next = r .next;
       }
 
-  holderIn-renamed : (b : ℕ) (ws : List Write) → holderIn k′ b (map (renamedWrite shift) ws) ≡ renamedHolder shift (holderIn k b ws)
-  unfolding holderIn
+  holderIn-renamed : (b : ℕ) (ws : List Write) → bookHolder k′ b (map (renamedWrite shift) ws) ≡ renamedHolder shift (bookHolder k b ws)
+  unfolding bookHolder
   holderIn-renamed b [] = refl
   holderIn-renamed b (w ∷ ws) =
       rw (holderIn-renamed b ws, r .entry (w .holder), cond-apply (renamedHolder shift) (isRetired (k .entry (w .holder) .stage)) none (some (w .holder)))
-      (cond-apply (renamedHolder shift) (eqb b (w .block)) (cond (isRetired (k .entry (w .holder) .stage)) none (some (w .holder))) (holderIn k b ws))
+      (cond-apply (renamedHolder shift) (eqb b (w .block)) (cond (isRetired (k .entry (w .holder) .stage)) none (some (w .holder))) (bookHolder k b ws))
 
   meets-renamed : (t : Name) (o : Option Name) → meets k′ (renamed shift t) (renamedHolder shift o) ≡ renamedMeeting shift (meets k t o)
   unfolding meets
@@ -152,9 +152,9 @@ module _ {shift : ℕ → ℕ} {k k′ : Book} (r : Renamed shift k k′) where
   note-renamed : (t : Name) (b o : ℕ) (v : Bytes) → Renamed shift (note t b o v k) (note (renamed shift t) b o v k′)
   unfolding note
   note-renamed t b o v =
-      let m = meets k t (holderIn k b (k .writes)) in
-      let h : holderIn k′ b (k′ .writes) ≡ renamedHolder shift (holderIn k b (k .writes)) = ap (holderIn k′ b) (r .writes) ∙ holderIn-renamed b (k .writes) in
-      let e : meets k′ (renamed shift t) (holderIn k′ b (k′ .writes)) ≡ renamedMeeting shift m = ap (meets k′ (renamed shift t)) h ∙ meets-renamed t (holderIn k b (k .writes)) in
+      let m = meets k t (bookHolder k b (k .writes)) in
+      let h : bookHolder k′ b (k′ .writes) ≡ renamedHolder shift (bookHolder k b (k .writes)) = ap (bookHolder k′ b) (r .writes) ∙ holderIn-renamed b (k .writes) in
+      let e : meets k′ (renamed shift t) (bookHolder k′ b (k′ .writes)) ≡ renamedMeeting shift m = ap (meets k′ (renamed shift t)) h ∙ meets-renamed t (bookHolder k b (k .writes)) in
       record {
         opened = r .opened;
         entry = rw e (ruled-renamed shift m t b (k .entry) (k′ .entry) (r .entry));
@@ -165,15 +165,15 @@ module _ {shift : ℕ → ℕ} {k k′ : Book} (r : Renamed shift k k′) where
       }
 
 module _ {shift : ℕ → ℕ} {k k′ : Book} (r : Renamed shift k k′) where
-  wrote-renamed : (c b o : ℕ) (v : Bytes) → Renamed shift (wrote c b o v k) (wrote c b o v k′)
-  unfolding wrote
-  wrote-renamed c b o v =
+  write-renamed : (c b o : ℕ) (v : Bytes) → Renamed shift (writeBook c b o v k) (writeBook c b o v k′)
+  unfolding writeBook
+  write-renamed c b o v =
       let t = nextName c k in
       rw (renamed-number shift c (k .next c) (k′ .next c) (r .next c), r .entry t)
       (note-renamed (cond-renamed (isRunning (k .entry t .stage)) r (begin-renamed r t)) t b o v)
 
-  pub close-renamed : (c : ℕ) → Renamed shift (close c k) (close c k′)
-  unfolding close
+  pub close-renamed : (c : ℕ) → Renamed shift (closeBook c k) (closeBook c k′)
+  unfolding closeBook
   close-renamed c =
       record {
         opened = r .opened;
@@ -186,12 +186,12 @@ module _ {shift : ℕ → ℕ} {k k′ : Book} (r : Renamed shift k k′) where
         next = raise-renamed shift c (k .next) (k′ .next) (r .next);
       }
 
-  store-renamed : (c : ℕ) → Renamed shift (store c k) (store c k′)
-  unfolding store
+  store-renamed : (c : ℕ) → Renamed shift (storeBook c k) (storeBook c k′)
+  unfolding storeBook
   store-renamed c =
       let t = uncommittedName c k in
       let e = k .entry t in
-      let n = suc (counted (e .stage)) in
+      let n = suc (stageCount (e .stage)) in
       let last = leb (length (e .blocks) + 2) n in
       let g = staged (cond last (committed 0) (closed n)) in
       let p : newName c (k′ .uncommitted c) ≡ renamed shift t = renamed-number shift c (k .uncommitted c) (k′ .uncommitted c) (r .uncommitted c) in
@@ -204,12 +204,12 @@ module _ {shift : ℕ → ℕ} {k k′ : Book} (r : Renamed shift k k′) where
         next = r .next;
       }
 
-  checkpoint-renamed : (c : ℕ) → Renamed shift (checkpoint c k) (checkpoint c k′)
-  unfolding checkpoint
+  checkpoint-renamed : (c : ℕ) → Renamed shift (checkpointBook c k) (checkpointBook c k′)
+  unfolding checkpointBook
   checkpoint-renamed c =
       let t = oldestName c k in
       let e = k .entry t in
-      let n = suc (counted (e .stage)) in
+      let n = suc (stageCount (e .stage)) in
       let last = leb (length (e .blocks) + 1) n in
       let g = staged (cond last retired (committed n)) in
       let p : newName c (k′ .oldest c) ≡ renamed shift t = renamed-number shift c (k .oldest c) (k′ .oldest c) (r .oldest c) in
@@ -238,7 +238,7 @@ module _ {shift : ℕ → ℕ} {k k′ : Book} (r : Renamed shift k k′) where
   pub noted-renamed : (n : Command) → Renamed shift (noted n k) (noted n k′)
   unfolding noted
   noted-renamed (FORMAT c b j) = r
-  noted-renamed (WRITE c b o v) = wrote-renamed c b o v
+  noted-renamed (WRITE c b o v) = write-renamed c b o v
   noted-renamed (CLOSE c) = guard-renamed (running-renamed c) (close-renamed c)
   noted-renamed (STORE c) = guard-renamed (less-renamed (shift c) _ _ _ _ (r .uncommitted c) (r .next c)) (store-renamed c)
   noted-renamed (CHECKPOINT c) = guard-renamed (less-renamed (shift c) _ _ _ _ (r .oldest c) (r .uncommitted c)) (checkpoint-renamed c)
@@ -268,15 +268,15 @@ module _ {shift : ℕ → ℕ} {k k′ : Book} (r : Renamed shift k k′) where
       rw (r .opened)
       (select-map (renamed shift) (λ t. isCommitted (k .entry t .stage)) (λ t. isCommitted (k′ .entry t .stage)) (λ t. rw (r .entry t) refl) (k .opened))
 
-  names-renamed : (ts : List Name) (t : Name) → namesIn k′ (map (renamed shift) ts) (renamed shift t) ≡ namesIn k ts t
-  unfolding namesIn
+  names-renamed : (ts : List Name) (t : Name) → namesWithin k′ (map (renamed shift) ts) (renamed shift t) ≡ namesWithin k ts t
+  unfolding namesWithin
   names-renamed ts t =
       rw (r .entry t)
       (all-map (renamed shift) (λ n. any (sameName n) ts) (λ n. any (sameName n) (map (renamed shift) ts)) (λ n. any-renamed shift n ts) (k .entry t .names))
 
   kept-renamed : kept k′ ≡ map (renamed shift) (kept k)
   unfolding kept
-  kept-renamed = rw committed-renamed (shrink-map (renamed shift) (namesIn k) (namesIn k′) names-renamed (committedIn k))
+  kept-renamed = rw committed-renamed (shrink-map (renamed shift) (namesWithin k) (namesWithin k′) names-renamed (committedIn k))
 
   -- A cut keeps the same transactions,
   kept-same : (t : Name) → any (sameName (renamed shift t)) (kept k′) ≡ any (sameName t) (kept k)

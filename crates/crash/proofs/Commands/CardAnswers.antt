@@ -21,11 +21,11 @@ use Rattle.model.specs.Commit.{closeConditions, storeConditions}
 use Rattle.model.specs.Checkpoint.{checkpointConditions}
 use Rattle.model.specs.Limits.{maxNumber}
 use Rattle.model.proofs.Lists.{cases, or-none}
-use Rattle.crash.specs.Book.{absent, running, isRunning, Entry, Book, begin, staged, taking, naming, holderIn, wrote}
+use Rattle.crash.specs.Book.{absent, running, isRunning, Entry, Book, begin, staged, taking, naming, bookHolder, writeBook}
 use Rattle.crash.specs.Ledger.{Ledger, namesCount, holderNames, recordBlocks, notUpFor, writeRefusals, closeRefusals, storeRefusals, checkpointRefusals, blocksAfter, journalPasses, namesPass, numberPasses}
 use Rattle.crash.proofs.Books.BookEntries.{change-at, records-snoc, nextName}
 use Rattle.crash.proofs.Books.BookSteps.{begun, meeting}
-use Rattle.crash.proofs.Disk.Relation.{Matches, Up}
+use Rattle.crash.proofs.Disk.Relation.{Matches, CardUp}
 use Rattle.crash.proofs.Disk.LedgerStages.{running-present}
 use Rattle.crash.proofs.Disk.ReadMaster.{shape-up}
 use Rattle.crash.proofs.Disk.ReadCheckpoint.{none-committed, oldest-valid, oldest-shares}
@@ -37,21 +37,21 @@ use Rattle.model.specs.declared.Transaction.{Transaction}
 
 -- ---- conditions one by one
 -- the same conditions, each as far as none before it holds
-pub data Same : List (Bool × ℕ) → List (Bool × ℕ) → Type 0 where
-  none-left : Same [] []
-  then : {p q : Bool} {n : ℕ} {xs ys : List (Bool × ℕ)} → p ≡ q → (q ≡ false → Same xs ys) → Same ((p, n) ∷ xs) ((q, n) ∷ ys)
+pub data SameConditions : List (Bool × ℕ) → List (Bool × ℕ) → Type 0 where
+  none-left : SameConditions [] []
+  then : {p q : Bool} {n : ℕ} {xs ys : List (Bool × ℕ)} → p ≡ q → (q ≡ false → SameConditions xs ys) → SameConditions ((p, n) ∷ xs) ((q, n) ∷ ys)
 
-pub same-refusal : {xs ys : List (Bool × ℕ)} → Same xs ys → refusal xs ≡ refusal ys
+pub same-refusal : {xs ys : List (Bool × ℕ)} → SameConditions xs ys → refusal xs ≡ refusal ys
 unfolding refusal
 same-refusal none-left = refl
 same-refusal (then {q = q} e h) = rw e (cases q (λ t. rw t refl) (λ f. rw f (same-refusal (h f))))
 
-module _ {l : Ledger} {w : World} (u : Up l w) where
+module _ {l : Ledger} {w : World} (u : CardUp l w) where
   -- 1, 20, 22 and 5
-  up-refusal : (c : ℕ) (xs ys : List (Bool × ℕ)) → (c < l .shape .cores → Same xs ys) → refusal (notUp w ((noCore w c, 5) ∷ xs)) ≡ refusal (notUpFor c l ys)
+  up-refusal : (c : ℕ) (xs ys : List (Bool × ℕ)) → (c < l .shape .cores → SameConditions xs ys) → refusal (notUp w ((noCore w c, 5) ∷ xs)) ≡ refusal (notUpFor c l ys)
   unfolding refusal noCore
   up-refusal c xs ys h =
-      let same : Same ((leb (l .shape .cores) c, 5) ∷ xs) ((leb (l .shape .cores) c, 5) ∷ ys) = then refl (λ e. h (leb-false (l .shape .cores) c e)) in
+      let same : SameConditions ((leb (l .shape .cores) c, 5) ∷ xs) ((leb (l .shape .cores) c, 5) ∷ ys) = then refl (λ e. h (leb-false (l .shape .cores) c e)) in
       rw (right-length w (u .disk .size) (u .memory), shape-up u, u .phase, u .ledger) (same-refusal same)
 
   module _ (c : ℕ) (in-range : c < l .shape .cores) where
@@ -60,7 +60,7 @@ module _ {l : Ledger} {w : World} (u : Up l w) where
         let y = u .cores c in-range in
         elim (decLt (l .book .uncommitted c) (l .book .next c)) [
           | yes lt ↦ y .closing lt .live ∙ sym (lt-ltb (l .book .uncommitted c) (l .book .next c) lt)
-          | no ge ↦ y .none-closing (omega (arith, u .fine .ranks c in-range .mid)) ∙ sym (le-ltb (l .book .uncommitted c) (l .book .next c) (omega arith))
+          | no ge ↦ y .none-closing (omega (arith, u .well-formed .ranks c in-range .mid)) ∙ sym (le-ltb (l .book .uncommitted c) (l .book .next c) (omega arith))
         ]
 
     -- the blocks of the closed unretired records
@@ -68,7 +68,7 @@ module _ {l : Ledger} {w : World} (u : Up l w) where
     unfolding closedBlocks recordSize
     closed-total =
         let y = u .cores c in-range in
-        let r = u .fine .ranks c in-range in
+        let r = u .well-formed .ranks c in-range in
         let o = l .book .oldest c in
         let n = l .book .uncommitted c in
         elim (decLt n (l .book .next c)) [
@@ -116,30 +116,30 @@ blocks-pass : {t : Transaction} {e : Entry} → Matches t e → (b : ℕ) → le
 blocks-pass {t} {e} m b = rw (m .count, length-append (e .blocks) (b ∷ [])) (sym (more-test 8 (length (e .blocks))))
 
 -- ---- WRITE
-module _ {l : Ledger} {w : World} (u : Up l w) (c : ℕ) (in-range : c < l .shape .cores) (b : ℕ) (low : b < l .shape .blocks)
-    (opens : (n : Name) → holderIn (l .book) b (l .book .writes) ≡ some n → (l .book .entry n) .stage ≢ absent) (o : ℕ) (v : Bytes) where
+module _ {l : Ledger} {w : World} (u : CardUp l w) (c : ℕ) (in-range : c < l .shape .cores) (b : ℕ) (low : b < l .shape .blocks)
+    (opens : (n : Name) → bookHolder (l .book) b (l .book .writes) ≡ some n → (l .book .entry n) .stage ≢ absent) (o : ℕ) (v : Bytes) where
   abbrev t : Name
   t = nextName c (l .book)
 
   abbrev k₂ : Book
-  k₂ = wrote c b o v (l .book)
+  k₂ = writeBook c b o v (l .book)
 
   abbrev e₁ : Entry
   e₁ = begun c (l .book) .entry t
 
   abbrev current : ((l .book .entry t) .stage ≡ absent) ⊎ ((l .book .entry t) .stage ≡ running)
-  current = u .fine .ranks c in-range .current
+  current = u .well-formed .ranks c in-range .current
 
   -- the writer's lists before
   few-before : (length (e₁ .blocks) ≤ 8) × (length (e₁ .names) ≤ 12)
   unfolding begin
   few-before =
       elim current [
-        | inl e ↦ (let z = u .fine .unopened t e in
+        | inl e ↦ (let z = u .well-formed .unopened t e in
             let q : e₁ ≡ staged running (l .book .entry t) =
             ap (λ (p : Bool). (cond p (l .book) (begin t (l .book))) .entry t) (ap isRunning e) ∙ change-at t (staged running) (l .book .entry) in
             rw (q, z .0, z .1) (omega arith, omega arith))
-        | inr e ↦ (let z = u .fine .limits t (running-present _ e) in
+        | inr e ↦ (let z = u .well-formed .limits t (running-present _ e) in
             let q : e₁ ≡ l .book .entry t = ap (λ (p : Bool). (cond p (l .book) (begin t (l .book))) .entry t) (ap isRunning e) in
             rw q (z .few, z .short))
       ]
@@ -153,7 +153,7 @@ module _ {l : Ledger} {w : World} (u : Up l w) (c : ℕ) (in-range : c < l .shap
         | met-none _ e r ↦ rw (r, e, entry-free (l .book) c current b o v e, short) refl
         | met-own _ _ e r ↦ rw (r, e, entry-own (l .book) c current b o v e, short) refl
         | met-running n h runs is _ e r ↦ (let y = holder-matches u c in-range b low opens n h runs is in
-            let z = u .fine .limits n (running-present _ runs) in
+            let z = u .well-formed .limits n (running-present _ runs) in
             let own = entry-running (l .book) c current b o v n (h .other) e in
             let back = entry-holder (l .book) c current b o v n (h .other) e in
             rw (r, e, h .name, writer-name u c in-range, own, back, names-pass m n (few-before .1), names-pass y t (z .short)) refl)
@@ -182,12 +182,12 @@ module _ {l : Ledger} {w : World} (u : Up l w) (c : ℕ) (in-range : c < l .shap
       let e : total + (n + 2) ≡ total + 2 + n = omega arith in
       rw (shape-up u, closed-total u c in-range, m .blocks, e) refl
 
-pub write-answers : {l : Ledger} {w : World} → Up l w → (c b o : ℕ) (v : Bytes)
-    → (b < l .shape .blocks → (n : Name) → holderIn (l .book) b (l .book .writes) ≡ some n → (l .book .entry n) .stage ≢ absent)
+pub write-answers : {l : Ledger} {w : World} → CardUp l w → (c b o : ℕ) (v : Bytes)
+    → (b < l .shape .blocks → (n : Name) → bookHolder (l .book) b (l .book .writes) ≡ some n → (l .book .entry n) .stage ≢ absent)
     → refusal (writeConditions c b o w) ≡ refusal (writeRefusals c b o v l)
 unfolding writeConditions writeRefusals noBlock namesCount namesPass blocksAfter journalPasses numberPasses
 write-answers {l} {w} u c b o v opens =
-    let k₂ = wrote c b o v (l .book) in
+    let k₂ = writeBook c b o v (l .book) in
     let t = nextName c (l .book) in
     up-refusal u c _ _
     (λ h.

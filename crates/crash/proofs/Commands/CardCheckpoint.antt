@@ -7,7 +7,7 @@ use Rattle.model.proofs.Base.{length-append, List·getD-map, getD-set-same, get
 use Rattle.model.proofs.Base.{Bytes}
 use native.Mathlib.Nat.{mod-lt}
 use lib.Seq.{getD-append-add}
-use Rattle.model.specs.Bytes.{store as storeBlock, blockAt}
+use Rattle.model.specs.Bytes.{store, blockAt}
 use Rattle.model.specs.Shape.{homeBlock}
 use Rattle.model.specs.Card.{newName, newTail, noHolder, freshCore, shapeOf, tailOf, coreOf, holderOf, withCore}
 use Rattle.model.specs.Layout.{masterBlock}
@@ -23,21 +23,21 @@ use Rattle.model.specs.declared.Committed.{Committed}
 use Rattle.model.proofs.Encoding.{master-same}
 use Rattle.model.proofs.Lists.{getD-mem, flatMap-below, flatMap-first}
 use Rattle.model.proofs.Journal.{journal-wrap}
-use Rattle.crash.specs.Book.{committed, retired, isClosed, isRetired, counted, Entry, raise, checkpoint}
+use Rattle.crash.specs.Book.{committed, retired, isClosed, isRetired, stageCount, Entry, raise, checkpointBook}
 use Rattle.crash.specs.Ledger.{Ledger, withBook, imageNow, recordBlocks, recordOf, tailsPast, checkpointStored}
 use Rattle.crash.proofs.Books.BookEntries.{other-number, other-core, raise-at, raise-other, records-cons, nextName, oldestName, uncommittedName}
 use Rattle.crash.proofs.Books.BookSteps.{restages-holder, checkpoint-home, checkpoint-retires}
-use Rattle.crash.proofs.Disk.Relation.{IsBlock, Fine, contents, JournalStands, DiskStands, CoreUp, Up}
+use Rattle.crash.proofs.Disk.Relation.{IsBlock, WellFormed, contents, JournalStands, DiskStands, CoreUp, CardUp}
 use Rattle.crash.proofs.Disk.LedgerStages.{closed-present}
 use Rattle.crash.proofs.Disk.ReadMaster.{shape-up, master-block, tail-read}
 use Rattle.crash.proofs.Disk.RecordFormat.{readRecord, length-record}
-use Rattle.crash.proofs.Disk.ReadRecords.{IsRead}
+use Rattle.crash.proofs.Disk.ReadRecords.{ReadAsLedger}
 use Rattle.crash.proofs.Disk.ReadCheckpoint.{oldest-of, oldest-is}
 use Rattle.crash.proofs.Commands.CardFrames.{core-set, core-other, low-stored, low-other, low-journal, low-size, low-bytes, home-stands, core-up}
 use Rattle.crash.proofs.Disk.LedgerCheckpoint.{advanced, one-changed, record-stays, closing-stays, journal-advanced, core-advanced, journal-kept, releasedFrom, released-holder, still-held}
 
 -- ---- CHECKPOINT
-module _ {l : Ledger} {w : World} (u : Up l w) (c : ℕ) (in-range : c < l .shape .cores) (some-committed : l .book .oldest c < l .book .uncommitted c) where
+module _ {l : Ledger} {w : World} (u : CardUp l w) (c : ℕ) (in-range : c < l .shape .cores) (some-committed : l .book .oldest c < l .book .uncommitted c) where
   abbrev t : Name
   t = oldestName c (l .book)
 
@@ -55,12 +55,12 @@ module _ {l : Ledger} {w : World} (u : Up l w) (c : ℕ) (in-range : c < l .shap
 
   within : x .homed ≤ length ((l .book .entry t) .blocks)
   within =
-      let s = u .fine .ranks c in-range .first some-committed in
-      let q : s .0 ≡ x .homed = ap counted (sym (s .1) ∙ stage-now) in
+      let s = u .well-formed .ranks c in-range .first some-committed in
+      let q : s .0 ≡ x .homed = ap stageCount (sym (s .1) ∙ stage-now) in
       omega (arith, s .2)
 
   size : length (recordOf l t) ≡ length ((l .book .entry t) .blocks) + 2
-  size = length-record (u .fine) t closed-now
+  size = length-record (u .well-formed) t closed-now
 
   -- it is neither the one being stored nor the running one, of any core
   not-closing : (a : ℕ) → uncommittedName a (l .book) ≢ t
@@ -73,10 +73,10 @@ module _ {l : Ledger} {w : World} (u : Up l w) (c : ℕ) (in-range : c < l .shap
   not-current a q =
       let z : l .book .next a ≡ l .book .next c = ap (λ (v : Name). l .book .next (v .core)) q in
       let y : l .book .next a ≡ l .book .oldest c = ap (λ (v : Name). v .number) q in
-      omega (arith, u .fine .ranks c in-range .mid)
+      omega (arith, u .well-formed .ranks c in-range .mid)
 
   core-room : c < length (w .card .cores)
-  core-room = omega (arith, u .eight-cores, u .fine .range .few-cores)
+  core-room = omega (arith, u .eight-cores, u .well-formed .range .few-cores)
 
   -- ---- a home store
   module _ (more : x .homed < length ((l .book .entry t) .blocks)) where
@@ -89,22 +89,22 @@ module _ {l : Ledger} {w : World} (u : Up l w) (c : ℕ) (in-range : c < l .shap
     home-done : checkpointed c w ≡ storing w (withCore (w .card) c (homedCore x)) (homeBlock b) image
     unfolding checkpointed storedHome
     home-done =
-        let r : IsRead l (w .disk) c e = rw (oldest-of u c in-range some-committed) at (oldest-is u c in-range some-committed) in
+        let r : ReadAsLedger l (w .disk) c e = rw (oldest-of u c in-range some-committed) at (oldest-is u c in-range some-committed) in
         rw (oldest-of u c in-range some-committed, lt-ltb (x .homed) (length ((l .book .entry t) .blocks)) more, shape-up u, r .blocks, r .images (x .homed) more) refl
 
     home-low : b < l .shape .blocks
-    home-low = u .fine .limits t (closed-present _ closed-now) .blocks b (getD-mem ((l .book .entry t) .blocks) (x .homed) 0 more)
+    home-low = u .well-formed .limits t (closed-present _ closed-now) .blocks b (getD-mem ((l .book .entry t) .blocks) (x .homed) 0 more)
 
     image-block : IsBlock image
-    image-block = let z = u .fine .frozen t closed-now in z .images (x .homed) (omega (arith, z .count))
+    image-block = let z = u .well-formed .frozen t closed-now in z .images (x .homed) (omega (arith, z .count))
 
     abbrev l₂ : Ledger
     l₂ = advanced l t (committed (suc (x .homed))) (l .book .oldest)
 
-    home-disk : DiskStands l₂ (storeBlock (w .disk) (homeBlock b) image) (tailOf (w .card))
+    home-disk : DiskStands l₂ (store (w .disk) (homeBlock b) image) (tailOf (w .card))
     home-disk =
-        let d = storeBlock (w .disk) (homeBlock b) image in
-        let z = home-stands (u .fine) (u .disk) b home-low image image-block in
+        let d = store (w .disk) (homeBlock b) image in
+        let z = home-stands (u .well-formed) (u .disk) b home-low image image-block in
         record {
           size = z .size;
           bytes = z .bytes;
@@ -130,10 +130,10 @@ module _ {l : Ledger} {w : World} (u : Up l w) (c : ℕ) (in-range : c < l .shap
               (λ n. ap (λ (v : Entry). v .stage) (changed .other (oldestName a (l .book)) (other-core (l .book .oldest a) (l .book .oldest c) ne)) ∙ y .homed n) (y .none-homed) y)
         ]
 
-    home-up : Fine l₂ → Up l₂ ((storing w (withCore (w .card) c (homedCore x)) (homeBlock b) image) .world)
+    home-up : WellFormed l₂ → CardUp l₂ ((storing w (withCore (w .card) c (homedCore x)) (homeBlock b) image) .world)
     home-up fine =
         let holder = restages-holder (one-changed l t (committed (suc (x .homed))) (l .book .oldest)) (sym (ap isRetired stage-now)) in
-        core-up u c (homedCore x) (l₂ .book) (storeBlock (w .disk) (homeBlock b) image) refl (λ b. holder b (l .book .writes)) fine home-disk home-core
+        core-up u c (homedCore x) (l₂ .book) (store (w .disk) (homeBlock b) image) refl (λ b. holder b (l .book .writes)) fine home-disk home-core
 
   -- ---- the master store
   module _ (all-home : x .homed ≡ length ((l .book .entry t) .blocks)) where
@@ -161,7 +161,7 @@ module _ {l : Ledger} {w : World} (u : Up l w) (c : ℕ) (in-range : c < l .shap
     master-done = rw (oldest-of u c in-range some-committed, le-ltb (x .homed) (length ((l .book .entry t) .blocks)) (omega arith), retired-shape) refl
 
     tail-room : c < length (w .card .tails)
-    tail-room = omega (arith, u .eight-tails, u .fine .range .few-cores)
+    tail-room = omega (arith, u .eight-tails, u .well-formed .range .few-cores)
 
     own-tail : tailOf card₂ c ≡ tail
     unfolding tailOf retiredCard
@@ -187,10 +187,10 @@ module _ {l : Ledger} {w : World} (u : Up l w) (c : ℕ) (in-range : c < l .shap
     block₂ = masterBlock (l .shape) (tailOf card₂)
 
     is-master : IsBlock block₂
-    is-master = master-block (u .fine .range) (tailOf card₂)
+    is-master = master-block (u .well-formed .range) (tailOf card₂)
 
-    journals-stay : (a q : ℕ) → journalAt (l .shape) (storeBlock (w .disk) 0 block₂) a q ≡ journalAt (l .shape) (w .disk) a q
-    journals-stay = low-journal (u .fine) (u .disk) 0 (omega arith) block₂ is-master
+    journals-stay : (a q : ℕ) → journalAt (l .shape) (store (w .disk) 0 block₂) a q ≡ journalAt (l .shape) (w .disk) a q
+    journals-stay = low-journal (u .well-formed) (u .disk) 0 (omega arith) block₂ is-master
 
     -- the journal without its first record
     contents-past : contents l c ≡ recordOf l t ++ contents l₃ c
@@ -201,7 +201,7 @@ module _ {l : Ledger} {w : World} (u : Up l w) (c : ℕ) (in-range : c < l .shap
         let i : k .uncommitted c - o ≡ suc (k .uncommitted c - suc o) = omega arith in
         let v = uncommittedName c k in
         let f : ℕ → List Bytes = λ j. recordOf l (newName c (o + j)) in
-        let last = take (counted ((k .entry v) .stage)) (recordOf l v) in
+        let last = take (stageCount ((k .entry v) .stage)) (recordOf l v) in
         let first : newName c (o + 0) ≡ t = ap (newName c) (omega arith) in
         let rest : flatMap (λ (j : ℕ). recordOf l₃ (newName c (suc o + j))) (below (k .uncommitted c - suc o)) ≡ flatMap (λ (j : ℕ). f (suc j)) (below (k .uncommitted c - suc o)) =
         flatMap-below _ _ (k .uncommitted c - suc o)
@@ -217,15 +217,15 @@ module _ {l : Ledger} {w : World} (u : Up l w) (c : ℕ) (in-range : c < l .shap
         let i : m - l .book .oldest c ≡ suc (m - suc (l .book .oldest c)) = omega arith in
         rw i (records-cons (l .book) c (l .book .oldest c) (m - suc (l .book .oldest c)))
 
-    own-journal : JournalStands l₃ (storeBlock (w .disk) 0 block₂) c (tailOf card₂ c)
+    own-journal : JournalStands l₃ (store (w .disk) 0 block₂) c (tailOf card₂ c)
     own-journal =
         let j = u .disk .journals c in-range in
         let p = (tailOf (w .card) c) .position in
         let s = l .shape in
         let past = contents-past in
         rw own-tail
-        (journal-advanced l t retired o₂ c (not-closing c) (not-current c) (w .disk) (storeBlock (w .disk) 0 block₂) (tailOf (w .card) c) tail (journals-stay c)
-        (rw (raise-at c (l .book .oldest)) (omega arith)) (mod-lt (p + n) (omega (arith, u .fine .range .long)))
+        (journal-advanced l t retired o₂ c (not-closing c) (not-current c) (w .disk) (store (w .disk) 0 block₂) (tailOf (w .card) c) tail (journals-stay c)
+        (rw (raise-at c (l .book .oldest)) (omega arith)) (mod-lt (p + n) (omega (arith, u .well-formed .range .long)))
         (λ q h.
         let a : p + n + q ≡ p + (length (recordOf l t) + q) = omega (arith, size) in
         let m = length-append (recordOf l t) (contents l₃ c) in
@@ -236,21 +236,21 @@ module _ {l : Ledger} {w : World} (u : Up l w) (c : ℕ) (in-range : c < l .shap
         ∙ j .stands (length (recordOf l t) + q) b
         ∙ ap (λ (y : List Bytes). getD y (length (recordOf l t) + q) []) past
         ∙ getD-append-add (recordOf l t) (contents l₃ c) q [])
-        (rw (raise-at c (l .book .oldest)) (omega (arith, fewer (l .book .next c) (omega (arith, u .fine .ranks c in-range .mid)))))
+        (rw (raise-at c (l .book .oldest)) (omega (arith, fewer (l .book .next c) (omega (arith, u .well-formed .ranks c in-range .mid)))))
         j)
 
-    master-disk : DiskStands l₃ (storeBlock (w .disk) 0 block₂) (tailOf card₂)
+    master-disk : DiskStands l₃ (store (w .disk) 0 block₂) (tailOf card₂)
     master-disk =
         record {
-          size = low-size (u .fine) (u .disk) 0 (omega arith) block₂ is-master;
-          bytes = low-bytes (u .fine) (u .disk) 0 (omega arith) block₂ is-master;
-          master = low-stored (u .fine) (u .disk) 0 (omega arith) block₂ is-master;
+          size = low-size (u .well-formed) (u .disk) 0 (omega arith) block₂ is-master;
+          bytes = low-bytes (u .well-formed) (u .disk) 0 (omega arith) block₂ is-master;
+          master = low-stored (u .well-formed) (u .disk) 0 (omega arith) block₂ is-master;
           journals =
               λ a h.
               elim (ℕ-discrete a c) [
-                | yes q ↦ subst (λ (i : ℕ). JournalStands l₃ (storeBlock (w .disk) 0 block₂) i (tailOf card₂ i)) (sym q) own-journal
+                | yes q ↦ subst (λ (i : ℕ). JournalStands l₃ (store (w .disk) 0 block₂) i (tailOf card₂ i)) (sym q) own-journal
                 | no ne ↦ rw (other-tail a ne)
-                    (journal-kept l t retired o₂ a (not-closing a) (not-current a) (w .disk) (storeBlock (w .disk) 0 block₂) (tailOf (w .card) a) (journals-stay a)
+                    (journal-kept l t retired o₂ a (not-closing a) (not-current a) (w .disk) (store (w .disk) 0 block₂) (tailOf (w .card) a) (journals-stay a)
                     (raise-other c (l .book .oldest) a ne) (u .disk .journals a h))
               ];
         }
@@ -261,7 +261,7 @@ module _ {l : Ledger} {w : World} (u : Up l w) (c : ℕ) (in-range : c < l .shap
         let y = u .cores a h in
         elim (ℕ-discrete a c) [
           | yes q ↦ (let y₂ = u .cores c in-range in
-              let r = u .fine .ranks c in-range in
+              let r = u .well-formed .ranks c in-range in
               let up = raise-at c (l .book .oldest) in
               rw (q, own-core)
               (core-advanced l t retired o₂ c (not-closing c) (not-current c) (w .memory) x (x .used - n) 0
@@ -275,7 +275,7 @@ module _ {l : Ledger} {w : World} (u : Up l w) (c : ℕ) (in-range : c < l .shap
               (rw same (y .none-homed)) y))
         ]
 
-    master-up : Fine l₃ → Up l₃ ((storing w card₂ 0 block₂) .world)
+    master-up : WellFormed l₃ → CardUp l₃ ((storing w card₂ 0 block₂) .world)
     unfolding retiredCard released imageNow
     master-up fine =
         record {
@@ -288,7 +288,7 @@ module _ {l : Ledger} {w : World} (u : Up l w) (c : ℕ) (in-range : c < l .shap
           eight-tails = length-set (w .card .tails) c _ ∙ u .eight-tails;
           eight-cores = length-set (w .card .cores) c _ ∙ u .eight-cores;
           holder-room = length-map (w .card .holders) _ ∙ u .holder-room;
-          fine = fine;
+          well-formed = fine;
           disk = master-disk;
           cores = master-core;
           holders =
@@ -300,7 +300,7 @@ module _ {l : Ledger} {w : World} (u : Up l w) (c : ℕ) (in-range : c < l .shap
         }
 
   -- ---- either
-  pub checkpoint-up : Fine (withBook l (checkpoint c (l .book))) → Up (withBook l (checkpoint c (l .book))) ((checkpointed c w) .world)
+  pub checkpoint-up : WellFormed (withBook l (checkpointBook c (l .book))) → CardUp (withBook l (checkpointBook c (l .book))) ((checkpointed c w) .world)
   checkpoint-up fine =
       elim (decLt (x .homed) (length ((l .book .entry t) .blocks))) [
         | yes more ↦ (let k = checkpoint-home c (x .homed) (l .book) stage-now more in rw (k, home-done more) (home-up more (rw k at fine)))
@@ -315,8 +315,8 @@ module _ {l : Ledger} {w : World} (u : Up l w) (c : ℕ) (in-range : c < l .shap
     unfolding tailsPast
     tails-past a h =
         elim (ℕ-discrete a c) [
-          | yes q ↦ rw (q, eq-eqb c c refl, tail-read (u .fine) (u .disk) c in-range) (own-tail all-home)
-          | no ne ↦ rw (ne-eqb a c ne, tail-read (u .fine) (u .disk) a h) (other-tail all-home a ne)
+          | yes q ↦ rw (q, eq-eqb c c refl, tail-read (u .well-formed) (u .disk) c in-range) (own-tail all-home)
+          | no ne ↦ rw (ne-eqb a c ne, tail-read (u .well-formed) (u .disk) a h) (other-tail all-home a ne)
         ]
 
   pub checkpointed-bytes : ((checkpointed c w) .world .disk ≡ checkpointStored c l (w .disk)) × ((checkpointed c w) .stores ≡ 1)
@@ -324,33 +324,33 @@ module _ {l : Ledger} {w : World} (u : Up l w) (c : ℕ) (in-range : c < l .shap
   checkpointed-bytes =
       let bs = (l .book .entry t) .blocks in
       elim (decLt (x .homed) (length bs)) [
-        | yes more ↦ rw (home-done more, ap counted stage-now, lt-ltb (x .homed) (length bs) more) (refl, refl)
+        | yes more ↦ rw (home-done more, ap stageCount stage-now, lt-ltb (x .homed) (length bs) more) (refl, refl)
         | no none-left ↦ (let all : x .homed ≡ length bs = omega (arith, within) in
-            rw (master-done all, ap counted stage-now, le-ltb (x .homed) (length bs) (omega arith))
-            (ap (storeBlock (w .disk) 0) (master-same (l .shape) (tailOf (card₂ all)) (tailsPast c l (w .disk)) (tails-past all)), refl))
+            rw (master-done all, ap stageCount stage-now, le-ltb (x .homed) (length bs) (omega arith))
+            (ap (store (w .disk) 0) (master-same (l .shape) (tailOf (card₂ all)) (tailsPast c l (w .disk)) (tails-past all)), refl))
       ]
 
   -- the disk, and the home blocks, by the ledger's count of checkpoints
   module _ {m : ℕ} (stage : (l .book .entry t) .stage ≡ committed m) where
     homed-now : x .homed ≡ m
-    homed-now = ap counted (sym stage-now ∙ stage)
+    homed-now = ap stageCount (sym stage-now ∙ stage)
 
     module _ (more : m < length ((l .book .entry t) .blocks)) where
       more-now : x .homed < length ((l .book .entry t) .blocks)
       more-now = omega (arith, homed-now)
 
-      home-store : (checkpointed c w) .world .disk ≡ storeBlock (w .disk) (homeBlock (getD ((l .book .entry t) .blocks) m 0)) (getD (l .images t) m [])
+      home-store : (checkpointed c w) .world .disk ≡ store (w .disk) (homeBlock (getD ((l .book .entry t) .blocks) m 0)) (getD (l .images t) m [])
       home-store = rw (← homed-now) (ap (λ (z : Outcome World). z .world .disk) (home-done more-now))
 
       pub home-stored : blockAt ((checkpointed c w) .world .disk) (homeBlock (getD ((l .book .entry t) .blocks) m 0)) ≡ getD (l .images t) m []
-      home-stored = rw (home-store, ← homed-now) (low-stored (u .fine) (u .disk) (homeBlock (b more-now)) (omega (arith, home-low more-now)) (image more-now) (image-block more-now))
+      home-stored = rw (home-store, ← homed-now) (low-stored (u .well-formed) (u .disk) (homeBlock (b more-now)) (omega (arith, home-low more-now)) (image more-now) (image-block more-now))
 
       pub home-others : (a : ℕ) → a ≢ getD ((l .book .entry t) .blocks) m 0 → blockAt ((checkpointed c w) .world .disk) (homeBlock a) ≡ blockAt (w .disk) (homeBlock a)
       home-others a ne =
           rw (home-store, ← homed-now)
-          (low-other (u .fine) (u .disk) (homeBlock (b more-now)) (omega (arith, home-low more-now)) (image more-now) (image-block more-now) (homeBlock a)
+          (low-other (u .well-formed) (u .disk) (homeBlock (b more-now)) (omega (arith, home-low more-now)) (image more-now) (image-block more-now) (homeBlock a)
           (λ q. ne (rw (← homed-now) (omega arith))))
 
     module _ (all : m ≡ length ((l .book .entry t) .blocks)) where
       pub homes-stay : (a : ℕ) → blockAt ((checkpointed c w) .world .disk) (homeBlock a) ≡ blockAt (w .disk) (homeBlock a)
-      homes-stay a = rw (master-done (homed-now ∙ all)) (low-other (u .fine) (u .disk) 0 (omega arith) (block₂ (homed-now ∙ all)) (is-master (homed-now ∙ all)) (homeBlock a) (omega arith))
+      homes-stay a = rw (master-done (homed-now ∙ all)) (low-other (u .well-formed) (u .disk) 0 (omega arith) (block₂ (homed-now ∙ all)) (is-master (homed-now ∙ all)) (homeBlock a) (omega arith))

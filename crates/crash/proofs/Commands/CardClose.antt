@@ -15,14 +15,14 @@ use Rattle.model.specs.declared.Holder.{Holder}
 use Rattle.model.proofs.Lists.{getD-mem, getD-map}
 use Rattle.model.proofs.Store.{length-store, length-blockAt, block-stored, block-other}
 use Rattle.model.proofs.Sizes.{length-copied}
-use Rattle.crash.specs.Book.{absent, running, closed, isRunning, Entry, staged, close, holderIn}
+use Rattle.crash.specs.Book.{absent, running, closed, isRunning, Entry, staged, closeBook, bookHolder}
 use Rattle.crash.specs.Ledger.{Ledger, closeLedger, imageNow, recordBlocks, copiesStored}
 use Rattle.crash.specs.Claims.{IsBytes}
 use Rattle.crash.proofs.Books.Tests.{clash}
 use Rattle.crash.proofs.Books.BookEntries.{other-number, other-core, change-at, raise-at, raise-other, records-snoc, nextName, oldestName}
 use Rattle.crash.proofs.Books.BookSteps.{Restages, restages-records, close-restages, close-book, close-holder, close-stamp, close-images, close-stamp-other, close-images-other}
 use Rattle.crash.proofs.Disk.BlockBytes.{bytes-store, bytes-blockAt}
-use Rattle.crash.proofs.Disk.Relation.{sumNext, Fine, contents, JournalStands, DiskStands, Matches, CoreUp, holderAs, Up}
+use Rattle.crash.proofs.Disk.Relation.{sumNext, WellFormed, contents, JournalStands, DiskStands, Matches, CoreUp, holderAs, CardUp}
 use Rattle.crash.proofs.Disk.LedgerStages.{running-present}
 use Rattle.crash.proofs.Disk.LedgerRanks.{sum-low}
 use Rattle.crash.proofs.Commands.CardFrames.{SameClosed, record-same, contents-same, none-stored, journal-stays, core-stays}
@@ -97,10 +97,10 @@ cores-copies : (a c i j : ℕ) → i < 8 → j < 8 → a ≢ c → copyBlock a i
 unfolding copyBlock
 cores-copies a c i j h g ne e = ne (omega arith)
 
-module _ {l : Ledger} {w : World} (u : Up l w) (c : ℕ) (in-range : c < l .shape .cores)
+module _ {l : Ledger} {w : World} (u : CardUp l w) (c : ℕ) (in-range : c < l .shape .cores)
     (runs : (l .book .entry (nextName c (l .book))) .stage ≡ running) (free : l .book .uncommitted c ≡ l .book .next c)
-    (holds : (b : ℕ) → List·Memᴰ b ((l .book .entry (nextName c (l .book))) .blocks) → holderIn (l .book) b (l .book .writes) ≡ some (nextName c (l .book)))
-    (fine : Fine (closeLedger c l)) where
+    (holds : (b : ℕ) → List·Memᴰ b ((l .book .entry (nextName c (l .book))) .blocks) → bookHolder (l .book) b (l .book .writes) ≡ some (nextName c (l .book)))
+    (fine : WellFormed (closeLedger c l)) where
   abbrev t : Name
   t = nextName c (l .book)
 
@@ -114,22 +114,22 @@ module _ {l : Ledger} {w : World} (u : Up l w) (c : ℕ) (in-range : c < l .shap
   m₂ = copied c 0 (taken (x .running)) (w .memory)
 
   -- ---- the ledger afterwards
-  abbrev new : Restages (l .book) (close c (l .book)) t (closed 0)
+  abbrev new : Restages (l .book) (closeBook c (l .book)) t (closed 0)
   new = close-restages c (l .book)
 
   new-entry : l₂ .book .entry t ≡ staged (closed 0) (l .book .entry t)
-  unfolding closeLedger close
+  unfolding closeLedger closeBook
   new-entry = change-at t (staged (closed 0)) (l .book .entry)
 
   new-other : (v : Name) → v ≢ t → (l₂ .book .entry v ≡ l .book .entry v) × (l₂ .stamp v ≡ l .stamp v) × (l₂ .images v ≡ l .images v)
   new-other v ne = (rw (close-book l c) (new .other v ne), close-stamp-other l c v ne, close-images-other l c v ne)
 
   new-next : l₂ .book .next c ≡ suc (l .book .next c)
-  unfolding closeLedger close
+  unfolding closeLedger closeBook
   new-next = raise-at c (l .book .next)
 
   new-numbers : ((a : ℕ) → l₂ .book .oldest a ≡ l .book .oldest a) × ((a : ℕ) → l₂ .book .uncommitted a ≡ l .book .uncommitted a) × ((a : ℕ) → a ≢ c → l₂ .book .next a ≡ l .book .next a)
-  unfolding closeLedger close
+  unfolding closeLedger closeBook
   new-numbers = (λ a. refl, λ a. refl, raise-other c (l .book .next))
 
   others : (a : ℕ) → a ≢ c → SameClosed l l₂ a
@@ -152,7 +152,7 @@ module _ {l : Ledger} {w : World} (u : Up l w) (c : ℕ) (in-range : c < l .shap
   unopened : (l₂ .book .entry (newName c (suc (l .book .next c)))) .stage ≡ absent
   unopened =
       ap (λ (e : Entry). e .stage) (new-other (newName c (suc (l .book .next c))) (other-number c (omega arith)) .0)
-      ∙ u .fine .ranks c in-range .rest (suc (l .book .next c)) (omega arith)
+      ∙ u .well-formed .ranks c in-range .rest (suc (l .book .next c)) (omega arith)
 
   -- ---- the journal
   same-contents : contents l₂ c ≡ contents l c
@@ -167,7 +167,7 @@ module _ {l : Ledger} {w : World} (u : Up l w) (c : ℕ) (in-range : c < l .shap
   unfolding closeLedger
   own-journal =
       let j = u .disk .journals c in-range in
-      let r = u .fine .ranks c in-range in
+      let r = u .well-formed .ranks c in-range in
       let o = l .book .oldest c in
       let n = l .book .next c in
       let z : suc n - o ≡ suc (n - o) = omega (arith, r .low) in
@@ -194,8 +194,8 @@ module _ {l : Ledger} {w : World} (u : Up l w) (c : ℕ) (in-range : c < l .shap
             elim (ℕ-discrete a c) [
               | yes e ↦ subst (λ (i : ℕ). JournalStands l₂ (w .disk) i (tailOf (w .card) i)) (sym e) own-journal
               | no ne ↦ (let v = new-other (nextName a (l .book)) (other-core (l .book .next a) (l .book .next c) ne) .0 in
-                  journal-stays l (u .fine) a h l₂ (others a ne) (w .disk) (w .disk) (tailOf (w .card) a)
-                  (rw v (none-stored l (u .fine) a h)) (rw v (u .disk .journals a h .reserved)) (λ q. refl) (u .disk .journals a h))
+                  journal-stays l (u .well-formed) a h l₂ (others a ne) (w .disk) (w .disk) (tailOf (w .card) a)
+                  (rw v (none-stored l (u .well-formed) a h)) (rw v (u .disk .journals a h .reserved)) (λ q. refl) (u .disk .journals a h))
             ];
       }
 
@@ -204,24 +204,24 @@ module _ {l : Ledger} {w : World} (u : Up l w) (c : ℕ) (in-range : c < l .shap
   matches = u .cores c in-range .runs (ap isRunning runs)
 
   few : length (taken (x .running)) ≤ 8
-  few = rw (matches .blocks) (u .fine .limits t (running-present _ runs) .few)
+  few = rw (matches .blocks) (u .well-formed .limits t (running-present _ runs) .few)
 
   eight : c < 8
-  eight = omega (arith, u .fine .range .few-cores)
+  eight = omega (arith, u .well-formed .range .few-cores)
 
   low-next : l .book .next c ≤ 4000000000
-  low-next = u .fine .limits t (running-present _ runs) .high
+  low-next = u .well-formed .limits t (running-present _ runs) .high
 
   low-closes : suc (l .closes) ≤ 32000000008
   low-closes =
       let h : suc (l .closes) ≤ sumNext (l₂ .book) (l .shape .cores) = unfold closeLedger in fine .closes in
-      omega (arith, u .fine .range .few-cores, sum-low (l₂ .book) (l .shape .cores) (unfold closeLedger in λ a g. fine .ranks a g .top))
+      omega (arith, u .well-formed .range .few-cores, sum-low (l₂ .book) (l .shape .cores) (unfold closeLedger in λ a g. fine .ranks a g .top))
 
   -- the images of its blocks are the current ones
   current-image : (b : ℕ) → List·Memᴰ b ((l .book .entry t) .blocks) → blockAt (w .memory) (b % 64) ≡ imageNow l b
   current-image b m =
-      let g : b < l .shape .blocks = u .fine .limits t (running-present _ runs) .blocks b m in
-      let e : b % 64 ≡ b = omega (arith, u .fine .range .few-blocks) in
+      let g : b < l .shape .blocks = u .well-formed .limits t (running-present _ runs) .blocks b m in
+      let e : b % 64 ≡ b = omega (arith, u .well-formed .range .few-blocks) in
       let held : (holderOf (w .card) b) .held ≡ true = ap (λ (h : Holder). h .held) (u .holders b g ∙ ap holderAs (holds b m)) in
       rw e (u .images b g held)
 
@@ -253,7 +253,7 @@ module _ {l : Ledger} {w : World} (u : Up l w) (c : ℕ) (in-range : c < l .shap
   unfolding taken listed
   own-core =
       let y = u .cores c in-range in
-      let r = u .fine .ranks c in-range in
+      let r = u .well-formed .ranks c in-range in
       let n = l .book .next c in
       let stamp : (w .card .closes + 1) % 18446744073709551616 ≡ suc (l .closes) = omega (arith, u .closes, low-closes) in
       let number : (x .next + 1) % 4294967296 ≡ suc n = omega (arith, y .next, low-next) in
@@ -288,13 +288,13 @@ module _ {l : Ledger} {w : World} (u : Up l w) (c : ℕ) (in-range : c < l .shap
         | no ne ↦ (let v = new-other (nextName a (l .book)) (other-core (l .book .next a) (l .book .next c) ne) .0 in
             let y = u .cores a h in
             rw (other-cores a ne)
-            (core-stays l (u .fine) a h l₂ (others a ne) (w .memory) m₂ (coreOf (w .card) a) ((coreOf (w .card) a) .running)
+            (core-stays l (u .well-formed) a h l₂ (others a ne) (w .memory) m₂ (coreOf (w .card) a) ((coreOf (w .card) a) .running)
             (rw v (y .runs)) (rw v (y .idle))
             (λ i g. copied-other c eight (taken (x .running)) 0 (w .memory) (u .memory) (omega (arith, few)) (copyBlock a i) (λ j p q. cores-copies a c i j g (omega (arith, few)) ne)) y))
       ]
 
-  pub close-up : Up l₂ ((closedOutcome c w) .world)
-  unfolding closedOutcome closedCard closeLedger close tailOf holderOf imageNow
+  pub close-up : CardUp l₂ ((closedOutcome c w) .world)
+  unfolding closedOutcome closedCard closeLedger closeBook tailOf holderOf imageNow
   close-up =
       record {
         phase = u .phase;
@@ -306,12 +306,12 @@ module _ {l : Ledger} {w : World} (u : Up l w) (c : ℕ) (in-range : c < l .shap
         eight-tails = u .eight-tails;
         eight-cores = length-set (w .card .cores) c _ ∙ u .eight-cores;
         holder-room = u .holder-room;
-        fine = fine;
+        well-formed = fine;
         disk = disk-stands;
         cores = close-core;
         holders = λ b h. u .holders b h ∙ ap holderAs (sym (close-holder c (l .book) runs b (l .book .writes)));
         images =
             λ b h g.
-            copied-other c eight (taken (x .running)) 0 (w .memory) (u .memory) (omega (arith, few)) b (λ j p q. images-apart c eight b j (omega (arith, u .fine .range .few-blocks)))
+            copied-other c eight (taken (x .running)) 0 (w .memory) (u .memory) (omega (arith, few)) b (λ j p q. images-apart c eight b j (omega (arith, u .well-formed .range .few-blocks)))
             ∙ u .images b h g;
       }

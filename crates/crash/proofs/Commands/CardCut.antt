@@ -8,33 +8,33 @@ use Rattle.model.specs.Shape.{homeBlock}
 use Rattle.model.specs.Card.{freshCard, emptyCard, downCard}
 use Rattle.model.specs.Command.{World, unstored, wrongLength}
 use Rattle.model.specs.declared.Phase.{Phase}
-use Rattle.model.specs.declared.Phase.the-variants.{Down as PhaseDown}
+use Rattle.model.specs.declared.Phase.the-variants.{Down}
 use Rattle.model.specs.declared.Tail.{Tail}
 use Rattle.model.proofs.Lists.{cases, mem-below}
 use Rattle.model.proofs.Select.{select-mem, select-same}
 use Rattle.crash.specs.Book.{Book}
-use Rattle.crash.specs.Ledger.{Ledger, blocksIn, cutLedger, heldOf, recordOf}
+use Rattle.crash.specs.Ledger.{Ledger, blocksIn, cutLedger, recordTags, recordOf}
 use Rattle.crash.specs.Claims.{IsBytes}
-use Rattle.crash.proofs.Disk.Relation.{Fine, contents, JournalStands, DiskStands, Up, target, Newest, DownBy}
+use Rattle.crash.proofs.Disk.Relation.{WellFormed, contents, JournalStands, DiskStands, CardUp, target, Newest, CardDown}
 use Rattle.crash.proofs.Books.Tests.{clash, any-in, in-any, blockEquality}
 use Rattle.crash.proofs.Disk.BlockBytes.{zero-bytes}
-use Rattle.crash.proofs.Disk.LedgerFresh.{fine-cut, phased}
+use Rattle.crash.proofs.Disk.LedgerFresh.{well-formed-cut, withPhase}
 
 -- ---- the ledger in another phase, with other blocks left
-pub target-phased : (p : Phase) (bs : List ℕ) (l : Ledger) (b : ℕ) → target (phased p bs l) b ≡ target l b
+pub target-withPhase : (p : Phase) (bs : List ℕ) (l : Ledger) (b : ℕ) → target (withPhase p bs l) b ≡ target l b
 unfolding target
-target-phased p bs l b = refl
+target-withPhase p bs l b = refl
 
 module _ (p : Phase) (bs : List ℕ) {l : Ledger} where
-  journal-phased : {d : Bytes} {c : ℕ} {t : Tail} → JournalStands l d c t → JournalStands (phased p bs l) d c t
-  unfolding contents recordOf heldOf
-  journal-phased j = record { number = j .number; position = j .position; stands = j .stands; clear = j .clear; room = j .room; reserved = j .reserved }
+  journal-withPhase : {d : Bytes} {c : ℕ} {t : Tail} → JournalStands l d c t → JournalStands (withPhase p bs l) d c t
+  unfolding contents recordOf recordTags
+  journal-withPhase j = record { number = j .number; position = j .position; stands = j .stands; clear = j .clear; room = j .room; reserved = j .reserved }
 
-  pub stands-phased : {d : Bytes} {tailAt : ℕ → Tail} → DiskStands l d tailAt → DiskStands (phased p bs l) d tailAt
-  stands-phased z = record { size = z .size; bytes = z .bytes; master = z .master; journals = λ c h. journal-phased (z .journals c h) }
+  pub stands-withPhase : {d : Bytes} {tailAt : ℕ → Tail} → DiskStands l d tailAt → DiskStands (withPhase p bs l) d tailAt
+  stands-withPhase z = record { size = z .size; bytes = z .bytes; master = z .master; journals = λ c h. journal-withPhase (z .journals c h) }
 
-  pub newest-phased : {b : ℕ} → Newest l b → Newest (phased p bs l) b
-  newest-phased {b} n =
+  pub newest-withPhase : {b : ℕ} → Newest l b → Newest (withPhase p bs l) b
+  newest-withPhase {b} n =
       record {
         holder = n .holder;
         valid = n .valid;
@@ -42,7 +42,7 @@ module _ (p : Phase) (bs : List ℕ) {l : Ledger} where
         within = n .within;
         block = n .block;
         highest = n .highest;
-        image = n .image ∙ sym (target-phased p bs l b);
+        image = n .image ∙ sym (target-withPhase p bs l b);
       }
 
 -- ---- the blocks held
@@ -60,13 +60,13 @@ unfolding wrongLength
 right-length w d m = rw (eq-eqb (length (w .disk)) 32896 d, eq-eqb (length (w .memory)) 16384 m)
 
 -- what the commands before a cut leave to recovery
-pub record Gives (l : Ledger) (d : Bytes) : Type 0 where
+pub record TargetsStand (l : Ledger) (d : Bytes) : Type 0 where
   pub held : (b : ℕ) → b < l .shape .blocks → List·Memᴰ b (blocksIn (l .shape .blocks) (l .book)) → Newest l b
   pub home : (b : ℕ) → b < l .shape .blocks → any (eqb b) (blocksIn (l .shape .blocks) (l .book)) ≡ false → blockAt d (homeBlock b) ≡ target l b
 
-module _ {l : Ledger} {d : Bytes} {tailAt : ℕ → Tail} (f : Fine l) (z : DiskStands l d tailAt) (g : Gives l d) where
+module _ {l : Ledger} {d : Bytes} {tailAt : ℕ → Tail} (f : WellFormed l) (z : DiskStands l d tailAt) (g : TargetsStand l d) where
   -- a card that is down over such a disk
-  pub down-over : (m : Bytes) → length m ≡ 16384 → IsBytes m → DownBy (cutLedger l) (record { card = downCard; disk = d; memory = m })
+  pub down-over : (m : Bytes) → length m ≡ 16384 → IsBytes m → CardDown (cutLedger l) (record { card = downCard; disk = d; memory = m })
   unfolding cutLedger downCard emptyCard freshCard
   down-over m n b =
       let bs = blocksIn (l .shape .blocks) (l .book) in
@@ -75,23 +75,23 @@ module _ {l : Ledger} {d : Bytes} {tailAt : ℕ → Tail} (f : Fine l) (z : Disk
         ledger = refl;
         memory = n;
         memory-bytes = b;
-        fine = fine-cut l f;
+        well-formed = well-formed-cut l f;
         tailAt = tailAt;
-        disk = stands-phased PhaseDown bs z;
+        disk = stands-withPhase Down bs z;
         left = all-left bs;
-        newest = λ i h. newest-phased PhaseDown bs (g .held i (held-low (l .shape .blocks) (l .book) h) h);
-        at-home = λ i h a. g .home i h a ∙ sym (target-phased PhaseDown bs l i);
+        newest = λ i h. newest-withPhase Down bs (g .held i (held-low (l .shape .blocks) (l .book) h) h);
+        at-home = λ i h a. g .home i h a ∙ sym (target-withPhase Down bs l i);
       }
 
-  cut-over : DownBy (cutLedger l) (record { card = downCard; disk = d; memory = zeroMemory })
+  cut-over : CardDown (cutLedger l) (record { card = downCard; disk = d; memory = zeroMemory })
   unfolding zeroMemory
   cut-over = down-over zeroMemory (length-replicate {A = ℕ} 16384 0) (zero-bytes 16384)
 
-pub cut-up : {l : Ledger} {w : World} → Up l w → Gives l (w .disk) → DownBy (cutLedger l) ((unstored w downCard zeroMemory) .world)
-cut-up u g = cut-over (u .fine) (u .disk) g
+pub cut-up : {l : Ledger} {w : World} → CardUp l w → TargetsStand l (w .disk) → CardDown (cutLedger l) ((unstored w downCard zeroMemory) .world)
+cut-up u g = cut-over (u .well-formed) (u .disk) g
 
 -- 'a recovery under way starts over'
-down-gives : {l : Ledger} {w : World} → DownBy l w → Gives l (w .disk)
+down-gives : {l : Ledger} {w : World} → CardDown l w → TargetsStand l (w .disk)
 down-gives {l} {w} v =
     let bs = blocksIn (l .shape .blocks) (l .book) in
     record {
@@ -106,5 +106,5 @@ down-gives {l} {w} v =
           (λ y. y));
     }
 
-pub cut-down : {l : Ledger} {w : World} → DownBy l w → DownBy (cutLedger l) ((unstored w downCard zeroMemory) .world)
-cut-down v = cut-over (v .fine) (v .disk) (down-gives v)
+pub cut-down : {l : Ledger} {w : World} → CardDown l w → CardDown (cutLedger l) ((unstored w downCard zeroMemory) .world)
+cut-down v = cut-over (v .well-formed) (v .disk) (down-gives v)

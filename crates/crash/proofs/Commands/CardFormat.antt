@@ -29,10 +29,10 @@ use Rattle.crash.specs.Ledger.{freshLedger, unretired, validIn, blocksIn
 use Rattle.crash.specs.Claims.{IsBytes, from-down, startWorld, startLedger}
 use Rattle.crash.proofs.Books.Tests.{clash}
 use Rattle.crash.proofs.Disk.BlockBytes.{bytes-store, zero-bytes}
-use Rattle.crash.proofs.Disk.Relation.{Up, target, DownBy, IsBlock}
+use Rattle.crash.proofs.Disk.Relation.{CardUp, target, CardDown, IsBlock}
 use Rattle.crash.proofs.Disk.ReadMaster.{master-block}
 use Rattle.crash.proofs.Commands.CardFresh.{ComeUp, fresh-up}
-use Rattle.crash.proofs.Commands.CardCut.{Gives, down-over}
+use Rattle.crash.proofs.Commands.CardCut.{TargetsStand, down-over}
 
 -- ---- blocks of zeros
 abbrev zeros : ℕ → Bytes
@@ -96,7 +96,7 @@ module _ (s : Shape) (r : InRange s) where
             ap (isCommit s i) z ∙ zero-commit s i;
       }
 
-  pub format-up : Up (freshLedger s [] (λ (c : ℕ). 1)) ((formatted s) .world)
+  pub format-up : CardUp (freshLedger s [] (λ (c : ℕ). 1)) ((formatted s) .world)
   format-up = fresh-up r format-comes-up [] (λ w m. absurd (List·Memᴰ·not-nil m)) (λ c h. (omega arith, omega arith))
 
 -- ---- a fresh ledger holds no block, and its kept writes are those saved
@@ -113,7 +113,7 @@ unfolding target freshLedger keptWrites select emptyBook
 fresh-target s saved first b = refl
 
 fresh-gives : (s : Shape) (saved : List Write) (first : ℕ → ℕ) (d : Bytes) → ((b : ℕ) → b < s .blocks → blockAt d (homeBlock b) ≡ image blank saved b)
-    → Gives (freshLedger s saved first) d
+    → TargetsStand (freshLedger s saved first) d
 unfolding freshLedger
 fresh-gives s saved first d h =
     record {
@@ -122,9 +122,9 @@ fresh-gives s saved first d h =
     }
 
 -- ---- a card that is down over a formatted disk
-pub down-start : (s : Shape) (m : Bytes) → inRange (s .cores) (s .blocks) (s .journal) ≡ true → IsBytes m → length m ≡ 16384 → DownBy (startLedger (from-down s m)) (startWorld (from-down s m))
+pub down-start : (s : Shape) (m : Bytes) → inRange (s .cores) (s .blocks) (s .journal) ≡ true → IsBytes m → length m ≡ 16384 → CardDown (startLedger (from-down s m)) (startWorld (from-down s m))
 unfolding startLedger startWorld
 down-start s m h b n =
     let r = range-test s h in
     let u = format-up s r in
-    down-over (u .fine) (u .disk) (fresh-gives s [] (λ (c : ℕ). 1) ((formatted s) .world .disk) (λ b k. format-home s r b k ∙ (unfold image in refl))) m n b
+    down-over (u .well-formed) (u .disk) (fresh-gives s [] (λ (c : ℕ). 1) ((formatted s) .world .disk) (λ b k. format-home s r b k ∙ (unfold image in refl))) m n b

@@ -16,11 +16,11 @@ use Rattle.model.specs.declared.Transaction.{Transaction}
 use Rattle.model.specs.declared.Core.{Core}
 use Rattle.model.specs.declared.Card.{Card}
 use Rattle.model.proofs.Lists.{flatMap-below}
-use Rattle.crash.specs.Book.{Stage, absent, running, isRunning, isClosed, counted, Entry, Book, holderIn, Write, image, blank}
-use Rattle.crash.specs.Ledger.{Ledger, recordBlocks, heldOf, recordOf, withBook, imageNow}
+use Rattle.crash.specs.Book.{Stage, absent, running, isRunning, isClosed, stageCount, Entry, Book, bookHolder, Write, image, blank}
+use Rattle.crash.specs.Ledger.{Ledger, recordBlocks, recordTags, recordOf, withBook, imageNow}
 use Rattle.crash.proofs.Disk.LedgerStages.{closed-present}
 use Rattle.crash.proofs.Books.BookEntries.{records-same, nextName, uncommittedName}
-use Rattle.crash.proofs.Disk.Relation.{first-waiting, Fine, contents, JournalStands, CoreUp, Matches, IsBlock, DiskStands, Up, holderAs}
+use Rattle.crash.proofs.Disk.Relation.{first-waiting, WellFormed, contents, JournalStands, CoreUp, Matches, IsBlock, DiskStands, CardUp, holderAs}
 use Rattle.model.proofs.Store.{length-store, block-stored, block-other}
 use Rattle.model.proofs.Journal.{home-apart}
 use Rattle.crash.specs.Claims.{IsBytes}
@@ -39,18 +39,18 @@ core-other x c k a ne = getD-set-other (x .cores) c a k (freshCore 0) ne
 -- blocks and names of an entry, its images and its stamp make its record
 pub record-same : (l l₂ : Ledger) (t : Name) → (l₂ .book .entry t) .blocks ≡ (l .book .entry t) .blocks → (l₂ .book .entry t) .names ≡ (l .book .entry t) .names
     → l₂ .images t ≡ l .images t → l₂ .stamp t ≡ l .stamp t → recordOf l₂ t ≡ recordOf l t
-unfolding recordOf heldOf
+unfolding recordOf recordTags
 record-same l l₂ t bs ns im st = simp (bs, ns, im, st)
 
 pub contents-same : (l l₂ : Ledger) (c : ℕ) → l₂ .book .oldest c ≡ l .book .oldest c → l₂ .book .uncommitted c ≡ l .book .uncommitted c
     → ((i : ℕ) → i < l .book .uncommitted c → recordOf l₂ (newName c i) ≡ recordOf l (newName c i))
-    → take (counted ((l₂ .book .entry (uncommittedName c (l .book))) .stage)) (recordOf l₂ (uncommittedName c (l .book)))
-    ≡ take (counted ((l .book .entry (uncommittedName c (l .book))) .stage)) (recordOf l (uncommittedName c (l .book)))
+    → take (stageCount ((l₂ .book .entry (uncommittedName c (l .book))) .stage)) (recordOf l₂ (uncommittedName c (l .book)))
+    ≡ take (stageCount ((l .book .entry (uncommittedName c (l .book))) .stage)) (recordOf l (uncommittedName c (l .book)))
     → contents l₂ c ≡ contents l c
 unfolding contents
 contents-same l l₂ c o u f g =
     rw (o, u, g)
-    (ap (λ (x : List Bytes). x ++ take (counted ((l .book .entry (uncommittedName c (l .book))) .stage)) (recordOf l (uncommittedName c (l .book))))
+    (ap (λ (x : List Bytes). x ++ take (stageCount ((l .book .entry (uncommittedName c (l .book))) .stage)) (recordOf l (uncommittedName c (l .book))))
     (flatMap-below (λ (i : ℕ). recordOf l₂ (newName c (l .book .oldest c + i))) (λ (i : ℕ). recordOf l (newName c (l .book .oldest c + i)))
     (l .book .uncommitted c - l .book .oldest c) (λ i h. f (l .book .oldest c + i) (omega arith))))
 
@@ -64,20 +64,20 @@ pub record SameClosed (l l₂ : Ledger) (c : ℕ) : Type 0 where
   pub stamp : (i : ℕ) → i < l .book .next c → l₂ .stamp (newName c i) ≡ l .stamp (newName c i)
   pub images : (i : ℕ) → i < l .book .next c → l₂ .images (newName c i) ≡ l .images (newName c i)
 
-unstarted : (g : Stage) → (g ≡ absent) ⊎ (g ≡ running) → counted g ≡ 0
+unstarted : (g : Stage) → (g ≡ absent) ⊎ (g ≡ running) → stageCount g ≡ 0
 unstarted g (inl e) = rw e
 unstarted g (inr e) = rw e
 
-module _ (l : Ledger) (fine : Fine l) (c : ℕ) (in-range : c < l .shape .cores) where
+module _ (l : Ledger) (fine : WellFormed l) (c : ℕ) (in-range : c < l .shape .cores) where
   -- of the running one, or of the next to open, nothing is stored
-  pub none-stored : counted ((l .book .entry (nextName c (l .book))) .stage) ≡ 0
+  pub none-stored : stageCount ((l .book .entry (nextName c (l .book))) .stage) ≡ 0
   none-stored = unstarted ((l .book .entry (nextName c (l .book))) .stage) (fine .ranks c in-range .current)
 
   module _ (l₂ : Ledger) (same : SameClosed l l₂ c) where
     same-record : (i : ℕ) → i < l .book .next c → recordOf l₂ (newName c i) ≡ recordOf l (newName c i)
     same-record i h = record-same l l₂ (newName c i) (ap (λ (e : Entry). e .blocks) (same .entry i h)) (ap (λ (e : Entry). e .names) (same .entry i h)) (same .images i h) (same .stamp i h)
 
-    pub contents-stay : counted ((l₂ .book .entry (nextName c (l .book))) .stage) ≡ 0 → contents l₂ c ≡ contents l c
+    pub contents-stay : stageCount ((l₂ .book .entry (nextName c (l .book))) .stage) ≡ 0 → contents l₂ c ≡ contents l c
     contents-stay z =
         let r = fine .ranks c in-range in
         contents-same l l₂ c (same .oldest) (same .uncommitted) (λ i h. same-record i (omega (arith, r .mid)))
@@ -91,7 +91,7 @@ module _ (l : Ledger) (fine : Fine l) (c : ℕ) (in-range : c < l .shape .cores)
         records-same (l .book) (l₂ .book) c (l .book .oldest c) (n - l .book .oldest c) (λ j p q. ap (λ (e : Entry). length (e .blocks)) (same .entry j (omega arith)))
 
     -- its journal, with the running one's reserve
-    pub journal-stays : (d d₂ : Bytes) (t : Tail) → counted ((l₂ .book .entry (nextName c (l .book))) .stage) ≡ 0
+    pub journal-stays : (d d₂ : Bytes) (t : Tail) → stageCount ((l₂ .book .entry (nextName c (l .book))) .stage) ≡ 0
         → (isRunning ((l₂ .book .entry (nextName c (l .book))) .stage) ≡ true
         → recordBlocks (l .book) c (l .book .oldest c) (l .book .next c - l .book .oldest c) + (length ((l₂ .book .entry (nextName c (l .book))) .blocks) + 2) ≤ l .shape .journal)
         → ((q : ℕ) → journalAt (l .shape) d₂ c q ≡ journalAt (l .shape) d c q) → JournalStands l d c t → JournalStands l₂ d₂ c t
@@ -138,7 +138,7 @@ module _ (l : Ledger) (fine : Fine l) (c : ℕ) (in-range : c < l .shape .cores)
             fine .limits (uncommittedName c (l .book)) (closed-present _ (ap isClosed (s .1))) .few
 
 -- ---- a store below the journals, of the master or of a home block
-module _ {l : Ledger} {d : Bytes} {tailAt : ℕ → Tail} (f : Fine l) (z : DiskStands l d tailAt) (k : ℕ) (low : k ≤ l .shape .blocks) (x : Bytes) (block : IsBlock x) where
+module _ {l : Ledger} {d : Bytes} {tailAt : ℕ → Tail} (f : WellFormed l) (z : DiskStands l d tailAt) (k : ℕ) (low : k ≤ l .shape .blocks) (x : Bytes) (block : IsBlock x) where
   low-fits : 128 * k + 128 ≤ length d
   low-fits = rw (z .size) (omega (arith, f .range .few-blocks))
 
@@ -159,7 +159,7 @@ module _ {l : Ledger} {d : Bytes} {tailAt : ℕ → Tail} (f : Fine l) (z : Disk
   low-bytes = bytes-store d k x (z .bytes) (block .bytes)
 
 -- a home store leaves the master and the journals
-pub home-stands : {l : Ledger} {d : Bytes} {tailAt : ℕ → Tail} → Fine l → DiskStands l d tailAt → (b : ℕ) → b < l .shape .blocks → (x : Bytes) → IsBlock x
+pub home-stands : {l : Ledger} {d : Bytes} {tailAt : ℕ → Tail} → WellFormed l → DiskStands l d tailAt → (b : ℕ) → b < l .shape .blocks → (x : Bytes) → IsBlock x
     → DiskStands l (store d (homeBlock b) x) tailAt
 home-stands {l} {tailAt = tailAt} f z b h x block =
     let low : homeBlock b ≤ l .shape .blocks = omega arith in
@@ -182,10 +182,10 @@ home-stands {l} {tailAt = tailAt} f z b h x block =
     }
 
 -- ---- a card with one core replaced over another disk, where the book's writes and holders stay
-pub core-up : {l : Ledger} {w : World} → Up l w → (c : ℕ) (x : Core) (k : Book) (d : Bytes) → k .writes ≡ l .book .writes
-    → ((b : ℕ) → holderIn k b (l .book .writes) ≡ holderIn (l .book) b (l .book .writes)) → Fine (withBook l k) → DiskStands (withBook l k) d (tailOf (w .card))
+pub core-up : {l : Ledger} {w : World} → CardUp l w → (c : ℕ) (x : Core) (k : Book) (d : Bytes) → k .writes ≡ l .book .writes
+    → ((b : ℕ) → bookHolder k b (l .book .writes) ≡ bookHolder (l .book) b (l .book .writes)) → WellFormed (withBook l k) → DiskStands (withBook l k) d (tailOf (w .card))
     → ((a : ℕ) → a < l .shape .cores → CoreUp (withBook l k) (w .memory) a (coreOf (withCore (w .card) c x) a))
-    → Up (withBook l k) (record { card = withCore (w .card) c x; disk = d; memory = w .memory })
+    → CardUp (withBook l k) (record { card = withCore (w .card) c x; disk = d; memory = w .memory })
 unfolding tailOf holderOf imageNow
 core-up {l} {w} u c x k d writes holder fine disk cores =
     record {
@@ -198,9 +198,9 @@ core-up {l} {w} u c x k d writes holder fine disk cores =
       eight-tails = u .eight-tails;
       eight-cores = length-set (w .card .cores) c x ∙ u .eight-cores;
       holder-room = u .holder-room;
-      fine = fine;
+      well-formed = fine;
       disk = disk;
       cores = cores;
-      holders = λ b h. u .holders b h ∙ ap holderAs (sym (ap (holderIn k b) writes ∙ holder b));
+      holders = λ b h. u .holders b h ∙ ap holderAs (sym (ap (bookHolder k b) writes ∙ holder b));
       images = λ b h g. u .images b h g ∙ ap (λ (ws : List Write). image (image blank (l .saved)) ws b) (sym writes);
     }

@@ -9,18 +9,18 @@ use Rattle.model.specs.Card.{newTail, freshCore, freshCard, noHolder, tailOf, c
 use Rattle.model.specs.Layout.{masterBlock, isCommit}
 use Rattle.model.specs.Journal.{journalAt}
 use Rattle.model.specs.Command.{World}
-use Rattle.model.specs.declared.Phase.the-variants.{Up as PhaseUp}
+use Rattle.model.specs.declared.Phase.the-variants.{Up}
 use Rattle.model.specs.declared.Shape.{Shape}
 use Rattle.model.specs.declared.Tail.{Tail}
 use Rattle.model.specs.declared.Card.{Card}
 use Rattle.model.proofs.Encoding.{master-same}
 use Rattle.model.proofs.Limits.{InRange}
-use Rattle.crash.specs.Book.{Write, emptyBook, holderIn}
+use Rattle.crash.specs.Book.{Write, emptyBook, bookHolder}
 use Rattle.crash.specs.Ledger.{freshLedger, recordBlocks}
 use Rattle.crash.specs.Claims.{IsBytes}
 use Rattle.crash.proofs.Books.Tests.{impossible}
-use Rattle.crash.proofs.Disk.Relation.{WriteFits, contents, JournalStands, DiskStands, CoreUp, Up}
-use Rattle.crash.proofs.Disk.LedgerFresh.{fine-fresh}
+use Rattle.crash.proofs.Disk.Relation.{WriteFits, contents, JournalStands, DiskStands, CoreUp, CardUp}
+use Rattle.crash.proofs.Disk.LedgerFresh.{well-formed-fresh}
 
 -- the journals hold nothing
 module _ (s : Shape) (saved : List Write) (first : ℕ → ℕ) (c : ℕ) where
@@ -35,7 +35,7 @@ module _ (s : Shape) (saved : List Write) (first : ℕ → ℕ) (c : ℕ) where
 -- a world with a card that has just come up
 pub record ComeUp (s : Shape) (first : ℕ → ℕ) (w : World) : Type 0 where
   pub tails : List Tail
-  pub card : w .card ≡ freshCard PhaseUp s tails
+  pub card : w .card ≡ freshCard Up s tails
   pub eight : length tails ≡ 8
   pub tail : (c : ℕ) → c < s .cores → getD tails c (newTail 0 0) ≡ newTail (first c) 0
   pub memory : length (w .memory) ≡ 16384
@@ -103,8 +103,8 @@ module _ {s : Shape} {first : ℕ → ℕ} {w : World} (r : InRange s) (u : Come
           none-homed = λ k. refl;
         })
 
-    pub fresh-up : ((x : Write) → List·Memᴰ x saved → WriteFits s x) → ((c : ℕ) → c < s .cores → (1 ≤ first c) × (first c ≤ 4000000001)) → Up (freshLedger s saved first) w
-    unfolding freshLedger freshCard emptyBook holderIn
+    pub fresh-up : ((x : Write) → List·Memᴰ x saved → WriteFits s x) → ((c : ℕ) → c < s .cores → (1 ≤ first c) × (first c ≤ 4000000001)) → CardUp (freshLedger s saved first) w
+    unfolding freshLedger freshCard emptyBook bookHolder
     fresh-up fits firsts =
         record {
           phase = ap (λ (x : Card). x .phase) (u .card);
@@ -116,7 +116,7 @@ module _ {s : Shape} {first : ℕ → ℕ} {w : World} (r : InRange s) (u : Come
           eight-tails = ap (λ (x : Card). length (x .tails)) (u .card) ∙ u .eight;
           eight-cores = ap (λ (x : Card). length (x .cores)) (u .card) ∙ length-map (u .tails) (λ (t : Tail). freshCore (t .number)) ∙ u .eight;
           holder-room = ap (λ (x : Card). length (x .holders)) (u .card) ∙ length-replicate 64 noHolder;
-          fine = fine-fresh s saved first r fits firsts;
+          well-formed = well-formed-fresh s saved first r fits firsts;
           disk = fresh-stands;
           cores = fresh-core-up;
           holders = fresh-holder;

@@ -18,16 +18,16 @@ use Rattle.model.proofs.Select.{select-mem, select-same}
 use Rattle.crash.specs.Book.{keptWrites, blank}
 use Rattle.crash.specs.Ledger.{Ledger, blocksIn, firstNumber, recoverLedger, recoverStored}
 use Rattle.crash.proofs.Books.Tests.{impossible}
-use Rattle.crash.proofs.Disk.Relation.{IsBlock, Fine, Up, target, DownBy}
-use Rattle.crash.proofs.Disk.LedgerFresh.{image-block, blank-block, fine-home, phased, kept-fits}
+use Rattle.crash.proofs.Disk.Relation.{IsBlock, WellFormed, CardUp, target, CardDown}
+use Rattle.crash.proofs.Disk.LedgerFresh.{image-block, blank-block, well-formed-home, withPhase, kept-fits}
 use Rattle.crash.proofs.Disk.ReadMaster.{shape-read, master-block}
 use Rattle.crash.proofs.Disk.ReadRecords.{length-readList, few-records, journal-read}
 use Rattle.crash.proofs.Disk.ReadValid.{own-tails, blocks-on}
 use Rattle.crash.proofs.Disk.ReadNewest.{newest-image}
 use Rattle.crash.proofs.Commands.CardFrames.{low-stored, low-other, low-journal, low-size, low-bytes, home-stands}
 use Rattle.crash.proofs.Commands.CardFresh.{ComeUp, fresh-up}
-use Rattle.crash.proofs.Commands.CardCut.{stands-phased, target-phased, newest-phased, held-low}
-use Rattle.model.specs.declared.Phase.the-variants.{Up as PhaseUp, Down as PhaseDown}
+use Rattle.crash.proofs.Commands.CardCut.{stands-withPhase, target-withPhase, newest-withPhase, held-low}
+use Rattle.model.specs.declared.Phase.the-variants.{Up, Down}
 use Rattle.model.specs.declared.Shape.{Shape}
 use Rattle.model.specs.declared.Tail.{Tail}
 
@@ -78,16 +78,16 @@ unfolding blocksIn
 held-ascend l = ascending-select _ (below (l .shape .blocks)) (ascending-below (l .shape .blocks))
 
 -- ---- the kept writes fit, so the target's blocks are blocks of bytes
-target-block : (l : Ledger) → Fine l → (b : ℕ) → IsBlock (target l b)
+target-block : (l : Ledger) → WellFormed l → (b : ℕ) → IsBlock (target l b)
 unfolding target
 target-block l f b =
     image-block (l .shape) blank b (blank-block b) (keptWrites (l .book) ++ l .saved) (kept-fits l f)
 
 -- ---- RECOVER
-module _ {l : Ledger} {w : World} (v : DownBy l w) where
+module _ {l : Ledger} {w : World} (v : CardDown l w) where
   left-read : blocksLeft w ≡ l .left
   unfolding blocksLeft
-  left-read = rw (blocks-on (v .fine) (v .disk)) (sym (v .left))
+  left-read = rw (blocks-on (v .well-formed) (v .disk)) (sym (v .left))
 
   -- ---- a home store
   module _ {b : ℕ} {bs : List ℕ} (e : l .left ≡ b ∷ bs) where
@@ -101,32 +101,32 @@ module _ {l : Ledger} {w : World} (v : DownBy l w) where
     unfolding recovered recoverStep
     home-outcome =
         ap (λ (xs : List ℕ). recoverStep xs w) (left-read ∙ e)
-        ∙ ap (storing w (recoveredTo (w .card) (b + 1)) (homeBlock b)) (newest-image (v .fine) (v .disk) (v .newest b held-first))
+        ∙ ap (storing w (recoveredTo (w .card) (b + 1)) (homeBlock b)) (newest-image (v .well-formed) (v .disk) (v .newest b held-first))
 
-    pub recover-home : DownBy (recoverLedger (b ∷ bs) l) ((recovered w) .world)
+    pub recover-home : CardDown (recoverLedger (b ∷ bs) l) ((recovered w) .world)
     unfolding recoverLedger
     recover-home =
         let x = target l b in
-        let i = target-block l (v .fine) b in
-        subst (λ (o : Outcome World). DownBy (recoverLedger (b ∷ bs) l) (o .world)) (sym home-outcome)
+        let i = target-block l (v .well-formed) b in
+        subst (λ (o : Outcome World). CardDown (recoverLedger (b ∷ bs) l) (o .world)) (sym home-outcome)
         (record {
           phase = v .phase;
           ledger = refl;
           memory = v .memory;
           memory-bytes = v .memory-bytes;
-          fine = fine-home b bs l (v .fine);
+          well-formed = well-formed-home b bs l (v .well-formed);
           tailAt = v .tailAt;
-          disk = stands-phased PhaseDown bs (home-stands (v .fine) (v .disk) b first-low x i);
+          disk = stands-withPhase Down bs (home-stands (v .well-formed) (v .disk) b first-low x i);
           left = select-after (w .card .recovered) b bs (blocksIn (l .shape .blocks) (l .book)) (held-ascend l) (sym (v .left) ∙ e);
-          newest = λ j m. newest-phased PhaseDown bs (v .newest j m);
+          newest = λ j m. newest-withPhase Down bs (v .newest j m);
           at-home =
               λ j h a.
               elim (ℕ-discrete j b) [
-                | yes q ↦ subst (λ (k : ℕ). blockAt (store (w .disk) (homeBlock b) x) (homeBlock k) ≡ target (phased PhaseDown bs l) k) (sym q)
-                    (low-stored (v .fine) (v .disk) (homeBlock b) (omega (arith, first-low)) x i ∙ sym (target-phased PhaseDown bs l b))
-                | no ne ↦ low-other (v .fine) (v .disk) (homeBlock b) (omega (arith, first-low)) x i (homeBlock j) (λ q. ne (omega arith))
+                | yes q ↦ subst (λ (k : ℕ). blockAt (store (w .disk) (homeBlock b) x) (homeBlock k) ≡ target (withPhase Down bs l) k) (sym q)
+                    (low-stored (v .well-formed) (v .disk) (homeBlock b) (omega (arith, first-low)) x i ∙ sym (target-withPhase Down bs l b))
+                | no ne ↦ low-other (v .well-formed) (v .disk) (homeBlock b) (omega (arith, first-low)) x i (homeBlock j) (λ q. ne (omega arith))
                     ∙ v .at-home j h (rw e (unfold any in rw (ne-eqb j b ne) a))
-                    ∙ sym (target-phased PhaseDown bs l j)
+                    ∙ sym (target-withPhase Down bs l j)
               ];
         })
 
@@ -138,15 +138,15 @@ module _ {l : Ledger} {w : World} (v : DownBy l w) where
   emptied : (c : ℕ) → c < l .shape .cores → emptiedTail (w .disk) c ≡ firstTail c
   unfolding emptiedTail
   emptied c h =
-      let own = own-tails (v .fine) (v .disk) in
+      let own = own-tails (v .well-formed) (v .disk) in
       let t = tailOn (w .disk) c in
       let k : length (journal (l .shape) (w .disk) c t (l .shape .journal)) ≡ l .book .uncommitted c - l .book .oldest c =
-      ap length (journal-read (v .fine) own c h (l .shape .journal) (few-records (v .fine) own c h)) ∙ length-readList l c t in
-      let e : l .book .oldest c + (l .book .uncommitted c - l .book .oldest c + 1) ≡ l .book .uncommitted c + 1 = omega (arith, v .fine .ranks c h .low) in
-      rw (shape-read (v .fine) (v .disk), lt-ltb c (l .shape .cores) h, k, own .journals c h .number, e)
+      ap length (journal-read (v .well-formed) own c h (l .shape .journal) (few-records (v .well-formed) own c h)) ∙ length-readList l c t in
+      let e : l .book .oldest c + (l .book .uncommitted c - l .book .oldest c + 1) ≡ l .book .uncommitted c + 1 = omega (arith, v .well-formed .ranks c h .low) in
+      rw (shape-read (v .well-formed) (v .disk), lt-ltb c (l .shape .cores) h, k, own .journals c h .number, e)
 
   is-master : IsBlock (masterBlock (l .shape) firstTail)
-  is-master = master-block (v .fine .range) firstTail
+  is-master = master-block (v .well-formed .range) firstTail
 
   module _ (e : l .left ≡ []) where
     master-outcome : recovered w ≡ storing w (broughtUp (w .disk)) 0 (masterBlock (l .shape) firstTail)
@@ -154,10 +154,10 @@ module _ {l : Ledger} {w : World} (v : DownBy l w) where
     master-outcome =
         ap (λ (xs : List ℕ). recoverStep xs w) (left-read ∙ e)
         ∙ ap (storing w (broughtUp (w .disk)) 0)
-        (ap (λ (s : Shape). masterBlock s (emptiedTail (w .disk))) (shape-read (v .fine) (v .disk)) ∙ master-same (l .shape) (emptiedTail (w .disk)) firstTail emptied)
+        (ap (λ (s : Shape). masterBlock s (emptiedTail (w .disk))) (shape-read (v .well-formed) (v .disk)) ∙ master-same (l .shape) (emptiedTail (w .disk)) firstTail emptied)
 
     master-other : (k : ℕ) → k ≢ 0 → blockAt ((recovered w) .world .disk) k ≡ blockAt (w .disk) k
-    master-other k ne = rw master-outcome (low-other (v .fine) (v .disk) 0 (omega arith) (masterBlock (l .shape) firstTail) is-master k ne)
+    master-other k ne = rw master-outcome (low-other (v .well-formed) (v .disk) 0 (omega arith) (masterBlock (l .shape) firstTail) is-master k ne)
 
     -- the home area is the one that the kept writes give
     pub recovered-home : (b : ℕ) → b < l .shape .blocks → blockAt ((recovered w) .world .disk) (homeBlock b) ≡ target l b
@@ -165,8 +165,8 @@ module _ {l : Ledger} {w : World} (v : DownBy l w) where
 
     recovered-clear : (c : ℕ) → c < l .shape .cores → (i q : ℕ) → firstNumber l c ≤ i → isCommit (l .shape) i (journalAt (l .shape) ((recovered w) .world .disk) c q) ≡ false
     recovered-clear c h i q k =
-        let r = v .fine .ranks c h in
-        rw (master-outcome, low-journal (v .fine) (v .disk) 0 (omega arith) (masterBlock (l .shape) firstTail) is-master c q)
+        let r = v .well-formed .ranks c h in
+        rw (master-outcome, low-journal (v .well-formed) (v .disk) 0 (omega arith) (masterBlock (l .shape) firstTail) is-master c q)
         (v .disk .journals c h .clear i q (omega (arith, r .mid, r .top)))
 
     recovered-comes-up : ComeUp (l .shape) (firstNumber l) ((recovered w) .world)
@@ -175,21 +175,21 @@ module _ {l : Ledger} {w : World} (v : DownBy l w) where
         let m = masterBlock (l .shape) firstTail in
         record {
           tails = map (emptiedTail (w .disk)) (below 8);
-          card = rw o (unfold broughtUp in ap (λ (s : Shape). freshCard PhaseUp s (map (emptiedTail (w .disk)) (below 8))) (shape-read (v .fine) (v .disk)));
+          card = rw o (unfold broughtUp in ap (λ (s : Shape). freshCard Up s (map (emptiedTail (w .disk)) (below 8))) (shape-read (v .well-formed) (v .disk)));
           eight = length-map (below 8) (emptiedTail (w .disk)) ∙ length-below 8;
-          tail = λ c h. getD-map-below (emptiedTail (w .disk)) 8 c (newTail 0 0) (omega (arith, v .fine .range .few-cores)) ∙ emptied c h;
+          tail = λ c h. getD-map-below (emptiedTail (w .disk)) 8 c (newTail 0 0) (omega (arith, v .well-formed .range .few-cores)) ∙ emptied c h;
           memory = rw o (v .memory);
           memory-bytes = rw o (v .memory-bytes);
-          size = rw o (low-size (v .fine) (v .disk) 0 (omega arith) m is-master);
-          bytes = rw o (low-bytes (v .fine) (v .disk) 0 (omega arith) m is-master);
-          master = rw o (low-stored (v .fine) (v .disk) 0 (omega arith) m is-master);
+          size = rw o (low-size (v .well-formed) (v .disk) 0 (omega arith) m is-master);
+          bytes = rw o (low-bytes (v .well-formed) (v .disk) 0 (omega arith) m is-master);
+          master = rw o (low-stored (v .well-formed) (v .disk) 0 (omega arith) m is-master);
           clear = recovered-clear;
         }
 
-    pub recover-master : Up (recoverLedger [] l) ((recovered w) .world)
+    pub recover-master : CardUp (recoverLedger [] l) ((recovered w) .world)
     unfolding recoverLedger
     recover-master =
-        fresh-up (v .fine .range) recovered-comes-up (keptWrites (l .book) ++ l .saved) (kept-fits l (v .fine)) (λ c h. (omega arith, omega arith))
+        fresh-up (v .well-formed .range) recovered-comes-up (keptWrites (l .book) ++ l .saved) (kept-fits l (v .well-formed)) (λ c h. (omega arith, omega arith))
 
   -- ---- the store that the ledger says, and when the card comes up
   pub recovered-bytes : ((recovered w) .world .disk ≡ recoverStored (l .left) l (w .disk)) × ((recovered w) .stores ≡ 1)

@@ -8,17 +8,17 @@ use mathlib.Core.Bool.{and-false, and-true}
 use lib.Seq.{take-suc-set}
 use Rattle.model.specs.Card.{newName, sameName, opened, taken, listed, lists, withBlock, withName, newHolder, coreOf, holderOf}
 use Rattle.model.specs.Command.{World}
-use Rattle.model.specs.Write.{writer, writerName, isRunning as isRunningIn, ruleFor, writerAfter}
+use Rattle.model.specs.Write.{writer, writerName, isRunningIn, ruleFor, writerAfter}
 use Rattle.model.specs.declared.Name.{Name}
 use Rattle.model.specs.declared.Transaction.{Transaction}
 use Rattle.model.specs.declared.Rule.the-variants.{Free, Own, Running, Closed}
 use Rattle.model.proofs.Lists.{cases}
 use Rattle.model.proofs.Valid.{sameName-refl}
-use Rattle.crash.specs.Book.{absent, running, isRunning, isClosed, Entry, Book, staged, taking, naming, begin, holderIn, Meeting, no-holder, own, running-holder, closed-holder, meets, ruled, change, wrote}
+use Rattle.crash.specs.Book.{absent, running, isRunning, isClosed, Entry, Book, staged, taking, naming, begin, bookHolder, Meeting, no-holder, own, running-holder, closed-holder, meets, ruled, change, writeBook}
 use Rattle.crash.specs.Ledger.{Ledger}
 use Rattle.crash.proofs.Books.BookEntries.{same-or-not, sameName-false, change-at, change-other, nextName}
-use Rattle.crash.proofs.Books.BookSteps.{begun, meeting, begun-other, wrote-entry}
-use Rattle.crash.proofs.Disk.Relation.{Matches, holderAs, Up}
+use Rattle.crash.proofs.Books.BookSteps.{begun, meeting, begun-other, write-entry}
+use Rattle.crash.proofs.Disk.Relation.{Matches, holderAs, CardUp}
 use Rattle.crash.proofs.Disk.LedgerStages.{present-open, closed-idle, running-next}
 
 -- ---- a transaction of the card and its entry
@@ -65,31 +65,31 @@ module _ (k : Book) (c : ℕ) (current : ((k .entry (nextName c k)) .stage ≡ a
   abbrev t : Name
   t = nextName c k
 
-  ruled-by : (m : Meeting) → meeting c b k ≡ m → (n : Name) → (wrote c b o v k) .entry n ≡ ruled m t b (begun c k .entry) n
-  ruled-by m e n = ap (λ (f : Name → Entry). f n) (wrote-entry k c current b o v ∙ ap (λ (m : Meeting). ruled m t b (begun c k .entry)) e)
+  ruled-by : (m : Meeting) → meeting c b k ≡ m → (n : Name) → (writeBook c b o v k) .entry n ≡ ruled m t b (begun c k .entry) n
+  ruled-by m e n = ap (λ (f : Name → Entry). f n) (write-entry k c current b o v ∙ ap (λ (m : Meeting). ruled m t b (begun c k .entry)) e)
 
-  pub entry-free : meeting c b k ≡ no-holder → (wrote c b o v k) .entry t ≡ taking b (begun c k .entry t)
+  pub entry-free : meeting c b k ≡ no-holder → (writeBook c b o v k) .entry t ≡ taking b (begun c k .entry t)
   unfolding ruled
   entry-free e = ruled-by no-holder e t ∙ change-at t (taking b) (begun c k .entry)
 
-  pub entry-own : meeting c b k ≡ own → (wrote c b o v k) .entry t ≡ begun c k .entry t
+  pub entry-own : meeting c b k ≡ own → (writeBook c b o v k) .entry t ≡ begun c k .entry t
   unfolding ruled
   entry-own e = ruled-by own e t
 
   module _ (n : Name) (other : n ≢ t) where
-    pub entry-running : meeting c b k ≡ running-holder n → (wrote c b o v k) .entry t ≡ naming n (begun c k .entry t)
+    pub entry-running : meeting c b k ≡ running-holder n → (writeBook c b o v k) .entry t ≡ naming n (begun c k .entry t)
     unfolding ruled
     entry-running e =
         ruled-by (running-holder n) e t
         ∙ change-other n (naming t) (change t (naming n) (begun c k .entry)) t (λ s. other (sym s))
         ∙ change-at t (naming n) (begun c k .entry)
 
-    pub entry-closed : meeting c b k ≡ closed-holder n → (wrote c b o v k) .entry t ≡ taking b (naming n (begun c k .entry t))
+    pub entry-closed : meeting c b k ≡ closed-holder n → (writeBook c b o v k) .entry t ≡ taking b (naming n (begun c k .entry t))
     unfolding ruled
     entry-closed e = ruled-by (closed-holder n) e t ∙ change-at t (λ (e : Entry). taking b (naming n e)) (begun c k .entry)
 
     -- the running holder's
-    pub entry-holder : meeting c b k ≡ running-holder n → (wrote c b o v k) .entry n ≡ naming t (k .entry n)
+    pub entry-holder : meeting c b k ≡ running-holder n → (writeBook c b o v k) .entry n ≡ naming t (k .entry n)
     unfolding ruled
     entry-holder e =
         ruled-by (running-holder n) e n
@@ -104,7 +104,7 @@ more-names : (n : Name) (e : Entry) → length ((naming n e) .names) ≤ 12 → 
 more-names n e h q = let g : length (e .names ++ (n ∷ [])) ≤ 12 = rw q at h in omega (arith, length-append (e .names) (n ∷ []))
 
 -- ---- running ones
-module _ {l : Ledger} {w : World} (u : Up l w) where
+module _ {l : Ledger} {w : World} (u : CardUp l w) where
   -- a core's transaction runs in the card where it does in the ledger
   pub live-runs : (a : ℕ) → a < l .shape .cores → (coreOf (w .card) a) .running .live ≡ isRunning ((l .book .entry (nextName a (l .book))) .stage)
   live-runs a h =
@@ -118,7 +118,7 @@ module _ {l : Ledger} {w : World} (u : Up l w) where
       elim (ℕ-discrete (l .book .next (n .core)) (n .number)) [
         | yes e ↦ rw (u .cores (n .core) h .next, eq-eqb (l .book .next (n .core)) (n .number) e, live-runs (n .core) h, e) (and-true _)
         | no ne ↦ rw (u .cores (n .core) h .next, ne-eqb (l .book .next (n .core)) (n .number) ne, and-false)
-            (sym (cases (isRunning ((l .book .entry n) .stage)) (λ e. absurd (ne (sym (running-next (u .fine .ranks (n .core) h) (n .number) e)))) (λ e. e)))
+            (sym (cases (isRunning ((l .book .entry n) .stage)) (λ e. absurd (ne (sym (running-next (u .well-formed .ranks (n .core) h) (n .number) e)))) (λ e. e)))
       ]
 
   module _ (c : ℕ) (in-range : c < l .shape .cores) where
@@ -132,33 +132,33 @@ module _ {l : Ledger} {w : World} (u : Up l w) where
     writer-matches =
         let t = nextName c (l .book) in
         rw (live-runs c in-range)
-        (elim (u .fine .ranks c in-range .current) [
-          | inl e ↦ (let z = u .fine .unopened t e in
+        (elim (u .well-formed .ranks c in-range .current) [
+          | inl e ↦ (let z = u .well-formed .unopened t e in
               rw (ap isRunning e, change-at t (staged running) (l .book .entry)) (matches-opened (staged running (l .book .entry t)) (z .0) (z .1)))
           | inr e ↦ rw (ap isRunning e) (u .cores c in-range .runs (ap isRunning e))
         ])
 
-    module _ (b : ℕ) (low : b < l .shape .blocks) (opens : (n : Name) → holderIn (l .book) b (l .book .writes) ≡ some n → (l .book .entry n) .stage ≢ absent) where
+    module _ (b : ℕ) (low : b < l .shape .blocks) (opens : (n : Name) → bookHolder (l .book) b (l .book .writes) ≡ some n → (l .book .entry n) .stage ≢ absent) where
       -- another that holds the block
       pub record MetHolder (n : Name) : Type 0 where
-        pub holder : holderIn (l .book) b (l .book .writes) ≡ some n
+        pub holder : bookHolder (l .book) b (l .book .writes) ≡ some n
         pub name : (holderOf (w .card) b) .name ≡ n
         pub held : (holderOf (w .card) b) .held ≡ true
         pub other : n ≢ nextName c (l .book)
         pub core : n .core < l .shape .cores
 
       pub data Met : Type 0 where
-        met-none : holderIn (l .book) b (l .book .writes) ≡ none → meeting c b (l .book) ≡ no-holder → ruleFor (w .card) c b ≡ Free → Met
-        met-own : holderIn (l .book) b (l .book .writes) ≡ some (nextName c (l .book)) → (holderOf (w .card) b) .held ≡ true → meeting c b (l .book) ≡ own → ruleFor (w .card) c b ≡ Own → Met
+        met-none : bookHolder (l .book) b (l .book .writes) ≡ none → meeting c b (l .book) ≡ no-holder → ruleFor (w .card) c b ≡ Free → Met
+        met-own : bookHolder (l .book) b (l .book .writes) ≡ some (nextName c (l .book)) → (holderOf (w .card) b) .held ≡ true → meeting c b (l .book) ≡ own → ruleFor (w .card) c b ≡ Own → Met
         met-running : (n : Name) → MetHolder n → (l .book .entry n) .stage ≡ running → n ≡ nextName (n .core) (l .book) → n .core ≢ c
             → meeting c b (l .book) ≡ running-holder n → ruleFor (w .card) c b ≡ Running → Met
         met-closed : (n : Name) → MetHolder n → isClosed ((l .book .entry n) .stage) ≡ true → meeting c b (l .book) ≡ closed-holder n → ruleFor (w .card) c b ≡ Closed → Met
 
       pub rule-met : Met
       unfolding ruleFor meets
-      rule-met = go (holderIn (l .book) b (l .book .writes)) refl
+      rule-met = go (bookHolder (l .book) b (l .book .writes)) refl
         where
-          go : (h : Option Name) → holderIn (l .book) b (l .book .writes) ≡ h → Met
+          go : (h : Option Name) → bookHolder (l .book) b (l .book .writes) ≡ h → Met
           go none e = let q = u .holders b low ∙ ap holderAs e in met-none e (rw e refl) (rw q refl)
           go (some n) e =
               let q : holderOf (w .card) b ≡ newHolder n = u .holders b low ∙ ap holderAs e in
@@ -166,13 +166,13 @@ module _ {l : Ledger} {w : World} (u : Up l w) where
               same-or-not n t
               (λ s. met-own (e ∙ ap some s) (rw q refl) (rw (e, s, sameName-refl t) refl) (rw (q, writer-name, s, sameName-refl t) refl))
               (λ ne.
-              let core : n .core < l .shape .cores = u .fine .limits n (opens n e) .core in
+              let core : n .core < l .shape .cores = u .well-formed .limits n (opens n e) .core in
               let m : MetHolder n = record { holder = e; name = rw q refl; held = rw q refl; other = ne; core = core } in
               cases (isClosed ((l .book .entry n) .stage))
               (λ k. met-closed n m k (rw (e, sameName-false n t ne, k) refl) (rw (q, writer-name, sameName-false n t ne, runs-in n core, closed-idle ((l .book .entry n) .stage) k) refl))
               (λ k.
               let r = present-open ((l .book .entry n) .stage) (opens n e) k in
-              let x : n .number ≡ l .book .next (n .core) = running-next (u .fine .ranks (n .core) core) (n .number) (ap isRunning r) in
+              let x : n .number ≡ l .book .next (n .core) = running-next (u .well-formed .ranks (n .core) core) (n .number) (ap isRunning r) in
               met-running n m r (ap (newName (n .core)) x) (λ y. ne (ap₂ newName y (x ∙ ap (l .book .next) y))) (rw (e, sameName-false n t ne, k) refl)
               (rw (q, writer-name, sameName-false n t ne, runs-in n core, r) refl)))
 
@@ -189,7 +189,7 @@ module _ {l : Ledger} {w : World} (u : Up l w) where
         t₂ = nextName c (l .book)
 
         abbrev k₂ : Book
-        k₂ = wrote c b o v (l .book)
+        k₂ = writeBook c b o v (l .book)
 
         abbrev e₁ : Entry
         e₁ = begun c (l .book) .entry t₂
@@ -197,7 +197,7 @@ module _ {l : Ledger} {w : World} (u : Up l w) where
         pub writer-after : length ((k₂ .entry t₂) .blocks) ≤ 8 → length ((k₂ .entry t₂) .names) ≤ 12 → Matches (writerAfter (w .card) c b) (k₂ .entry t₂)
         unfolding writerAfter
         writer-after few short =
-            let current = u .fine .ranks c in-range .current in
+            let current = u .well-formed .ranks c in-range .current in
             elim rule-met [
               | met-none _ e r ↦ (let q = entry-free (l .book) c current b o v e in
                   rw (r, q) (matches-block writer-matches b (more-blocks b e₁ (rw q at few))))
@@ -212,5 +212,5 @@ module _ {l : Ledger} {w : World} (u : Up l w) where
           pub holder-after : meeting c b (l .book) ≡ running-holder n → length ((k₂ .entry n) .names) ≤ 12
               → Matches (withName ((coreOf (w .card) (n .core)) .running) (writerName (w .card) c)) (k₂ .entry n)
           holder-after e short =
-              let q = entry-holder (l .book) c (u .fine .ranks c in-range .current) b o v n (h .other) e in
+              let q = entry-holder (l .book) c (u .well-formed .ranks c in-range .current) b o v n (h .other) e in
               rw (q, writer-name) (matches-name (holder-matches n h runs is) t₂ (more-names t₂ (l .book .entry n) (rw q at short)))

@@ -5,24 +5,24 @@ use Rattle.model.proofs.Base.{ℕ, suc, _+_, _-_, _*_, _≤_, _<_, arith, decLt
 use Rattle.model.proofs.Base.{true, List, [], _∷_, _++_, flatMap, append-assoc, append-nil, length, take, getD, length-append}
 use Rattle.model.proofs.Base.{List·getD-append, take-all, take-suc, getD-at, leb, eq-eqb, ne-eqb, le-leb, lt-leb, below, Bytes}
 use lib.Seq.{length-take-le}
-use Rattle.model.specs.Bytes.{store as storeBlock, blockAt, part, number}
+use Rattle.model.specs.Bytes.{store, blockAt, part, number}
 use Rattle.model.specs.Shape.{homeBlock, journalBlock}
 use Rattle.model.specs.Card.{newName, recordSize, tailOf, coreOf, withCore}
-use Rattle.model.specs.Layout.{newHeld, flagOf, isCommit}
+use Rattle.model.specs.Layout.{newTag, flagOf, isCommit}
 use Rattle.model.specs.Journal.{journalAt}
 use Rattle.model.specs.Command.{World}
-use Rattle.model.specs.Commit.{copyBlock, heldCopies, nextStored, nextPosition, coreStored, stored}
+use Rattle.model.specs.Commit.{copyBlock, copyTags, nextStored, nextPosition, coreStored, stored}
 use Rattle.model.specs.declared.Name.{Name}
 use Rattle.model.specs.declared.Core.{Core}
 use Rattle.model.proofs.Lists.{cases, flatMap-append, map-below, flatMap-below}
 use Rattle.model.proofs.Store.{length-store, block-stored, block-other}
 use Rattle.model.proofs.Journal.{journal-low, home-apart, cores-apart, journal-apart}
-use Rattle.crash.specs.Book.{closed, committed, isClosed, counted, Entry, Book, raise, staged, store}
-use Rattle.crash.specs.Ledger.{Ledger, withBook, recordBlocks, heldOf, recordOf, recordStored}
+use Rattle.crash.specs.Book.{closed, committed, isClosed, stageCount, Entry, Book, raise, staged, storeBook}
+use Rattle.crash.specs.Ledger.{Ledger, withBook, recordBlocks, recordTags, recordOf, recordStored}
 use Rattle.crash.proofs.Books.BookEntries.{other-number, other-core, change-at, raise-at, raise-other, records-snoc, nextName, uncommittedName}
 use Rattle.crash.proofs.Books.BookSteps.{Restages, restaged, restages-records, storedStage, store-restages, store-more, store-last, store-holder}
 use Rattle.crash.proofs.Disk.BlockBytes.{bytes-store}
-use Rattle.crash.proofs.Disk.Relation.{first-waiting, IsBlock, Fine, contents, JournalStands, DiskStands, CoreUp, Up}
+use Rattle.crash.proofs.Disk.Relation.{first-waiting, IsBlock, WellFormed, contents, JournalStands, DiskStands, CoreUp, CardUp}
 use Rattle.crash.proofs.Disk.ReadMaster.{shape-up, tail-read}
 use Rattle.crash.proofs.Disk.RecordFormat.{length-record, record-each, record-blocks, record-clear}
 use Rattle.crash.proofs.Disk.ReadRecords.{records-flat, length-records, stored-closed}
@@ -31,14 +31,14 @@ use Rattle.crash.proofs.Commands.CardFrames.{SameClosed, core-set, core
 -- ---- STORE
 held-copies : (l : Ledger) (t : Name) (c : ℕ) (m : Bytes)
     → ((i : ℕ) → i < length ((l .book .entry t) .blocks) → blockAt m (copyBlock c i) ≡ getD (l .images t) i [])
-    → heldCopies c ((l .book .entry t) .blocks) m ≡ heldOf l t
-unfolding heldCopies heldOf
+    → copyTags c ((l .book .entry t) .blocks) m ≡ recordTags l t
+unfolding copyTags recordTags
 held-copies l t c m h =
     let bs = (l .book .entry t) .blocks in
-    map-below (λ (i : ℕ). newHeld (getD bs i 0) (flagOf (blockAt m (copyBlock c i)))) (λ (i : ℕ). newHeld (getD bs i 0) (flagOf (getD (l .images t) i [])))
-    (length bs) (λ i g. ap (λ (b : Bytes). newHeld (getD bs i 0) (flagOf b)) (h i g))
+    map-below (λ (i : ℕ). newTag (getD bs i 0) (flagOf (blockAt m (copyBlock c i)))) (λ (i : ℕ). newTag (getD bs i 0) (flagOf (getD (l .images t) i [])))
+    (length bs) (λ i g. ap (λ (b : Bytes). newTag (getD bs i 0) (flagOf b)) (h i g))
 
-module _ {l : Ledger} {w : World} (u : Up l w) (c : ℕ) (in-range : c < l .shape .cores) (busy : l .book .uncommitted c < l .book .next c) where
+module _ {l : Ledger} {w : World} (u : CardUp l w) (c : ℕ) (in-range : c < l .shape .cores) (busy : l .book .uncommitted c < l .book .next c) where
   abbrev pub t : Name
   t = uncommittedName c (l .book)
 
@@ -46,7 +46,7 @@ module _ {l : Ledger} {w : World} (u : Up l w) (c : ℕ) (in-range : c < l .shap
   x = coreOf (w .card) c
 
   abbrev pub k₂ : Book
-  k₂ = store c (l .book)
+  k₂ = storeBook c (l .book)
 
   abbrev pub l₂ : Ledger
   l₂ = withBook l k₂
@@ -59,12 +59,12 @@ module _ {l : Ledger} {w : World} (u : Up l w) (c : ℕ) (in-range : c < l .shap
 
   pub within : x .stored ≤ length ((l .book .entry t) .blocks) + 1
   within =
-      let s = first-waiting (u .fine .ranks c in-range) busy in
-      let e : s .0 ≡ x .stored = ap counted (sym (s .1) ∙ stage-now) in
+      let s = first-waiting (u .well-formed .ranks c in-range) busy in
+      let e : s .0 ≡ x .stored = ap stageCount (sym (s .1) ∙ stage-now) in
       omega (arith, s .2)
 
   pub size : length (recordOf l t) ≡ length ((l .book .entry t) .blocks) + 2
-  size = length-record (u .fine) t closed-now
+  size = length-record (u .well-formed) t closed-now
 
   next-now : x .next - 1 ≡ l .book .uncommitted c
   next-now = omega (arith, u .cores c in-range .next, u .cores c in-range .one)
@@ -75,7 +75,7 @@ module _ {l : Ledger} {w : World} (u : Up l w) (c : ℕ) (in-range : c < l .shap
   next-block =
       let y = u .cores c in-range in
       let m = y .closing busy in
-      let n = u .fine .frozen t closed-now .count in
+      let n = u .well-formed .frozen t closed-now .count in
       record-each l t (λ (i : ℕ) (b : Bytes). x .stored ≡ i → nextStored c x (w .memory) ≡ b)
       (λ e. rw (eq-eqb (x .stored) 0 e, m .blocks, next-now, held-copies l t c (w .memory) (y .copies busy)) refl)
       (λ i g e.
@@ -89,19 +89,19 @@ module _ {l : Ledger} {w : World} (u : Up l w) (c : ℕ) (in-range : c < l .shap
   pub length-contents : length (contents l c) ≡ x .used + x .stored
   unfolding contents
   length-contents =
-      let r = u .fine .ranks c in-range in
+      let r = u .well-formed .ranks c in-range in
       let o = l .book .oldest c in
       let n = l .book .uncommitted c - o in
       let g = flatMap (λ (i : ℕ). recordOf l (newName c (o + i))) (below n) in
       let whole : length g ≡ x .used =
-      ap length (records-flat l c o n) ∙ length-records (u .fine) c o n (stored-closed (u .fine) (u .disk) c in-range) ∙ sym (u .cores c in-range .used) in
-      let part : length (take (counted ((l .book .entry t) .stage)) (recordOf l t)) ≡ x .stored =
-      ap (λ (i : ℕ). length (take i (recordOf l t))) (ap counted stage-now) ∙ length-take-le (x .stored) (recordOf l t) (omega (arith, within, size)) in
-      length-append g (take (counted ((l .book .entry t) .stage)) (recordOf l t)) ∙ ap₂ _+_ whole part
+      ap length (records-flat l c o n) ∙ length-records (u .well-formed) c o n (stored-closed (u .well-formed) (u .disk) c in-range) ∙ sym (u .cores c in-range .used) in
+      let part : length (take (stageCount ((l .book .entry t) .stage)) (recordOf l t)) ≡ x .stored =
+      ap (λ (i : ℕ). length (take i (recordOf l t))) (ap stageCount stage-now) ∙ length-take-le (x .stored) (recordOf l t) (omega (arith, within, size)) in
+      length-append g (take (stageCount ((l .book .entry t) .stage)) (recordOf l t)) ∙ ap₂ _+_ whole part
 
   room : x .used + (length ((l .book .entry t) .blocks) + 2) ≤ l .shape .journal
   room =
-      let r = u .fine .ranks c in-range in
+      let r = u .well-formed .ranks c in-range in
       let o = l .book .oldest c in
       let n = l .book .uncommitted c - o in
       let e : l .book .next c - o ≡ suc n = omega (arith, r .low, u .cores c in-range .one) in
@@ -118,12 +118,12 @@ module _ {l : Ledger} {w : World} (u : Up l w) (c : ℕ) (in-range : c < l .shap
   new-record v = record-same l l₂ v (new .blocks v) (new .names v) refl refl
 
   pub new-uncommitted : (a : ℕ) → a ≢ c → k₂ .uncommitted a ≡ l .book .uncommitted a
-  unfolding store
+  unfolding storeBook
   new-uncommitted a ne =
-      cases (leb (length ((l .book .entry t) .blocks) + 2) (suc (counted ((l .book .entry t) .stage)))) (λ h. rw (h, raise-other c (l .book .uncommitted) a ne)) (λ h. rw h)
+      cases (leb (length ((l .book .entry t) .blocks) + 2) (suc (stageCount ((l .book .entry t) .stage)))) (λ h. rw (h, raise-other c (l .book .uncommitted) a ne)) (λ h. rw h)
 
   same-numbers : ((a : ℕ) → k₂ .oldest a ≡ l .book .oldest a) × ((a : ℕ) → k₂ .next a ≡ l .book .next a)
-  unfolding store
+  unfolding storeBook
   same-numbers = (λ a. refl, λ a. refl)
 
   pub others : (a : ℕ) → a ≢ c → SameClosed l l₂ a
@@ -176,7 +176,7 @@ module _ {l : Ledger} {w : World} (u : Up l w) (c : ℕ) (in-range : c < l .shap
     last-contents : contents l₂ c ≡ contents l c ++ (getD (recordOf l t) (x .stored) [] ∷ [])
     unfolding contents below flatMap
     last-contents =
-        let r = u .fine .ranks c in-range in
+        let r = u .well-formed .ranks c in-range in
         let o = l .book .oldest c in
         let n = l .book .uncommitted c - o in
         let f : ℕ → List Bytes = λ i. recordOf l (newName c (o + i)) in
@@ -184,8 +184,8 @@ module _ {l : Ledger} {w : World} (u : Up l w) (c : ℕ) (in-range : c < l .shap
         let m : suc (l .book .uncommitted c) - o ≡ suc n = omega (arith, r .low) in
         let a : o + n ≡ l .book .uncommitted c = omega (arith, r .low) in
         let e : flatMap (λ (i : ℕ). recordOf l₂ (newName c (o + i))) (below (suc n)) ≡ flatMap f (below (suc n)) = flatMap-below _ _ (suc n) (λ i h. new-record (newName c (o + i))) in
-        let z : counted ((k₂ .entry v) .stage) ≡ 0 =
-        ap (λ (e : Entry). counted (e .stage)) (new .other v (other-number c (omega arith))) ∙ (rw next-is at (none-stored l (u .fine) c in-range)) in
+        let z : stageCount ((k₂ .entry v) .stage) ≡ 0 =
+        ap (λ (e : Entry). stageCount (e .stage)) (new .other v (other-number c (omega arith))) ∙ (rw next-is at (none-stored l (u .well-formed) c in-range)) in
         let whole : flatMap f (below (suc n)) ≡ flatMap f (below n) ++ recordOf l t =
         flatMap-append f (below n) (n ∷ []) ∙ ap (λ (b : List Bytes). flatMap f (below n) ++ b) (append-nil (f n) ∙ ap (λ (i : ℕ). recordOf l (newName c i)) a) in
         let all : take (x .stored) (recordOf l t) ++ (getD (recordOf l t) (x .stored) [] ∷ []) ≡ recordOf l t =
@@ -214,7 +214,7 @@ module _ {l : Ledger} {w : World} (u : Up l w) (c : ℕ) (in-range : c < l .shap
   abbrev pub b : Bytes
   b = getD (recordOf l t) (x .stored) []
 
-  pub stored-disk : (stored c w) .world .disk ≡ storeBlock (w .disk) at b
+  pub stored-disk : (stored c w) .world .disk ≡ store (w .disk) at b
   unfolding stored nextPosition
   stored-disk =
       let p = (tailOf (w .card) c) .position in
@@ -224,24 +224,24 @@ module _ {l : Ledger} {w : World} (u : Up l w) (c : ℕ) (in-range : c < l .shap
   -- in the ledger's words: after the records that stand from the tail
   pub stored-bytes : (stored c w) .world .disk ≡ recordStored c l (w .disk)
   unfolding stored nextPosition recordStored
-  stored-bytes = rw (shape-up u, next-block, tail-read (u .fine) (u .disk) c in-range, u .cores c in-range .used, ap counted stage-now) refl
+  stored-bytes = rw (shape-up u, next-block, tail-read (u .well-formed) (u .disk) c in-range, u .cores c in-range .used, ap stageCount stage-now) refl
 
   pub is-block : IsBlock b
-  is-block = record-blocks (u .fine) t closed-now (x .stored) (omega (arith, size, within))
+  is-block = record-blocks (u .well-formed) t closed-now (x .stored) (omega (arith, size, within))
 
   pub fits : 128 * at + 128 ≤ length (w .disk)
-  fits = omega (arith, u .disk .size, journal-low (u .fine .range) c ((tailOf (w .card) c) .position + length (contents l c)) in-range)
+  fits = omega (arith, u .disk .size, journal-low (u .well-formed .range) c ((tailOf (w .card) c) .position + length (contents l c)) in-range)
 
-  pub elsewhere : (k : ℕ) → k ≢ at → blockAt (storeBlock (w .disk) at b) k ≡ blockAt (w .disk) k
+  pub elsewhere : (k : ℕ) → k ≢ at → blockAt (store (w .disk) at b) k ≡ blockAt (w .disk) k
   elsewhere = block-other (w .disk) at b fits (is-block .size)
 
-  own-journal : JournalStands l₂ (storeBlock (w .disk) at b) c (tailOf (w .card) c)
+  own-journal : JournalStands l₂ (store (w .disk) at b) c (tailOf (w .card) c)
   unfolding journalAt
   own-journal =
       let j = u .disk .journals c in-range in
       let p = (tailOf (w .card) c) .position in
       let n = length (contents l c) in
-      let d₂ = storeBlock (w .disk) at b in
+      let d₂ = store (w .disk) at b in
       record {
         number = rw (same-numbers .0 c) (j .number);
         position = j .position;
@@ -260,17 +260,17 @@ module _ {l : Ledger} {w : World} (u : Up l w) (c : ℕ) (in-range : c < l .shap
             λ i q h.
             elim (ℕ-discrete (journalBlock (l .shape) c q) at) [
               | yes e ↦ (let z : blockAt d₂ (journalBlock (l .shape) c q) ≡ b = ap (blockAt d₂) e ∙ block-stored (w .disk) at b fits (is-block .size) in
-                  rw z (record-clear (u .fine) t closed-now (x .stored) i (omega (arith, size, within)) (omega (arith, new-low)) (λ g. omega (arith, size, last-uncommitted (omega (arith, size))))))
+                  rw z (record-clear (u .well-formed) t closed-now (x .stored) i (omega (arith, size, within)) (omega (arith, new-low)) (λ g. omega (arith, size, last-uncommitted (omega (arith, size))))))
               | no ne ↦ ap (isCommit (l .shape) i) (elsewhere (journalBlock (l .shape) c q) ne) ∙ j .clear i q (omega (arith, new-low))
             ];
         room = rw (same-numbers .0 c, same-numbers .1 c, restages-records new c (l .book .oldest c) (l .book .next c - l .book .oldest c)) (j .room);
         reserved = rw (same-numbers .0 c, same-numbers .1 c, restages-records new c (l .book .oldest c) (l .book .next c - l .book .oldest c), running-stays) (j .reserved);
       }
 
-  disk-stands : DiskStands l₂ (storeBlock (w .disk) at b) (tailOf (w .card))
+  disk-stands : DiskStands l₂ (store (w .disk) at b) (tailOf (w .card))
   unfolding journalAt
   disk-stands =
-      let d₂ = storeBlock (w .disk) at b in
+      let d₂ = store (w .disk) at b in
       let p = (tailOf (w .card) c) .position + length (contents l c) in
       record {
         size = length-store (w .disk) at b fits (is-block .size) ∙ u .disk .size;
@@ -281,9 +281,9 @@ module _ {l : Ledger} {w : World} (u : Up l w) (c : ℕ) (in-range : c < l .shap
             elim (ℕ-discrete a c) [
               | yes e ↦ subst (λ (i : ℕ). JournalStands l₂ d₂ i (tailOf (w .card) i)) (sym e) own-journal
               | no ne ↦ (let v = new .other (nextName a (l .book)) (other-core (l .book .next a) (l .book .uncommitted c) ne) in
-                  journal-stays l (u .fine) a h l₂ (others a ne) (w .disk) d₂ (tailOf (w .card) a)
-                  (rw v (none-stored l (u .fine) a h)) (rw v (u .disk .journals a h .reserved))
-                  (λ q. elsewhere (journalBlock (l .shape) a q) (cores-apart (l .shape) a q c p (omega (arith, u .fine .range .long)) ne)) (u .disk .journals a h))
+                  journal-stays l (u .well-formed) a h l₂ (others a ne) (w .disk) d₂ (tailOf (w .card) a)
+                  (rw v (none-stored l (u .well-formed) a h)) (rw v (u .disk .journals a h .reserved))
+                  (λ q. elsewhere (journalBlock (l .shape) a q) (cores-apart (l .shape) a q c p (omega (arith, u .well-formed .range .long)) ne)) (u .disk .journals a h))
             ];
       }
 
@@ -292,7 +292,7 @@ module _ {l : Ledger} {w : World} (u : Up l w) (c : ℕ) (in-range : c < l .shap
   unfolding coreStored recordSize
   own-core =
       let y = u .cores c in-range in
-      let r = u .fine .ranks c in-range in
+      let r = u .well-formed .ranks c in-range in
       let m = y .closing busy in
       let bs = (l .book .entry t) .blocks in
       let o = l .book .oldest c in
@@ -327,7 +327,7 @@ module _ {l : Ledger} {w : World} (u : Up l w) (c : ℕ) (in-range : c < l .shap
       (record {
         next = rw (same-numbers .1 c) (y .next);
         one = rw (same-numbers .1 c, v) (omega (arith, y .one));
-        used = rw (same-numbers .0 c, v, z, restages-records new c (l .book .oldest c) (suc (n - o)), total) (omega (arith, y .used, room, u .fine .range .short));
+        used = rw (same-numbers .0 c, v, z, restages-records new c (l .book .oldest c) (suc (n - o)), total) (omega (arith, y .used, room, u .well-formed .range .short));
         runs = rw (same-numbers .1 c, running-stays) (y .runs);
         idle = rw (same-numbers .1 c, running-stays) (y .idle);
         closing = rw (same-numbers .1 c, v) (λ g. absurd (omega (arith, y .one)));
@@ -347,16 +347,16 @@ module _ {l : Ledger} {w : World} (u : Up l w) (c : ℕ) (in-range : c < l .shap
   store-core : (a : ℕ) → a < l .shape .cores → CoreUp l₂ (w .memory) a (coreOf (withCore (w .card) c (coreStored x)) a)
   store-core a h =
       elim (ℕ-discrete a c) [
-        | yes e ↦ (let n : c < length (w .card .cores) = omega (arith, u .eight-cores, u .fine .range .few-cores) in
+        | yes e ↦ (let n : c < length (w .card .cores) = omega (arith, u .eight-cores, u .well-formed .range .few-cores) in
             rw (e, core-set (w .card) c (coreStored x) n) own-core)
         | no ne ↦ (let v = new .other (nextName a (l .book)) (other-core (l .book .next a) (l .book .uncommitted c) ne) in
             let y = u .cores a h in
             rw (core-other (w .card) c (coreStored x) a ne)
-            (core-stays l (u .fine) a h l₂ (others a ne) (w .memory) (w .memory) (coreOf (w .card) a) ((coreOf (w .card) a) .running)
+            (core-stays l (u .well-formed) a h l₂ (others a ne) (w .memory) (w .memory) (coreOf (w .card) a) ((coreOf (w .card) a) .running)
             (rw v (y .runs)) (rw v (y .idle)) (λ i _. refl) y))
       ]
 
-  pub store-up : Fine l₂ → Up l₂ ((stored c w) .world)
+  pub store-up : WellFormed l₂ → CardUp l₂ ((stored c w) .world)
   unfolding stored
   store-up fine =
       core-up u c (coreStored x) k₂ ((stored c w) .world .disk) (new .writes) (λ b. store-holder c (x .stored) (l .book) stage-now b (l .book .writes)) fine

@@ -11,14 +11,14 @@ use Rattle.model.specs.Write.{writerName, ruleFor, takesBlock, isNamedBack, loa
 use Rattle.model.specs.Commit.{copyBlock}
 use Rattle.model.proofs.Lists.{cases}
 use Rattle.model.proofs.Store.{length-replaced, length-store, length-blockAt, block-stored, block-other, ext-blocks}
-use Rattle.crash.specs.Book.{absent, running, isRunning, counted, Book, holderIn, running-holder, holderAfter, wrote}
+use Rattle.crash.specs.Book.{absent, running, isRunning, stageCount, Book, bookHolder, running-holder, holderAfter, writeBook}
 use Rattle.crash.specs.Ledger.{Ledger, withBook, imageNow, recordBlocks}
 use Rattle.crash.specs.Claims.{IsBytes}
 use Rattle.crash.proofs.Books.Tests.{clash, impossible}
 use Rattle.crash.proofs.Books.BookEntries.{other-core, meets-met, meets-running, metHolder, nextName}
-use Rattle.crash.proofs.Books.BookSteps.{meeting, wrote-numbers, wrote-running, wrote-stage, wrote-blocks-other, wrote-other, wrote-holder, wrote-holder-other, wrote-image, wrote-image-other}
+use Rattle.crash.proofs.Books.BookSteps.{meeting, write-numbers, write-running, write-stage, write-blocks-other, write-other, write-holder, write-holder-other, write-image, write-image-other}
 use Rattle.crash.proofs.Disk.BlockBytes.{block-written, block-unwritten, bytes-replaced, bytes-store, bytes-blockAt}
-use Rattle.crash.proofs.Disk.Relation.{Fine, Limits, JournalStands, Matches, CoreUp, holderAs, Up}
+use Rattle.crash.proofs.Disk.Relation.{WellFormed, Limits, JournalStands, Matches, CoreUp, holderAs, CardUp}
 use Rattle.crash.proofs.Disk.LedgerStages.{running-present, present-open, running-next}
 use Rattle.crash.proofs.Commands.CardFrames.{SameClosed, core-set, core-other, none-stored, journal-stays, core-stays}
 use Rattle.crash.proofs.Commands.CardRules.{writer-name, Met, met-none, met-own, met-running, met-closed, rule-met, writer-after, holder-after}
@@ -31,7 +31,7 @@ use Rattle.model.specs.declared.Card.{Card}
 
 -- ---- the card afterwards
 -- what WRITE leaves of a card
-record Kept (x y : Card) : Type 0 where
+record WriteFrame (x y : Card) : Type 0 where
   phase : y .phase ≡ x .phase
   shape : y .shape ≡ x .shape
   closes : y .closes ≡ x .closes
@@ -40,17 +40,17 @@ record Kept (x y : Card) : Type 0 where
   holders : length (y .holders) ≡ length (x .holders)
 
 module _ (x : Card) where
-  kept-cond : (t : Bool) {y z : Card} → Kept x y → Kept x z → Kept x (cond t y z)
-  kept-cond true p q = p
-  kept-cond false p q = q
+  frame-cond : (t : Bool) {y z : Card} → WriteFrame x y → WriteFrame x z → WriteFrame x (cond t y z)
+  frame-cond true p q = p
+  frame-cond false p q = q
 
-  kept-same : Kept x x
-  kept-same = record { phase = refl; shape = refl; closes = refl; tails = refl; cores = refl; holders = refl }
+  frame-same : WriteFrame x x
+  frame-same = record { phase = refl; shape = refl; closes = refl; tails = refl; cores = refl; holders = refl }
 
-  kept-core : (y : Card) (c : ℕ) (k : Core) → Kept x y → Kept x (withCore y c k)
+  kept-core : (y : Card) (c : ℕ) (k : Core) → WriteFrame x y → WriteFrame x (withCore y c k)
   kept-core y c k h = record { phase = h .phase; shape = h .shape; closes = h .closes; tails = h .tails; cores = length-set (y .cores) c k ∙ h .cores; holders = h .holders }
 
-  kept-holder : (y : Card) (b : ℕ) (n : Holder) → Kept x y → Kept x (withHolder y b n)
+  kept-holder : (y : Card) (b : ℕ) (n : Holder) → WriteFrame x y → WriteFrame x (withHolder y b n)
   kept-holder y b n h = record { phase = h .phase; shape = h .shape; closes = h .closes; tails = h .tails; cores = h .cores; holders = length-set (y .holders) b _ ∙ h .holders }
 
   module _ (c b : ℕ) where
@@ -67,14 +67,14 @@ module _ (x : Card) where
     abbrev writerCore : Core
     writerCore = withRunning (coreOf namedBack c) (writerAfter x c b)
 
-    named-kept : Kept x namedBack
-    named-kept = kept-cond (isNamedBack (ruleFor x c b)) (kept-core x holderCore _ kept-same) kept-same
+    named-kept : WriteFrame x namedBack
+    named-kept = frame-cond (isNamedBack (ruleFor x c b)) (kept-core x holderCore _ frame-same) frame-same
 
-    written-kept : Kept x (writtenCard x c b)
+    written-kept : WriteFrame x (writtenCard x c b)
     unfolding writtenCard
     written-kept =
         let k = kept-core namedBack c writerCore named-kept in
-        kept-cond (takesBlock (ruleFor x c b)) (kept-holder (withCore namedBack c writerCore) b (newHolder (writerName x c)) k) k
+        frame-cond (takesBlock (ruleFor x c b)) (kept-holder (withCore namedBack c writerCore) b (newHolder (writerName x c)) k) k
 
     -- holders
     written-holders : (j : ℕ) → holderOf (writtenCard x c b) j ≡ holderOf (cond (takesBlock (ruleFor x c b)) (withHolder x b (newHolder (writerName x c))) x) j
@@ -118,18 +118,18 @@ module _ (x : Card) where
     written-core a ne apart = written-cores a ∙ core-other namedBack c writerCore a ne ∙ named-other a apart
 
 -- ---- WRITE
-module _ {l : Ledger} {w : World} (u : Up l w) (c : ℕ) (in-range : c < l .shape .cores) (b : ℕ) (low : b < l .shape .blocks) (o : ℕ) (inside : o ≤ 124)
+module _ {l : Ledger} {w : World} (u : CardUp l w) (c : ℕ) (in-range : c < l .shape .cores) (b : ℕ) (low : b < l .shape .blocks) (o : ℕ) (inside : o ≤ 124)
     (v : Bytes) (four : length v ≡ 4) (bytes : IsBytes v)
-    (opens : (n : Name) → holderIn (l .book) b (l .book .writes) ≡ some n → (l .book .entry n) .stage ≢ absent)
-    (home : holderIn (l .book) b (l .book .writes) ≡ none → blockAt (w .disk) (homeBlock b) ≡ imageNow l b)
+    (opens : (n : Name) → bookHolder (l .book) b (l .book .writes) ≡ some n → (l .book .entry n) .stage ≢ absent)
+    (home : bookHolder (l .book) b (l .book .writes) ≡ none → blockAt (w .disk) (homeBlock b) ≡ imageNow l b)
     (reserve : recordBlocks (l .book) c (l .book .oldest c) (l .book .next c - l .book .oldest c) + 2
-    + length (((wrote c b o v (l .book)) .entry (nextName c (l .book))) .blocks) ≤ l .shape .journal)
-    (fine : Fine (withBook l (wrote c b o v (l .book)))) where
+    + length (((writeBook c b o v (l .book)) .entry (nextName c (l .book))) .blocks) ≤ l .shape .journal)
+    (fine : WellFormed (withBook l (writeBook c b o v (l .book)))) where
   abbrev t : Name
   t = nextName c (l .book)
 
   abbrev k₂ : Book
-  k₂ = wrote c b o v (l .book)
+  k₂ = writeBook c b o v (l .book)
 
   abbrev l₂ : Ledger
   l₂ = withBook l k₂
@@ -138,7 +138,7 @@ module _ {l : Ledger} {w : World} (u : Up l w) (c : ℕ) (in-range : c < l .shap
   x = w .card
 
   abbrev current : ((l .book .entry t) .stage ≡ absent) ⊎ ((l .book .entry t) .stage ≡ running)
-  current = u .fine .ranks c in-range .current
+  current = u .well-formed .ranks c in-range .current
 
   abbrev met : Met u c in-range b low opens
   met = rule-met u c in-range b low opens
@@ -151,14 +151,14 @@ module _ {l : Ledger} {w : World} (u : Up l w) (c : ℕ) (in-range : c < l .shap
     others : (j : ℕ) → j ≢ b → blockAt m j ≡ blockAt (w .memory) j
 
   small : b < 64
-  small = omega (arith, u .fine .range .few-blocks)
+  small = omega (arith, u .well-formed .range .few-blocks)
 
   -- a held block has its current image in memory
   held-loaded : (holderOf x b) .held ≡ true → Loaded (w .memory)
   held-loaded h = record { size = u .memory; all-bytes = u .memory-bytes; own-image = u .images b low h; others = λ j ne. refl }
 
   -- a free one gets it from home
-  home-loaded : holderIn (l .book) b (l .book .writes) ≡ none → Loaded (store (w .memory) b (blockAt (w .disk) (homeBlock b)))
+  home-loaded : bookHolder (l .book) b (l .book .writes) ≡ none → Loaded (store (w .memory) b (blockAt (w .disk) (homeBlock b)))
   home-loaded h =
       let z = length-blockAt 257 (w .disk) (u .disk .size) (homeBlock b) (omega (arith, small)) in
       let f : 128 * b + 128 ≤ length (w .memory) = omega (arith, u .memory, small) in
@@ -183,21 +183,21 @@ module _ {l : Ledger} {w : World} (u : Up l w) (c : ℕ) (in-range : c < l .shap
 
   -- ---- the ledger's entries
   t-limits : Limits (l .shape) t (k₂ .entry t)
-  t-limits = fine .limits t (running-present _ (wrote-running (l .book) c current b o v))
+  t-limits = fine .limits t (running-present _ (write-running (l .book) c current b o v))
 
   entry-stays : (a : ℕ) → a < l .shape .cores → (i : ℕ) → i < l .book .next a → k₂ .entry (newName a i) ≡ l .book .entry (newName a i)
   entry-stays a h i g =
-      wrote-other (l .book) c current b o v (newName a i)
+      write-other (l .book) c current b o v (newName a i)
       (λ e. let p : i ≡ l .book .next c = ap (λ (n : Name). n .number) e in let q : l .book .next a ≡ l .book .next c = ap (λ (n : Name). l .book .next (n .core)) e in omega arith)
       (λ e.
-      let q = meets-met (l .book) t (holderIn (l .book) b (l .book .writes)) (newName a i) (ap metHolder e) .0 in
-      let p = meets-running (l .book) t (holderIn (l .book) b (l .book .writes)) (newName a i) e in
+      let q = meets-met (l .book) t (bookHolder (l .book) b (l .book .writes)) (newName a i) (ap metHolder e) .0 in
+      let p = meets-running (l .book) t (bookHolder (l .book) b (l .book .writes)) (newName a i) e in
       let r = present-open ((l .book .entry (newName a i)) .stage) (opens (newName a i) q) p in
-      omega (arith, running-next (u .fine .ranks a h) i (ap isRunning r)))
+      omega (arith, running-next (u .well-formed .ranks a h) i (ap isRunning r)))
 
   same : (a : ℕ) → a < l .shape .cores → SameClosed l l₂ a
   same a h =
-      let n = wrote-numbers (l .book) c current b o v in
+      let n = write-numbers (l .book) c current b o v in
       record {
         shape = refl;
         oldest = ap (λ (f : ℕ → ℕ). f a) (n .0);
@@ -209,10 +209,10 @@ module _ {l : Ledger} {w : World} (u : Up l w) (c : ℕ) (in-range : c < l .shap
       }
 
   other-stage : (a : ℕ) → a ≢ c → (k₂ .entry (nextName a (l .book))) .stage ≡ (l .book .entry (nextName a (l .book))) .stage
-  other-stage a ne = wrote-stage (l .book) c current b o v (nextName a (l .book)) (other-core (l .book .next a) (l .book .next c) ne)
+  other-stage a ne = write-stage (l .book) c current b o v (nextName a (l .book)) (other-core (l .book .next a) (l .book .next c) ne)
 
   eight : c < length (x .cores)
-  eight = omega (arith, u .eight-cores, u .fine .range .few-cores)
+  eight = omega (arith, u .eight-cores, u .well-formed .range .few-cores)
 
   -- ---- memory afterwards
   abbrev m₂ : Bytes
@@ -256,10 +256,10 @@ module _ {l : Ledger} {w : World} (u : Up l w) (c : ℕ) (in-range : c < l .shap
       → (isRunning ((k₂ .entry (nextName a (l .book))) .stage) ≡ true → Matches r (k₂ .entry (nextName a (l .book))))
       → (isRunning ((k₂ .entry (nextName a (l .book))) .stage) ≡ false → r .live ≡ false)
       → CoreUp l₂ m₂ a (coreOf (writtenCard x c b) a)
-  stays a h r e p q = rw e (core-stays l (u .fine) a h l₂ (same a h) (w .memory) m₂ (coreOf x a) r p q (λ i _. copies-stay a i) (u .cores a h))
+  stays a h r e p q = rw e (core-stays l (u .well-formed) a h l₂ (same a h) (w .memory) m₂ (coreOf x a) r p q (λ i _. copies-stay a i) (u .cores a h))
 
   runs-now : isRunning ((k₂ .entry t) .stage) ≡ true
-  runs-now = ap isRunning (wrote-running (l .book) c current b o v)
+  runs-now = ap isRunning (write-running (l .book) c current b o v)
 
   writer-core : (isNamedBack (ruleFor x c b) ≡ true → ((holderOf x b) .name) .core ≢ c) → CoreUp l₂ m₂ c (coreOf (writtenCard x c b) c)
   writer-core apart =
@@ -269,7 +269,7 @@ module _ {l : Ledger} {w : World} (u : Up l w) (c : ℕ) (in-range : c < l .shap
   other-core-up : (a : ℕ) (h : a < l .shape .cores) → a ≢ c → (isNamedBack (ruleFor x c b) ≡ true → a ≢ ((holderOf x b) .name) .core)
       → meeting c b (l .book) ≢ running-holder (nextName a (l .book)) → CoreUp l₂ m₂ a (coreOf (writtenCard x c b) a)
   other-core-up a h ne apart nr =
-      let e = wrote-other (l .book) c current b o v (nextName a (l .book)) (other-core (l .book .next a) (l .book .next c) ne) nr in
+      let e = write-other (l .book) c current b o v (nextName a (l .book)) (other-core (l .book .next a) (l .book .next c) ne) nr in
       stays a h ((coreOf x a) .running) (written-core x c b a ne apart) (rw e (u .cores a h .runs)) (rw e (u .cores a h .idle))
 
   write-core : (a : ℕ) → a < l .shape .cores → CoreUp l₂ m₂ a (coreOf (writtenCard x c b) a)
@@ -291,8 +291,8 @@ module _ {l : Ledger} {w : World} (u : Up l w) (c : ℕ) (in-range : c < l .shap
               (λ q. impossible cc)
           | met-running n g runs is apart m r ↦ elim (ℕ-discrete a (n .core)) [
             | yes e ↦ (let back : isNamedBack (ruleFor x c b) ≡ true = rw r refl in
-                let size : n .core < length (x .cores) = omega (arith, u .eight-cores, u .fine .range .few-cores, g .core) in
-                let n-limits : Limits (l .shape) n (k₂ .entry n) = fine .limits n (running-present _ (wrote-stage (l .book) c current b o v n (g .other) ∙ runs)) in
+                let size : n .core < length (x .cores) = omega (arith, u .eight-cores, u .well-formed .range .few-cores, g .core) in
+                let n-limits : Limits (l .shape) n (k₂ .entry n) = fine .limits n (running-present _ (write-stage (l .book) c current b o v n (g .other) ∙ runs)) in
                 let run : isRunning ((k₂ .entry (nextName (n .core) (l .book))) .stage) ≡ true =
                 ap isRunning (other-stage (n .core) apart) ∙ (let z : isRunning ((l .book .entry (nextName (n .core) (l .book))) .stage) ≡ true = rw (← is) (ap isRunning runs) in z) in
                 subst (λ (i : ℕ). CoreUp l₂ m₂ i (coreOf (writtenCard x c b) i)) (sym e)
@@ -305,13 +305,13 @@ module _ {l : Ledger} {w : World} (u : Up l w) (c : ℕ) (in-range : c < l .shap
       ]
 
   -- ---- holders
-  same-after : (j : ℕ) → j < l .shape .blocks → holderOf (writtenCard x c b) j ≡ holderAs (holderIn k₂ j (k₂ .writes))
+  same-after : (j : ℕ) → j < l .shape .blocks → holderOf (writtenCard x c b) j ≡ holderAs (bookHolder k₂ j (k₂ .writes))
   unfolding holderAfter
   same-after j h =
       let room : b < length (x .holders) = omega (arith, u .holder-room, small) in
-      let after = wrote-holder (l .book) c current b o v in
+      let after = write-holder (l .book) c current b o v in
       elim (ℕ-discrete j b) [
-        | no ne ↦ written-other x c b j ne ∙ u .holders j h ∙ ap holderAs (sym (wrote-holder-other (l .book) c current b o v j ne))
+        | no ne ↦ written-other x c b j ne ∙ u .holders j h ∙ ap holderAs (sym (write-holder-other (l .book) c current b o v j ne))
         | yes e ↦ rw e (elim met [
           | met-none _ m r ↦ (let takes : takesBlock (ruleFor x c b) ≡ true = rw r refl in
               written-taken x c b takes room ∙ rw (after, m, writer-name u c in-range) refl)
@@ -329,23 +329,23 @@ module _ {l : Ledger} {w : World} (u : Up l w) (c : ℕ) (in-range : c < l .shap
   journals-stand a h =
       elim (ℕ-discrete a c) [
         | yes e ↦ subst (λ (i : ℕ). JournalStands l₂ (w .disk) i (tailOf x i)) (sym e)
-            (journal-stays l (u .fine) c in-range l₂ (same c in-range) (w .disk) (w .disk) (tailOf x c)
-            (ap counted (wrote-running (l .book) c current b o v)) (λ _. omega (arith, reserve)) (λ q. refl) (u .disk .journals c in-range))
+            (journal-stays l (u .well-formed) c in-range l₂ (same c in-range) (w .disk) (w .disk) (tailOf x c)
+            (ap stageCount (write-running (l .book) c current b o v)) (λ _. omega (arith, reserve)) (λ q. refl) (u .disk .journals c in-range))
         | no ne ↦ (let s = other-stage a ne in
-            let n = ap length (wrote-blocks-other (l .book) c current b o v (nextName a (l .book)) (other-core (l .book .next a) (l .book .next c) ne)) in
-            journal-stays l (u .fine) a h l₂ (same a h) (w .disk) (w .disk) (tailOf x a)
-            (ap counted s ∙ none-stored l (u .fine) a h) (rw (s, n) (u .disk .journals a h .reserved)) (λ q. refl) (u .disk .journals a h))
+            let n = ap length (write-blocks-other (l .book) c current b o v (nextName a (l .book)) (other-core (l .book .next a) (l .book .next c) ne)) in
+            journal-stays l (u .well-formed) a h l₂ (same a h) (w .disk) (w .disk) (tailOf x a)
+            (ap stageCount s ∙ none-stored l (u .well-formed) a h) (rw (s, n) (u .disk .journals a h .reserved)) (λ q. refl) (u .disk .journals a h))
       ]
 
   -- the images of held blocks are the current ones
   images-now : (j : ℕ) → j < l .shape .blocks → (holderOf (writtenCard x c b) j) .held ≡ true → blockAt m₂ j ≡ imageNow l₂ j
   images-now j h held =
       elim (ℕ-discrete j b) [
-        | yes e ↦ rw e (memory-own ∙ sym (wrote-image l c b o v current))
-        | no ne ↦ memory-other j ne ∙ u .images j h (ap (λ (z : Holder). z .held) (sym (written-other x c b j ne)) ∙ held) ∙ sym (wrote-image-other l c b o v current j ne)
+        | yes e ↦ rw e (memory-own ∙ sym (write-image l c b o v current))
+        | no ne ↦ memory-other j ne ∙ u .images j h (ap (λ (z : Holder). z .held) (sym (written-other x c b j ne)) ∙ held) ∙ sym (write-image-other l c b o v current j ne)
       ]
 
-  pub write-up : Up l₂ ((written c b o v w) .world)
+  pub write-up : CardUp l₂ ((written c b o v w) .world)
   unfolding written tailOf
   write-up =
       let z = written-kept x c b in
@@ -359,7 +359,7 @@ module _ {l : Ledger} {w : World} (u : Up l w) (c : ℕ) (in-range : c < l .shap
         eight-tails = ap length (z .tails) ∙ u .eight-tails;
         eight-cores = z .cores ∙ u .eight-cores;
         holder-room = z .holders ∙ u .holder-room;
-        fine = fine;
+        well-formed = fine;
         disk = rw (z .tails) (record { size = u .disk .size; bytes = u .disk .bytes; master = u .disk .master; journals = journals-stand });
         cores = write-core;
         holders = same-after;

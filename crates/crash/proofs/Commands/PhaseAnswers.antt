@@ -22,15 +22,15 @@ use Rattle.model.specs.Checkpoint.{checkpointConditions}
 use Rattle.model.specs.Recovery.{cutConditions, recoverConditions}
 use Rattle.crash.specs.Ledger.{Ledger, blankLedger, notUpFor, formatRefusals, writeRefusals, closeRefusals, storeRefusals, checkpointRefusals, refusalsOf}
 use Rattle.crash.proofs.Books.Tests.{clash}
-use Rattle.crash.proofs.Disk.Relation.{Up, DownBy}
+use Rattle.crash.proofs.Disk.Relation.{CardUp, CardDown}
 use Rattle.crash.proofs.Disk.ReadMaster.{master-stands}
 use Rattle.crash.proofs.Commands.CardCut.{right-length}
 use Rattle.model.specs.Tape.{CHECKPOINT, CLOSE, CUT, Command, FORMAT, RECOVER, STORE, WRITE}
-use Rattle.crash.specs.Book.{absent, holderIn}
+use Rattle.crash.specs.Book.{absent, bookHolder}
 use Rattle.crash.proofs.Commands.CardAnswers.{checkpoint-answers, close-answers, store-answers, write-answers}
 use Rattle.model.specs.Step.{conditionsOf}
 use Rattle.model.specs.declared.Phase.{Phase}
-use Rattle.model.specs.declared.Phase.the-variants.{Blank as PhaseBlank, Up as PhaseUp, Down as PhaseDown}
+use Rattle.model.specs.declared.Phase.the-variants.{Blank, Up, Down}
 use Rattle.model.specs.declared.Card.{Card}
 use Rattle.model.specs.declared.Name.{Name}
 
@@ -48,16 +48,16 @@ module _ (l : Ledger) (w : World) (sizes : wrongLength w ≡ false) where
   not-up-answer : (p : Phase) → isUp p ≡ false → w .card .phase ≡ p → l .phase ≡ p → (c : ℕ) (ts rest : List (Bool × ℕ))
       → refusal (notUp w ts) ≡ refusal (notUpFor c l rest)
   unfolding refusal
-  not-up-answer PhaseBlank h i j c ts rest = rw (sizes, i, j)
-  not-up-answer PhaseUp h i j c ts rest = clash refl h
-  not-up-answer PhaseDown h i j c ts rest = rw (sizes, i, j)
+  not-up-answer Blank h i j c ts rest = rw (sizes, i, j)
+  not-up-answer Up h i j c ts rest = clash refl h
+  not-up-answer Down h i j c ts rest = rw (sizes, i, j)
 
   recover-answer : (p : Phase) → (isDown p ≡ true → isMaster (blockAt (w .disk) 0) ≡ true) → w .card .phase ≡ p → l .phase ≡ p
       → refusal (recoverConditions w) ≡ refusal ((isBlank (l .phase), 20) ∷ (isUp (l .phase), 23) ∷ [])
   unfolding refusal recoverConditions
-  recover-answer PhaseBlank m i j = rw (sizes, i, j)
-  recover-answer PhaseUp m i j = rw (sizes, i, j)
-  recover-answer PhaseDown m i j = rw (sizes, i, j, m refl)
+  recover-answer Blank m i j = rw (sizes, i, j)
+  recover-answer Up m i j = rw (sizes, i, j)
+  recover-answer Down m i j = rw (sizes, i, j, m refl)
 
   -- while the card is not up
   phase-answers : (p : Phase) → isUp p ≡ false → (isDown p ≡ true → isMaster (blockAt (w .disk) 0) ≡ true) → w .card .phase ≡ p → l .phase ≡ p
@@ -72,18 +72,18 @@ module _ (l : Ledger) (w : World) (sizes : wrongLength w ≡ false) where
   phase-answers p h m i j RECOVER = recover-answer p m i j
 
 -- ---- down: FORMAT 21, CUT and RECOVER 0, the others 22
-pub down-answers : {l : Ledger} {w : World} → DownBy l w → (k : Command) → refusal (conditionsOf k w) ≡ refusal (refusalsOf k l)
+pub down-answers : {l : Ledger} {w : World} → CardDown l w → (k : Command) → refusal (conditionsOf k w) ≡ refusal (refusalsOf k l)
 down-answers {l} {w} v =
-    phase-answers l w (right-length w (v .disk .size) (v .memory)) PhaseDown refl (λ h. master-stands (v .fine) (v .disk)) (v .phase) (v .ledger)
+    phase-answers l w (right-length w (v .disk .size) (v .memory)) Down refl (λ h. master-stands (v .well-formed) (v .disk)) (v .phase) (v .ledger)
 
 -- ---- blank: FORMAT 0 or 4, the others 20
 pub blank-answers : (w : World) → w .card ≡ blankCard → length (w .disk) ≡ 32896 → length (w .memory) ≡ 16384 → (k : Command)
     → refusal (conditionsOf k w) ≡ refusal (refusalsOf k blankLedger)
 unfolding blankCard emptyCard freshCard blankLedger
-blank-answers w e d m = phase-answers blankLedger w (right-length w d m) PhaseBlank refl (λ h. clash h refl) (ap (λ (x : Card). x .phase) e) refl
+blank-answers w e d m = phase-answers blankLedger w (right-length w d m) Blank refl (λ h. clash h refl) (ap (λ (x : Card). x .phase) e) refl
 
 -- ---- up: FORMAT 21, CUT 0, RECOVER 23; the others by what the transactions are
-module _ {l : Ledger} {w : World} (u : Up l w) (opens : (b : ℕ) (n : Name) → holderIn (l .book) b (l .book .writes) ≡ some n → (l .book .entry n) .stage ≢ absent) where
+module _ {l : Ledger} {w : World} (u : CardUp l w) (opens : (b : ℕ) (n : Name) → bookHolder (l .book) b (l .book .writes) ≡ some n → (l .book .entry n) .stage ≢ absent) where
   abbrev sizes : wrongLength w ≡ false
   sizes = right-length w (u .disk .size) (u .memory)
 
@@ -95,4 +95,4 @@ module _ {l : Ledger} {w : World} (u : Up l w) (opens : (b : ℕ) (n : Name) →
   up-answers (STORE c) = store-answers u c
   up-answers (CHECKPOINT c) = checkpoint-answers u c
   up-answers CUT = cut-answer l w sizes (u .phase ∙ sym (u .ledger))
-  up-answers RECOVER = recover-answer l w sizes PhaseUp (λ z. clash z refl) (u .phase) (u .ledger)
+  up-answers RECOVER = recover-answer l w sizes Up (λ z. clash z refl) (u .phase) (u .ledger)

@@ -10,7 +10,7 @@ use Rattle.model.specs.declared.Core.{Core}
 use Rattle.model.specs.declared.Holder.{Holder}
 use Rattle.model.proofs.Lists.{cases}
 use Rattle.model.proofs.Valid.{sameName-refl}
-use Rattle.crash.specs.Book.{Stage, committed, retired, Write, Book, holderIn}
+use Rattle.crash.specs.Book.{Stage, committed, retired, Write, Book, bookHolder}
 use Rattle.crash.specs.Ledger.{Ledger, withBook, recordBlocks, recordOf}
 use Rattle.crash.proofs.Books.Tests.{clash, impossible}
 use Rattle.crash.proofs.Books.BookEntries.{same-or-not, sameName-false, nextName, uncommittedName}
@@ -87,10 +87,10 @@ abbrev pub releasedFrom : Name → Holder → Holder
 releasedFrom t h = cond (h .held && sameName (h .name) t) noHolder h
 
 pub released-holder : {k k₂ : Book} {t : Name} → Restages k k₂ t retired → (b : ℕ) (ws : List Write)
-    → releasedFrom t (holderAs (holderIn k b ws)) ≡ holderAs (holderIn k₂ b ws)
-released-holder {k} {k₂} {t} r b ws = go (holderIn k b ws) refl
+    → releasedFrom t (holderAs (bookHolder k b ws)) ≡ holderAs (bookHolder k₂ b ws)
+released-holder {k} {k₂} {t} r b ws = go (bookHolder k b ws) refl
   where
-    go : (h : Option Name) → holderIn k b ws ≡ h → releasedFrom t (holderAs h) ≡ holderAs (holderIn k₂ b ws)
+    go : (h : Option Name) → bookHolder k b ws ≡ h → releasedFrom t (holderAs h) ≡ holderAs (bookHolder k₂ b ws)
     go none e = rw (retired-other r b ws (λ q. impossible cc), e)
     go (some v) e =
         same-or-not v t

@@ -17,7 +17,7 @@ use Rattle.crash.specs.Ledger.{Ledger, freshLedger, imageNow, cutLedger,
 use Rattle.crash.specs.Claims.{IsBytes}
 use Rattle.crash.proofs.Books.Tests.{impossible}
 use Rattle.crash.proofs.Disk.BlockBytes.{bytes-replaced}
-use Rattle.crash.proofs.Disk.Relation.{IsBlock, WriteFits, Frozen, Fine}
+use Rattle.crash.proofs.Disk.Relation.{IsBlock, WriteFits, Frozen, WellFormed}
 
 -- ---- current images are blocks of bytes
 replaced-block : (o : ℕ) (x v : Bytes) → o ≤ 124 → length v ≡ 4 → IsBytes v → IsBlock x → IsBlock (replaced o 4 x v)
@@ -39,16 +39,16 @@ pub blank-block : (b : ℕ) → IsBlock (blank b)
 unfolding blank all
 blank-block b = record { size = length-replicate {A = ℕ} 128 0; bytes = refl }
 
-pub now-block : (l : Ledger) → Fine l → (b : ℕ) → IsBlock (imageNow l b)
+pub now-block : (l : Ledger) → WellFormed l → (b : ℕ) → IsBlock (imageNow l b)
 unfolding imageNow
 now-block l f b =
     image-block (l .shape) (image blank (l .saved)) b (image-block (l .shape) blank b (blank-block b) (l .saved) (f .saved)) (l .book .writes) (f .writes)
 
 -- ---- a card that has come up, a cut, a home store of recovery
-pub fine-fresh : (s : Shape) (saved : List Write) (first : ℕ → ℕ) → InRange s → ((w : Write) → List·Memᴰ w saved → WriteFits s w)
-    → ((c : ℕ) → c < s .cores → (1 ≤ first c) × (first c ≤ 4000000001)) → Fine (freshLedger s saved first)
+pub well-formed-fresh : (s : Shape) (saved : List Write) (first : ℕ → ℕ) → InRange s → ((w : Write) → List·Memᴰ w saved → WriteFits s w)
+    → ((c : ℕ) → c < s .cores → (1 ≤ first c) × (first c ≤ 4000000001)) → WellFormed (freshLedger s saved first)
 unfolding freshLedger emptyBook
-fine-fresh s saved first r fits firsts =
+well-formed-fresh s saved first r fits firsts =
     record {
       range = r;
       ranks = λ c h.
@@ -86,12 +86,12 @@ same-frozen l l′ t i s c b z =
     record { count = rw (i, b) (z .count); images = rw i (z .images); low = rw s (z .low); high = rw (s, c) (z .high) }
 
 -- phase and blocks left to recover are no part of the order
-abbrev pub phased : Phase → List ℕ → Ledger → Ledger
-phased p left l =
+abbrev pub withPhase : Phase → List ℕ → Ledger → Ledger
+withPhase p left l =
     record { shape = l .shape; saved = l .saved; book = l .book; closes = l .closes; stamp = l .stamp; images = l .images; phase = p; left = left }
 
-fine-phased : (l : Ledger) (p : Phase) (left : List ℕ) → Fine l → Fine (phased p left l)
-fine-phased l p left f =
+well-formed-withPhase : (l : Ledger) (p : Phase) (left : List ℕ) → WellFormed l → WellFormed (withPhase p left l)
+well-formed-withPhase l p left f =
     record {
       range = f .range;
       ranks = f .ranks;
@@ -108,15 +108,15 @@ fine-phased l p left f =
       saved = f .saved;
     }
 
-pub fine-cut : (l : Ledger) → Fine l → Fine (cutLedger l)
+pub well-formed-cut : (l : Ledger) → WellFormed l → WellFormed (cutLedger l)
 unfolding cutLedger
-fine-cut l = fine-phased l Down (blocksIn (l .shape .blocks) (l .book))
+well-formed-cut l = well-formed-withPhase l Down (blocksIn (l .shape .blocks) (l .book))
 
-pub fine-home : (b : ℕ) (bs : List ℕ) (l : Ledger) → Fine l → Fine (recoverLedger (b ∷ bs) l)
+pub well-formed-home : (b : ℕ) (bs : List ℕ) (l : Ledger) → WellFormed l → WellFormed (recoverLedger (b ∷ bs) l)
 unfolding recoverLedger
-fine-home b bs l = fine-phased l Down bs
+well-formed-home b bs l = well-formed-withPhase l Down bs
 
-pub kept-fits : (l : Ledger) → Fine l → (w : Write) → List·Memᴰ w (keptWrites (l .book) ++ l .saved) → WriteFits (l .shape) w
+pub kept-fits : (l : Ledger) → WellFormed l → (w : Write) → List·Memᴰ w (keptWrites (l .book) ++ l .saved) → WriteFits (l .shape) w
 unfolding keptWrites
 kept-fits l f w m =
     elim (List·Memᴰ·append-cases (keptWrites (l .book)) m) [ inl p ↦ f .writes w (select-mem _ (l .book .writes) w p .0) | inr p ↦ f .saved w p ]

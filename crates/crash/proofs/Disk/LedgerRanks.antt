@@ -4,7 +4,7 @@
 use Rattle.model.proofs.Base.{ℕ, zero, suc, _+_, _*_, _≤_, _<_, arith, decLt, ℕ-discrete, _≡_, refl, ap, _∙_, _≢_, _⊎_, inl, inr}
 use Rattle.model.proofs.Base.{length}
 use Rattle.model.specs.Card.{newName}
-use Rattle.crash.specs.Book.{Stage, absent, running, closed, committed, retired, Book, raise, store, checkpoint}
+use Rattle.crash.specs.Book.{Stage, absent, running, closed, committed, retired, Book, raise, storeBook, checkpointBook}
 use Rattle.crash.proofs.Books.BookEntries.{nextName, uncommittedName, oldestName, other-number, other-core, raise-at, raise-other}
 use Rattle.crash.proofs.Books.BookSteps.{Restages, restaged, restages, store-more, store-last, checkpoint-home, checkpoint-retires}
 use Rattle.crash.proofs.Disk.Relation.{first-waiting, Ranks, sumNext}
@@ -190,7 +190,7 @@ module _ (k : Book) (c : ℕ) (r : Ranks k c) where
       → P (restaged (uncommittedName c k) (closed (suc n)) (k .oldest) (k .uncommitted) (k .next) k))
       → ((n : ℕ) → (k .entry (uncommittedName c k)) .stage ≡ closed n → n ≡ length ((k .entry (uncommittedName c k)) .blocks) + 1
       → P (restaged (uncommittedName c k) (committed 0) (k .oldest) (raise c (k .uncommitted)) (k .next) k))
-      → P (store c k)
+      → P (storeBook c k)
   store-by P due more last =
       let s = first-waiting r due in
       let bound : s .0 ≤ length ((k .entry (uncommittedName c k)) .blocks) + 1 = s .2 in
@@ -205,7 +205,7 @@ module _ (k : Book) (c : ℕ) (r : Ranks k c) where
       → P (restaged (oldestName c k) (committed (suc n)) (k .oldest) (k .uncommitted) (k .next) k))
       → ((n : ℕ) → (k .entry (oldestName c k)) .stage ≡ committed n → n ≡ length ((k .entry (oldestName c k)) .blocks)
       → P (restaged (oldestName c k) retired (raise c (k .oldest)) (k .uncommitted) (k .next) k))
-      → P (checkpoint c k)
+      → P (checkpointBook c k)
   checkpoint-by P due home retires =
       let s = r .first due in
       let bound : s .0 ≤ length ((k .entry (oldestName c k)) .blocks) = s .2 in

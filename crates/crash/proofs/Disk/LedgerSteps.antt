@@ -7,11 +7,11 @@ use Rattle.model.specs.Card.{newName}
 use Rattle.model.specs.declared.Shape.{Shape}
 use Rattle.model.specs.declared.Name.{Name}
 use Rattle.model.proofs.Lists.{getD-mem}
-use Rattle.crash.specs.Book.{Stage, absent, running, closed, committed, retired, isClosed, Entry, Book, raise, close, store, checkpoint}
+use Rattle.crash.specs.Book.{Stage, absent, running, closed, committed, retired, isClosed, Entry, Book, raise, closeBook, storeBook, checkpointBook}
 use Rattle.crash.specs.Ledger.{Ledger, withBook, imageNow, closeLedger}
 use Rattle.crash.proofs.Books.BookEntries.{nextName, same-or-not, raise-other}
 use Rattle.crash.proofs.Books.BookSteps.{Restages, restaged, restages, restages-keep, close-stamp, close-images, close-stamp-other, close-images-other}
-use Rattle.crash.proofs.Disk.Relation.{IsBlock, Limits, Frozen, Ranks, sumNext, Fine}
+use Rattle.crash.proofs.Disk.Relation.{IsBlock, Limits, Frozen, Ranks, sumNext, WellFormed}
 use Rattle.crash.proofs.Disk.LedgerStages.{closed-present, running-present}
 use Rattle.crash.proofs.Disk.LedgerFresh.{now-block, same-frozen}
 use Rattle.crash.proofs.Disk.LedgerRanks.{sum-same, sum-raised, ranks-elsewhere, ranks-closed, ranks-stored, ranks-committed, ranks-homed, ranks-retired, store-by, checkpoint-by}
@@ -43,7 +43,7 @@ restagedLedger l t g oldest uncommitted next closes stamp images =
     }
 
 -- the transaction is open before and after
-module _ (l : Ledger) (f : Fine l) (t : Name) (g : Stage) (was : (l .book .entry t) .stage ≢ absent) (is : g ≢ absent)
+module _ (l : Ledger) (f : WellFormed l) (t : Name) (g : Stage) (was : (l .book .entry t) .stage ≢ absent) (is : g ≢ absent)
     (o v n : ℕ → ℕ) (closes : ℕ) (stamp : Name → ℕ) (images : Name → List Bytes) where
   abbrev moved : Ledger
   moved = restagedLedger l t g o v n closes stamp images
@@ -60,10 +60,10 @@ module _ (l : Ledger) (f : Fine l) (t : Name) (g : Stage) (was : (l .book .entry
   absent-before : (u : Name) → (moved .book .entry u) .stage ≡ absent → (l .book .entry u) .stage ≡ absent
   absent-before u h = same-or-not u t (λ e. absurd (is (sym (step .stage) ∙ rw e at h))) (λ ne. rw (step .other u ne) at h)
 
-  fine-moved : ((c : ℕ) → c < l .shape .cores → Ranks (moved .book) c) → ((u : Name) → isClosed ((moved .book .entry u) .stage) ≡ true → Frozen moved u)
+  well-formed-moved : ((c : ℕ) → c < l .shape .cores → Ranks (moved .book) c) → ((u : Name) → isClosed ((moved .book .entry u) .stage) ≡ true → Frozen moved u)
       → ((u x : Name) → isClosed ((moved .book .entry u) .stage) ≡ true → isClosed ((moved .book .entry x) .stage) ≡ true → stamp u ≡ stamp x → u ≡ x)
-      → closes ≤ sumNext (moved .book) (l .shape .cores) → Fine moved
-  fine-moved ranks frozen stamps count =
+      → closes ≤ sumNext (moved .book) (l .shape .cores) → WellFormed moved
+  well-formed-moved ranks frozen stamps count =
       record {
         range = f .range;
         ranks = ranks;
@@ -81,7 +81,7 @@ module _ (l : Ledger) (f : Fine l) (t : Name) (g : Stage) (was : (l .book .entry
       }
 
 -- ---- CLOSE, STORE, CHECKPOINT
-module _ (l : Ledger) (f : Fine l) (c : ℕ) (hc : c < l .shape .cores) where
+module _ (l : Ledger) (f : WellFormed l) (c : ℕ) (hc : c < l .shape .cores) where
   abbrev k : Book
   k = l .book
 
@@ -94,7 +94,7 @@ module _ (l : Ledger) (f : Fine l) (c : ℕ) (hc : c < l .shape .cores) where
     closing = restages t (closed 0) (k .oldest) (k .uncommitted) (raise c (k .next)) k
 
     frozen-closed : Frozen (closeLedger c l) t
-    unfolding closeLedger close
+    unfolding closeLedger closeBook
     frozen-closed =
         let bs = (k .entry t) .blocks in
         let e = closing .blocks t in
@@ -110,13 +110,13 @@ module _ (l : Ledger) (f : Fine l) (c : ℕ) (hc : c < l .shape .cores) where
         }
 
     -- the others that are closed were so before
-    module _ (u : Name) (ne : u ≢ t) (h : isClosed ((close c k .entry u) .stage) ≡ true) where
+    module _ (u : Name) (ne : u ≢ t) (h : isClosed ((closeBook c k .entry u) .stage) ≡ true) where
       was-closed : isClosed ((k .entry u) .stage) ≡ true
-      unfolding close
+      unfolding closeBook
       was-closed = rw (closing .other u ne) at h
 
       still-frozen : Frozen (closeLedger c l) u
-      unfolding closeLedger close
+      unfolding closeLedger closeBook
       still-frozen =
           let z = f .frozen u was-closed in
           let e = closing .blocks u in
@@ -130,7 +130,7 @@ module _ (l : Ledger) (f : Fine l) (c : ℕ) (hc : c < l .shape .cores) where
           let p : suc (l .closes) ≡ l .stamp u = sym (rw e (close-stamp l c)) ∙ q ∙ close-stamp-other l c u ne in
           omega arith
 
-    closed-stamps : (u x : Name) → isClosed ((close c k .entry u) .stage) ≡ true → isClosed ((close c k .entry x) .stage) ≡ true
+    closed-stamps : (u x : Name) → isClosed ((closeBook c k .entry u) .stage) ≡ true → isClosed ((closeBook c k .entry x) .stage) ≡ true
         → (closeLedger c l) .stamp u ≡ (closeLedger c l) .stamp x → u ≡ x
     closed-stamps u x hu hx s =
         same-or-not u t
@@ -139,30 +139,30 @@ module _ (l : Ledger) (f : Fine l) (c : ℕ) (hc : c < l .shape .cores) where
         (λ d. absurd (newest u ne hu x d (sym s)))
         (λ nd. f .stamps u x (was-closed u ne hu) (was-closed x nd hx) (sym (close-stamp-other l c u ne) ∙ s ∙ close-stamp-other l c x nd)))
 
-    pub fine-close : Fine (closeLedger c l)
-    unfolding closeLedger close
-    fine-close =
-        fine-moved l f t (closed 0) (running-present _ run) (closed-present _ refl) (k .oldest) (k .uncommitted) (raise c (k .next))
+    pub well-formed-close : WellFormed (closeLedger c l)
+    unfolding closeLedger closeBook
+    well-formed-close =
+        well-formed-moved l f t (closed 0) (running-present _ run) (closed-present _ refl) (k .oldest) (k .uncommitted) (raise c (k .next))
         (suc (l .closes)) ((closeLedger c l) .stamp) ((closeLedger c l) .images)
         (λ a h. elim (ℕ-discrete a c) [
-          | yes e ↦ subst (λ (a : ℕ). Ranks (close c k) a) (sym e) (ranks-closed k c (f .ranks c hc) idle (f .limits t (running-present _ run) .high))
+          | yes e ↦ subst (λ (a : ℕ). Ranks (closeBook c k) a) (sym e) (ranks-closed k c (f .ranks c hc) idle (f .limits t (running-present _ run) .high))
           | no ne ↦ ranks-elsewhere k c (k .next c) (closed 0) (k .oldest) (k .uncommitted) (raise c (k .next)) a ne refl refl (raise-other c (k .next) a ne) (f .ranks a h)
         ])
         (λ u h. same-or-not u t (λ e. subst (λ (u : Name). Frozen (closeLedger c l) u) (sym e) frozen-closed) (λ ne. still-frozen u ne h))
         closed-stamps
-        (let h = sum-raised k (close c k) c refl (l .shape .cores) .1 hc in let g = f .closes in omega arith)
+        (let h = sum-raised k (closeBook c k) c refl (l .shape .cores) .1 hc in let g = f .closes in omega arith)
 
   -- STORE and CHECKPOINT: the closed one stays closed
   module _ (i : ℕ) (g : Stage) (o u : ℕ → ℕ) (was : isClosed ((k .entry (newName c i)) .stage) ≡ true) (is : isClosed g ≡ true)
       (elsewhere : (a : ℕ) → a ≢ c → (o a ≡ k .oldest a) × (u a ≡ k .uncommitted a)) (here : Ranks (restaged (newName c i) g o u (k .next) k) c) where
-    fine-advanced : Fine (withBook l (restaged (newName c i) g o u (k .next) k))
-    fine-advanced =
+    well-formed-advanced : WellFormed (withBook l (restaged (newName c i) g o u (k .next) k))
+    well-formed-advanced =
         let s = newName c i in
         let after = restaged s g o u (k .next) k in
         let step = restages s g o u (k .next) k in
         let before : (x : Name) → isClosed ((after .entry x) .stage) ≡ true → isClosed ((k .entry x) .stage) ≡ true
         = λ x h. sym (restages-keep step isClosed (is ∙ sym was) x) ∙ h in
-        fine-moved l f s g (closed-present _ was) (closed-present g is) o u (k .next) (l .closes) (l .stamp) (l .images)
+        well-formed-moved l f s g (closed-present _ was) (closed-present g is) o u (k .next) (l .closes) (l .stamp) (l .images)
         (λ a h. elim (ℕ-discrete a c) [
           | yes e ↦ subst (λ (a : ℕ). Ranks after a) (sym e) here
           | no ne ↦ ranks-elsewhere k c i g o u (k .next) a ne (elsewhere a ne .0) (elsewhere a ne .1) refl (f .ranks a h)
@@ -171,18 +171,18 @@ module _ (l : Ledger) (f : Fine l) (c : ℕ) (hc : c < l .shape .cores) where
         (λ x y hx hy. f .stamps x y (before x hx) (before y hy))
         (let e = sum-same k after (λ a. refl) (l .shape .cores) in let h = f .closes in omega arith)
 
-  pub fine-store : k .uncommitted c < k .next c → Fine (withBook l (store c k))
-  fine-store due =
+  pub well-formed-store : k .uncommitted c < k .next c → WellFormed (withBook l (storeBook c k))
+  well-formed-store due =
       let r = f .ranks c hc in
-      store-by k c r (λ x. Fine (withBook l x)) due
-      (λ n was more. fine-advanced (k .uncommitted c) (closed (suc n)) (k .oldest) (k .uncommitted) (ap isClosed was) refl (λ a ne. (refl, refl)) (ranks-stored k c r n due more))
-      (λ n was last. fine-advanced (k .uncommitted c) (committed 0) (k .oldest) (raise c (k .uncommitted)) (ap isClosed was) refl
+      store-by k c r (λ x. WellFormed (withBook l x)) due
+      (λ n was more. well-formed-advanced (k .uncommitted c) (closed (suc n)) (k .oldest) (k .uncommitted) (ap isClosed was) refl (λ a ne. (refl, refl)) (ranks-stored k c r n due more))
+      (λ n was last. well-formed-advanced (k .uncommitted c) (committed 0) (k .oldest) (raise c (k .uncommitted)) (ap isClosed was) refl
       (λ a ne. (refl, raise-other c (k .uncommitted) a ne)) (ranks-committed k c r n due))
 
-  pub fine-checkpoint : k .oldest c < k .uncommitted c → Fine (withBook l (checkpoint c k))
-  fine-checkpoint due =
+  pub well-formed-checkpoint : k .oldest c < k .uncommitted c → WellFormed (withBook l (checkpointBook c k))
+  well-formed-checkpoint due =
       let r = f .ranks c hc in
-      checkpoint-by k c r (λ x. Fine (withBook l x)) due
-      (λ n was more. fine-advanced (k .oldest c) (committed (suc n)) (k .oldest) (k .uncommitted) (ap isClosed was) refl (λ a ne. (refl, refl)) (ranks-homed k c r n due more))
-      (λ n was last. fine-advanced (k .oldest c) retired (raise c (k .oldest)) (k .uncommitted) (ap isClosed was) refl
+      checkpoint-by k c r (λ x. WellFormed (withBook l x)) due
+      (λ n was more. well-formed-advanced (k .oldest c) (committed (suc n)) (k .oldest) (k .uncommitted) (ap isClosed was) refl (λ a ne. (refl, refl)) (ranks-homed k c r n due more))
+      (λ n was last. well-formed-advanced (k .oldest c) retired (raise c (k .oldest)) (k .uncommitted) (ap isClosed was) refl
       (λ a ne. (raise-other c (k .oldest) a ne, refl)) (ranks-retired k c r n due))

@@ -18,13 +18,13 @@ use Rattle.model.specs.Card.{newName}
 use Rattle.model.specs.Limits.{maxNumber}
 use Rattle.model.specs.declared.Name.{Name}
 use Rattle.model.proofs.Lists.{cases, getD-mem, or-none}
-use Rattle.crash.specs.Book.{absent, running, isRunning, isClosed, Entry, Book, change, staged, begin, holderIn, Meeting, own, running-holder, meets, ruled, note, wrote}
+use Rattle.crash.specs.Book.{absent, running, isRunning, isClosed, Entry, Book, change, staged, begin, bookHolder, Meeting, own, running-holder, meets, ruled, note, writeBook}
 use Rattle.crash.specs.Ledger.{Ledger, withBook, namesCount, holderNames}
 use Rattle.crash.specs.Claims.{IsBytes}
 use Rattle.crash.proofs.Books.Tests.{clash, impossible}
 use Rattle.crash.proofs.Books.BookEntries.{nextName, same-or-not, change-at, change-other, change-by, takes, metHolder, meets-met, meets-own, running-or-not, ruled-other, ruled-stage, ruled-blocks, ruled-blocks-other, ruled-names}
 use Rattle.crash.proofs.Books.BookSteps.{begun, begun-by, begun-fields, begun-same, begun-other, begun-running, begun-holder, begun-meets}
-use Rattle.crash.proofs.Disk.Relation.{Limits, WriteFits, Fine}
+use Rattle.crash.proofs.Disk.Relation.{Limits, WriteFits, WellFormed}
 use Rattle.crash.proofs.Disk.LedgerStages.{running-present}
 use Rattle.crash.proofs.Disk.LedgerFresh.{same-frozen}
 use Rattle.crash.proofs.Disk.LedgerRanks.{ranks-kept, sum-same}
@@ -50,12 +50,12 @@ snoc-distinct xs b h out i j hi hj e =
     ]
 
 -- ---- the write noted
-module _ (l : Ledger) (f : Fine l) (t : Name) (last : t .number ≡ l .book .next (t .core)) (b o : ℕ) (v : Bytes) (run : (l .book .entry t) .stage ≡ running)
+module _ (l : Ledger) (f : WellFormed l) (t : Name) (last : t .number ≡ l .book .next (t .core)) (b o : ℕ) (v : Bytes) (run : (l .book .entry t) .stage ≡ running)
     (fits : WriteFits (l .shape) (record { writer = t; holder = t; block = b; offset = o; bytes = v }))
-    (holds : (u : Name) (x : ℕ) → (l .book .entry u) .stage ≡ running → List·Memᴰ x ((l .book .entry u) .blocks) → holderIn (l .book) x (l .book .writes) ≡ some u)
-    (opens : (u : Name) (x : ℕ) → holderIn (l .book) x (l .book .writes) ≡ some u → (l .book .entry u) .stage ≢ absent) where
+    (holds : (u : Name) (x : ℕ) → (l .book .entry u) .stage ≡ running → List·Memᴰ x ((l .book .entry u) .blocks) → bookHolder (l .book) x (l .book .writes) ≡ some u)
+    (opens : (u : Name) (x : ℕ) → bookHolder (l .book) x (l .book .writes) ≡ some u → (l .book .entry u) .stage ≢ absent) where
   abbrev m : Meeting
-  m = meets (l .book) t (holderIn (l .book) b (l .book .writes))
+  m = meets (l .book) t (bookHolder (l .book) b (l .book .writes))
 
   abbrev after : Name → Entry
   after = ruled m t b (l .book .entry)
@@ -64,7 +64,7 @@ module _ (l : Ledger) (f : Fine l) (t : Name) (last : t .number ≡ l .book .nex
   after-stage = ruled-stage m t b (l .book .entry)
 
   met-open : (u : Name) → metHolder m ≡ some u → (l .book .entry u) .stage ≢ absent
-  met-open u e = opens u b (meets-met (l .book) t (holderIn (l .book) b (l .book .writes)) u e .0)
+  met-open u e = opens u b (meets-met (l .book) t (bookHolder (l .book) b (l .book .writes)) u e .0)
 
   -- one that does not run is not the writer, and one that is not open is not changed
   not-writer : (u : Name) → (l .book .entry u) .stage ≢ running → u ≢ t
@@ -119,9 +119,9 @@ module _ (l : Ledger) (f : Fine l) (t : Name) (last : t .number ≡ l .book .nex
           short = running-or-not m u (holder-short u) (λ nr. rw (ruled-other m t b (l .book .entry) u ne nr) (z .short));
         }
 
-    fine-note : Fine (withBook l (note t b o v (l .book)))
+    well-formed-note : WellFormed (withBook l (note t b o v (l .book)))
     unfolding note
-    fine-note =
+    well-formed-note =
         record {
           range = f .range;
           ranks = λ a h.
@@ -153,7 +153,7 @@ module _ (l : Ledger) (f : Fine l) (t : Name) (last : t .number ≡ l .book .nex
         }
 
 -- ---- WRITE
-module _ (l : Ledger) (f : Fine l) (c : ℕ) (hc : c < l .shape .cores) where
+module _ (l : Ledger) (f : WellFormed l) (c : ℕ) (hc : c < l .shape .cores) where
   abbrev k : Book
   k = l .book
 
@@ -183,9 +183,9 @@ module _ (l : Ledger) (f : Fine l) (c : ℕ) (hc : c < l .shape .cores) where
     opens-after : (u : Name) → (k .entry u) .stage ≢ absent → (opening u) .stage ≢ absent
     opens-after u h = same-or-not u w (λ e. running-present _ (opening-at u e)) (λ ne. rw (opening-other u ne) h)
 
-    fine-begin : Fine (withBook l (begin w k))
+    well-formed-begin : WellFormed (withBook l (begin w k))
     unfolding begin
-    fine-begin =
+    well-formed-begin =
         record {
           range = f .range;
           ranks = λ a h.
@@ -232,17 +232,17 @@ module _ (l : Ledger) (f : Fine l) (c : ℕ) (hc : c < l .shape .cores) where
 
   -- The holders are as layer A has them: whoever runs and took a block holds it, and a holder is open.
   module _ (b o : ℕ) (v : Bytes) (hb : b < l .shape .blocks) (ho : o ≤ 124) (size : length v ≡ 4) (is-bytes : IsBytes v)
-      (holds : (u : Name) (x : ℕ) → (k .entry u) .stage ≡ running → List·Memᴰ x ((k .entry u) .blocks) → holderIn k x (k .writes) ≡ some u)
-      (opens : (u : Name) (x : ℕ) → holderIn k x (k .writes) ≡ some u → (k .entry u) .stage ≢ absent) where
+      (holds : (u : Name) (x : ℕ) → (k .entry u) .stage ≡ running → List·Memᴰ x ((k .entry u) .blocks) → bookHolder k x (k .writes) ≡ some u)
+      (opens : (u : Name) (x : ℕ) → bookHolder k x (k .writes) ≡ some u → (k .entry u) .stage ≢ absent) where
     abbrev open-book : Book
     open-book = begun c k
 
     module _ (current : ((k .entry w) .stage ≡ absent) ⊎ ((k .entry w) .stage ≡ running)) where
-      same-holder : (x : ℕ) → holderIn open-book x (open-book .writes) ≡ holderIn k x (k .writes)
-      same-holder x = begun-holder k c current x (open-book .writes) ∙ ap (holderIn k x) (begun-fields k c current .0)
+      same-holder : (x : ℕ) → bookHolder open-book x (open-book .writes) ≡ bookHolder k x (k .writes)
+      same-holder x = begun-holder k c current x (open-book .writes) ∙ ap (bookHolder k x) (begun-fields k c current .0)
 
       still-holds : (u : Name) (x : ℕ) → (open-book .entry u) .stage ≡ running → List·Memᴰ x ((open-book .entry u) .blocks)
-          → holderIn open-book x (open-book .writes) ≡ some u
+          → bookHolder open-book x (open-book .writes) ≡ some u
       still-holds u x h p =
           let q : List·Memᴰ x ((k .entry u) .blocks) = rw (begun-same k c current (λ e. e .blocks) (λ e. refl) u) at p in
           same-holder x ∙ same-or-not u w
@@ -252,25 +252,25 @@ module _ (l : Ledger) (f : Fine l) (c : ℕ) (hc : c < l .shape .cores) where
           ])
           (λ ne. holds u x (rw (begun-other k c current u ne) at h) q)
 
-      still-open : (u : Name) (x : ℕ) → holderIn open-book x (open-book .writes) ≡ some u → (open-book .entry u) .stage ≢ absent
+      still-open : (u : Name) (x : ℕ) → bookHolder open-book x (open-book .writes) ≡ some u → (open-book .entry u) .stage ≢ absent
       still-open u x h =
           same-or-not u w
           (λ e. rw e (running-present _ (begun-running k c current)))
           (λ ne. rw (begun-other k c current u ne) (opens u x (sym (same-holder x) ∙ h)))
 
-    pub fine-wrote : (ltb 12 (namesCount (wrote c b o v k) w) || ltb 12 (holderNames (wrote c b o v k) (meets k w (holderIn k b (k .writes))))) ≡ false
-        → ltb 8 (length ((wrote c b o v k .entry w) .blocks)) ≡ false
+    pub well-formed-write : (ltb 12 (namesCount (writeBook c b o v k) w) || ltb 12 (holderNames (writeBook c b o v k) (meets k w (bookHolder k b (k .writes))))) ≡ false
+        → ltb 8 (length ((writeBook c b o v k .entry w) .blocks)) ≡ false
         → (not (isRunning ((k .entry w) .stage)) && ltb maxNumber (k .next c)) ≡ false
-        → Fine (withBook l (wrote c b o v k))
-    unfolding wrote note namesCount holderNames
-    fine-wrote no-24 no-25 no-27 =
+        → WellFormed (withBook l (writeBook c b o v k))
+    unfolding writeBook note namesCount holderNames
+    well-formed-write no-24 no-25 no-27 =
         let current = f .ranks c hc .current in
         let short = or-none _ _ no-24 in
-        let opened : Fine (withBook l open-book)
-        = begun-by k c current (λ x. Fine (withBook l x)) (λ e. f) (λ e. fine-begin e (ltb-false maxNumber (k .next c) (rw (ap isRunning e) at no-27))) in
-        fine-note (withBook l open-book) opened w (ap (λ (n : ℕ → ℕ). n c) (sym (begun-fields k c current .3))) b o v (begun-running k c current)
+        let opened : WellFormed (withBook l open-book)
+        = begun-by k c current (λ x. WellFormed (withBook l x)) (λ e. f) (λ e. well-formed-begin e (ltb-false maxNumber (k .next c) (rw (ap isRunning e) at no-27))) in
+        well-formed-note (withBook l open-book) opened w (ap (λ (n : ℕ → ℕ). n c) (sym (begun-fields k c current .3))) b o v (begun-running k c current)
         (record { block = hb; offset = ho; size = size; bytes = is-bytes }) (still-holds current) (still-open current)
         (ltb-false 12 _ (short .0))
-        (λ u e. let q : meets k w (holderIn k b (k .writes)) ≡ running-holder u = sym (begun-meets k c current b) ∙ e in
+        (λ u e. let q : meets k w (bookHolder k b (k .writes)) ≡ running-holder u = sym (begun-meets k c current b) ∙ e in
         ltb-false 12 _ (rw (q, holderNames, namesCount) at (short .1)))
         (ltb-false 8 _ no-25)

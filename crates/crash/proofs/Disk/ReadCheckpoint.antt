@@ -12,24 +12,24 @@ use Rattle.model.specs.Checkpoint.{committedNow, validNow, committedOf, oldest,
 use Rattle.model.specs.declared.Shape.{Shape}
 use Rattle.model.specs.declared.Name.{Name}
 use Rattle.model.specs.declared.Committed.{Committed}
-use Rattle.model.proofs.Lists.{and-both, and-left, and-right, or-left, or-right, or-cases, any-mem, mem-any, mem-below, below-mem, both-ways}
+use Rattle.model.proofs.Lists.{and-both, and-left, and-right, or-left, or-right, or-cases, any-mem, mem-any, mem-below, below-mem, bool-ext}
 use Rattle.crash.specs.Book.{isClosed, isRetired}
 use Rattle.crash.specs.Ledger.{Ledger, validIn, sharesLowerIn}
 use Rattle.crash.proofs.Books.Tests.{clash}
 use Rattle.crash.proofs.Books.BookEntries.{oldestName, uncommittedName}
-use Rattle.crash.proofs.Disk.Relation.{Fine, Up}
+use Rattle.crash.proofs.Disk.Relation.{WellFormed, CardUp}
 use Rattle.crash.proofs.Disk.LedgerStages.{closed-present, unretired-rank, closing-stage}
 use Rattle.crash.proofs.Disk.ReadMaster.{shape-up}
 use Rattle.crash.proofs.Disk.RecordFormat.{readRecord, readList}
-use Rattle.crash.proofs.Disk.ReadRecords.{IsRead, length-readList, readList-has, readList-first, readList-is, journal-read}
+use Rattle.crash.proofs.Disk.ReadRecords.{ReadAsLedger, length-readList, readList-has, readList-first, readList-is, journal-read}
 use Rattle.crash.proofs.Disk.ReadValid.{journals-are, listed-journals, valid-same}
 
 -- ---- what is read
-module _ {l : Ledger} {w : World} (u : Up l w) where
+module _ {l : Ledger} {w : World} (u : CardUp l w) where
   count-up : (c : ℕ) → c < l .shape .cores → committedCount (w .card) c ≡ l .book .uncommitted c - l .book .oldest c
   unfolding committedCount
   count-up c h =
-      let r = u .fine .ranks c h in
+      let r = u .well-formed .ranks c h in
       let k = u .cores c h in
       elim (ℕ-discrete (l .book .uncommitted c) (l .book .next c)) [
         | yes e ↦ rw (k .none-closing e, k .next, u .disk .journals c h .number) (omega arith)
@@ -49,17 +49,17 @@ module _ {l : Ledger} {w : World} (u : Up l w) where
 
   committed-of : (c : ℕ) → c < l .shape .cores → committedOf w c ≡ readList l c (tailOf (w .card) c)
   unfolding committedOf
-  committed-of c h = rw (shape-up u) (journal-read (u .fine) (u .disk) c h (committedCount (w .card) c) (count-enough c h))
+  committed-of c h = rw (shape-up u) (journal-read (u .well-formed) (u .disk) c h (committedCount (w .card) c) (count-enough c h))
 
   pub oldest-of : (c : ℕ) → c < l .shape .cores → l .book .oldest c < l .book .uncommitted c
       → oldest (committedOf w c) ≡ readRecord l (oldestName c (l .book)) ((tailOf (w .card) c) .position)
   unfolding oldest
   oldest-of c h g = ap oldest (committed-of c h ∙ readList-first l c (tailOf (w .card) c) g)
 
-  pub oldest-is : (c : ℕ) → c < l .shape .cores → l .book .oldest c < l .book .uncommitted c → IsRead l (w .disk) c (oldest (committedOf w c))
+  pub oldest-is : (c : ℕ) → c < l .shape .cores → l .book .oldest c < l .book .uncommitted c → ReadAsLedger l (w .disk) c (oldest (committedOf w c))
   oldest-is c h g =
       rw (oldest-of c h g)
-      (readList-is (u .fine) (u .disk) c h (readRecord l (oldestName c (l .book)) ((tailOf (w .card) c) .position))
+      (readList-is (u .well-formed) (u .disk) c h (readRecord l (oldestName c (l .book)) ((tailOf (w .card) c) .position))
       (rw (readList-first l c (tailOf (w .card) c) g) (List·Memᴰ·head refl)))
 
 -- ---- 33: a lower one that shares a block
@@ -73,7 +73,7 @@ abbrev lowerTest : Ledger → Name → Name → Bool
 lowerTest l t v =
     isClosed ((l .book .entry v) .stage) && not (isRetired ((l .book .entry v) .stage)) && ltb (l .stamp v) (l .stamp t) && share ((l .book .entry t) .blocks) ((l .book .entry v) .blocks)
 
-lower-in : {l : Ledger} → Fine l → (t v : Name) → Lower l t v → sharesLowerIn l t ≡ true
+lower-in : {l : Ledger} → WellFormed l → (t v : Name) → Lower l t v → sharesLowerIn l t ≡ true
 unfolding sharesLowerIn
 lower-in {l} f t v r =
     mem-any (lowerTest l t) (f .known v (closed-present _ (r .is-closed)))
@@ -98,7 +98,7 @@ in-lower l t h =
       },
     )
 
-module _ {l : Ledger} {w : World} (u : Up l w) (c : ℕ) (e : Committed) (x : IsRead l (w .disk) c e) where
+module _ {l : Ledger} {w : World} (u : CardUp l w) (c : ℕ) (e : Committed) (x : ReadAsLedger l (w .disk) c e) where
   abbrev pub lowerRead : Committed → Bool
   lowerRead g = ltb (g .stamp) (e .stamp) && share (blocksOf (shapeOf (w .card)) (w .disk) e) (blocksOf (shapeOf (w .card)) (w .disk) g)
 
@@ -107,12 +107,12 @@ module _ {l : Ledger} {w : World} (u : Up l w) (c : ℕ) (e : Committed) (x : Is
       let t = (coreOf (w .card) i) .closed in
       t .live && ltb (t .stamp) (e .stamp) && share (blocksOf (shapeOf (w .card)) (w .disk) e) (taken t)
 
-  blocks-up : (g : Committed) (i : ℕ) → IsRead l (w .disk) i g → blocksOf (shapeOf (w .card)) (w .disk) g ≡ (l .book .entry (nameOf g)) .blocks
+  blocks-up : (g : Committed) (i : ℕ) → ReadAsLedger l (w .disk) i g → blocksOf (shapeOf (w .card)) (w .disk) g ≡ (l .book .entry (nameOf g)) .blocks
   blocks-up g i y = ap (λ (s : Shape). blocksOf s (w .disk) g) (shape-up u) ∙ y .blocks
 
   read-lower : (g : Committed) → List·Memᴰ g (committedNow w) → lowerRead g ≡ true → Lower l (nameOf e) (nameOf g)
   read-lower g m h =
-      let y = journals-are (u .fine) (u .disk) (committedCount (w .card)) (count-enough u) g (rw (committed-now u) at m) in
+      let y = journals-are (u .well-formed) (u .disk) (committedCount (w .card)) (count-enough u) g (rw (committed-now u) at m) in
       let p : g .stamp < e .stamp = ltb-true (g .stamp) (e .stamp) (and-left _ _ h) in
       record {
         is-closed = y .unretired .is-closed;
@@ -123,7 +123,7 @@ module _ {l : Ledger} {w : World} (u : Up l w) (c : ℕ) (e : Committed) (x : Is
 
   pub closed-lower : (i : ℕ) → i < l .shape .cores → lowerClosed i ≡ true → Lower l (nameOf e) (uncommittedName i (l .book))
   closed-lower i h g =
-      let r = u .fine .ranks i h in
+      let r = u .well-formed .ranks i h in
       let k = u .cores i h in
       let t = (coreOf (w .card) i) .closed in
       let q = and-left (t .live && ltb (t .stamp) (e .stamp)) _ g in
@@ -140,7 +140,7 @@ module _ {l : Ledger} {w : World} (u : Up l w) (c : ℕ) (e : Committed) (x : Is
             })
       ]
 
-  lower-read : (g : Committed) (i : ℕ) → IsRead l (w .disk) i g → Lower l (nameOf e) (nameOf g) → lowerRead g ≡ true
+  lower-read : (g : Committed) (i : ℕ) → ReadAsLedger l (w .disk) i g → Lower l (nameOf e) (nameOf g) → lowerRead g ≡ true
   lower-read g i y r =
       and-both (lt-ltb (g .stamp) (e .stamp) (omega (arith, y .stamp, x .stamp, r .lower))) (ap₂ share (blocks-up e c x) (blocks-up g i y) ∙ r .shares)
 
@@ -153,11 +153,11 @@ module _ {l : Ledger} {w : World} (u : Up l w) (c : ℕ) (e : Committed) (x : Is
   unfolding sharesLower
   lower-found v r =
       elim (decLt (v .core) (l .shape .cores)) [
-        | no n ↦ clash (r .is-closed) (ap isClosed (u .fine .far v (omega arith)))
-        | yes h ↦ elim (unretired-rank (u .fine .ranks (v .core) h) (v .number) (r .is-closed) (r .not-retired)) [
+        | no n ↦ clash (r .is-closed) (ap isClosed (u .well-formed .far v (omega arith)))
+        | yes h ↦ elim (unretired-rank (u .well-formed .ranks (v .core) h) (v .number) (r .is-closed) (r .not-retired)) [
           | inl i ↦ (let g = readList-has l (v .core) (tailOf (w .card) (v .core)) (v .number) (i .0) (i .1) in
-              let y = readList-is (u .fine) (u .disk) (v .core) h (g .0) (g .1) in
-              let m = listed-journals (u .fine) (u .disk) (committedCount (w .card)) (count-enough u) (g .0) in
+              let y = readList-is (u .well-formed) (u .disk) (v .core) h (g .0) (g .1) in
+              let m = listed-journals (u .well-formed) (u .disk) (committedCount (w .card)) (count-enough u) (g .0) in
               let p = subst (λ (j : ℕ). (j < l .shape .cores) × List·Memᴰ (g .0) (readList l j (tailOf (w .card) j))) (sym (y .core)) (h, g .1) in
               or-left (any lowerClosed (below ((shapeOf (w .card)) .cores)))
               (mem-any lowerRead (rw (committed-now u) (m (p .0) (p .1))) (lower-read (g .0) (v .core) y (subst (Lower l (nameOf e)) (sym (g .2)) r))))
@@ -178,12 +178,12 @@ module _ {l : Ledger} {w : World} (u : Up l w) (c : ℕ) (e : Committed) (x : Is
 
   shares-same : sharesLower w e ≡ sharesLowerIn l (nameOf e)
   shares-same =
-      both-ways
-      (λ h. let r = found-lower h in lower-in (u .fine) (nameOf e) (r .0) (r .1))
+      bool-ext
+      (λ h. let r = found-lower h in lower-in (u .well-formed) (nameOf e) (r .0) (r .1))
       (λ h. let r = in-lower l (nameOf e) h in lower-found (r .0) (r .1))
 
 -- ---- the conditions
-module _ {l : Ledger} {w : World} (u : Up l w) (c : ℕ) (in-range : c < l .shape .cores) where
+module _ {l : Ledger} {w : World} (u : CardUp l w) (c : ℕ) (in-range : c < l .shape .cores) where
   -- '31'
   pub none-committed : eqb (length (committedOf w c)) 0 ≡ not (ltb (l .book .oldest c) (l .book .uncommitted c))
   none-committed =
@@ -201,7 +201,7 @@ module _ {l : Ledger} {w : World} (u : Up l w) (c : ℕ) (in-range : c < l .shap
     pub oldest-valid : isIn (validNow w) (nameOf (oldest (committedOf w c))) ≡ any (sameName (oldestName c (l .book))) (validIn (l .book))
     oldest-valid =
         ap₂ isIn (valid-now u) oldest-name
-        ∙ valid-same (u .fine) (u .disk) (committedCount (w .card)) (count-enough u) (oldestName c (l .book))
+        ∙ valid-same (u .well-formed) (u .disk) (committedCount (w .card)) (count-enough u) (oldestName c (l .book))
 
     -- '33'
     pub oldest-shares : sharesLower w (oldest (committedOf w c)) ≡ sharesLowerIn l (oldestName c (l .book))

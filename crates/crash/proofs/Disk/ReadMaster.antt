@@ -16,9 +16,9 @@ use Rattle.model.proofs.Words.{each-block}
 use Rattle.model.proofs.Encoding.{master-shape, master-tail, master-read, length-master}
 use Rattle.crash.specs.Ledger.{Ledger}
 use Rattle.crash.proofs.Disk.BlockBytes.{each-isBytes}
-use Rattle.crash.proofs.Disk.Relation.{Fine, DiskStands, Up, IsBlock}
+use Rattle.crash.proofs.Disk.Relation.{WellFormed, DiskStands, CardUp, IsBlock}
 
-module _ {l : Ledger} {d : Bytes} {tailAt : ℕ → Tail} (f : Fine l) (z : DiskStands l d tailAt) where
+module _ {l : Ledger} {d : Bytes} {tailAt : ℕ → Tail} (f : WellFormed l) (z : DiskStands l d tailAt) where
   tail-fits : (c : ℕ) → c < l .shape .cores → isTail (l .shape) (tailAt c) ≡ true
   unfolding isTail between
   tail-fits c h =
@@ -42,9 +42,9 @@ module _ {l : Ledger} {d : Bytes} {tailAt : ℕ → Tail} (f : Fine l) (z : Disk
   tail-read c h = ap (λ (m : Bytes). tailIn m c) (z .master) ∙ master-tail (f .range) tailAt tail-fits c h
 
 -- the card's own shape is in range, so it is read as it is
-pub shape-up : {l : Ledger} {w : World} → Up l w → shapeOf (w .card) ≡ l .shape
+pub shape-up : {l : Ledger} {w : World} → CardUp l w → shapeOf (w .card) ≡ l .shape
 unfolding shapeOf
-shape-up {l} u = ap clamped (u .shape) ∙ clamped-same (l .shape) (u .fine .range)
+shape-up {l} u = ap clamped (u .shape) ∙ clamped-same (l .shape) (u .well-formed .range)
 
 -- a master block is a block of bytes
 pub master-block : {s : Shape} → InRange s → (tailAt : ℕ → Tail) → IsBlock (masterBlock s tailAt)

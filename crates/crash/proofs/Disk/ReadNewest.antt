@@ -18,10 +18,10 @@ use Rattle.model.proofs.Lists.{cases, getD-mem}
 use Rattle.crash.specs.Book.{isClosed}
 use Rattle.crash.specs.Ledger.{Ledger}
 use Rattle.crash.proofs.Books.Tests.{clash, any-in, in-any, blockEquality}
-use Rattle.crash.proofs.Disk.Relation.{Fine, DiskStands, Newest, target}
+use Rattle.crash.proofs.Disk.Relation.{WellFormed, DiskStands, Newest, target}
 use Rattle.crash.proofs.Disk.LedgerStages.{closed-present}
 use Rattle.crash.proofs.Disk.ReadMaster.{shape-read}
-use Rattle.crash.proofs.Disk.ReadRecords.{IsRead, few-records}
+use Rattle.crash.proofs.Disk.ReadRecords.{ReadAsLedger, few-records}
 use Rattle.crash.proofs.Disk.ReadValid.{valid-name, valid-read, valid-are, own-tails, valid-on}
 
 -- ---- the newest of a list
@@ -119,11 +119,11 @@ place-in b (x ∷ bs) m =
     ])
 
 -- ---- the ledger's holder
-took-read : {l : Ledger} {d : Bytes} {c : ℕ} {e : Committed} (b : ℕ) → IsRead l d c e → took (l .shape) d b e ≡ any (eqb b) ((l .book .entry (nameOf e)) .blocks)
+took-read : {l : Ledger} {d : Bytes} {c : ℕ} {e : Committed} (b : ℕ) → ReadAsLedger l d c e → took (l .shape) d b e ≡ any (eqb b) ((l .book .entry (nameOf e)) .blocks)
 unfolding took
 took-read b r = rw (r .blocks)
 
-module _ {l : Ledger} {d : Bytes} {tailAt : ℕ → Tail} (f : Fine l) (z : DiskStands l d tailAt) {b : ℕ} (n : Newest l b) where
+module _ {l : Ledger} {d : Bytes} {tailAt : ℕ → Tail} (f : WellFormed l) (z : DiskStands l d tailAt) {b : ℕ} (n : Newest l b) where
   abbrev taken-by : List·Memᴰ b ((l .book .entry (n .holder)) .blocks)
   taken-by = Memᴰ·cast (sym (n .block)) (getD-mem ((l .book .entry (n .holder)) .blocks) (n .place) 0 (n .within))
 
@@ -149,7 +149,7 @@ module _ {l : Ledger} {d : Bytes} {tailAt : ℕ → Tail} (f : Fine l) (z : Disk
         f .stamps (nameOf e) (n .holder) (y .unretired .is-closed) closed (omega (arith, y .stamp, v .most (h .0) (h .1) t)),
       )
 
-  image-found : (c : ℕ) (e : Committed) → IsRead l d c e → nameOf e ≡ n .holder → imageFound d b (Whole e) ≡ target l b
+  image-found : (c : ℕ) (e : Committed) → ReadAsLedger l d c e → nameOf e ≡ n .holder → imageFound d b (Whole e) ≡ target l b
   unfolding imageFound
   image-found c e r h =
       let bs = (l .book .entry (n .holder)) .blocks in
@@ -162,7 +162,7 @@ module _ {l : Ledger} {d : Bytes} {tailAt : ℕ → Tail} (f : Fine l) (z : Disk
       (r .images (n .place) (omega (arith, n .within)) ∙ ap (λ (t : Name). getD (l .images t) (n .place) []) h ∙ n .image)
 
 -- 'Each block held in the valid set gets the image of highest stamp': the target's
-pub newest-image : {l : Ledger} {d : Bytes} {tailAt : ℕ → Tail} → Fine l → DiskStands l d tailAt → {b : ℕ} → Newest l b → newestImage d b ≡ target l b
+pub newest-image : {l : Ledger} {d : Bytes} {tailAt : ℕ → Tail} → WellFormed l → DiskStands l d tailAt → {b : ℕ} → Newest l b → newestImage d b ≡ target l b
 unfolding newestImage
 newest-image {l} {d} f z {b} n =
     let own = own-tails f z in

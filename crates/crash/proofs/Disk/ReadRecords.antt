@@ -8,23 +8,23 @@ use Rattle.model.proofs.Base.{length-append, List·getD-map, List·getD-append,
 use lib.Seq.{getD-append-add}
 use Rattle.model.specs.Bytes.{number}
 use Rattle.model.specs.Card.{newName}
-use Rattle.model.specs.Layout.{Held, newHeld, isCommit}
-use Rattle.model.specs.Journal.{journalAt, recordAt, recordsFrom, journal, nameOf, heldBy, blocksOf, namesOf, imageOf}
+use Rattle.model.specs.Layout.{Tag, newTag, isCommit}
+use Rattle.model.specs.Journal.{journalAt, recordAt, recordsFrom, journal, nameOf, tagsOf, blocksOf, namesOf, imageOf}
 use Rattle.model.specs.declared.Shape.{Shape}
 use Rattle.model.specs.declared.Tail.{Tail}
 use Rattle.model.specs.declared.Name.{Name}
 use Rattle.model.specs.declared.Committed.{Committed}
 use Rattle.model.specs.declared.Found.the-variants.{Whole}
 use Rattle.model.proofs.Lists.{getD-mem, flatMap-append, length-below, getD-map-below}
-use Rattle.model.proofs.Journal.{recordBlocks as storedBlocks, Stands, journal-wrap, record-read, held-read, names-read, image-read, records-miss, records-hit, miss-commit, record-stands}
+use Rattle.model.proofs.Journal.{encodedRecord as storedBlocks, Stands, journal-wrap, record-read, tags-read, names-read, image-read, records-miss, records-hit, miss-commit, record-stands}
 use Rattle.crash.specs.Book.{isClosed, Book}
-use Rattle.crash.specs.Ledger.{Ledger, recordBlocks, storedOf, storedSince, heldOf, recordOf}
+use Rattle.crash.specs.Ledger.{Ledger, recordBlocks, storedOf, storedSince, recordTags, recordOf}
 use Rattle.crash.specs.Claims.{readAs, JournalsRead}
 use Rattle.crash.proofs.Books.BookEntries.{oldestName}
-use Rattle.crash.proofs.Disk.Relation.{Fine, contents, DiskStands}
+use Rattle.crash.proofs.Disk.Relation.{WellFormed, contents, DiskStands}
 use Rattle.crash.proofs.Disk.LedgerStages.{Unretired, stored-unretired}
 use Rattle.crash.proofs.Disk.ReadMaster.{shape-read, tail-read}
-use Rattle.crash.proofs.Disk.RecordFormat.{readRecord, readFrom, readList, recordsOf, length-held, getD-held, record-sound, record-images, length-record, as-read}
+use Rattle.crash.proofs.Disk.RecordFormat.{readRecord, readFrom, readList, recordsOf, length-recordTags, getD-recordTags, record-sound, record-images, length-record, as-read}
 
 -- ---- blocks that stand one after the other, from a position on
 module _ (s : Shape) (d : Bytes) (c : ℕ) where
@@ -76,25 +76,25 @@ blocks-more k c i (suc m) (suc n) h = omega (arith, blocks-more k c (suc i) m n 
 abbrev ClosedFrom : Ledger → ℕ → ℕ → ℕ → Type 0
 ClosedFrom l c i n = (j : ℕ) → i ≤ j → j < i + n → isClosed ((l .book .entry (newName c j)) .stage) ≡ true
 
-pub length-records : {l : Ledger} → Fine l → (c i n : ℕ) → ClosedFrom l c i n → length (recordsOf l c i n) ≡ recordBlocks (l .book) c i n
+pub length-records : {l : Ledger} → WellFormed l → (c i n : ℕ) → ClosedFrom l c i n → length (recordsOf l c i n) ≡ recordBlocks (l .book) c i n
 unfolding recordsOf recordBlocks
 length-records f c i zero g = refl
 length-records {l} f c i (suc n) g =
     length-append (recordOf l (newName c i)) (recordsOf l c (suc i) n)
     ∙ omega (arith, length-record f (newName c i) (g i (omega arith) (omega arith)), length-records f c (suc i) n (λ j a b. g j (omega arith) (omega arith)))
 
-module _ {l : Ledger} (f : Fine l) (d : Bytes) (c : ℕ) where
+module _ {l : Ledger} (f : WellFormed l) (d : Bytes) (c : ℕ) where
   abbrev Standing : ℕ → ℕ → ℕ → Type 0
   Standing i p n = ClosedFrom l c i n × BlocksStand (l .shape) d c p (recordsOf l c i n)
 
   first-stands : (i p n : ℕ) → Standing i p (suc n)
-      → Stands (l .shape) d c p i (heldOf l (newName c i)) (l .stamp (newName c i)) ((l .book .entry (newName c i)) .names) (l .images (newName c i))
+      → Stands (l .shape) d c p i (recordTags l (newName c i)) (l .stamp (newName c i)) ((l .book .entry (newName c i)) .names) (l .images (newName c i))
   unfolding recordsOf
   first-stands i p n z =
       let t = newName c i in
       let h = z .0 i (omega arith) (omega arith) in
       let size = length-record f t h in
-      let e = length-held l t in
+      let e = length-recordTags l t in
       let stand = stand-left (l .shape) d c p (recordOf l t) (recordsOf l c (suc i) n) (z .1) in
       record-stands (f .frozen t h .count ∙ sym e) (unfold recordOf storedBlocks in (λ q g. stand q (omega arith)))
 
@@ -117,7 +117,7 @@ module _ {l : Ledger} (f : Fine l) (d : Bytes) (c : ℕ) where
   records-are (suc most) i p left (suc n) h z r g =
       let t = newName c i in
       let x = z .0 i (omega arith) (omega arith) in
-      let e = length-held l t in
+      let e = length-recordTags l t in
       let hit : recordAt (l .shape) d c i p left ≡ Whole (readRecord l t p) =
       record-read (record-sound f t x) (first-stands i p n z) left (omega arith) ∙ ap Whole (as-read l t p) in
       let s : i + suc n ≡ suc i + n = omega arith in
@@ -128,7 +128,7 @@ module _ {l : Ledger} (f : Fine l) (d : Bytes) (c : ℕ) where
 
 -- ---- one record that is read
 -- what the ledger has for its transaction is what its record gives
-pub record IsRead (l : Ledger) (d : Bytes) (c : ℕ) (e : Committed) : Type 0 where
+pub record ReadAsLedger (l : Ledger) (d : Bytes) (c : ℕ) (e : Committed) : Type 0 where
   pub core : e .core ≡ c
   pub unretired : Unretired ((l .book .entry (nameOf e)) .stage)
   pub count : e .count ≡ length ((l .book .entry (nameOf e)) .blocks)
@@ -137,27 +137,27 @@ pub record IsRead (l : Ledger) (d : Bytes) (c : ℕ) (e : Committed) : Type 0 wh
   pub names : namesOf (l .shape) d e ≡ (l .book .entry (nameOf e)) .names
   pub images : (i : ℕ) → i < e .count → imageOf (l .shape) d e i ≡ getD (l .images (nameOf e)) i []
 
-blocks-held : (l : Ledger) (t : Name) → map (λ (h : Held). h .block) (heldOf l t) ≡ (l .book .entry t) .blocks
-blocks-held l t =
-    let n = length-held l t in
-    let m = length-map (heldOf l t) (λ (h : Held). h .block) in
-    ext-getD 0 (map (λ (h : Held). h .block) (heldOf l t)) ((l .book .entry t) .blocks) (m ∙ n)
-    (λ i h. List·getD-map (λ (h : Held). h .block) (heldOf l t) i (newHeld 0 0) ∙ ap (λ (h : Held). h .block) (getD-held l t i (omega arith)))
+recordTags-blocks : (l : Ledger) (t : Name) → map (λ (h : Tag). h .block) (recordTags l t) ≡ (l .book .entry t) .blocks
+recordTags-blocks l t =
+    let n = length-recordTags l t in
+    let m = length-map (recordTags l t) (λ (h : Tag). h .block) in
+    ext-getD 0 (map (λ (h : Tag). h .block) (recordTags l t)) ((l .book .entry t) .blocks) (m ∙ n)
+    (λ i h. List·getD-map (λ (h : Tag). h .block) (recordTags l t) i (newTag 0 0) ∙ ap (λ (h : Tag). h .block) (getD-recordTags l t i (omega arith)))
 
-blocks-read : (l : Ledger) (t : Name) (d : Bytes) (e : Committed) → heldBy (l .shape) d e ≡ heldOf l t → blocksOf (l .shape) d e ≡ (l .book .entry t) .blocks
+blocks-read : (l : Ledger) (t : Name) (d : Bytes) (e : Committed) → tagsOf (l .shape) d e ≡ recordTags l t → blocksOf (l .shape) d e ≡ (l .book .entry t) .blocks
 unfolding blocksOf
-blocks-read l t d e h = ap (map (λ (h : Held). h .block)) h ∙ blocks-held l t
+blocks-read l t d e h = ap (map (λ (h : Tag). h .block)) h ∙ recordTags-blocks l t
 
-module _ {l : Ledger} (f : Fine l) (d : Bytes) (c : ℕ) (in-range : c < l .shape .cores) where
+module _ {l : Ledger} (f : WellFormed l) (d : Bytes) (c : ℕ) (in-range : c < l .shape .cores) where
   record-is : (i p : ℕ) → l .book .oldest c ≤ i → i < l .book .uncommitted c
-      → Stands (l .shape) d c p i (heldOf l (newName c i)) (l .stamp (newName c i)) ((l .book .entry (newName c i)) .names) (l .images (newName c i))
-      → IsRead l d c (readRecord l (newName c i) p)
+      → Stands (l .shape) d c p i (recordTags l (newName c i)) (l .stamp (newName c i)) ((l .book .entry (newName c i)) .names) (l .images (newName c i))
+      → ReadAsLedger l d c (readRecord l (newName c i) p)
   record-is i p a b st =
       let t = newName c i in
       let u = stored-unretired (f .ranks c in-range) i a b in
       let x = record-sound f t (u .is-closed) in
       let e = as-read l t p in
-      let held : heldBy (l .shape) d (readRecord l t p) ≡ heldOf l t = subst (λ (r : Committed). heldBy (l .shape) d r ≡ heldOf l t) e (held-read x st) in
+      let held : tagsOf (l .shape) d (readRecord l t p) ≡ recordTags l t = subst (λ (r : Committed). tagsOf (l .shape) d r ≡ recordTags l t) e (tags-read x st) in
       record {
         core = refl;
         unretired = u;
@@ -168,16 +168,16 @@ module _ {l : Ledger} (f : Fine l) (d : Bytes) (c : ℕ) (in-range : c < l .shap
         images =
             λ j h.
             subst (λ (r : Committed). imageOf (l .shape) d r j ≡ getD (l .images t) j []) e
-            (image-read x st (record-images f t (u .is-closed)) j (omega (arith, length-held l t)));
+            (image-read x st (record-images f t (u .is-closed)) j (omega (arith, length-recordTags l t)));
       }
 
   each-is : (i p n : ℕ) → Standing f d c i p n → l .book .oldest c ≤ i → i + n ≤ l .book .uncommitted c
-      → (e : Committed) → List·Memᴰ e (readFrom l c i p n) → IsRead l d c e
+      → (e : Committed) → List·Memᴰ e (readFrom l c i p n) → ReadAsLedger l d c e
   unfolding readFrom
   each-is i p zero st a b e m = absurd (List·Memᴰ·not-nil m)
   each-is i p (suc n) st a b e m =
       elim (List·Memᴰ·cases-cons m) [
-        | inl q ↦ subst (λ (r : Committed). IsRead l d c r) (sym q) (record-is i p a (omega arith) (first-stands f d c i p n st))
+        | inl q ↦ subst (λ (r : Committed). ReadAsLedger l d c r) (sym q) (record-is i p a (omega arith) (first-stands f d c i p n st))
         | inr r ↦ each-is (suc i) _ n (rest-stands f d c i p n st) (omega arith) (omega arith) e r
       ]
 
@@ -231,7 +231,7 @@ module _ (l : Ledger) (c : ℕ) where
         ap (readFrom l c (l .book .oldest c) (t .position)) e
 
 -- ---- the reading of a journal
-module _ {l : Ledger} {d : Bytes} {tailAt : ℕ → Tail} (f : Fine l) (z : DiskStands l d tailAt) (c : ℕ) (in-range : c < l .shape .cores) where
+module _ {l : Ledger} {d : Bytes} {tailAt : ℕ → Tail} (f : WellFormed l) (z : DiskStands l d tailAt) (c : ℕ) (in-range : c < l .shape .cores) where
   abbrev count-of : ℕ
   count-of = l .book .uncommitted c - l .book .oldest c
 
@@ -269,12 +269,12 @@ module _ {l : Ledger} {d : Bytes} {tailAt : ℕ → Tail} (f : Fine l) (z : Disk
       (omega (arith, r .mid, j .room, blocks-more k c (k .oldest c) count-of (k .next c - k .oldest c) (omega (arith, r .mid))))
       (λ q. j .clear (k .oldest c + count-of) q (omega (arith, r .low))))
 
-  pub readList-is : (e : Committed) → List·Memᴰ e (readList l c (tailAt c)) → IsRead l d c e
+  pub readList-is : (e : Committed) → List·Memᴰ e (readList l c (tailAt c)) → ReadAsLedger l d c e
   unfolding readList
   readList-is = each-is f d c in-range (l .book .oldest c) ((tailAt c) .position) count-of journal-standing (omega arith) (omega (arith, f .ranks c in-range .low))
 
 -- ---- demand 2
-stored-as : {l : Ledger} (f : Fine l) (d : Bytes) (c : ℕ) (e : Committed) → IsRead l d c e → readAs (l .shape) d e ≡ storedOf l (nameOf e)
+stored-as : {l : Ledger} (f : WellFormed l) (d : Bytes) (c : ℕ) (e : Committed) → ReadAsLedger l d c e → readAs (l .shape) d e ≡ storedOf l (nameOf e)
 unfolding readAs storedOf
 stored-as {l} f d c e r =
     let t = nameOf e in
@@ -285,7 +285,7 @@ stored-as {l} f d c e r =
     (λ i h. getD-map-below (imageOf (l .shape) d e) (e .count) i [] (omega arith) ∙ r .images i (omega arith)) in
     rw (r .blocks, i, r .names, r .stamp)
 
-module _ {l : Ledger} {d : Bytes} {tailAt : ℕ → Tail} (f : Fine l) (z : DiskStands l d tailAt) where
+module _ {l : Ledger} {d : Bytes} {tailAt : ℕ → Tail} (f : WellFormed l) (z : DiskStands l d tailAt) where
   list-stored : (c : ℕ) → c < l .shape .cores → map (readAs (l .shape) d) (readList l c (tailAt c)) ≡ storedSince l c
   unfolding storedSince
   list-stored c h =

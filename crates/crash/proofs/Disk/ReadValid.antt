@@ -6,25 +6,25 @@ use Rattle.model.proofs.Base.{not, _&&_, _||_, map, flatMap, List·Memᴰ, Mem�
 use mathlib.Core.List.{Memᴰ·map, Memᴰ·of-map}
 use Rattle.model.specs.Card.{sameName}
 use Rattle.model.specs.Journal.{journal, journals, nameOf, blocksOf, namesOf}
-use Rattle.model.specs.Shrink.{Closed, Within}
+use Rattle.model.specs.Shrink.{AllStay, Within}
 use Rattle.model.specs.Valid.{isIn, isMet, namesMet, validSet, blocksHeld}
 use Rattle.model.specs.Recovery.{shapeOn, tailOn, committedOn, validOn}
 use Rattle.model.specs.declared.Tail.{Tail}
 use Rattle.model.specs.declared.Name.{Name}
 use Rattle.model.specs.declared.Committed.{Committed}
 use Rattle.model.proofs.Encoding.{master-same}
-use Rattle.model.proofs.Lists.{and-both, and-left, and-right, or-left, or-right, or-cases, all-mem, mem-all, any-mem, mem-any, mem-flatMap, flatMap-mem, mem-below, below-mem, both-ways}
+use Rattle.model.proofs.Lists.{and-both, and-left, and-right, or-left, or-right, or-cases, all-mem, mem-all, any-mem, mem-any, mem-flatMap, flatMap-mem, mem-below, below-mem, bool-ext}
 use Rattle.model.proofs.Select.{mem-select, select-mem}
 use Rattle.model.proofs.Shrink.{Monotone, shrink-closed, shrink-within, shrink-largest, named-monotone}
 use Rattle.model.proofs.Valid.{sameName-true, sameName-refl, valid-within, valid-largest, valid-names}
 use Rattle.crash.specs.Book.{isCommitted, isRetired, Book}
 use Rattle.crash.specs.Ledger.{Ledger, unretired, metIn, validIn, blocksIn}
 use Rattle.crash.proofs.Books.Tests.{clash, any-in, in-any, nameEquality}
-use Rattle.crash.proofs.Disk.Relation.{Fine, JournalStands, DiskStands}
+use Rattle.crash.proofs.Disk.Relation.{WellFormed, JournalStands, DiskStands}
 use Rattle.crash.proofs.Disk.LedgerStages.{closed-present, committed-rank}
 use Rattle.crash.proofs.Disk.ReadMaster.{shape-read, tail-read}
 use Rattle.crash.proofs.Disk.RecordFormat.{readList}
-use Rattle.crash.proofs.Disk.ReadRecords.{IsRead, readList-has, readList-is, journal-read, few-records}
+use Rattle.crash.proofs.Disk.ReadRecords.{ReadAsLedger, readList-has, readList-is, journal-read, few-records}
 
 -- ---- the ledger's valid set
 abbrev belowOldest : Book → Name → Bool
@@ -44,7 +44,7 @@ valid-met k t n m i =
     or-cases (belowOldest k n) (any (sameName n) (validIn k))
     (all-mem (λ (n : Name). belowOldest k n || any (sameName n) (validIn k)) ((k .entry t) .names) (shrink-closed (metIn k) (unretired k) t m) i)
 
-module _ {l : Ledger} {d : Bytes} {tailAt : ℕ → Tail} (f : Fine l) (z : DiskStands l d tailAt) where
+module _ {l : Ledger} {d : Bytes} {tailAt : ℕ → Tail} (f : WellFormed l) (z : DiskStands l d tailAt) where
   -- a name that is listed: below the tail on the disk, and in the ledger
   below-tail : (t n : Name) → List·Memᴰ n ((l .book .entry t) .names) → ltb (n .number) ((tailAt (n .core)) .number) ≡ belowOldest (l .book) n
   below-tail t n m = ap (ltb (n .number)) (z .journals (n .core) (f .limits n (f .named t n m) .core) .number)
@@ -68,7 +68,7 @@ module _ {l : Ledger} {d : Bytes} {tailAt : ℕ → Tail} (f : Fine l) (z : Disk
         flatMap-mem (λ (c : ℕ). journal (l .shape) d c (tailAt c) (most c)) (below-mem (l .shape .cores) (e .core) h)
         (rw (journal-read f z (e .core) h (most (e .core)) (enough (e .core) h)) m)
 
-    pub journals-are : (e : Committed) → List·Memᴰ e (journals (l .shape) d tailAt most) → IsRead l d (e .core) e
+    pub journals-are : (e : Committed) → List·Memᴰ e (journals (l .shape) d tailAt most) → ReadAsLedger l d (e .core) e
     journals-are e m = let r = journals-listed e m in readList-is f z (e .core) (r .0) e (r .1)
 
     -- ---- they are the ledger's committed unretired transactions
@@ -103,7 +103,7 @@ module _ {l : Ledger} {d : Bytes} {tailAt : ℕ → Tail} (f : Fine l) (z : Disk
         let ts = map nameOf vs in
         let within : Within ts (unretired k) =
         λ t i. let r = Memᴰ·of-map nameOf vs i in Memᴰ·cast (sym (r .2)) (read-unretired (r .0) (valid-within (l .shape) d tailAt es (r .0) (r .1))) in
-        let closed : Closed (metIn k) ts =
+        let closed : AllStay (metIn k) ts =
         λ t i.
         let r = Memᴰ·of-map nameOf vs i in
         let x = journals-are (r .0) (valid-within (l .shape) d tailAt es (r .0) (r .1)) in
@@ -124,7 +124,7 @@ module _ {l : Ledger} {d : Bytes} {tailAt : ℕ → Tail} (f : Fine l) (z : Disk
         let k = l .book in
         let test : Committed → Bool = λ x. any (sameName (nameOf x)) (validIn k) in
         let ss = select test es in
-        let closed : Closed (namesMet (l .shape) d tailAt) ss =
+        let closed : AllStay (namesMet (l .shape) d tailAt) ss =
         λ x i.
         let r = select-mem test es x i in
         let y = journals-are x (r .0) in
@@ -146,14 +146,14 @@ module _ {l : Ledger} {d : Bytes} {tailAt : ℕ → Tail} (f : Fine l) (z : Disk
         let r = unretired-read t (valid-unretired (l .book) t v) in
         (r .0, name-valid (r .0) (r .1) (rw (r .2) v), r .2)
 
-    pub valid-are : (e : Committed) → List·Memᴰ e (validSet (l .shape) d tailAt (journals (l .shape) d tailAt most)) → IsRead l d (e .core) e
+    pub valid-are : (e : Committed) → List·Memᴰ e (validSet (l .shape) d tailAt (journals (l .shape) d tailAt most)) → ReadAsLedger l d (e .core) e
     valid-are e m = journals-are e (valid-within (l .shape) d tailAt (journals (l .shape) d tailAt most) e m)
 
     pub valid-same : (n : Name) → isIn (validSet (l .shape) d tailAt (journals (l .shape) d tailAt most)) n ≡ any (sameName n) (validIn (l .book))
     unfolding isIn
     valid-same n =
         let vs = validSet (l .shape) d tailAt (journals (l .shape) d tailAt most) in
-        both-ways
+        bool-ext
         (λ h. let r = any-mem (λ (e : Committed). sameName n (nameOf e)) vs h in
         in-any nameEquality (Memᴰ·cast (sameName-true n (nameOf (r .0)) (r .2)) (valid-name (r .0) (r .1))))
         (λ h. let r = valid-read n (any-in nameEquality n (validIn (l .book)) h) in
@@ -168,7 +168,7 @@ module _ {l : Ledger} {d : Bytes} {tailAt : ℕ → Tail} (f : Fine l) (z : Disk
         let holds : ℕ → Name → Bool = λ b t. any (eqb b) ((k .entry t) .blocks) in
         ap (λ (p : ℕ → Bool). select p (below (l .shape .blocks)))
         (fun-ext (λ b.
-        both-ways
+        bool-ext
         (λ h.
         let x = any-mem (eqb b) (flatMap (blocksOf (l .shape) d) vs) h in
         let r = mem-flatMap (blocksOf (l .shape) d) vs (x .1) in
@@ -180,7 +180,7 @@ module _ {l : Ledger} {d : Bytes} {tailAt : ℕ → Tail} (f : Fine l) (z : Disk
         mem-any (eqb b) (flatMap-mem (blocksOf (l .shape) d) (r .1) (rw (valid-are (r .0) (r .1) .blocks, r .2) (x .1))) (x .2))))
 
 -- ---- as RECOVER reads: from the master's own shape and tails
-module _ {l : Ledger} {d : Bytes} {tailAt : ℕ → Tail} (f : Fine l) (z : DiskStands l d tailAt) where
+module _ {l : Ledger} {d : Bytes} {tailAt : ℕ → Tail} (f : WellFormed l) (z : DiskStands l d tailAt) where
   pub own-tails : DiskStands l d (tailOn d)
   own-tails =
       record {

@@ -5,7 +5,7 @@ use Rattle.model.proofs.Base.{_∷_, _++_, map, List·Memᴰ, length, getD, len
 use Rattle.model.proofs.Base.{lt-ltb, ltb-true, le-leb, below, Bytes}
 use Rattle.model.specs.Bytes.{be4, part, number}
 use Rattle.model.specs.Card.{newName}
-use Rattle.model.specs.Layout.{Held, newHeld, distinct, isHeld, isListable, flagOf, mark, hasHead, escaped, descriptorBlock, commitBlock, isCommit}
+use Rattle.model.specs.Layout.{Tag, newTag, distinct, isTag, isListable, flagOf, mark, hasHead, escaped, descriptorBlock, commitBlock, isCommit}
 use Rattle.model.specs.Journal.{journal}
 use Rattle.model.specs.declared.Shape.{Shape}
 use Rattle.model.specs.declared.Tail.{Tail}
@@ -14,11 +14,11 @@ use Rattle.model.specs.declared.Committed.{Committed}
 use Rattle.model.specs.Lists.{Each}
 use Rattle.model.proofs.Lists.{cases, and-both, all-mem, mem-all, getD-mem, mem-getD, length-below, getD-map-below, getD-each, mem-each}
 use Rattle.model.proofs.Words.{IsByte, IsWord, each-block}
-use Rattle.model.proofs.Encoding.{Sound, length-descriptor, length-commit, length-escaped, descriptor-head, commit-head, head-other, no-commit, escaped-head}
-use Rattle.model.proofs.Journal.{recordBlocks as storedBlocks, IsBlock as HasBlockSize, Images, asRead, length-recordBlocks, recordBlocks-each}
+use Rattle.model.proofs.Encoding.{Encodable, length-descriptor, length-commit, length-escaped, descriptor-head, commit-head, head-other, no-commit, escaped-head}
+use Rattle.model.proofs.Journal.{encodedRecord as storedBlocks, IsLong as HasBlockSize, Images, asRead, length-encodedRecord, encodedRecord-each}
 use Rattle.crash.specs.Book.{isClosed}
-use Rattle.crash.specs.Ledger.{Ledger, heldOf, recordOf}
-use Rattle.crash.proofs.Disk.Relation.{Limits, Fine, IsBlock}
+use Rattle.crash.specs.Ledger.{Ledger, recordTags, recordOf}
+use Rattle.crash.proofs.Disk.Relation.{Limits, WellFormed, IsBlock}
 use Rattle.crash.proofs.Disk.LedgerStages.{closed-present}
 use Rattle.crash.proofs.Disk.LedgerRanks.{sum-low}
 use Rattle.crash.proofs.Disk.BlockBytes.{each-isBytes, escaped-bytes}
@@ -52,15 +52,15 @@ recordsOf l c i zero = []
 recordsOf l c i (suc n) = recordOf l (newName c i) ++ recordsOf l c (suc i) n
 
 -- ---- a record of the ledger keeps the rules of the format
-pub length-held : (l : Ledger) (t : Name) → length (heldOf l t) ≡ length ((l .book .entry t) .blocks)
-unfolding heldOf
-length-held l t = length-map (below (length ((l .book .entry t) .blocks))) _ ∙ length-below (length ((l .book .entry t) .blocks))
+pub length-recordTags : (l : Ledger) (t : Name) → length (recordTags l t) ≡ length ((l .book .entry t) .blocks)
+unfolding recordTags
+length-recordTags l t = length-map (below (length ((l .book .entry t) .blocks))) _ ∙ length-below (length ((l .book .entry t) .blocks))
 
-pub getD-held : (l : Ledger) (t : Name) (i : ℕ) → i < length ((l .book .entry t) .blocks)
-    → getD (heldOf l t) i (newHeld 0 0) ≡ newHeld (getD ((l .book .entry t) .blocks) i 0) (flagOf (getD (l .images t) i []))
-unfolding heldOf
-getD-held l t i h =
-    getD-map-below (λ (i : ℕ). newHeld (getD ((l .book .entry t) .blocks) i 0) (flagOf (getD (l .images t) i []))) (length ((l .book .entry t) .blocks)) i (newHeld 0 0) h
+pub getD-recordTags : (l : Ledger) (t : Name) (i : ℕ) → i < length ((l .book .entry t) .blocks)
+    → getD (recordTags l t) i (newTag 0 0) ≡ newTag (getD ((l .book .entry t) .blocks) i 0) (flagOf (getD (l .images t) i []))
+unfolding recordTags
+getD-recordTags l t i h =
+    getD-map-below (λ (i : ℕ). newTag (getD ((l .book .entry t) .blocks) i 0) (flagOf (getD (l .images t) i []))) (length ((l .book .entry t) .blocks)) i (newTag 0 0) h
 
 getD-flags : (bs : List Bytes) (i : ℕ) → getD (map flagOf bs) i 0 ≡ flagOf (getD bs i [])
 unfolding flagOf be4 part number
@@ -70,36 +70,36 @@ flag-low : (b : Bytes) → flagOf b ≤ 1
 unfolding flagOf
 flag-low b = cases (eqb (be4 b 0) mark) (λ h. rw h (omega arith)) (λ h. rw h (omega arith))
 
-is-held : (s : Shape) (b g : ℕ) → b < s .blocks → g ≤ 1 → isHeld s (newHeld b g) ≡ true
-unfolding isHeld
+is-held : (s : Shape) (b g : ℕ) → b < s .blocks → g ≤ 1 → isTag s (newTag b g) ≡ true
+unfolding isTag
 is-held s b g h z = and-both (lt-ltb b (s .blocks) h) (le-leb g 1 z)
 
 is-listable : (s : Shape) (n : Name) → n .core < s .cores → 1 ≤ n .number → isListable s n ≡ true
 unfolding isListable
 is-listable s n h z = and-both (lt-ltb (n .core) (s .cores) h) (le-leb 1 (n .number) z)
 
-distinct-of : (hs : List Held) (z : Held)
+distinct-of : (hs : List Tag) (z : Tag)
     → ((i j : ℕ) → i < length hs → j < length hs → (getD hs i z) .block ≡ (getD hs j z) .block → i ≡ j) → distinct hs ≡ true
 unfolding distinct
 distinct-of [] z f = refl
 distinct-of (h ∷ hs) z f =
     and-both
-    (mem-all (λ (g : Held). not (eqb (h .block) (g .block))) hs
+    (mem-all (λ (g : Tag). not (eqb (h .block) (g .block))) hs
     (λ g m.
     let x = mem-getD m z in
     ap not
     (ne-eqb (h .block) (g .block)
-    (λ e. let y : 0 ≡ suc (x .0) = f 0 (suc (x .0)) (omega arith) (omega (arith, x .1)) (e ∙ ap (λ (u : Held). u .block) (sym (x .2))) in omega arith))))
+    (λ e. let y : 0 ≡ suc (x .0) = f 0 (suc (x .0)) (omega arith) (omega (arith, x .1)) (e ∙ ap (λ (u : Tag). u .block) (sym (x .2))) in omega arith))))
     (distinct-of hs z (λ i j a b e. let y : suc i ≡ suc j = f (suc i) (suc j) (omega arith) (omega arith) e in omega arith))
 
-module _ {l : Ledger} (f : Fine l) (t : Name) (h : isClosed ((l .book .entry t) .stage) ≡ true) where
+module _ {l : Ledger} (f : WellFormed l) (t : Name) (h : isClosed ((l .book .entry t) .stage) ≡ true) where
   abbrev limits-of : Limits (l .shape) t (l .book .entry t)
   limits-of = f .limits t (closed-present _ h)
 
-  pub record-sound : Sound (l .shape) (t .number) (heldOf l t) (l .stamp t) ((l .book .entry t) .names)
+  pub record-sound : Encodable (l .shape) (t .number) (recordTags l t) (l .stamp t) ((l .book .entry t) .names)
   record-sound =
       let m = limits-of in
-      let n = length-held l t in
+      let n = length-recordTags l t in
       let z = f .frozen t h in
       let named : (u : Name) → List·Memᴰ u ((l .book .entry t) .names) → Limits (l .shape) u (l .book .entry u) = λ u x. f .limits u (f .named t u x) in
       record {
@@ -107,18 +107,18 @@ module _ {l : Ledger} (f : Fine l) (t : Name) (h : isClosed ((l .book .entry t) 
         number = m .high;
         few = omega (arith, m .few);
         held =
-            mem-all (isHeld (l .shape)) (heldOf l t)
+            mem-all (isTag (l .shape)) (recordTags l t)
             (λ x i.
-            let g = mem-getD i (newHeld 0 0) in
+            let g = mem-getD i (newTag 0 0) in
             let b : g .0 < length ((l .book .entry t) .blocks) = omega (arith, g .1) in
-            let e : newHeld (getD ((l .book .entry t) .blocks) (g .0) 0) (flagOf (getD (l .images t) (g .0) [])) ≡ x = sym (getD-held l t (g .0) b) ∙ g .2 in
+            let e : newTag (getD ((l .book .entry t) .blocks) (g .0) 0) (flagOf (getD (l .images t) (g .0) [])) ≡ x = sym (getD-recordTags l t (g .0) b) ∙ g .2 in
             rw (← e) (is-held (l .shape) _ _ (m .blocks _ (getD-mem ((l .book .entry t) .blocks) (g .0) 0 b)) (flag-low (getD (l .images t) (g .0) []))));
         apart =
-            distinct-of (heldOf l t) (newHeld 0 0)
+            distinct-of (recordTags l t) (newTag 0 0)
             (λ i j a b e.
             let a₂ : i < length ((l .book .entry t) .blocks) = omega arith in
             let b₂ : j < length ((l .book .entry t) .blocks) = omega arith in
-            m .distinct i j a₂ b₂ (ap (λ (u : Held). u .block) (sym (getD-held l t i a₂)) ∙ e ∙ ap (λ (u : Held). u .block) (getD-held l t j b₂)));
+            m .distinct i j a₂ b₂ (ap (λ (u : Tag). u .block) (sym (getD-recordTags l t i a₂)) ∙ e ∙ ap (λ (u : Tag). u .block) (getD-recordTags l t j b₂)));
         stamped = z .low;
         stamp-fits =
             omega (arith, z .high, f .closes, f .range .few-cores, sum-low (l .book) (l .shape .cores) (λ c g. f .ranks c g .top));
@@ -129,17 +129,17 @@ module _ {l : Ledger} (f : Fine l) (t : Name) (h : isClosed ((l .book .entry t) 
         numbers = mem-each (λ (n : Name). IsWord (n .number)) ((l .book .entry t) .names) (λ u x. omega (arith, named u x .high));
       }
 
-  pub record-images : Images (heldOf l t) (l .images t)
+  pub record-images : Images (recordTags l t) (l .images t)
   record-images =
-      let n = length-held l t in
+      let n = length-recordTags l t in
       let z = f .frozen t h in
       record {
         flags =
-            ext-getD 0 (map (λ (x : Held). x .flag) (heldOf l t)) (map flagOf (l .images t))
-            (length-map (heldOf l t) (λ (x : Held). x .flag) ∙ n ∙ sym (z .count) ∙ sym (length-map (l .images t) flagOf))
+            ext-getD 0 (map (λ (x : Tag). x .flag) (recordTags l t)) (map flagOf (l .images t))
+            (length-map (recordTags l t) (λ (x : Tag). x .flag) ∙ n ∙ sym (z .count) ∙ sym (length-map (l .images t) flagOf))
             (λ i g.
-            let b : i < length ((l .book .entry t) .blocks) = omega (arith, length-map (heldOf l t) (λ (x : Held). x .flag)) in
-            List·getD-map (λ (x : Held). x .flag) (heldOf l t) i (newHeld 0 0) ∙ ap (λ (x : Held). x .flag) (getD-held l t i b) ∙ sym (getD-flags (l .images t) i));
+            let b : i < length ((l .book .entry t) .blocks) = omega (arith, length-map (recordTags l t) (λ (x : Tag). x .flag)) in
+            List·getD-map (λ (x : Tag). x .flag) (recordTags l t) i (newTag 0 0) ∙ ap (λ (x : Tag). x .flag) (getD-recordTags l t i b) ∙ sym (getD-flags (l .images t) i));
         sizes = getD-each HasBlockSize (l .images t) [] (λ i g. z .images i g .size);
         bytes =
             getD-each (Each IsByte) (l .images t) []
@@ -149,34 +149,34 @@ module _ {l : Ledger} (f : Fine l) (t : Name) (h : isClosed ((l .book .entry t) 
   pub length-record : length (recordOf l t) ≡ length ((l .book .entry t) .blocks) + 2
   unfolding recordOf storedBlocks
   length-record =
-      length-recordBlocks (t .number) (heldOf l t) (l .stamp t) ((l .book .entry t) .names) (l .images t) ∙ ap (λ (n : ℕ). n + 2) (f .frozen t h .count)
+      length-encodedRecord (t .number) (recordTags l t) (l .stamp t) ((l .book .entry t) .names) (l .images t) ∙ ap (λ (n : ℕ). n + 2) (f .frozen t h .count)
 
-pub as-read : (l : Ledger) (t : Name) (p : ℕ) → asRead (t .core) p (t .number) (heldOf l t) (l .stamp t) ((l .book .entry t) .names) ≡ readRecord l t p
-as-read l t p = rw (length-held l t)
+pub as-read : (l : Ledger) (t : Name) (p : ℕ) → asRead (t .core) p (t .number) (recordTags l t) (l .stamp t) ((l .book .entry t) .names) ≡ readRecord l t p
+as-read l t p = rw (length-recordTags l t)
 
 -- ---- the blocks of a record, one by one
 module _ (l : Ledger) (t : Name) where
   record-size : length (recordOf l t) ≡ length (l .images t) + 2
   unfolding recordOf storedBlocks
-  record-size = length-recordBlocks (t .number) (heldOf l t) (l .stamp t) ((l .book .entry t) .names) (l .images t)
+  record-size = length-encodedRecord (t .number) (recordTags l t) (l .stamp t) ((l .book .entry t) .names) (l .images t)
 
-  pub record-each : (P : ℕ → Bytes → Type 0) → P 0 (descriptorBlock (t .number) (heldOf l t))
+  pub record-each : (P : ℕ → Bytes → Type 0) → P 0 (descriptorBlock (t .number) (recordTags l t))
       → ((i : ℕ) → i < length (l .images t) → P (suc i) (escaped (getD (l .images t) i [])))
       → P (suc (length (l .images t))) (commitBlock (t .number) (l .stamp t) ((l .book .entry t) .names))
       → (i : ℕ) → i < length (recordOf l t) → P i (getD (recordOf l t) i [])
   unfolding recordOf storedBlocks
   record-each P a b c i g =
-      recordBlocks-each (t .number) (heldOf l t) (l .stamp t) ((l .book .entry t) .names) (l .images t) P a b c i
-      (omega (arith, length-recordBlocks (t .number) (heldOf l t) (l .stamp t) ((l .book .entry t) .names) (l .images t)))
+      encodedRecord-each (t .number) (recordTags l t) (l .stamp t) ((l .book .entry t) .names) (l .images t) P a b c i
+      (omega (arith, length-encodedRecord (t .number) (recordTags l t) (l .stamp t) ((l .book .entry t) .names) (l .images t)))
 
-module _ {l : Ledger} (f : Fine l) (t : Name) (h : isClosed ((l .book .entry t) .stage) ≡ true) where
+module _ {l : Ledger} (f : WellFormed l) (t : Name) (h : isClosed ((l .book .entry t) .stage) ≡ true) where
   pub record-blocks : (i : ℕ) → i < length (recordOf l t) → IsBlock (getD (recordOf l t) i [])
   unfolding descriptorBlock commitBlock
   record-blocks =
       let s = record-sound f t h in
       let z = f .frozen t h in
       record-each l t (λ (i : ℕ) (b : Bytes). IsBlock b)
-      (record { size = length-descriptor (t .number) (heldOf l t) (s .few); bytes = each-isBytes _ (each-block _) })
+      (record { size = length-descriptor (t .number) (recordTags l t) (s .few); bytes = each-isBytes _ (each-block _) })
       (λ i g. let x = z .images i g in
       record { size = length-escaped (getD (l .images t) i []) (omega (arith, x .size)) ∙ x .size; bytes = escaped-bytes (getD (l .images t) i []) (x .bytes) })
       (record { size = length-commit (t .number) (l .stamp t) ((l .book .entry t) .names) (s .short); bytes = each-isBytes _ (each-block _) })

@@ -1,5 +1,5 @@
--- What holds of ledger and card at every point of a run: the ledger is in order (`Fine`), the disk holds what the ledger
--- says (`DiskStands`), and card and memory agree with it (`Up`), or recovery will give the kept writes (`DownBy`).
+-- What holds of ledger and card at every point of a run: the ledger is in order (`WellFormed`), the disk holds what the ledger
+-- says (`DiskStands`), and card and memory agree with it (`CardUp`), or recovery will give the kept writes (`CardDown`).
 -- Each command keeps this; the claims follow from it.
 use Prim.Native.Nat.{ℕ, zero, suc, _+_, _-_, _≤_, _<_}
 use native.Mathlib.Omega.{arith}
@@ -18,7 +18,7 @@ use Rattle.model.specs.Layout.{masterBlock, isCommit}
 use Rattle.model.specs.Journal.{journalAt}
 use Rattle.model.specs.Command.{World}
 use Rattle.model.specs.Commit.{copyBlock}
-use Rattle.model.specs.declared.Phase.the-variants.{Up as PhaseUp, Down as PhaseDown}
+use Rattle.model.specs.declared.Phase.the-variants.{Up, Down}
 use Rattle.model.specs.declared.Shape.{Shape}
 use Rattle.model.specs.declared.Tail.{Tail}
 use Rattle.model.specs.declared.Name.{Name}
@@ -26,7 +26,7 @@ use Rattle.model.specs.declared.Transaction.{Transaction}
 use Rattle.model.specs.declared.Core.{Core}
 use Rattle.model.specs.declared.Holder.{Holder}
 use Rattle.model.proofs.Limits.{InRange}
-use Rattle.crash.specs.Book.{absent, running, closed, committed, retired, isRunning, isClosed, counted, Entry, Write, Book, holderIn, keptWrites, image, blank}
+use Rattle.crash.specs.Book.{absent, running, closed, committed, retired, isRunning, isClosed, stageCount, Entry, Write, Book, bookHolder, keptWrites, image, blank}
 use Rattle.crash.specs.Ledger.{recordOf, Ledger, imageNow, validIn, blocksIn, recordBlocks}
 use Rattle.crash.specs.Claims.{IsBytes}
 use Rattle.crash.proofs.Books.BookEntries.{nextName, oldestName, uncommittedName}
@@ -87,7 +87,7 @@ unfoldable pub sumNext : Book → ℕ → ℕ
 sumNext k zero = 0
 sumNext k (suc n) = sumNext k n + k .next n
 
-pub record Fine (l : Ledger) : Type 0 where
+pub record WellFormed (l : Ledger) : Type 0 where
   pub range : InRange (l .shape)
   pub ranks : (c : ℕ) → c < l .shape .cores → Ranks (l .book) c
   pub far : (t : Name) → l .shape .cores ≤ t .core → (l .book .entry t) .stage ≡ absent
@@ -109,7 +109,7 @@ contents l c =
     let k = l .book in
     let t = uncommittedName c k in
     flatMap (λ (i : ℕ). recordOf l (newName c (k .oldest c + i))) (below (k .uncommitted c - k .oldest c))
-    ++ take (counted ((k .entry t) .stage)) (recordOf l t)
+    ++ take (stageCount ((k .entry t) .stage)) (recordOf l t)
 
 pub record JournalStands (l : Ledger) (d : Bytes) (c : ℕ) (t : Tail) : Type 0 where
   pub number : t .number ≡ l .book .oldest c
@@ -158,9 +158,9 @@ holderAs none = noHolder
 holderAs (some u) = newHolder u
 
 -- (the invariant of layer A, `Inv` with the disk's home blocks, stands beside it)
-pub record Up (l : Ledger) (w : World) : Type 0 where
-  pub phase : w .card .phase ≡ PhaseUp
-  pub ledger : l .phase ≡ PhaseUp
+pub record CardUp (l : Ledger) (w : World) : Type 0 where
+  pub phase : w .card .phase ≡ Up
+  pub ledger : l .phase ≡ Up
   pub shape : w .card .shape ≡ l .shape
   pub closes : w .card .closes ≡ l .closes
   pub memory : length (w .memory) ≡ 16384
@@ -168,10 +168,10 @@ pub record Up (l : Ledger) (w : World) : Type 0 where
   pub eight-tails : length (w .card .tails) ≡ 8
   pub eight-cores : length (w .card .cores) ≡ 8
   pub holder-room : length (w .card .holders) ≡ 64
-  pub fine : Fine l
+  pub well-formed : WellFormed l
   pub disk : DiskStands l (w .disk) (tailOf (w .card))
   pub cores : (c : ℕ) → c < l .shape .cores → CoreUp l (w .memory) c (coreOf (w .card) c)
-  pub holders : (b : ℕ) → b < l .shape .blocks → holderOf (w .card) b ≡ holderAs (holderIn (l .book) b (l .book .writes))
+  pub holders : (b : ℕ) → b < l .shape .blocks → holderOf (w .card) b ≡ holderAs (bookHolder (l .book) b (l .book .writes))
   pub images : (b : ℕ) → b < l .shape .blocks → (holderOf (w .card) b) .held ≡ true → blockAt (w .memory) b ≡ imageNow l b
 
 -- ---- down: what recovery will give is fixed
@@ -189,12 +189,12 @@ pub record Newest (l : Ledger) (b : ℕ) : Type 0 where
   pub highest : (u : Name) → List·Memᴰ u (validIn (l .book)) → List·Memᴰ b ((l .book .entry u) .blocks) → l .stamp u ≤ l .stamp holder
   pub image : getD (l .images holder) place [] ≡ target l b
 
-pub record DownBy (l : Ledger) (w : World) : Type 0 where
-  pub phase : w .card .phase ≡ PhaseDown
-  pub ledger : l .phase ≡ PhaseDown
+pub record CardDown (l : Ledger) (w : World) : Type 0 where
+  pub phase : w .card .phase ≡ Down
+  pub ledger : l .phase ≡ Down
   pub memory : length (w .memory) ≡ 16384
   pub memory-bytes : IsBytes (w .memory)
-  pub fine : Fine l
+  pub well-formed : WellFormed l
   pub tailAt : ℕ → Tail
   pub disk : DiskStands l (w .disk) tailAt
   pub left : l .left ≡ select (leb (w .card .recovered)) (blocksIn (l .shape .blocks) (l .book))

@@ -1,6 +1,6 @@
--- The theorem: blank, up or down, card and ledger agree (`At`), and every command keeps it so.
--- From one coming up to the next cut layer A and the bytes go together (`UpAt`); from a cut on, what recovery gives is
--- fixed (`DownBy`). The claims follow along the points of a run.
+-- The theorem: blank, up or down, card and ledger agree (`Related`), and every command keeps it so.
+-- From one coming up to the next cut layer A and the bytes go together (`RelatedUp`); from a cut on, what recovery gives is
+-- fixed (`CardDown`). The claims follow along the points of a run.
 use Prim.Native.Nat.{ℕ, zero, suc, _+_, _<_, _-_, _≤_}
 use native.Mathlib.Omega.{arith}
 use native.Mathlib.Decide.{decLt}
@@ -32,15 +32,15 @@ use Rattle.crash.proofs.Commands.CardFormat.{format-home, format-up, do
 use Rattle.crash.proofs.Commands.CardRecover.{recover-home, recovered-home, recover-master, recovered-bytes}
 use Rattle.crash.proofs.Commands.PhaseAnswers.{down-answers, blank-answers, up-answers}
 use Rattle.crash.proofs.Disk.ReadRecords.{journals-read}
-use Rattle.crash.proofs.Runs.Points.{Relates, Going, goes, claimed, demanded, Carried, HasData, reading, same-goes}
+use Rattle.crash.proofs.Runs.RunClaims.{Simulation, CardKeeps, point-keeps, claim-kept, demands-kept, Carried, HasData, reading, same-keeps}
 use Rattle.crash.proofs.Books.Tests.{clash}
-use Rattle.crash.proofs.Disk.Relation.{Up, DownBy, target}
+use Rattle.crash.proofs.Disk.Relation.{CardUp, CardDown, target}
 use Rattle.crash.proofs.Commands.CardCut.{cut-down, right-length}
 use Rattle.crash.proofs.Commands.CardStore.{stored-bytes}
 use Rattle.crash.proofs.Commands.CardCheckpoint.{checkpointed-bytes}
 use Rattle.crash.proofs.Disk.LedgerStages.{running-is}
 use Rattle.model.specs.Tape.{CHECKPOINT, CLOSE, CUT, Command, FORMAT, RECOVER, STORE, TapeStep, WRITE}
-use Rattle.crash.proofs.Runs.UpSteps.{UpAt, checkpoint-at, close-at, close-memory, cut-at, fresh-at, holder-open, store-at, up-reads, write-at, write-memory}
+use Rattle.crash.proofs.Runs.UpSteps.{RelatedUp, checkpoint-at, close-at, close-memory, cut-at, fresh-at, holder-open, store-at, up-reads, write-at, write-memory}
 use Rattle.model.proofs.Sizes.{checkpointed-memory, recoverStep-memory}
 use Rattle.model.specs.Step.{conditionsOf, doneBy, stepAt}
 use Rattle.model.specs.Reading.{readBlock}
@@ -52,19 +52,19 @@ use Rattle.model.specs.declared.Phase.the-variants.{Blank}
 use Rattle.model.specs.declared.Phase.{Phase}
 
 -- ---- blank, up or down
-pub record BlankAt (l : Ledger) (w : World) : Type 0 where
+pub record RelatedBlank (l : Ledger) (w : World) : Type 0 where
   pub card : w .card ≡ blankCard
   pub ledger : l ≡ blankLedger
   pub disk : length (w .disk) ≡ 32896
   pub memory : length (w .memory) ≡ 16384
 
-pub data At (l : Ledger) (w : World) : Type 0 where
-  at-blank : BlankAt l w → At l w
-  at-up : UpAt l w → At l w
-  at-down : DownBy l w → At l w
+pub data Related (l : Ledger) (w : World) : Type 0 where
+  related-blank : RelatedBlank l w → Related l w
+  related-up : RelatedUp l w → Related l w
+  related-down : CardDown l w → Related l w
 
 -- of a command other than RECOVER
-plain : {l : Ledger} {w : World} {k : Command} → (k ≡ RECOVER → ⊥) → At (carriedOut k l) ((doneBy k w) .world) → DoneAs k l w (doneBy k w) → Carried At l w k
+plain : {l : Ledger} {w : World} {k : Command} → (k ≡ RECOVER → ⊥) → Related (carriedOut k l) ((doneBy k w) .world) → DoneAs k l w (doneBy k w) → Carried Related l w k
 plain n h d = record { next = h; done = d; home = λ e. absurd (n e) }
 
 isRecover : Command → Bool
@@ -81,13 +81,13 @@ unfolding isRecover
 other h e = clash (ap isRecover e) h
 
 -- ---- blank: FORMAT brings the card up
-module _ {l : Ledger} {w : World} (b : BlankAt l w) where
+module _ {l : Ledger} {w : World} (b : RelatedBlank l w) where
   -- any other command is refused with 20
   not-done : {A : Type 0} (ts : List (Bool × ℕ)) → refusal ((isBlank (l .phase), 20) ∷ ts) ≡ 0 → A
   unfolding blankLedger
   not-done ts h = clash (rw (b .ledger) refl) (refusal-passed (isBlank (l .phase)) 20 ts (omega arith) h .0)
 
-  format-carried : (c n j : ℕ) → refusal (formatRefusals c n j l) ≡ 0 → Carried At l w (FORMAT c n j)
+  format-carried : (c n j : ℕ) → refusal (formatRefusals c n j l) ≡ 0 → Carried Related l w (FORMAT c n j)
   unfolding formatRefusals refusal doneBy carriedOut image blankLedger diskAfter memoryAfter storeCount formatted isRecover
   format-carried c n j h =
       let s : Shape = newShape c n j in
@@ -95,9 +95,9 @@ module _ {l : Ledger} {w : World} (b : BlankAt l w) where
       cases (inRange c n j) (λ e. e)
       (λ e. absurd (let p : isBlank (l .phase) ≡ true = rw (b .ledger) refl in let z : 4 ≡ 0 = rw (p, e) at h in omega arith)) in
       let r = range-test s ok in
-      plain (other refl) (at-up (fresh-at s [] (λ (c : ℕ). 1) ((formatted s) .world) (format-up s r) (format-home s r))) (record { disk = refl; memory = refl; stores = refl })
+      plain (other refl) (related-up (fresh-at s [] (λ (c : ℕ). 1) ((formatted s) .world) (format-up s r) (format-home s r))) (record { disk = refl; memory = refl; stores = refl })
 
-  blank-carries : (k : Command) → refusal (refusalsOf k l) ≡ 0 → Carried At l w k
+  blank-carries : (k : Command) → refusal (refusalsOf k l) ≡ 0 → Carried Related l w k
   unfolding refusalsOf writeRefusals closeRefusals storeRefusals checkpointRefusals
   blank-carries (FORMAT c n j) h = format-carried c n j h
   blank-carries (WRITE c n o v) h = not-done _ h
@@ -108,7 +108,7 @@ module _ {l : Ledger} {w : World} (b : BlankAt l w) where
   blank-carries RECOVER h = not-done _ h
 
 -- ---- down: CUT starts over, RECOVER goes on
-module _ {l : Ledger} {w : World} (d : DownBy l w) where
+module _ {l : Ledger} {w : World} (d : CardDown l w) where
   -- FORMAT is refused with 21, the commands of a card that is up with 22
   refused-21 : {A : Type 0} (ts : List (Bool × ℕ)) → refusal ((not (isBlank (l .phase)), 21) ∷ ts) ≡ 0 → A
   refused-21 ts h = clash (ap (λ (p : Phase). not (isBlank p)) (d .ledger)) (refusal-passed _ 21 ts (omega arith) h .0)
@@ -116,15 +116,15 @@ module _ {l : Ledger} {w : World} (d : DownBy l w) where
   refused-22 : {A : Type 0} (ts : List (Bool × ℕ)) → refusal ((isBlank (l .phase), 20) ∷ (isDown (l .phase), 22) ∷ ts) ≡ 0 → A
   refused-22 ts h = clash (ap isDown (d .ledger)) (refusal-passed _ 22 ts (omega arith) (refusal-passed _ 20 _ (omega arith) h .1) .0)
 
-  recover-next : (left : List ℕ) → l .left ≡ left → At (recoverLedger (l .left) l) ((recovered w) .world)
+  recover-next : (left : List ℕ) → l .left ≡ left → Related (recoverLedger (l .left) l) ((recovered w) .world)
   unfolding target
   recover-next [] e =
-      let up : Up (recoverLedger [] l) ((recovered w) .world) = recover-master d e in
-      subst (λ (left : List ℕ). At (recoverLedger left l) ((recovered w) .world)) (sym e)
-      (at-up (unfold recoverLedger in fresh-at (l .shape) (keptWrites (l .book) ++ l .saved) _ ((recovered w) .world) up (recovered-home d e)))
-  recover-next (b ∷ left) e = subst (λ (left : List ℕ). At (recoverLedger left l) ((recovered w) .world)) (sym e) (at-down (recover-home d e))
+      let up : CardUp (recoverLedger [] l) ((recovered w) .world) = recover-master d e in
+      subst (λ (left : List ℕ). Related (recoverLedger left l) ((recovered w) .world)) (sym e)
+      (related-up (unfold recoverLedger in fresh-at (l .shape) (keptWrites (l .book) ++ l .saved) _ ((recovered w) .world) up (recovered-home d e)))
+  recover-next (b ∷ left) e = subst (λ (left : List ℕ). Related (recoverLedger left l) ((recovered w) .world)) (sym e) (related-down (recover-home d e))
 
-  recover-carried : Carried At l w RECOVER
+  recover-carried : Carried Related l w RECOVER
   unfolding doneBy carriedOut diskAfter memoryAfter storeCount target recovered
   recover-carried =
       record {
@@ -133,25 +133,25 @@ module _ {l : Ledger} {w : World} (d : DownBy l w) where
         home = λ _ e b h. recovered-home d e b h;
       }
 
-  down-carries : (k : Command) → refusal (refusalsOf k l) ≡ 0 → Carried At l w k
+  down-carries : (k : Command) → refusal (refusalsOf k l) ≡ 0 → Carried Related l w k
   unfolding refusalsOf formatRefusals writeRefusals closeRefusals storeRefusals checkpointRefusals doneBy carriedOut diskAfter memoryAfter storeCount isRecover
   down-carries (FORMAT c n j) h = refused-21 _ h
   down-carries (WRITE c n o v) h = refused-22 _ h
   down-carries (CLOSE c) h = refused-22 _ h
   down-carries (STORE c) h = refused-22 _ h
   down-carries (CHECKPOINT c) h = refused-22 _ h
-  down-carries CUT h = plain (other refl) (at-down (cut-down d)) (record { disk = refl; memory = refl; stores = refl })
+  down-carries CUT h = plain (other refl) (related-down (cut-down d)) (record { disk = refl; memory = refl; stores = refl })
   down-carries RECOVER h = recover-carried
 
 -- ---- up
-module _ {l : Ledger} {w : World} (u : UpAt l w) where
+module _ {l : Ledger} {w : World} (u : RelatedUp l w) where
   -- what is known where no condition up to 5 holds
   in-range-of : (c : ℕ) (ts : List (Bool × ℕ)) → Numbered ts → refusal (notUpFor c l ts) ≡ 0 → (c < l .shape .cores) × Clear ts
   in-range-of c ts n h =
       let z = refusal-clear (notUpFor c l ts) (omega arith, (omega arith, (omega arith, n))) h in
       (leb-false (l .shape .cores) c (z .1 .1 .0), z .1 .1 .1)
 
-  write-carried : (c b o : ℕ) (v : Bytes) → HasData (WRITE c b o v) → refusal (writeRefusals c b o v l) ≡ 0 → Carried At l w (WRITE c b o v)
+  write-carried : (c b o : ℕ) (v : Bytes) → HasData (WRITE c b o v) → refusal (writeRefusals c b o v l) ≡ 0 → Carried Related l w (WRITE c b o v)
   unfolding writeRefusals doneBy carriedOut noted diskAfter memoryAfter storeCount written isRecover
   write-carried c b o v fits h =
       let z = in-range-of c _ (omega arith, (omega arith, (omega arith, (omega arith, (omega arith, (omega arith, tt)))))) h in
@@ -159,34 +159,34 @@ module _ {l : Ledger} {w : World} (u : UpAt l w) where
       let low : b < l .shape .blocks = leb-false (l .shape .blocks) b (y .0) in
       let inside : o ≤ 124 = ltb-false 124 o (y .1 .0) in
       plain (other refl)
-      (at-up (write-at u c (z .0) b low o inside v fits (y .1 .1 .0) (y .1 .1 .1 .0) (y .1 .1 .1 .1 .0) (y .1 .1 .1 .1 .1 .0)))
+      (related-up (write-at u c (z .0) b low o inside v fits (y .1 .1 .0) (y .1 .1 .1 .0) (y .1 .1 .1 .1 .0) (y .1 .1 .1 .1 .1 .0)))
       (record { disk = refl; memory = write-memory u c (z .0) b low o inside v fits (y .1 .1 .0) (y .1 .1 .1 .0) (y .1 .1 .1 .1 .0) (y .1 .1 .1 .1 .1 .0); stores = refl })
 
-  close-carried : (c : ℕ) → refusal (closeRefusals c l) ≡ 0 → Carried At l w (CLOSE c)
+  close-carried : (c : ℕ) → refusal (closeRefusals c l) ≡ 0 → Carried Related l w (CLOSE c)
   unfolding closeRefusals doneBy carriedOut diskAfter memoryAfter storeCount closed isRecover
   close-carried c h =
       let z = in-range-of c _ (omega arith, (omega arith, tt)) h in
       let has-running : hasRunning (l .book) c ≡ true = not-false _ (z .1 .0) in
       let runs : (l .book .entry (nextName c (l .book))) .stage ≡ running = running-is _ has-running in
       let free : l .book .uncommitted c ≡ l .book .next c =
-      omega (arith, ltb-false (l .book .uncommitted c) (l .book .next c) (z .1 .1 .0), u .up .fine .ranks c (z .0) .mid) in
-      plain (other refl) (rw has-running (at-up (close-at u c (z .0) runs free))) (record { disk = refl; memory = close-memory u c (z .0) runs free; stores = refl })
+      omega (arith, ltb-false (l .book .uncommitted c) (l .book .next c) (z .1 .1 .0), u .up .well-formed .ranks c (z .0) .mid) in
+      plain (other refl) (rw has-running (related-up (close-at u c (z .0) runs free))) (record { disk = refl; memory = close-memory u c (z .0) runs free; stores = refl })
 
-  store-carried : (c : ℕ) → refusal (storeRefusals c l) ≡ 0 → Carried At l w (STORE c)
+  store-carried : (c : ℕ) → refusal (storeRefusals c l) ≡ 0 → Carried Related l w (STORE c)
   unfolding storeRefusals doneBy carriedOut noted diskAfter memoryAfter storeCount stored isRecover
   store-carried c h =
       let z = in-range-of c _ (omega arith, tt) h in
       let busy = not-false _ (z .1 .0) in
-      plain (other refl) (rw busy (at-up (store-at u c (z .0) (ltb-true _ _ busy))))
+      plain (other refl) (rw busy (related-up (store-at u c (z .0) (ltb-true _ _ busy))))
       (record { disk = stored-bytes (u .up) c (z .0) (ltb-true _ _ busy); memory = refl; stores = refl })
 
-  checkpoint-carried : (c : ℕ) → refusal (checkpointRefusals c l) ≡ 0 → Carried At l w (CHECKPOINT c)
+  checkpoint-carried : (c : ℕ) → refusal (checkpointRefusals c l) ≡ 0 → Carried Related l w (CHECKPOINT c)
   unfolding checkpointRefusals doneBy carriedOut noted diskAfter memoryAfter storeCount isRecover
   checkpoint-carried c h =
       let z = in-range-of c _ (omega arith, (omega arith, (omega arith, tt))) h in
       let some-committed = not-false _ (z .1 .0) in
       let b = checkpointed-bytes (u .up) c (z .0) (ltb-true _ _ some-committed) in
-      plain (other refl) (rw some-committed (at-up (checkpoint-at u c (z .0) (ltb-true _ _ some-committed) (not-false _ (z .1 .1 .0)) (z .1 .1 .1 .0))))
+      plain (other refl) (rw some-committed (related-up (checkpoint-at u c (z .0) (ltb-true _ _ some-committed) (not-false _ (z .1 .1 .0)) (z .1 .1 .1 .0))))
       (record { disk = b .0; memory = checkpointed-memory c w; stores = b .1 })
 
   -- FORMAT is refused with 21, RECOVER with 23
@@ -196,87 +196,87 @@ module _ {l : Ledger} {w : World} (u : UpAt l w) where
   up-23 : {A : Type 0} → refusal ((isBlank (l .phase), 20) ∷ (isUp (l .phase), 23) ∷ []) ≡ 0 → A
   up-23 h = clash (ap isUp (u .up .ledger)) (refusal-passed _ 23 [] (omega arith) (refusal-passed _ 20 _ (omega arith) h .1) .0)
 
-  up-carries : (k : Command) → HasData k → refusal (refusalsOf k l) ≡ 0 → Carried At l w k
+  up-carries : (k : Command) → HasData k → refusal (refusalsOf k l) ≡ 0 → Carried Related l w k
   unfolding refusalsOf formatRefusals doneBy carriedOut diskAfter memoryAfter storeCount isRecover
   up-carries (FORMAT c n j) fits h = up-21 _ h
   up-carries (WRITE c n o v) fits h = write-carried c n o v fits h
   up-carries (CLOSE c) fits h = close-carried c h
   up-carries (STORE c) fits h = store-carried c h
   up-carries (CHECKPOINT c) fits h = checkpoint-carried c h
-  up-carries CUT fits h = plain (other refl) (at-down (cut-at u)) (record { disk = refl; memory = refl; stores = refl })
+  up-carries CUT fits h = plain (other refl) (related-down (cut-at u)) (record { disk = refl; memory = refl; stores = refl })
   up-carries RECOVER fits h = up-23 h
 
 -- ---- every command keeps the relation, and the claims follow
-pub blank-phase : {l : Ledger} {w : World} → BlankAt l w → w .card .phase ≡ Blank
+pub blank-phase : {l : Ledger} {w : World} → RelatedBlank l w → w .card .phase ≡ Blank
 unfolding blankCard emptyCard freshCard
 blank-phase b = ap (λ (x : Card). x .phase) (b .card)
 
-pub relates : Relates At
-relates = record { sizes = sizes; between = λ l w h. record { phase = phase l w h; journals = journals l w h }; reads = reads; answers = answers; carries = carries }
+pub related-simulation : Simulation Related
+related-simulation = record { sizes = sizes; between = λ l w h. record { phase = phase l w h; journals = journals l w h }; reads = reads; answers = answers; carries = carries }
   where
-    sizes : (l : Ledger) (w : World) → At l w → wrongLength w ≡ false
-    sizes l w (at-blank b) = right-length w (b .disk) (b .memory)
-    sizes l w (at-up u) = right-length w (u .up .disk .size) (u .up .memory)
-    sizes l w (at-down d) = right-length w (d .disk .size) (d .memory)
+    sizes : (l : Ledger) (w : World) → Related l w → wrongLength w ≡ false
+    sizes l w (related-blank b) = right-length w (b .disk) (b .memory)
+    sizes l w (related-up u) = right-length w (u .up .disk .size) (u .up .memory)
+    sizes l w (related-down d) = right-length w (d .disk .size) (d .memory)
 
-    phase : (l : Ledger) (w : World) → At l w → w .card .phase ≡ l .phase
-    phase l w (at-blank b) = blank-phase b ∙ sym (unfold blankLedger in ap (λ (l : Ledger). l .phase) (b .ledger))
-    phase l w (at-up u) = u .up .phase ∙ sym (u .up .ledger)
-    phase l w (at-down d) = d .phase ∙ sym (d .ledger)
+    phase : (l : Ledger) (w : World) → Related l w → w .card .phase ≡ l .phase
+    phase l w (related-blank b) = blank-phase b ∙ sym (unfold blankLedger in ap (λ (l : Ledger). l .phase) (b .ledger))
+    phase l w (related-up u) = u .up .phase ∙ sym (u .up .ledger)
+    phase l w (related-down d) = d .phase ∙ sym (d .ledger)
 
-    journals : (l : Ledger) (w : World) → At l w → isBlank (w .card .phase) ≡ false → JournalsRead l (w .disk)
-    journals l w (at-blank b) h = clash (ap isBlank (blank-phase b)) h
-    journals l w (at-up u) h = journals-read (u .up .fine) (u .up .disk)
-    journals l w (at-down d) h = journals-read (d .fine) (d .disk)
+    journals : (l : Ledger) (w : World) → Related l w → isBlank (w .card .phase) ≡ false → JournalsRead l (w .disk)
+    journals l w (related-blank b) h = clash (ap isBlank (blank-phase b)) h
+    journals l w (related-up u) h = journals-read (u .up .well-formed) (u .up .disk)
+    journals l w (related-down d) h = journals-read (d .well-formed) (d .disk)
 
-    reads : (l : Ledger) (w : World) → At l w → ReadsNow readBlock l w
-    reads l w (at-blank b) h = clash h (ap isUp (blank-phase b))
-    reads l w (at-up u) h = up-reads u
-    reads l w (at-down d) h = clash h (ap isUp (d .phase))
+    reads : (l : Ledger) (w : World) → Related l w → ReadsNow readBlock l w
+    reads l w (related-blank b) h = clash h (ap isUp (blank-phase b))
+    reads l w (related-up u) h = up-reads u
+    reads l w (related-down d) h = clash h (ap isUp (d .phase))
 
-    answers : (l : Ledger) (w : World) → At l w → (k : Command) → refusal (conditionsOf k w) ≡ refusal (refusalsOf k l)
-    answers l w (at-blank b) k = rw (b .ledger) (blank-answers w (b .card) (b .disk) (b .memory) k)
-    answers l w (at-up u) k = up-answers (u .up) (holder-open u) k
-    answers l w (at-down d) k = down-answers d k
+    answers : (l : Ledger) (w : World) → Related l w → (k : Command) → refusal (conditionsOf k w) ≡ refusal (refusalsOf k l)
+    answers l w (related-blank b) k = rw (b .ledger) (blank-answers w (b .card) (b .disk) (b .memory) k)
+    answers l w (related-up u) k = up-answers (u .up) (holder-open u) k
+    answers l w (related-down d) k = down-answers d k
 
-    carries : (l : Ledger) (w : World) → At l w → (k : Command) → HasData k → refusal (refusalsOf k l) ≡ 0 → Carried At l w k
-    carries l w (at-blank b) k fits h = blank-carries b k h
-    carries l w (at-up u) k fits h = up-carries u k fits h
-    carries l w (at-down d) k fits h = down-carries d k h
+    carries : (l : Ledger) (w : World) → Related l w → (k : Command) → HasData k → refusal (refusalsOf k l) ≡ 0 → Carried Related l w k
+    carries l w (related-blank b) k fits h = blank-carries b k h
+    carries l w (related-up u) k fits h = up-carries u k fits h
+    carries l w (related-down d) k fits h = down-carries d k h
 
-pub starts : (s : Start) → StartFits s → At (startLedger s) (startWorld s)
+pub starts : (s : Start) → StartFits s → Related (startLedger s) (startWorld s)
 unfolding startLedger startWorld
-starts (from-blank d m) h = at-blank (record { card = refl; ledger = refl; disk = h .stated .0; memory = h .stated .1 })
-starts (from-down s m) h = at-down (down-start s m (h .stated .0) (h .memory) (h .stated .1))
+starts (from-blank d m) h = related-blank (record { card = refl; ledger = refl; disk = h .stated .0; memory = h .stated .1 })
+starts (from-down s m) h = related-down (down-start s m (h .stated .0) (h .memory) (h .stated .1))
 
 -- a card whose commands go as the model's meets the claims
-pub claim-of : (f : TapeStep World) → Going At f → Claim f
-claim-of = claimed At relates starts
+pub claim-of : (f : TapeStep World) → CardKeeps Related f → Claim f
+claim-of = claim-kept Related related-simulation starts
 
-pub demands-of : (f : TapeStep World) → Going At f → Demands f
-demands-of = demanded At relates starts
+pub demands-of : (f : TapeStep World) → CardKeeps Related f → Demands f
+demands-of = demands-kept Related related-simulation starts
 
-pub readings-of : (f : TapeStep World) → Going At f → Readings readBlock f
-readings-of = reading At relates starts
+pub readings-of : (f : TapeStep World) → CardKeeps Related f → Readings readBlock f
+readings-of = reading Related related-simulation starts
 
 -- Demand 3: whenever recovery brings the card up, the home area is the blank one with the kept writes, in issue order.
 pub claim : Claim stepAt
-claim = claim-of stepAt (goes At relates)
+claim = claim-of stepAt (point-keeps Related related-simulation)
 
 -- Demands 1 and 2 of the ledger, and the course of recovery.
 pub demands : Demands stepAt
-demands = demands-of stepAt (goes At relates)
+demands = demands-of stepAt (point-keeps Related related-simulation)
 
 -- What reading gives.
 pub readings : Readings readBlock stepAt
-readings = readings-of stepAt (goes At relates)
+readings = readings-of stepAt (point-keeps Related related-simulation)
 
 -- Whatever is the same function of tape, offset and world meets them too: nobody need believe how `stepAt` is defined.
 pub same-meets : (f : TapeStep World) → ((t : Bytes) (at : ℕ) (w : World) → f t at w ≡ stepAt t at w) → Claim f × Demands f × Readings readBlock f
-same-meets f h = let g = same-goes At relates f h in (claim-of f g, demands-of f g, readings-of f g)
+same-meets f h = let g = same-keeps Related related-simulation f h in (claim-of f g, demands-of f g, readings-of f g)
 
 -- 'A transaction uncommitted at a cut never commits': a card that has come up reads no transaction in any journal, and
 -- by `demands` none ever but those opened since. A later bearer of its number is another one.
-pub none-left-over : (s : Shape) (saved : List Write) (first : ℕ → ℕ) (c : ℕ) → storedSince (freshLedger s saved first) c ≡ []
+pub storedSince-fresh : (s : Shape) (saved : List Write) (first : ℕ → ℕ) (c : ℕ) → storedSince (freshLedger s saved first) c ≡ []
 unfolding storedSince freshLedger emptyBook below
-none-left-over s saved first c = let e : first c - first c ≡ 0 = omega arith in rw e refl
+storedSince-fresh s saved first c = let e : first c - first c ≡ 0 = omega arith in rw e refl

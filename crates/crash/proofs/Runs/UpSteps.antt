@@ -1,4 +1,4 @@
--- A card that is up: the bytes and the histories of the blocks agree with the ledger (`UpAt`), and each command carried out keeps
+-- A card that is up: the bytes and the histories of the blocks agree with the ledger (`RelatedUp`), and each command carried out keeps
 -- it so; a cut hands on what recovery will give.
 use Prim.Native.Nat.{ℕ, zero, suc, _+_, _<_, _-_, _≤_}
 use native.Mathlib.Omega.{arith}
@@ -12,7 +12,7 @@ use lib.ListN.{length, getD, drop, length-take, length-drop}
 use lib.Dec.{eqb, ltb}
 use borrow.Author.Tests.{ne-eqb, eqb-true, eqb-false, ltb-true, ltb-false, lt-leb, leb-false, not-false}
 use Rattle.model.specs.Lists.{any}
-use Rattle.model.specs.Bytes.{store as storeBlock, replaced, Bytes, blockAt, zeroMemory}
+use Rattle.model.specs.Bytes.{store, replaced, Bytes, blockAt, zeroMemory}
 use Rattle.model.specs.Shape.{homeBlock}
 use Rattle.model.specs.Card.{sameName, downCard, coreOf, holderOf, taken, shapeOf}
 use Rattle.model.specs.Command.{World, refusal, unstored, noBlock}
@@ -20,26 +20,26 @@ use Rattle.model.specs.Write.{written, writtenMemory}
 use Rattle.model.specs.Commit.{closed, stored, copied}
 use Rattle.model.specs.Checkpoint.{checkpointed}
 use Rattle.model.proofs.Lists.{cases, and-left, getD-mem}
-use Rattle.crash.specs.Book.{Book, Write, absent, running, committed, kept, image, blank, isClosed, holderIn, store, checkpoint, wrote}
+use Rattle.crash.specs.Book.{Book, Write, absent, running, committed, kept, image, blank, isClosed, bookHolder, storeBook, checkpointBook, writeBook}
 use Rattle.crash.specs.Ledger.{Ledger, freshLedger, cutLedger, withBook, closeLedger, validIn, sharesLowerIn, blocksAfter, copiesStored, imageNow, journalPasses, namesPass, numberPasses}
 use Rattle.crash.proofs.Commands.CardWrite.{write-up, memory-written}
-use Rattle.crash.proofs.Disk.LedgerWrite.{fine-wrote}
+use Rattle.crash.proofs.Disk.LedgerWrite.{well-formed-write}
 use Rattle.crash.proofs.Books.Tests.{clash, any-in, in-any, nameEquality, blockEquality}
 use Rattle.crash.proofs.Books.BookEntries.{nextName, oldestName}
 use Rattle.crash.proofs.Books.Largest.{memberOf, RetiredBelow, valid-is-kept}
 use Rattle.crash.proofs.Blocks.Invariant.{Inv, imageAt, opened-of}
 use Rattle.crash.proofs.Blocks.InvariantSteps.{inv-fresh, inv-close, inv-store, inv-retire, inv-home-store, lower-retired}
-use Rattle.crash.proofs.Blocks.InvariantWrite.{home-current, open-holds, holder-took, inv-wrote}
-use Rattle.crash.proofs.Blocks.ClosedImages.{Imaged, image-of-closed, imaged-fresh, imaged-close, imaged-store, imaged-retire, imaged-home-store, imaged-wrote}
-use Rattle.crash.proofs.Disk.Relation.{first-waiting, Fine, Up, DownBy, holderAs}
-use Rattle.crash.proofs.Disk.LedgerSteps.{fine-close, fine-store, fine-checkpoint}
+use Rattle.crash.proofs.Blocks.InvariantWrite.{home-current, open-holds, holder-took, inv-write}
+use Rattle.crash.proofs.Blocks.ClosedImages.{Imaged, image-of-closed, imaged-fresh, imaged-close, imaged-store, imaged-retire, imaged-home-store, imaged-write}
+use Rattle.crash.proofs.Disk.Relation.{first-waiting, WellFormed, CardUp, CardDown, holderAs}
+use Rattle.crash.proofs.Disk.LedgerSteps.{well-formed-close, well-formed-store, well-formed-checkpoint}
 use Rattle.crash.proofs.Commands.CardCut.{cut-up, right-length}
-use Rattle.crash.proofs.Runs.Given.{held-newest, home-target}
+use Rattle.crash.proofs.Runs.CutTargets.{held-newest, home-target}
 use Rattle.crash.proofs.Commands.CardStore.{store-up, store-homes}
 use Rattle.crash.proofs.Commands.CardClose.{close-up, memory-closed}
 use Rattle.crash.proofs.Commands.CardCheckpoint.{checkpoint-up, home-stored, home-others, homes-stay}
 use Rattle.crash.proofs.Disk.LedgerStages.{below-oldest}
-use Rattle.crash.proofs.Runs.Points.{HasData}
+use Rattle.crash.proofs.Runs.RunClaims.{HasData}
 use Rattle.model.specs.Tape.{WRITE}
 use Rattle.model.specs.Reading.{readBlock, readConditions, readNumber}
 use Rattle.crash.proofs.Disk.ReadMaster.{shape-up}
@@ -51,31 +51,31 @@ use Rattle.model.specs.declared.Phase.the-variants.{Blank}
 use Rattle.model.specs.declared.Phase.{Phase}
 
 -- ---- a card that is up: the bytes and the histories of the blocks agree with the ledger
-pub record UpAt (l : Ledger) (w : World) : Type 0 where
-  pub up : Up l w
+pub record RelatedUp (l : Ledger) (w : World) : Type 0 where
+  pub up : CardUp l w
   pub home : ℕ → Bytes
   pub homes : (b : ℕ) → b < l .shape .blocks → blockAt (w .disk) (homeBlock b) ≡ home b
   pub inv : Inv home l
   pub imaged : Imaged l
 
 -- names below a core's oldest number are those of retired transactions
-pub numbered : (l : Ledger) → Fine l → RetiredBelow (l .book)
-numbered l f t u h n =
+pub retired-below : (l : Ledger) → WellFormed l → RetiredBelow (l .book)
+retired-below l f t u h n =
     let named = f .named t u (any-in nameEquality u _ n) in
     below-oldest (f .ranks (u .core) (f .limits u named .core)) (u .number) named
 
-module _ {l : Ledger} {w : World} (u : UpAt l w) where
+module _ {l : Ledger} {w : World} (u : RelatedUp l w) where
   abbrev k : Book
   k = l .book
 
   -- whoever runs and took a block is its holder
-  running-holds : (t : Name) (x : ℕ) → (k .entry t) .stage ≡ running → List·Memᴰ x ((k .entry t) .blocks) → holderIn k x (k .writes) ≡ some t
+  running-holds : (t : Name) (x : ℕ) → (k .entry t) .stage ≡ running → List·Memᴰ x ((k .entry t) .blocks) → bookHolder k x (k .writes) ≡ some t
   running-holds t x r m = open-holds (u .inv) x t (ap isClosed r) (in-any blockEquality m)
 
   -- a holder is open: it took the block
-  pub holder-open : (b : ℕ) (n : Name) → holderIn k b (k .writes) ≡ some n → (k .entry n) .stage ≢ absent
+  pub holder-open : (b : ℕ) (n : Name) → bookHolder k b (k .writes) ≡ some n → (k .entry n) .stage ≢ absent
   holder-open b n h e =
-      List·Memᴰ·not-nil (subst (List·Memᴰ b) (u .up .fine .unopened n e .0) (any-in blockEquality b _ (holder-took (u .inv) b n h)))
+      List·Memᴰ·not-nil (subst (List·Memᴰ b) (u .up .well-formed .unopened n e .0) (any-in blockEquality b _ (holder-took (u .inv) b n h)))
 
   -- a block below B is read without a refusal
   up-number : (b : ℕ) → b < l .shape .blocks → readNumber b w ≡ 0
@@ -87,45 +87,45 @@ module _ {l : Ledger} {w : World} (u : UpAt l w) where
   unfolding readBlock
   up-reads b low =
       rw (up-number b low)
-      (cases ((holderOf (w .card) b) .held) (λ h. rw h (u .up .images b low h)) (λ h. rw h (from-home (holderIn k b (k .writes)) refl h)))
+      (cases ((holderOf (w .card) b) .held) (λ h. rw h (u .up .images b low h)) (λ h. rw h (from-home (bookHolder k b (k .writes)) refl h)))
     where
-      from-home : (x : Option Name) → holderIn k b (k .writes) ≡ x → (holderOf (w .card) b) .held ≡ false → blockAt (w .disk) (homeBlock b) ≡ imageNow l b
+      from-home : (x : Option Name) → bookHolder k b (k .writes) ≡ x → (holderOf (w .card) b) .held ≡ false → blockAt (w .disk) (homeBlock b) ≡ imageNow l b
       from-home none e h = u .homes b low ∙ home-current (u .inv) b e
       from-home (some n) e h = clash (ap (λ (y : Holder). y .held) (u .up .holders b low ∙ ap holderAs e)) h
 
   -- WRITE
   module _ (c : ℕ) (in-range : c < l .shape .cores) (b : ℕ) (low : b < l .shape .blocks) (o : ℕ) (inside : o ≤ 124) (v : Bytes) (fits : HasData (WRITE c b o v))
-      (no-24 : namesPass c b k (wrote c b o v k) ≡ false) (no-25 : ltb 8 (blocksAfter c k (wrote c b o v k)) ≡ false)
-      (no-26 : journalPasses c (l .shape) k (wrote c b o v k) ≡ false) (no-27 : numberPasses c k ≡ false) where
-    home-image : holderIn k b (k .writes) ≡ none → blockAt (w .disk) (homeBlock b) ≡ imageNow l b
+      (no-24 : namesPass c b k (writeBook c b o v k) ≡ false) (no-25 : ltb 8 (blocksAfter c k (writeBook c b o v k)) ≡ false)
+      (no-26 : journalPasses c (l .shape) k (writeBook c b o v k) ≡ false) (no-27 : numberPasses c k ≡ false) where
+    home-image : bookHolder k b (k .writes) ≡ none → blockAt (w .disk) (homeBlock b) ≡ imageNow l b
     home-image h = u .homes b low ∙ home-current (u .inv) b h
 
-    fine-after : Fine (withBook l (wrote c b o v k))
+    well-formed-after : WellFormed (withBook l (writeBook c b o v k))
     unfolding namesPass blocksAfter numberPasses
-    fine-after = fine-wrote l (u .up .fine) c in-range b o v low inside (fits .0) (fits .1) running-holds (λ n x h. holder-open x n h) no-24 no-25 no-27
+    well-formed-after = well-formed-write l (u .up .well-formed) c in-range b o v low inside (fits .0) (fits .1) running-holds (λ n x h. holder-open x n h) no-24 no-25 no-27
 
-    pub write-memory : writtenMemory w c b o v ≡ storeBlock (w .memory) b (replaced o 4 (imageNow l b) v)
+    pub write-memory : writtenMemory w c b o v ≡ store (w .memory) b (replaced o 4 (imageNow l b) v)
     unfolding journalPasses blocksAfter
-    write-memory = memory-written (u .up) c in-range b low o inside v (fits .0) (fits .1) (holder-open b) home-image (ltb-false _ _ no-26) fine-after
+    write-memory = memory-written (u .up) c in-range b low o inside v (fits .0) (fits .1) (holder-open b) home-image (ltb-false _ _ no-26) well-formed-after
 
-    pub write-at : UpAt (withBook l (wrote c b o v k)) ((written c b o v w) .world)
+    pub write-at : RelatedUp (withBook l (writeBook c b o v k)) ((written c b o v w) .world)
     unfolding written journalPasses blocksAfter
     write-at =
-        let current = u .up .fine .ranks c in-range .current in
+        let current = u .up .well-formed .ranks c in-range .current in
         record {
-          up = write-up (u .up) c in-range b low o inside v (fits .0) (fits .1) (holder-open b) home-image (ltb-false _ _ no-26) fine-after;
+          up = write-up (u .up) c in-range b low o inside v (fits .0) (fits .1) (holder-open b) home-image (ltb-false _ _ no-26) well-formed-after;
           home = u .home;
           homes = u .homes;
-          inv = inv-wrote (u .inv) c b o v current;
-          imaged = imaged-wrote l (u .imaged) c b o v current;
+          inv = inv-write (u .inv) c b o v current;
+          imaged = imaged-write l (u .imaged) c b o v current;
         }
 
   module _ (c : ℕ) (in-range : c < l .shape .cores) where
-    pub store-at : k .uncommitted c < k .next c → UpAt (withBook l (store c k)) ((stored c w) .world)
+    pub store-at : k .uncommitted c < k .next c → RelatedUp (withBook l (storeBook c k)) ((stored c w) .world)
     store-at busy =
-        let s = first-waiting (u .up .fine .ranks c in-range) busy in
+        let s = first-waiting (u .up .well-formed .ranks c in-range) busy in
         record {
-          up = store-up (u .up) c in-range busy (fine-store l (u .up .fine) c in-range busy);
+          up = store-up (u .up) c in-range busy (well-formed-store l (u .up .well-formed) c in-range busy);
           home = u .home;
           homes = λ b h. store-homes (u .up) c in-range busy b h ∙ u .homes b h;
           inv = inv-store (u .inv) c (s .0) (s .1);
@@ -135,13 +135,13 @@ module _ {l : Ledger} {w : World} (u : UpAt l w) where
     pub close-memory : (k .entry (nextName c k)) .stage ≡ running → k .uncommitted c ≡ k .next c
         → copied c 0 (taken ((coreOf (w .card) c) .running)) (w .memory) ≡ copiesStored c 0 (map (imageNow l) ((k .entry (nextName c k)) .blocks)) (w .memory)
     close-memory runs free =
-        memory-closed (u .up) c in-range runs free (λ b m. running-holds (nextName c k) b runs m) (fine-close l (u .up .fine) c in-range runs free)
+        memory-closed (u .up) c in-range runs free (λ b m. running-holds (nextName c k) b runs m) (well-formed-close l (u .up .well-formed) c in-range runs free)
 
-    pub close-at : (k .entry (nextName c k)) .stage ≡ running → k .uncommitted c ≡ k .next c → UpAt (closeLedger c l) ((closed c w) .world)
+    pub close-at : (k .entry (nextName c k)) .stage ≡ running → k .uncommitted c ≡ k .next c → RelatedUp (closeLedger c l) ((closed c w) .world)
     unfolding closed closeLedger
     close-at runs free =
         record {
-          up = close-up (u .up) c in-range runs free (λ b m. running-holds (nextName c k) b runs m) (fine-close l (u .up .fine) c in-range runs free);
+          up = close-up (u .up) c in-range runs free (λ b m. running-holds (nextName c k) b runs m) (well-formed-close l (u .up .well-formed) c in-range runs free);
           home = u .home;
           homes = u .homes;
           inv = inv-close (u .inv) c runs;
@@ -160,13 +160,13 @@ module _ {l : Ledger} {w : World} (u : UpAt l w) where
       is-kept : So (memberOf (kept k) t)
       is-kept =
           and-left (memberOf (kept k) t) _
-          (sym (valid-is-kept k (opened-of k (u .inv .known)) (numbered l (u .up .fine)) (u .inv .retired-kept) t) ∙ valid)
+          (sym (valid-is-kept k (opened-of k (u .inv .known)) (retired-below l (u .up .well-formed)) (u .inv .retired-kept) t) ∙ valid)
 
-      next-up : Up (withBook l (checkpoint c k)) ((checkpointed c w) .world)
-      next-up = checkpoint-up (u .up) c in-range some-committed (fine-checkpoint l (u .up .fine) c in-range some-committed)
+      next-up : CardUp (withBook l (checkpointBook c k)) ((checkpointed c w) .world)
+      next-up = checkpoint-up (u .up) c in-range some-committed (well-formed-checkpoint l (u .up .well-formed) c in-range some-committed)
 
       module _ {m : ℕ} (stage : (k .entry t) .stage ≡ committed m) where
-        retire-at : m ≡ length bs → UpAt (withBook l (checkpoint c k)) ((checkpointed c w) .world)
+        retire-at : m ≡ length bs → RelatedUp (withBook l (checkpointBook c k)) ((checkpointed c w) .world)
         retire-at e =
             record {
               up = next-up;
@@ -176,7 +176,7 @@ module _ {l : Ledger} {w : World} (u : UpAt l w) where
               imaged = imaged-retire (u .inv) (u .imaged) c m stage (omega arith);
             }
 
-        home-at : m < length bs → UpAt (withBook l (checkpoint c k)) ((checkpointed c w) .world)
+        home-at : m < length bs → RelatedUp (withBook l (checkpointBook c k)) ((checkpointed c w) .world)
         home-at less =
             let b₀ = getD bs m 0 in
             let image : getD (l .images t) m [] ≡ imageAt l t b₀ = image-of-closed l (u .imaged) t (ap isClosed stage) m less in
@@ -194,24 +194,24 @@ module _ {l : Ledger} {w : World} (u : UpAt l w) where
               imaged = imaged-home-store (u .inv) (u .imaged) c m stage less;
             }
 
-      pub checkpoint-at : UpAt (withBook l (checkpoint c k)) ((checkpointed c w) .world)
+      pub checkpoint-at : RelatedUp (withBook l (checkpointBook c k)) ((checkpointed c w) .world)
       checkpoint-at =
-          let s = u .up .fine .ranks c in-range .first some-committed in
+          let s = u .up .well-formed .ranks c in-range .first some-committed in
           elim (decLt (s .0) (length bs)) [ yes h ↦ home-at (s .1) h | no h ↦ retire-at (s .1) (omega (arith, s .2)) ]
 
   -- a cut hands on what recovery will give
-  pub cut-at : DownBy (cutLedger l) ((unstored w downCard zeroMemory) .world)
+  pub cut-at : CardDown (cutLedger l) ((unstored w downCard zeroMemory) .world)
   cut-at =
-      let f = u .up .fine in
+      let f = u .up .well-formed in
       cut-up (u .up)
       (record {
-        held = λ b h m. held-newest (u .inv) (numbered l f) b (u .imaged) m;
-        home = λ b h n. u .homes b h ∙ home-target (u .inv) (numbered l f) b h n;
+        held = λ b h m. held-newest (u .inv) (retired-below l f) b (u .imaged) m;
+        home = λ b h n. u .homes b h ∙ home-target (u .inv) (retired-below l f) b h n;
       })
 
 -- a card that has just come up, over the area that its saved writes give
-pub fresh-at : (s : Shape) (saved : List Write) (first : ℕ → ℕ) (w : World) → Up (freshLedger s saved first) w
-    → ((b : ℕ) → b < s .blocks → blockAt (w .disk) (homeBlock b) ≡ image blank saved b) → UpAt (freshLedger s saved first) w
+pub fresh-at : (s : Shape) (saved : List Write) (first : ℕ → ℕ) (w : World) → CardUp (freshLedger s saved first) w
+    → ((b : ℕ) → b < s .blocks → blockAt (w .disk) (homeBlock b) ≡ image blank saved b) → RelatedUp (freshLedger s saved first) w
 unfolding freshLedger
 fresh-at s saved first w up homes =
     record { up = up; home = image blank saved; homes = homes; inv = inv-fresh s saved first; imaged = imaged-fresh s saved first }

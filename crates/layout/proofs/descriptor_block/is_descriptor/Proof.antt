@@ -1,7 +1,7 @@
 -- `layout::is_descriptor` meets its contract: each return is one condition of `isDescriptor`.
 use borrow.Author.Needs.{needs}
 use Rattle.model.specs.Layout.{isDescriptor}
-use Rattle.layout.proofs.Readers.{held-no, held-yes, new-same}
+use Rattle.layout.proofs.Readers.{tags-no, tags-yes, new-same}
 use Rattle.layout.proofs.Tests.{tests}
 use Rattle.layout.proofs.descriptor_block.is_descriptor.Statement.{statement}
 use Rattle.layout.proofs.descriptor_block.is_descriptor.Tie as tie
@@ -11,5 +11,5 @@ unfolding isDescriptor
 is-descriptor-spec =
     tie.close
     (tie.spec (λ c κs. search needs) (λ c. search (needs, tests)) (λ c. search (needs, tests)) (λ c κs. search needs)
-    (λ c. search (needs, tests)) (λ c. search needs) (λ c κs. search needs) (λ c. search (needs, tests, held-no))
-    (λ c. search needs) (λ c κs. search needs) (λ c. search (needs, tests, held-yes, new-same)))
+    (λ c. search (needs, tests)) (λ c. search needs) (λ c κs. search needs) (λ c. search (needs, tests, tags-no))
+    (λ c. search needs) (λ c κs. search needs) (λ c. search (needs, tests, tags-yes, new-same)))

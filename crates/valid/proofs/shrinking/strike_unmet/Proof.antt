@@ -2,13 +2,13 @@
 use Prim.Native.Nat.{_-_}
 use borrow.Author.Needs.{needs}
 use Rattle.layout.proofs.Loops.{Filled, filled}
-use Rattle.valid.specs.Sets.{kept}
+use Rattle.valid.specs.Sets.{keptSlot}
 use Rattle.valid.proofs.Sets.{all-struck}
 use Rattle.valid.proofs.shrinking.strike_unmet.Statement.{statement}
 use Rattle.valid.proofs.shrinking.strike_unmet.Tie as tie
 
 abbrev Inv-loop : tie.InvT-loop
-Inv-loop s disk numbers set next₀ i₀ next i = Filled (kept s disk numbers set) 96 next i
+Inv-loop s disk numbers set next₀ i₀ next i = Filled (keptSlot s disk numbers set) 96 next i
 
 abbrev μ-loop : tie.MeasureT-loop
 μ-loop s disk numbers set next₀ i₀ next i = 96 - i

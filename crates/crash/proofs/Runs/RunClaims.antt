@@ -1,4 +1,4 @@
--- Along a tape: if each command keeps a relation `At` of ledger and world and answers what the ledger says, then at every
+-- Along a tape: if each command keeps a relation `Related` of ledger and world and answers what the ledger says, then at every
 -- point of every run the claims hold. The ledger's go along the points; demand 3 holds because service book and ledger
 -- keep the same writes and the last RECOVER leaves the area that they give.
 use Prim.Native.Nat.{ℕ, zero, suc, _+_, _*_, _<_}
@@ -46,113 +46,113 @@ abbrev pub HomeGiven : Ledger → World → Type 0
 HomeGiven l w = l .left ≡ [] → (b : ℕ) → b < l .shape .blocks → blockAt (w .disk) (homeBlock b) ≡ image blank (keptWrites (l .book) ++ l .saved) b
 
 -- a command carried out
-pub record Carried (At : Ledger → World → Type 0) (l : Ledger) (w : World) (k : Command) : Type 0 where
-  pub next : At (carriedOut k l) ((doneBy k w) .world)
+pub record Carried (Related : Ledger → World → Type 0) (l : Ledger) (w : World) (k : Command) : Type 0 where
+  pub next : Related (carriedOut k l) ((doneBy k w) .world)
   pub done : DoneAs k l w (doneBy k w)
   pub home : k ≡ RECOVER → HomeGiven l ((doneBy k w) .world)
 
-pub record Relates (At : Ledger → World → Type 0) : Type 0 where
-  pub sizes : (l : Ledger) (w : World) → At l w → wrongLength w ≡ false
-  pub between : (l : Ledger) (w : World) → At l w → Between l w
-  pub reads : (l : Ledger) (w : World) → At l w → ReadsNow readBlock l w
-  pub answers : (l : Ledger) (w : World) → At l w → (k : Command) → refusal (conditionsOf k w) ≡ refusal (refusalsOf k l)
-  pub carries : (l : Ledger) (w : World) → At l w → (k : Command) → HasData k → refusal (refusalsOf k l) ≡ 0 → Carried At l w k
+pub record Simulation (Related : Ledger → World → Type 0) : Type 0 where
+  pub sizes : (l : Ledger) (w : World) → Related l w → wrongLength w ≡ false
+  pub between : (l : Ledger) (w : World) → Related l w → Between l w
+  pub reads : (l : Ledger) (w : World) → Related l w → ReadsNow readBlock l w
+  pub answers : (l : Ledger) (w : World) → Related l w → (k : Command) → refusal (conditionsOf k w) ≡ refusal (refusalsOf k l)
+  pub carries : (l : Ledger) (w : World) → Related l w → (k : Command) → HasData k → refusal (refusalsOf k l) ≡ 0 → Carried Related l w k
 
-module _ (At : Ledger → World → Type 0) where
+module _ (Related : Ledger → World → Type 0) where
   -- what came of what stands at an offset, and the relation after it
-  pub record Goes (l : Ledger) (w : World) (r : Read) (o : Outcome World) : Type 0 where
+  pub record PointKeeps (l : Ledger) (w : World) (r : Read) (o : Outcome World) : Type 0 where
     pub answer : o .answer ≡ answerOf r l
     pub refused : o .answer ≢ 0 → o ≡ refusedWith (o .answer) w
     pub done : (k : Command) → r ≡ whole k → o .answer ≡ 0 → DoneAs k l w o
-    pub next : At (heard entered r (o .answer) l) (o .world)
+    pub next : Related (heard entered r (o .answer) l) (o .world)
     pub home : r ≡ whole RECOVER → o .answer ≡ 0 → HomeGiven l (o .world)
 
   -- a card each of whose commands goes so
-  abbrev pub Going : TapeStep World → Type 0
-  Going f = (t : Bytes) → IsBytes t → (at : ℕ) (l : Ledger) (w : World) → At l w → Goes l w (readAt t at) (f t at w)
+  abbrev pub CardKeeps : TapeStep World → Type 0
+  CardKeeps f = (t : Bytes) → IsBytes t → (at : ℕ) (l : Ledger) (w : World) → Related l w → PointKeeps l w (readAt t at) (f t at w)
 
-  module _ (r : Relates At) (l : Ledger) (w : World) (here : At l w) where
-    unknown-goes : Goes l w unknown (refusedWith 2 w)
+  module _ (r : Simulation Related) (l : Ledger) (w : World) (here : Related l w) where
+    unknown-keeps : PointKeeps l w unknown (refusedWith 2 w)
     unfolding answerOf heard
-    unknown-goes = record { answer = refl; refused = λ n. refl; done = λ k e. absurd (true≢false (ap isUnknown e)); next = here; home = λ e. absurd (true≢false (ap isUnknown e)) }
+    unknown-keeps = record { answer = refl; refused = λ n. refl; done = λ k e. absurd (true≢false (ap isUnknown e)); next = here; home = λ e. absurd (true≢false (ap isUnknown e)) }
 
-    early-goes : Goes l w early (refusedWith 3 w)
+    early-keeps : PointKeeps l w early (refusedWith 3 w)
     unfolding answerOf heard
-    early-goes = record { answer = refl; refused = λ n. refl; done = λ k e. absurd (true≢false (ap isEarly e)); next = here; home = λ e. absurd (true≢false (ap isEarly e)) }
+    early-keeps = record { answer = refl; refused = λ n. refl; done = λ k e. absurd (true≢false (ap isEarly e)); next = here; home = λ e. absurd (true≢false (ap isEarly e)) }
 
     module _ (k : Command) (fits : HasData k) where
       answer-same : (step k w) .answer ≡ refusal (refusalsOf k l)
       answer-same = step-answer k w ∙ r .answers l w here k
 
-      refused-goes : (n : ℕ) → (step k w) .answer ≡ suc n → Goes l w (whole k) (step k w)
+      refused-keeps : (n : ℕ) → (step k w) .answer ≡ suc n → PointKeeps l w (whole k) (step k w)
       unfolding answerOf heard entered
-      refused-goes n e =
+      refused-keeps n e =
           let o : step k w ≡ refusedWith ((step k w) .answer) w = step-refused k w (omega (arith, e)) .2 in
           record {
             answer = answer-same;
             refused = λ z. o;
             done = λ m q z. absurd (omega (arith, e, z));
-            next = rw e (subst (At l) (sym (ap (λ (o : Outcome World). o .world) o)) here);
+            next = rw e (subst (Related l) (sym (ap (λ (o : Outcome World). o .world) o)) here);
             home = λ q z. absurd (omega (arith, e, z));
           }
 
-      done-goes : (step k w) .answer ≡ 0 → Goes l w (whole k) (step k w)
+      done-keeps : (step k w) .answer ≡ 0 → PointKeeps l w (whole k) (step k w)
       unfolding answerOf heard entered
-      done-goes e =
+      done-keeps e =
           let o : step k w ≡ doneBy k w = step-done k w e .1 in
           let c = r .carries l w here k fits (sym answer-same ∙ e) in
           record {
             answer = answer-same;
             refused = λ z. absurd (z e);
             done = λ m q z. subst (λ (x : Outcome World). DoneAs m l w x) (sym o) (subst (λ (m : Command). DoneAs m l w (doneBy k w)) (whole-injective q) (c .done));
-            next = rw e (subst (At (carriedOut k l)) (sym (ap (λ (o : Outcome World). o .world) o)) (c .next));
+            next = rw e (subst (Related (carriedOut k l)) (sym (ap (λ (o : Outcome World). o .world) o)) (c .next));
             home = λ q z. subst (λ (x : Outcome World). HomeGiven l (x .world)) (sym o) (c .home (whole-injective q));
           }
 
-      whole-goes : Goes l w (whole k) (step k w)
-      whole-goes = by-answer ((step k w) .answer) refl
+      whole-keeps : PointKeeps l w (whole k) (step k w)
+      whole-keeps = by-answer ((step k w) .answer) refl
         where
-          by-answer : (n : ℕ) → (step k w) .answer ≡ n → Goes l w (whole k) (step k w)
-          by-answer zero e = done-goes e
-          by-answer (suc n) e = refused-goes n e
+          by-answer : (n : ℕ) → (step k w) .answer ≡ n → PointKeeps l w (whole k) (step k w)
+          by-answer zero e = done-keeps e
+          by-answer (suc n) e = refused-keeps n e
 
-    obeyed-goes : (x : Read) → ((k : Command) → x ≡ whole k → HasData k) → Goes l w x (obeyed step x w)
+    obeyed-keeps : (x : Read) → ((k : Command) → x ≡ whole k → HasData k) → PointKeeps l w x (obeyed step x w)
     unfolding obeyed
-    obeyed-goes (whole k) h = whole-goes k (h k refl)
-    obeyed-goes unknown h = unknown-goes
-    obeyed-goes early h = early-goes
+    obeyed-keeps (whole k) h = whole-keeps k (h k refl)
+    obeyed-keeps unknown h = unknown-keeps
+    obeyed-keeps early h = early-keeps
 
   -- the model's card does
-  pub goes : (r : Relates At) → Going stepAt
+  pub point-keeps : (r : Simulation Related) → CardKeeps stepAt
   unfolding stepAt commandAt refusal
-  goes r t b at l w here =
-      subst (Goes l w (readAt t at))
+  point-keeps r t b at l w here =
+      subst (PointKeeps l w (readAt t at))
       (sym (unless-done ((wrongLength w, 1) ∷ []) w (obeyed step (readAt t at) w) (rw (r .sizes l w here))))
-      (obeyed-goes r l w here (readAt t at) (whole-bytes t b at))
+      (obeyed-keeps r l w here (readAt t at) (whole-bytes t b at))
 
   -- so does every card that is the same function
-  pub same-goes : (r : Relates At) (f : TapeStep World) → ((t : Bytes) (at : ℕ) (w : World) → f t at w ≡ stepAt t at w) → Going f
-  same-goes r f same t b at l w here = subst (Goes l w (readAt t at)) (sym (same t at w)) (goes r t b at l w here)
+  pub same-keeps : (r : Simulation Related) (f : TapeStep World) → ((t : Bytes) (at : ℕ) (w : World) → f t at w ≡ stepAt t at w) → CardKeeps f
+  same-keeps r f same t b at l w here = subst (PointKeeps l w (readAt t at)) (sym (same t at w)) (point-keeps r t b at l w here)
 
-  module _ (r : Relates At) (f : TapeStep World) (go : Going f) where
+  module _ (r : Simulation Related) (f : TapeStep World) (go : CardKeeps f) where
     -- Demands 1 and 2 and the course of recovery, at every point of a run.
-    ledger-kept : (t : Bytes) → IsBytes t → {at n : ℕ} {l : Ledger} {w : World} {ps : List (Point World)} → At l w → Runs f t at n w ps → LedgerKept n l w ps
+    ledger-kept : (t : Bytes) → IsBytes t → {at n : ℕ} {l : Ledger} {w : World} {ps : List (Point World)} → Related l w → Runs f t at n w ps → LedgerKept n l w ps
     unfolding enteredPoint
     ledger-kept t b {l = l} {w = w} here (at-end h) = r .between l w here
     ledger-kept t b {at} {n} {l} {w} here (one-more {p = p} {ps = ps} h e rest) =
         let g = go t b at l w here in (
           subst (PointKept n l w) (sym e)
               (record { before = refl; between = r .between l w here; answer = g .answer; refused = g .refused; done = g .done; stores = refl }),
-          ledger-kept t b (subst (λ (p : Point World). At (heard entered (p .read) (p .outcome .answer) l) (p .outcome .world)) (sym e) (g .next)) rest,
+          ledger-kept t b (subst (λ (p : Point World). Related (heard entered (p .read) (p .outcome .answer) l) (p .outcome .world)) (sym e) (g .next)) rest,
         )
 
     -- What reading gives, at every point of a run.
-    readings-kept : (t : Bytes) → IsBytes t → {at n : ℕ} {l : Ledger} {w : World} {ps : List (Point World)} → At l w → Runs f t at n w ps → ReadingsKept readBlock l w ps
+    readings-kept : (t : Bytes) → IsBytes t → {at n : ℕ} {l : Ledger} {w : World} {ps : List (Point World)} → Related l w → Runs f t at n w ps → ReadingsKept readBlock l w ps
     unfolding enteredPoint
     readings-kept t b {l = l} {w = w} here (at-end h) = r .reads l w here
     readings-kept t b {at} {n} {l} {w} here (one-more {p = p} {ps = ps} h e rest) =
         let g = go t b at l w here in
-        (r .reads l w here, readings-kept t b (subst (λ (p : Point World). At (heard entered (p .read) (p .outcome .answer) l) (p .outcome .world)) (sym e) (g .next)) rest)
+        (r .reads l w here, readings-kept t b (subst (λ (p : Point World). Related (heard entered (p .read) (p .outcome .answer) l) (p .outcome .world)) (sym e) (g .next)) rest)
 
 -- ---- the home area by its blocks
 area-blocks : (d : Bytes) (n : ℕ) → part 128 (128 * n) d ≡ flatMap (λ (b : ℕ). blockAt d (homeBlock b)) (below n)
@@ -209,9 +209,9 @@ module _ (v : Service) (l : Ledger) (same : v .blocks ≡ l .shape .blocks) wher
   heard-blocks unknown n = same
   heard-blocks early n = same
 
-module _ (At : Ledger → World → Type 0) (r : Relates At) where
+module _ (Related : Ledger → World → Type 0) (r : Simulation Related) where
   -- a card that is down is read with 22
-  down-reads : (l : Ledger) (w : World) → At l w → isDown (w .card .phase) ≡ true → readNumber 0 w ≡ 22
+  down-reads : (l : Ledger) (w : World) → Related l w → isDown (w .card .phase) ≡ true → readNumber 0 w ≡ 22
   unfolding readNumber readConditions refusal
   down-reads l w here d = let b : isBlank (w .card .phase) ≡ false = not-blank (w .card .phase) d in rw (r .sizes l w here, b, d)
     where
@@ -220,7 +220,7 @@ module _ (At : Ledger → World → Type 0) (r : Relates At) where
       not-blank Up d = refl
       not-blank Down d = refl
 
-  module _ (v : Service) (l : Ledger) (w : World) (x : Read) (o : Outcome World) (g : Goes At l w x o) (agrees : Agrees v l) where
+  module _ (v : Service) (l : Ledger) (w : World) (x : Read) (o : Outcome World) (g : PointKeeps Related l w x o) (agrees : Agrees v l) where
     pub agrees-after : Agrees (heard fed x (o .answer) v) (heard entered x (o .answer) l)
     unfolding answerOf
     agrees-after =
@@ -232,15 +232,15 @@ module _ (At : Ledger → World → Type 0) (r : Relates At) where
       unfolding heard entered carriedOut
       after-is = rw (is-recover, is-done) refl
 
-      next-after : At (recoverLedger (l .left) l) (o .world)
-      next-after = subst (λ (l : Ledger). At l (o .world)) after-is (g .next)
+      next-after : Related (recoverLedger (l .left) l) (o .world)
+      next-after = subst (λ (l : Ledger). Related l (o .world)) after-is (g .next)
 
       -- while a home store is left, the card stays down
       none-left : (bs : List ℕ) → l .left ≡ bs → l .left ≡ []
       unfolding recoverLedger
       none-left [] e = e
       none-left (b ∷ bs) e =
-          let n : At (recoverLedger (b ∷ bs) l) (o .world) = rw e at next-after in
+          let n : Related (recoverLedger (b ∷ bs) l) (o .world) = rw e at next-after in
           let d : isDown (o .world .card .phase) ≡ true = ap isDown (r .between _ _ n .phase) in
           absurd (is-up (down-reads _ _ n d))
 
@@ -258,28 +258,28 @@ module _ (At : Ledger → World → Type 0) (r : Relates At) where
           ∙ ap (λ (n : ℕ). flatMap (image blank (v₂ .saved)) (below n)) (sym after)
 
   -- At every point of a run where the card comes up, the home area is the book's area.
-  area-kept : (f : TapeStep World) → Going At f → (t : Bytes) → IsBytes t → {at n : ℕ} {v : Service} {l : Ledger} {w : World} {ps : List (Point World)} → At l w → Agrees v l
+  area-kept : (f : TapeStep World) → CardKeeps Related f → (t : Bytes) → IsBytes t → {at n : ℕ} {v : Service} {l : Ledger} {w : World} {ps : List (Point World)} → Related l w → Agrees v l
       → v .blocks ≡ l .shape .blocks → Runs f t at n w ps → AreaKept v ps
   unfolding fedPoint
   area-kept f go t b here agrees same (at-end h) = tt
   area-kept f go t b {at} {n} {v} {l} {w} here agrees same (one-more {p = p} h e rest) =
-      let g : Goes At l w (p .read) (p .outcome) = subst (λ (p : Point World). Goes At l w (p .read) (p .outcome)) (sym e) (go t b at l w here) in (
+      let g : PointKeeps Related l w (p .read) (p .outcome) = subst (λ (p : Point World). PointKeeps Related l w (p .read) (p .outcome)) (sym e) (go t b at l w here) in (
         λ c. area-at v l w (p .read) (p .outcome) g agrees (c .is-recover) (c .is-done) (c .is-up) same,
         area-kept f go t b (g .next) (agrees-after v l w (p .read) (p .outcome) g agrees) (heard-blocks v l same (p .read) (p .outcome .answer)) rest,
       )
 
 -- ---- from every start
-module _ (At : Ledger → World → Type 0) (r : Relates At) (starts : (s : Start) → StartFits s → At (startLedger s) (startWorld s)) (f : TapeStep World) (go : Going At f) where
+module _ (Related : Ledger → World → Type 0) (r : Simulation Related) (starts : (s : Start) → StartFits s → Related (startLedger s) (startWorld s)) (f : TapeStep World) (go : CardKeeps Related f) where
   start-blocks : (s : Start) → (startService s) .blocks ≡ (startLedger s) .shape .blocks
   unfolding startService startLedger emptyService cutLedger freshLedger blankLedger
   start-blocks (from-blank d m) = refl
   start-blocks (from-down s m) = refl
 
-  pub claimed : Claim f
-  claimed t b s h = area-kept At r f go t b (starts s h) (start-agrees s) (start-blocks s) (run-runs f t (startWorld s))
+  pub claim-kept : Claim f
+  claim-kept t b s h = area-kept Related r f go t b (starts s h) (start-agrees s) (start-blocks s) (run-runs f t (startWorld s))
 
-  pub demanded : Demands f
-  demanded t b s h = ledger-kept At r f go t b (starts s h) (run-runs f t (startWorld s))
+  pub demands-kept : Demands f
+  demands-kept t b s h = ledger-kept Related r f go t b (starts s h) (run-runs f t (startWorld s))
 
   pub reading : Readings readBlock f
-  reading t b s h = readings-kept At r f go t b (starts s h) (run-runs f t (startWorld s))
+  reading t b s h = readings-kept Related r f go t b (starts s h) (run-runs f t (startWorld s))

@@ -18,7 +18,7 @@ use Rattle.crash.proofs.Books.Tests.{clash, any-in, in-any, nameEqualit
 use Rattle.crash.proofs.Books.Largest.{stageOf, RetiredBelow}
 use Rattle.crash.proofs.Blocks.Invariant.{Inv, committed-closed, tookIn, imageAt}
 use Rattle.crash.proofs.Blocks.ClosedImages.{Imaged, image-of-closed}
-use Rattle.crash.proofs.Blocks.CutImages.{NewestHolder, newest-holder, gives}
+use Rattle.crash.proofs.Blocks.CutImages.{NewestHolder, newest-holder, newest-target}
 use Rattle.crash.proofs.Disk.Relation.{Newest, target}
 use Rattle.crash.proofs.Disk.ReadValid.{valid-unretired}
 
@@ -45,12 +45,12 @@ module _ {home : ℕ → Bytes} {l : Ledger} (v : Inv home l) (numbered : Retire
         within = p .1;
         block = p .2;
         highest = λ u n h. k .2 u (in-any nameEquality n) (in-any blockEquality h);
-        image = image-of-closed l imaged t (valid-closed (l .book) t valid) (p .0) (p .1) ∙ ap (imageAt l t) (p .2) ∙ gives v numbered b (some t) k;
+        image = image-of-closed l imaged t (valid-closed (l .book) t valid) (p .0) (p .1) ∙ ap (imageAt l t) (p .2) ∙ newest-target v numbered b (some t) k;
       }
 
   home-of : (o : Option Name) → NewestHolder l b o → b < l .shape .blocks → any (eqb b) (blocksIn (l .shape .blocks) (l .book)) ≡ false → home b ≡ target l b
   unfolding target blocksIn
-  home-of none k h n = gives v numbered b none k
+  home-of none k h n = newest-target v numbered b none k
   home-of (some t) k h n =
       clash
       (in-any blockEquality

@@ -10,22 +10,22 @@ use Rattle.model.specs.Printing.{blankWorld}
 use Rattle.crash.specs.Claims.{Claim, Demands, Readings}
 use Rattle.refuted.specs.Parts.{onTape, ignoring}
 use Rattle.refuted.specs.Wrong.{tailOneAbove, tailKept, stampsGoOn, validityOneDeep, allCommittedValid, highestFirst, flagIgnored, cutKeepsPlace, cutKeepsMemory, writerTakesRunning, onlyWriterNames, onlyHolderNames, nameTwice, notLoaded, no26OnOpen, only26Stored, no24OfHolder, stampAtOpen, stampAtCommit, noEscape, twelfthDropped, storesImages, noWrap, retiresAtOnce, homeFromMemory, holderStays, refusalOverwrites, fromHome, fromMemory, exchanged}
-use Rattle.refuted.proofs.Checks.{refutes-claim, refutes-demands, refutes-readings, answers, unchanged, stored, left-in-memory}
+use Rattle.refuted.proofs.Checks.{refutes-claim, refutes-demands, refutes-readings, answerCheck, unchanged, bytesCheck, left-in-memory}
 use Rattle.refuted.proofs.Tapes.{tests, format, write, writeWord, close, stores, checkpoints, cut, recovers, lostWriter, oneKept, twelveNames, thirteenth}
 
 -- ---- tails and stamps after recovery
 pub tail-one-above : Demands (onTape tailOneAbove) → ⊥
 unfolding tests
-tail-one-above = refutes-demands (onTape tailOneAbove) stored oneKept refl
+tail-one-above = refutes-demands (onTape tailOneAbove) bytesCheck oneKept refl
 
 pub tail-kept : Demands (onTape tailKept) → ⊥
 unfolding tests
-tail-kept = refutes-demands (onTape tailKept) stored (format 1 1 4 ++ cut ++ recovers 1) refl
+tail-kept = refutes-demands (onTape tailKept) bytesCheck (format 1 1 4 ++ cut ++ recovers 1) refl
 
 pub stamps-go-on : Demands (onTape stampsGoOn) → ⊥
 unfolding tests
 stamps-go-on =
-    refutes-demands (onTape stampsGoOn) stored
+    refutes-demands (onTape stampsGoOn) bytesCheck
     (format 1 1 4 ++ write 0 0 0 1 ++ close 0 ++ cut ++ recovers 1 ++ write 0 0 0 2 ++ close 0 ++ stores 0 3)
     refl
 
@@ -44,7 +44,7 @@ all-committed-valid = refutes-claim (onTape allCommittedValid) tiedLost refl
 
 pub highest-first : Demands (onTape highestFirst) → ⊥
 unfolding tests
-highest-first = refutes-demands (onTape highestFirst) stored (format 1 2 4 ++ write 0 0 0 1 ++ write 0 1 0 2 ++ close 0 ++ stores 0 4 ++ cut ++ recovers 1) refl
+highest-first = refutes-demands (onTape highestFirst) bytesCheck (format 1 2 4 ++ write 0 0 0 1 ++ write 0 1 0 2 ++ close 0 ++ stores 0 4 ++ cut ++ recovers 1) refl
 
 pub flag-ignored : Claim (onTape flagIgnored) → ⊥
 unfolding tests
@@ -53,7 +53,7 @@ flag-ignored = refutes-claim (onTape flagIgnored) (format 1 1 4 ++ writeWord 0 0
 pub cut-keeps-place : Demands (onTape cutKeepsPlace) → ⊥
 unfolding tests
 cut-keeps-place =
-    refutes-demands (onTape cutKeepsPlace) stored
+    refutes-demands (onTape cutKeepsPlace) bytesCheck
     (format 1 1 4 ++ write 0 0 0 1 ++ close 0 ++ stores 0 3 ++ cut ++ recovers 1 ++ cut ++ recovers 1)
     refl
 
@@ -81,7 +81,7 @@ only-holder-names =
 pub name-twice : Demands (onTape nameTwice) → ⊥
 unfolding tests
 name-twice =
-    refutes-demands (onTape nameTwice) stored
+    refutes-demands (onTape nameTwice) bytesCheck
     (format 2 1 4 ++ write 0 0 0 1 ++ write 1 0 4 2 ++ write 1 0 8 3 ++ close 1 ++ stores 1 2)
     refl
 
@@ -111,7 +111,7 @@ only-26-stored =
 
 pub no-24-of-holder : Demands (onTape no24OfHolder) → ⊥
 unfolding tests
-no-24-of-holder = refutes-demands (onTape no24OfHolder) answers thirteenth refl
+no-24-of-holder = refutes-demands (onTape no24OfHolder) answerCheck thirteenth refl
 
 -- ---- CLOSE
 -- The three stores are of number 2, where the journal is read from number 1.
@@ -149,7 +149,7 @@ no-escape =
 pub twelfth-dropped : Demands (onTape twelfthDropped) → ⊥
 unfolding tests
 twelfth-dropped =
-    refutes-demands (onTape twelfthDropped) stored
+    refutes-demands (onTape twelfthDropped) bytesCheck
     (twelveNames ++ close 0 ++ stores 0 3)
     refl
 
@@ -194,7 +194,7 @@ home-from-memory =
 pub holder-stays : Demands (onTape holderStays) → ⊥
 unfolding tests
 holder-stays =
-    refutes-demands (onTape holderStays) stored
+    refutes-demands (onTape holderStays) bytesCheck
     (format 1 1 4 ++ write 0 0 0 1 ++ close 0 ++ stores 0 3 ++ checkpoints 0 2 ++ write 0 0 0 2 ++ close 0 ++ stores 0 3)
     refl
 
