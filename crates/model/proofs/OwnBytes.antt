@@ -3,14 +3,14 @@
 use Prim.Native.Nat.{ℕ, suc, _+_, _-_, _≤_, _<_, min}
 use native.Mathlib.Omega.{arith}
 use mathlib.Core.Path.{_≡_, refl, sym, ap, _∙_}
-use mathlib.Core.Bool.{Bool, true, false, not, _&&_}
+use mathlib.Core.Bool.{true, false, not, _&&_}
 use mathlib.Core.List.{[], _∷_, _++_}
 use lib.ListN.{length, take, drop, getD, length-take, length-drop, List·getD-append}
 use lib.Seq.{getD-take, getD-drop, take-nil, take-take, take-append-le, drop-drop}
 use lib.Dec.{ltb}
 use borrow.Author.Tests.{ltb-true, ltb-false, lt-ltb, le-ltb, not-true}
 use Rattle.model.specs.Bytes.{Bytes, part}
-use Rattle.model.specs.Command.{World, Outcome}
+use Rattle.model.specs.Command.{World}
 use Rattle.model.specs.Tape.{Step, operandLength, commandByte, operandsAt, isUnknown, endsEarly, commandAt, nextOffset}
 use Rattle.model.proofs.Lists.{cases, and-right}
 

@@ -1,23 +1,19 @@
 -- One command of the program: its line is the model's, and the tape goes on where the model's does.
-use Prim.Native.Nat.{ℕ, _+_, _-_, _≤_, _<_, min}
+use Prim.Native.Nat.{ℕ, _+_, _-_, _≤_, _<_}
 use native.Mathlib.Omega.{arith}
-use mathlib.Core.Path.{_≡_, refl, sym, ap, _∙_}
+use mathlib.Core.Path.{_≡_, refl, sym, _∙_}
 use mathlib.Core.Bool.{Bool, true, false, false≢true, not, _&&_, _||_}
 use mathlib.Core.List.{List}
 use lib.ListN.{length}
-use borrow.Author.Tests.{ltb-false, not-true}
 use Rattle.model.specs.Bytes.{Bytes}
-use Rattle.model.specs.Command.{World, Outcome}
-use Rattle.model.specs.Tape.{step, commandByte, isUnknown, endsEarly, commandAt, nextOffset, Line, lineOf}
-use Rattle.model.proofs.Lists.{cases}
-use Rattle.model.proofs.Tape.{pointAt, next-end, next-within}
+use Rattle.model.specs.Tape.{step, isUnknown, endsEarly, commandAt, Line}
+use Rattle.model.proofs.Tape.{next-end, next-within}
 use Rattle.cells.specs.Cells.{storesIn, worldIn}
-use Rattle.command.specs.Counting.{counted, Performs}
+use Rattle.command.specs.Counting.{Performs}
 use Rattle.command.proofs.CountLaws.{counted-sum}
 use Rattle.firmware.specs.Session.{RunsCommand}
 use Rattle.firmware.specs.declared.session.Reply.{Reply}
-use Rattle.tape.specs.Program.{advanced, lineIn, Turned}
-use Rattle.tape.specs.declared.turn.Turn.{Turn}
+use Rattle.tape.specs.Program.{advanced, Turned}
 use Rattle.model.proofs.OwnBytes.{ownBytes, same-byte, same-unknown, same-early, same-command, same-next, whole-within}
 
 -- ---- whole or not

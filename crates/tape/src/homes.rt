@@ -1,14 +1,13 @@
 // The home blocks that have a line: those that are not all zero.
-ghost use Prim.Native.Nat.{_≤_};
+ghost use Prim.Native.Nat.{_+_, _≤_};
 ghost use mathlib.Core.Path.{_≡_};
-ghost use mathlib.Core.Bool.{not, cond};
+ghost use mathlib.Core.Bool.{cond};
 ghost use mathlib.Core.List.{map};
 ghost use lib.ListN.{length, take};
-ghost use Prim.Native.Nat.{_+_};
 ghost use Rattle.model.specs.Lists.{below, select};
 ghost use Rattle.model.specs.Bytes.{Bytes, blockAt};
 ghost use Rattle.model.specs.Shape.{homeBlock};
-ghost use Rattle.model.specs.Tape.{homeCount, isZero, homeLines};
+ghost use Rattle.model.specs.Tape.{isZero, homeLines};
 ghost use Rattle.cells.specs.Cells.{worldIn};
 ghost use Rattle.tape.specs.Program.{homeLine, isPrinted};
 
