@@ -1,7 +1,7 @@
 -- What the program does with one command of a tape, and which home blocks have a line.
 use Prim.Native.Nat.{ℕ, _+_, _≤_, _<_, min}
 use mathlib.Core.Path.{_≡_}
-use mathlib.Core.List.{List, map}
+use mathlib.Core.List.{List}
 use mathlib.Core.Bool.{Bool, true, false, not}
 use lib.ListN.{length, take}
 use Rattle.model.specs.Bytes.{Bytes, blockAt}
