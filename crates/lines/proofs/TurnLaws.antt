@@ -17,7 +17,7 @@ use Rattle.command.specs.Counting.{Performs}
 use Rattle.command.proofs.CountLaws.{counted-sum}
 use Rattle.firmware.specs.Session.{RunsCommand}
 use Rattle.firmware.specs.declared.session.Reply.{Reply}
-use Rattle.tape.specs.Program.{isWhole, advanced, Turned}
+use Rattle.lines.specs.Lines.{isWhole, advanced, Turned}
 use Rattle.model.proofs.OwnBytes.{ownBytes, same-byte, same-read, same-command, same-next}
 
 -- ---- whole or not

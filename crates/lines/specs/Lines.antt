@@ -12,7 +12,7 @@ use Rattle.model.specs.Printing.{isZero, Line, lineOf}
 use Rattle.model.proofs.Tape.{pointAt}
 use Rattle.cells.specs.Cells.{storesIn, worldIn}
 use Rattle.command.specs.Counting.{Performs}
-use Rattle.tape.specs.declared.turn.Turn.{Turn}
+use Rattle.lines.specs.declared.turn.Turn.{Turn}
 
 -- a known command with all its operands: after any other the tape ends
 abbrev pub isWhole : Read → Bool

@@ -16,7 +16,7 @@ use Rattle.model.specs.declared.Card.{Card}
 use Rattle.cells.specs.Cells.{world}
 use Rattle.model.specs.Printing.{isZero, homeCount, homeLines}
 use Rattle.model.proofs.Lists.{cases, all-append, all-mem, getD-mem}
-use Rattle.tape.specs.Program.{isPrinted, homeLine}
+use Rattle.lines.specs.Lines.{isPrinted, homeLine}
 
 -- ---- all zero
 module _ (b : Bytes) where
