@@ -12,15 +12,16 @@ use crate::fields::phase_of;
 use crate::fields::shape_of;
 use model::Card;
 use model::Phase;
+use model::Shape;
 
 // Whether a lent slice has not its length; the card plays no part.
 pub fn wrong_length(disk: &[u8], memory: &[u8]) -> bool
     ensures { λ r. ⌜ ((x : Card) → r ≡ wrongLength (world x (now (disk .entry)) (now (memory .entry)))) ⌝ }
 {
-    if disk.len() != 32896 {
+    if disk.len() != Shape::DISK_SIZE {
         return true;
     }
-    memory.len() != 16384
+    memory.len() != Shape::MEMORY_SIZE
 }
 
 // What every command meets first: a wrong length, then its number for the card's phase, 0 where it goes on.

@@ -3,6 +3,7 @@ ghost use mathlib.Core.Path.{_≡_};
 ghost use Prim.Native.Nat.{_+_, _<_, _≤_};
 ghost use lib.ListN.{length};
 ghost use Rattle.model.specs.Card.{noTransaction, sameName, taken, listed, lists};
+ghost use Rattle.model.specs.Limits.{maxNames, maxTaken};
 ghost use Rattle.cells.specs.Cells.{nameIn, transactionIn};
 ghost use Rattle.cells.specs.Changes.{Frame};
 use crate::fields::COUNT;
@@ -11,6 +12,7 @@ use crate::fields::NAMES;
 use crate::fields::TRANSACTION_SIZE;
 use crate::fields::byte_in;
 use model::Name;
+use model::Shape;
 
 // Whether there is a transaction at a place.
 pub fn is_live(w: &[u64], at: usize) -> bool
@@ -23,25 +25,25 @@ pub fn is_live(w: &[u64], at: usize) -> bool
 // How many blocks it took.
 pub fn block_count(w: &[u64], at: usize) -> usize
     requires { ⌜ (length (now w) ≡ 512) × (at + 24 ≤ 512) ⌝ }
-    ensures { λ r. ⌜ (r ≡ length (taken (transactionIn (now (w .entry)) at))) × (r ≤ 8) ⌝ }
+    ensures { λ r. ⌜ (r ≡ length (taken (transactionIn (now (w .entry)) at))) × (r ≤ maxTaken) ⌝ }
 {
-    let n = byte_in(w, at + COUNT);
-    if 8 < n {
-        return 8;
+    let n = byte_in(w, at + COUNT) as usize;
+    if Shape::MAX_TAKEN < n {
+        return Shape::MAX_TAKEN;
     }
-    n as usize
+    n
 }
 
 // How many names its list has.
 pub fn name_count(w: &[u64], at: usize) -> usize
     requires { ⌜ (length (now w) ≡ 512) × (at + 24 ≤ 512) ⌝ }
-    ensures { λ r. ⌜ (r ≡ length (listed (transactionIn (now (w .entry)) at))) × (r ≤ 12) ⌝ }
+    ensures { λ r. ⌜ (r ≡ length (listed (transactionIn (now (w .entry)) at))) × (r ≤ maxNames) ⌝ }
 {
-    let n = byte_in(w, at + NAMED);
-    if 12 < n {
-        return 12;
+    let n = byte_in(w, at + NAMED) as usize;
+    if Shape::MAX_NAMES < n {
+        return Shape::MAX_NAMES;
     }
-    n as usize
+    n
 }
 
 // The name in a cell.

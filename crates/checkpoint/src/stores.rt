@@ -7,7 +7,7 @@ ghost use Rattle.model.specs.Shape.{homeBlock};
 ghost use Rattle.model.specs.Card.{shapeOf, coreOf, withCore};
 ghost use Rattle.model.specs.Journal.{blocksOf, imageOf};
 ghost use Rattle.model.specs.Checkpoint.{homedCore, storedHome, storedMaster};
-ghost use Rattle.model.specs.Limits.{maxNumber};
+ghost use Rattle.model.specs.Limits.{diskSize, maxNumber};
 ghost use Rattle.model.specs.declared.Card.{Card};
 ghost use Rattle.cells.specs.Cells.{cardIn, corePlace};
 ghost use Rattle.cells.specs.Changes.{Changed};
@@ -68,7 +68,7 @@ fn stored_home(w: &mut [u64], c: u8, homed: u8, e: Committed, disk: &mut [u8])
 
 // The last store of a checkpoint: the master with the tail moved past the transaction.
 fn stored_master(w: &mut [u64], c: u8, e: Committed, disk: &mut [u8])
-    requires { ⌜ (length (now w) ≡ 512) × (length (now disk) ≡ 32896) × (c < 8) × (e .number ≤ maxNumber) ⌝ }
+    requires { ⌜ (length (now w) ≡ 512) × (length (now disk) ≡ diskSize) × (c < 8) × (e .number ≤ maxNumber) ⌝ }
     ensures { λ _. ⌜ Stores (storedMaster c e) (now (w .entry)) (now (w .exit)) (now (disk .entry)) (now (disk .exit)) ⌝ }
 {
     let s = shape_of(w);

@@ -16,6 +16,7 @@ use cells::closed_place;
 use cells::entry_refusal;
 use cells::is_live;
 use cells::shape_of;
+use model::Shape;
 
 // Only a core with a closed transaction that is not committed yet has something to store.
 fn store_refusal(w: &[u64], c: u8, disk: &[u8], memory: &[u8]) -> u8
@@ -50,8 +51,8 @@ pub fn store(w: &mut [u64], core: u8, disk: &mut [u8], memory: &[u8]) -> Answer
         };
     }
     let shape = shape_of(w);
-    let start = 128 * shape.journal_block(core, next_position(w, core));
-    let end = start + 128;
+    let start = Shape::BLOCK_SIZE * shape.journal_block(core, next_position(w, core));
+    let end = start + Shape::BLOCK_SIZE;
     write_next(&mut disk[start..end], w, core, memory);
     count_store(w, core);
     Answer {

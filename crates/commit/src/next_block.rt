@@ -6,6 +6,7 @@ ghost use Rattle.model.specs.Bytes.{blockAt};
 ghost use Rattle.model.specs.Card.{taken, listed, coreOf};
 ghost use Rattle.model.specs.Layout.{descriptorBlock, commitBlock, escaped};
 ghost use Rattle.model.specs.Commit.{copyBlock, copyTags, closedNumber, nextStored, nextPosition};
+ghost use Rattle.model.specs.Limits.{blockSize, memorySize, maxTaken};
 ghost use Rattle.cells.specs.Cells.{transactionIn, cardIn};
 use cells::BLOCKS;
 use cells::COUNT;
@@ -24,6 +25,7 @@ use cells::tail_at;
 use close::copy_at;
 use close::flags_of;
 use model::Name;
+use model::Shape;
 
 // The number of core c's closed transaction: CLOSE moved the count on. Only a card that no run made has the count at 0.
 fn closed_number(w: &[u64], c: u8) -> u32
@@ -38,13 +40,13 @@ fn closed_number(w: &[u64], c: u8) -> u32
 }
 
 // The blocks of the transaction at a place, as a value.
-fn blocks_of(w: &[u64], at: usize) -> [u8; 8]
+fn blocks_of(w: &[u64], at: usize) -> [u8; Shape::MAX_TAKEN]
     requires { ⌜ (length (now w) ≡ 512) × (at + 24 ≤ 512) ⌝ }
     ensures { λ r. ⌜ r ≡ (transactionIn (now (w .entry)) at) .blocks ⌝ }
 {
-    let mut blocks = [0u8; 8];
+    let mut blocks = [0u8; Shape::MAX_TAKEN];
     let mut i: usize = 0;
-    while i < 8 {
+    while i < Shape::MAX_TAKEN {
         blocks[i] = byte_in(w, at + BLOCKS + i);
         i += 1;
     }
@@ -52,13 +54,13 @@ fn blocks_of(w: &[u64], at: usize) -> [u8; 8]
 }
 
 // Its names, as a value.
-fn names_of(w: &[u64], at: usize) -> [Name; 12]
+fn names_of(w: &[u64], at: usize) -> [Name; Shape::MAX_NAMES]
     requires { ⌜ (length (now w) ≡ 512) × (at + 24 ≤ 512) ⌝ }
     ensures { λ r. ⌜ r ≡ (transactionIn (now (w .entry)) at) .names ⌝ }
 {
-    let mut names = [Name { core: 0, number: 0 }; 12];
+    let mut names = [Name { core: 0, number: 0 }; Shape::MAX_NAMES];
     let mut i: usize = 0;
-    while i < 12 {
+    while i < Shape::MAX_NAMES {
         names[i] = name_of(w[at + NAMES + i]);
         i += 1;
     }
@@ -68,7 +70,7 @@ fn names_of(w: &[u64], at: usize) -> [Name; 12]
 // The descriptor of the closed transaction of core c, which stands at the place given.
 fn write_first(block: &mut [u8], w: &[u64], at: usize, number: u32, c: u8, memory: &[u8])
     requires { ⌜
-        (length (now block) ≡ 128) × (length (now w) ≡ 512) × (at + 24 ≤ 512) × (length (now memory) ≡ 16384) × (c < 8)
+        (length (now block) ≡ blockSize) × (length (now w) ≡ 512) × (at + 24 ≤ 512) × (length (now memory) ≡ memorySize) × (c < 8)
         ⌝ }
     ensures { λ _. ⌜
         now (block .exit) ≡ descriptorBlock number (copyTags c (taken (transactionIn (now (w .entry)) at)) (now (memory .entry)))
@@ -82,7 +84,7 @@ fn write_first(block: &mut [u8], w: &[u64], at: usize, number: u32, c: u8, memor
 
 // A data block: copy i of the core, whatever the image is by now.
 fn write_copy(block: &mut [u8], c: u8, i: usize, memory: &[u8])
-    requires { ⌜ (length (now block) ≡ 128) × (length (now memory) ≡ 16384) × (c < 8) × (i < 8) ⌝ }
+    requires { ⌜ (length (now block) ≡ blockSize) × (length (now memory) ≡ memorySize) × (c < 8) × (i < maxTaken) ⌝ }
     ensures { λ _. ⌜ now (block .exit) ≡ escaped (blockAt (now (memory .entry)) (copyBlock c i)) ⌝ }
 {
     let image = copy_at(memory, c, i);
@@ -91,7 +93,7 @@ fn write_copy(block: &mut [u8], c: u8, i: usize, memory: &[u8])
 
 // The commit of the transaction at a place.
 fn write_last(block: &mut [u8], w: &[u64], at: usize, number: u32)
-    requires { ⌜ (length (now block) ≡ 128) × (length (now w) ≡ 512) × (at + 24 ≤ 512) ⌝ }
+    requires { ⌜ (length (now block) ≡ blockSize) × (length (now w) ≡ 512) × (at + 24 ≤ 512) ⌝ }
     ensures { λ _. ⌜
         (let t = transactionIn (now (w .entry)) at in
         now (block .exit) ≡ commitBlock number (t .stamp) (listed t))
@@ -105,7 +107,7 @@ fn write_last(block: &mut [u8], w: &[u64], at: usize, number: u32)
 
 // What is stored next: the descriptor, then the copies in the order taken, then the commit.
 pub fn write_next(block: &mut [u8], w: &[u64], c: u8, memory: &[u8])
-    requires { ⌜ (length (now block) ≡ 128) × (length (now w) ≡ 512) × (length (now memory) ≡ 16384) × (c < 8) ⌝ }
+    requires { ⌜ (length (now block) ≡ blockSize) × (length (now w) ≡ 512) × (length (now memory) ≡ memorySize) × (c < 8) ⌝ }
     ensures { λ _. ⌜
         now (block .exit) ≡ nextStored c (coreOf (cardIn (now (w .entry))) c) (now (memory .entry))
         ⌝ }

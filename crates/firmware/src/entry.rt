@@ -8,6 +8,7 @@ ghost use Rattle.firmware.specs.Session.{readInto, RunsCommand, RunsTape
 use crate::session::Part;
 use crate::session::Reply;
 use crate::session::Stop;
+use model::Shape;
 
 // A card before its FORMAT.
 #[no_mangle]
@@ -81,7 +82,7 @@ pub extern "C" fn rev_d_read_block<'a>(
     b: u16,
     disk: &'a [u8],
     memory: &'a [u8],
-    out: &mut [u8; 128],
+    out: &mut [u8; Shape::BLOCK_SIZE],
 ) -> u8
     ensures { λ r. ⌜
         (r ≡ readNumber b (worldIn (now (w .entry)) (now (disk .entry)) (now (memory .entry))))

@@ -5,6 +5,7 @@ ghost use Rattle.model.specs.Card.{blankCard, downCard};
 ghost use Rattle.model.specs.Reading.{readNumber, readBlock};
 ghost use Rattle.cells.specs.Cells.{cellsOf, storesIn, worldIn};
 ghost use Rattle.firmware.specs.Session.{readInto, RunsCommand, RunsTape, partIn};
+use model::Shape;
 
 // What came of one command: the offset of the next one, the number answered (0 if done) and the command's byte.
 #[repr(C)]
@@ -108,7 +109,7 @@ pub fn copy_block<'a>(
     b: u16,
     disk: &'a [u8],
     memory: &'a [u8],
-    out: &mut [u8; 128],
+    out: &mut [u8; Shape::BLOCK_SIZE],
 ) -> u8
     ensures { λ r. ⌜
         (r ≡ readNumber b (worldIn (now (w .entry)) (now (disk .entry)) (now (memory .entry))))

@@ -7,6 +7,7 @@ ghost use Rattle.model.specs.Shape.{clamped};
 ghost use Rattle.model.specs.Card.{isBlank};
 ghost use Rattle.model.specs.Command.{refusal, wrongLength};
 ghost use Rattle.model.specs.Format.{formatted, format};
+ghost use Rattle.model.specs.Limits.{diskSize, memorySize};
 ghost use Rattle.cells.specs.Cells.{cardIn, worldIn};
 ghost use Rattle.cells.specs.Changes.{Frame};
 ghost use Rattle.cells.specs.Answer.{newAnswer, outcomeIn, Meets};
@@ -32,7 +33,7 @@ fn blank_refusal(w: &[u64], disk: &[u8], memory: &[u8]) -> u8
 
 // The card comes up over zeroed slices and a master with empty journals. The shape is within its limits.
 fn set_up(w: &mut [u64], s: Shape, disk: &mut [u8], memory: &mut [u8])
-    requires { ⌜ (length (now w) ≡ 512) × (clamped s ≡ s) × (length (now disk) ≡ 32896) × (length (now memory) ≡ 16384) ⌝ }
+    requires { ⌜ (length (now w) ≡ 512) × (clamped s ≡ s) × (length (now disk) ≡ diskSize) × (length (now memory) ≡ memorySize) ⌝ }
     ensures { λ _. ⌜
         (outcomeIn (newAnswer 0 0) (now (w .exit)) (now (disk .exit)) (now (memory .exit)) ≡ formatted s)
         × Frame (now (w .entry)) (now (w .exit)) 0 512

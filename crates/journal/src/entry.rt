@@ -6,6 +6,7 @@ ghost use lib.ListN.{length};
 ghost use Rattle.model.proofs.Limits.{InRange};
 ghost use Rattle.model.specs.Journal.{blocksOf, took};
 ghost use Rattle.model.specs.Recovery.{placeOf};
+ghost use Rattle.model.specs.Limits.{blockSize, diskSize, maxTaken};
 ghost use Rattle.journal.specs.Slots.{slotOf, isFilled, entry, foundAt, SizedCommitted, filledFrom, descriptorBlocks};
 use crate::record::journal_part;
 use model::Committed;
@@ -13,11 +14,12 @@ use model::Found;
 use model::Shape;
 
 // The lower of the two: a slot that no reading filled may lead to any number.
-pub fn at_most(x: u32, most: u8) -> u8
+pub fn at_most(x: u32, most: usize) -> usize
     ensures { λ r. ⌜ r ≡ min x most ⌝ }
 {
-    if x < most as u32 {
-        return x as u8;
+    let n = x as usize;
+    if n < most {
+        return n;
     }
     most
 }
@@ -81,28 +83,31 @@ pub fn count_slots(s: Shape, set: &[u16; 96], from: usize, n: usize) -> usize
 
 // The transaction of core c with v the position after its descriptor.
 fn read_entry(s: Shape, disk: &[u8], c: u8, number: u32, v: usize) -> Committed
-    requires { ⌜ InRange s × (length (now disk) ≡ 32896) × (c < s .cores) × (1 ≤ v) × (v ≤ 256) ⌝ }
+    requires { ⌜ InRange s × (length (now disk) ≡ diskSize) × (c < s .cores) × (1 ≤ v) × (v ≤ 256) ⌝ }
     ensures { λ r. ⌜ r ≡ entry s (now (disk .entry)) c number v ⌝ }
 {
     let at = v - 1;
-    let count = at_most(layout::block_count(journal_part(s, disk, c, at)), 8);
-    let commit = journal_part(s, disk, c, at + (count as usize + 1));
+    let count = at_most(
+        layout::block_count(journal_part(s, disk, c, at)),
+        Shape::MAX_TAKEN,
+    );
+    let commit = journal_part(s, disk, c, at + (count + 1));
     let stamp = layout::stamp_in(commit);
-    let named = at_most(layout::name_count(commit), 12);
+    let named = at_most(layout::name_count(commit), Shape::MAX_NAMES);
     Committed {
         core: c,
         number,
         position: at as u8,
-        count,
+        count: count as u8,
         stamp,
-        named,
+        named: named as u8,
     }
 }
 
 // The transaction in slot i. Its number is counted from its core's tail: who asks here does not look at it. No public
 // entry.
 pub fn entry_at(s: Shape, disk: &[u8], set: &[u16; 96], i: usize) -> Found
-    requires { ⌜ InRange s × (length (now disk) ≡ 32896) × (i < 96) ⌝ }
+    requires { ⌜ InRange s × (length (now disk) ≡ diskSize) × (i < 96) ⌝ }
     ensures { λ r. ⌜ r ≡ foundAt s (now (disk .entry)) [] (now (set .entry)) i ⌝ }
 {
     let v = slot_of(s, set, i);
@@ -114,7 +119,7 @@ pub fn entry_at(s: Shape, disk: &[u8], set: &[u16; 96], i: usize) -> Found
 
 // The place of block b among the first n of a descriptor, or n.
 fn place_in(block: &[u8], n: usize, b: u32) -> usize
-    requires { ⌜ (length (now block) ≡ 128) × (n ≤ 8) ⌝ }
+    requires { ⌜ (length (now block) ≡ blockSize) × (n ≤ maxTaken) ⌝ }
     ensures { λ r. ⌜ (r ≡ placeOf b (descriptorBlocks (now (block .entry)) n)) × (r ≤ n) ⌝ }
 {
     let mut i: usize = 0;
@@ -129,7 +134,7 @@ fn place_in(block: &[u8], n: usize, b: u32) -> usize
 
 // The place of block b among those that a transaction took, or their count.
 pub fn place_of(s: Shape, disk: &[u8], e: Committed, b: u32) -> usize
-    requires { ⌜ InRange s × (length (now disk) ≡ 32896) × SizedCommitted s e ⌝ }
+    requires { ⌜ InRange s × (length (now disk) ≡ diskSize) × SizedCommitted s e ⌝ }
     ensures { λ r. ⌜ (r ≡ placeOf b (blocksOf s (now (disk .entry)) e)) × (r ≤ e .count) ⌝ }
 {
     let block = journal_part(s, disk, e.core, e.position as usize);
@@ -138,7 +143,7 @@ pub fn place_of(s: Shape, disk: &[u8], e: Committed, b: u32) -> usize
 
 // Whether a transaction took block b. No public entry.
 pub fn took_block(s: Shape, disk: &[u8], e: Committed, b: u32) -> bool
-    requires { ⌜ InRange s × (length (now disk) ≡ 32896) × SizedCommitted s e ⌝ }
+    requires { ⌜ InRange s × (length (now disk) ≡ diskSize) × SizedCommitted s e ⌝ }
     ensures { λ r. ⌜ r ≡ took s (now (disk .entry)) b e ⌝ }
 {
     place_of(s, disk, e, b) < e.count as usize

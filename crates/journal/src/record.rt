@@ -4,6 +4,7 @@ ghost use Prim.Native.Nat.{_<_};
 ghost use lib.ListN.{length};
 ghost use Rattle.model.proofs.Limits.{InRange};
 ghost use Rattle.model.specs.Journal.{journalAt, recordAt};
+ghost use Rattle.model.specs.Limits.{blockSize, diskSize};
 ghost use Rattle.journal.specs.Record.{descriptorOf, commitOf};
 use model::Committed;
 use model::Found;
@@ -24,17 +25,17 @@ pub enum CommitRead {
 // The block at a position of core c's journal, lent. No public entry: callers give a shape within its limits and one of
 // its cores.
 pub fn journal_part<'a>(s: Shape, disk: &'a [u8], c: u8, p: usize) -> &'a [u8]
-    requires { ⌜ InRange s × (length (now disk) ≡ 32896) × (c < s .cores) ⌝ }
-    ensures { λ r. ⌜ (now r ≡ journalAt s (now (disk .entry)) c p) × (length (now r) ≡ 128) ⌝ }
+    requires { ⌜ InRange s × (length (now disk) ≡ diskSize) × (c < s .cores) ⌝ }
+    ensures { λ r. ⌜ (now r ≡ journalAt s (now (disk .entry)) c p) × (length (now r) ≡ blockSize) ⌝ }
 {
-    let start = 128 * s.journal_block(c, p);
-    let end = start + 128;
+    let start = Shape::BLOCK_SIZE * s.journal_block(c, p);
+    let end = start + Shape::BLOCK_SIZE;
     &disk[start..end]
 }
 
 // The block as a descriptor with this number.
 fn read_descriptor(s: Shape, number: u32, block: &[u8]) -> DescriptorRead
-    requires { ⌜ length (now block) ≡ 128 ⌝ }
+    requires { ⌜ length (now block) ≡ blockSize ⌝ }
     ensures { λ r. ⌜ r ≡ descriptorOf s number (now (block .entry)) ⌝ }
 {
     if layout::is_descriptor(s, number, block) {
@@ -45,7 +46,7 @@ fn read_descriptor(s: Shape, number: u32, block: &[u8]) -> DescriptorRead
 
 // The block as a commit with this number.
 fn read_commit(s: Shape, number: u32, block: &[u8]) -> CommitRead
-    requires { ⌜ length (now block) ≡ 128 ⌝ }
+    requires { ⌜ length (now block) ≡ blockSize ⌝ }
     ensures { λ r. ⌜ r ≡ commitOf s number (now (block .entry)) ⌝ }
 {
     if layout::is_commit(s, number, block) {
@@ -57,7 +58,7 @@ fn read_commit(s: Shape, number: u32, block: &[u8]) -> CommitRead
 
 // Core c's record with this number at a position, of no more blocks than are left. No public entry.
 pub fn read_record(s: Shape, disk: &[u8], c: u8, number: u32, position: u8, left: u8) -> Found
-    requires { ⌜ InRange s × (length (now disk) ≡ 32896) × (c < s .cores) ⌝ }
+    requires { ⌜ InRange s × (length (now disk) ≡ diskSize) × (c < s .cores) ⌝ }
     ensures { λ r. ⌜ r ≡ recordAt s (now (disk .entry)) c number position left ⌝ }
 {
     let at = position as usize;

@@ -5,7 +5,7 @@ ghost use lib.ListN.{length};
 ghost use Rattle.model.proofs.Limits.{InRange};
 ghost use Rattle.model.specs.declared.Found.the-variants.{Whole};
 ghost use Rattle.journal.specs.Walk.{walkRecord, stepOf, resumed, Reads};
-ghost use Rattle.model.specs.Limits.{maxNumber};
+ghost use Rattle.model.specs.Limits.{diskSize, maxNumber};
 use crate::record::read_record;
 use model::Committed;
 use model::Found;
@@ -47,7 +47,7 @@ fn advance(s: Shape, w: Walk, e: Committed) -> WalkStep
 
 // One slot of core c. A miss leaves no blocks, so that nothing more of this journal is read.
 fn read_step(s: Shape, disk: &[u8], c: u8, w: Walk) -> WalkStep
-    requires { ⌜ InRange s × (length (now disk) ≡ 32896) ⌝ }
+    requires { ⌜ InRange s × (length (now disk) ≡ diskSize) ⌝ }
     ensures { λ r. ⌜ r ≡ stepOf s w (walkRecord s (now (disk .entry)) c w) ⌝ }
 {
     let end = WalkStep {
@@ -92,7 +92,7 @@ fn resume(s: Shape, t: Tail, most: u8, j: usize, w: Walk) -> Walk
 // All journals, each from its tail and up to so many records. A slot has two bytes: the tail of a card that no run made
 // may stand at position 255. No public entry: callers give a shape within its limits and a whole disk.
 pub fn read_journals(s: Shape, disk: &[u8], tails: [Tail; 8], most: [u8; 8]) -> [u16; 96]
-    requires { ⌜ InRange s × (length (now disk) ≡ 32896) ⌝ }
+    requires { ⌜ InRange s × (length (now disk) ≡ diskSize) ⌝ }
     ensures { λ r. ⌜ Reads s (now (disk .entry)) tails most r ⌝ }
 {
     let mut slots = [0u16; 96];

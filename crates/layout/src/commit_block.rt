@@ -4,6 +4,7 @@ ghost use Prim.Native.Nat.{ℕ, _≤_, _<_};
 ghost use lib.ListN.{length, getD, take};
 ghost use Rattle.model.specs.Card.{newName};
 ghost use Rattle.model.specs.Layout.{commitWords, commitBlock, pairAt, isListable, isCommit, stampIn, nameCount};
+ghost use Rattle.model.specs.Limits.{blockSize, maxNames};
 ghost use Rattle.layout.specs.Words.{pairWord};
 ghost use Rattle.layout.specs.Loops.{every};
 use crate::words::MARK;
@@ -22,10 +23,10 @@ fn name_word(name: Name, k: usize) -> u32
 }
 
 // Word i of a commit.
-fn commit_word(number: u32, stamp: u64, named: u8, names: [Name; 12], i: usize) -> u32
+fn commit_word(number: u32, stamp: u64, named: u8, names: [Name; Shape::MAX_NAMES], i: usize) -> u32
     ensures { λ r. ⌜ r ≡ getD (commitWords number stamp (take named names)) i 0 ⌝ }
 {
-    let n = at_most(named, 12);
+    let n = at_most(named, Shape::MAX_NAMES as u8);
     if i < 6 {
         let high = (stamp / 4294967296) as u32;
         let low = (stamp % 4294967296) as u32;
@@ -41,8 +42,14 @@ fn commit_word(number: u32, stamp: u64, named: u8, names: [Name; 12], i: usize) 
 }
 
 // The commit of a transaction that lists so many of these names.
-pub fn write_commit(block: &mut [u8], number: u32, stamp: u64, named: u8, names: [Name; 12])
-    requires { ⌜ length (now block) ≡ 128 ⌝ }
+pub fn write_commit(
+    block: &mut [u8],
+    number: u32,
+    stamp: u64,
+    named: u8,
+    names: [Name; Shape::MAX_NAMES],
+)
+    requires { ⌜ length (now block) ≡ blockSize ⌝ }
     ensures { λ _. ⌜ now (block .exit) ≡ commitBlock number stamp (take named names) ⌝ }
 {
     let mut i: usize = 0;
@@ -55,7 +62,7 @@ pub fn write_commit(block: &mut [u8], number: u32, stamp: u64, named: u8, names:
 
 // The stamp of a commit.
 pub fn stamp_in(block: &[u8]) -> u64
-    requires { ⌜ length (now block) ≡ 128 ⌝ }
+    requires { ⌜ length (now block) ≡ blockSize ⌝ }
     ensures { λ r. ⌜ r ≡ stampIn (now (block .entry)) ⌝ }
 {
     let high = get_word(block, 12) as u64;
@@ -65,7 +72,7 @@ pub fn stamp_in(block: &[u8]) -> u64
 
 // How many names the commit says that it lists.
 pub fn name_count(block: &[u8]) -> u32
-    requires { ⌜ length (now block) ≡ 128 ⌝ }
+    requires { ⌜ length (now block) ≡ blockSize ⌝ }
     ensures { λ r. ⌜ r ≡ nameCount (now (block .entry)) ⌝ }
 {
     get_word(block, 20)
@@ -73,7 +80,7 @@ pub fn name_count(block: &[u8]) -> u32
 
 // The core of the i-th name.
 pub fn name_core(block: &[u8], i: usize) -> u32
-    requires { ⌜ (length (now block) ≡ 128) × (i < 12) ⌝ }
+    requires { ⌜ (length (now block) ≡ blockSize) × (i < maxNames) ⌝ }
     ensures { λ r. ⌜ r ≡ (pairAt newName (now (block .entry)) 24 i) .core ⌝ }
 {
     get_word(block, 24 + 8 * i)
@@ -81,7 +88,7 @@ pub fn name_core(block: &[u8], i: usize) -> u32
 
 // The number of the i-th name.
 pub fn name_number(block: &[u8], i: usize) -> u32
-    requires { ⌜ (length (now block) ≡ 128) × (i < 12) ⌝ }
+    requires { ⌜ (length (now block) ≡ blockSize) × (i < maxNames) ⌝ }
     ensures { λ r. ⌜ r ≡ (pairAt newName (now (block .entry)) 24 i) .number ⌝ }
 {
     get_word(block, 24 + 8 * i + 4)
@@ -89,7 +96,7 @@ pub fn name_number(block: &[u8], i: usize) -> u32
 
 // The i-th name has a core that the disk has, and a number of 1 or more.
 fn is_listable(s: Shape, block: &[u8], i: usize) -> bool
-    requires { ⌜ (length (now block) ≡ 128) × (i < 12) ⌝ }
+    requires { ⌜ (length (now block) ≡ blockSize) × (i < maxNames) ⌝ }
     ensures { λ r. ⌜ r ≡ isListable s (pairAt newName (now (block .entry)) 24 i) ⌝ }
 {
     if s.cores as u32 <= name_core(block, i) {
@@ -99,7 +106,7 @@ fn is_listable(s: Shape, block: &[u8], i: usize) -> bool
 }
 
 fn are_listable(s: Shape, block: &[u8], n: usize) -> bool
-    requires { ⌜ (length (now block) ≡ 128) × (n ≤ 12) ⌝ }
+    requires { ⌜ (length (now block) ≡ blockSize) × (n ≤ maxNames) ⌝ }
     ensures { λ r. ⌜ r ≡ every n (λ (i : ℕ). isListable s (pairAt newName (now (block .entry)) 24 i)) ⌝ }
 {
     let mut i: usize = 0;
@@ -114,7 +121,7 @@ fn are_listable(s: Shape, block: &[u8], n: usize) -> bool
 
 // The block is a commit with this number.
 pub fn is_commit(s: Shape, number: u32, block: &[u8]) -> bool
-    requires { ⌜ length (now block) ≡ 128 ⌝ }
+    requires { ⌜ length (now block) ≡ blockSize ⌝ }
     ensures { λ r. ⌜ r ≡ isCommit s number (now (block .entry)) ⌝ }
 {
     if !has_head(block, 2, number) {
@@ -123,9 +130,9 @@ pub fn is_commit(s: Shape, number: u32, block: &[u8]) -> bool
     if stamp_in(block) < 1 {
         return false;
     }
-    let n = name_count(block);
-    if 12 < n {
+    let n = name_count(block) as usize;
+    if Shape::MAX_NAMES < n {
         return false;
     }
-    are_listable(s, block, n as usize)
+    are_listable(s, block, n)
 }

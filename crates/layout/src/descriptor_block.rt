@@ -5,11 +5,11 @@ ghost use Prim.Native.Nat.{ℕ, _≤_, _<_, min};
 ghost use lib.ListN.{length, getD};
 ghost use Rattle.model.specs.Lists.{below};
 ghost use Rattle.model.specs.Layout.{newTag, descriptorBlock, pairAt, isTag, isDescriptor, blockCount};
+ghost use Rattle.model.specs.Limits.{blockSize, maxTaken};
 ghost use Rattle.layout.specs.Words.{descriptorFrom};
 ghost use Rattle.layout.specs.Loops.{every};
 ghost use Rattle.layout.specs.Distinct.{isNew};
 use crate::words::MARK;
-use crate::words::MAX_NUMBER;
 use crate::words::at_most;
 use crate::words::get_word;
 use crate::words::has_head;
@@ -19,10 +19,16 @@ use crate::words::wide;
 use model::Shape;
 
 // Word i of a descriptor.
-fn descriptor_word(number: u32, count: u8, blocks: [u8; 8], flags: [u8; 8], i: usize) -> u32
-    ensures { λ r. ⌜ r ≡ getD (descriptorFrom number (min count 8) blocks flags) i 0 ⌝ }
+fn descriptor_word(
+    number: u32,
+    count: u8,
+    blocks: [u8; Shape::MAX_TAKEN],
+    flags: [u8; Shape::MAX_TAKEN],
+    i: usize,
+) -> u32
+    ensures { λ r. ⌜ r ≡ getD (descriptorFrom number (min count maxTaken) blocks flags) i 0 ⌝ }
 {
-    let n = at_most(count, 8);
+    let n = at_most(count, Shape::MAX_TAKEN as u8);
     if i < 4 {
         let head = [MARK, 1, number, n as u32];
         return head[i];
@@ -35,11 +41,17 @@ fn descriptor_word(number: u32, count: u8, blocks: [u8; 8], flags: [u8; 8], i: u
 }
 
 // The descriptor of a transaction that took so many of these blocks.
-pub fn write_descriptor(block: &mut [u8], number: u32, count: u8, blocks: [u8; 8], flags: [u8; 8])
-    requires { ⌜ length (now block) ≡ 128 ⌝ }
+pub fn write_descriptor(
+    block: &mut [u8],
+    number: u32,
+    count: u8,
+    blocks: [u8; Shape::MAX_TAKEN],
+    flags: [u8; Shape::MAX_TAKEN],
+)
+    requires { ⌜ length (now block) ≡ blockSize ⌝ }
     ensures { λ _. ⌜
         now (block .exit)
-        ≡ descriptorBlock number (map (λ (i : ℕ). newTag (getD blocks i 0) (getD flags i 0)) (below (min count 8)))
+        ≡ descriptorBlock number (map (λ (i : ℕ). newTag (getD blocks i 0) (getD flags i 0)) (below (min count maxTaken)))
         ⌝ }
 {
     let mut i: usize = 0;
@@ -52,7 +64,7 @@ pub fn write_descriptor(block: &mut [u8], number: u32, count: u8, blocks: [u8; 8
 
 // How many blocks the descriptor says that it has.
 pub fn block_count(block: &[u8]) -> u32
-    requires { ⌜ length (now block) ≡ 128 ⌝ }
+    requires { ⌜ length (now block) ≡ blockSize ⌝ }
     ensures { λ r. ⌜ r ≡ blockCount (now (block .entry)) ⌝ }
 {
     get_word(block, 12)
@@ -60,7 +72,7 @@ pub fn block_count(block: &[u8]) -> u32
 
 // The i-th block of a descriptor.
 pub fn tag_block(block: &[u8], i: usize) -> u32
-    requires { ⌜ (length (now block) ≡ 128) × (i < 8) ⌝ }
+    requires { ⌜ (length (now block) ≡ blockSize) × (i < maxTaken) ⌝ }
     ensures { λ r. ⌜ r ≡ (pairAt newTag (now (block .entry)) 16 i) .block ⌝ }
 {
     get_word(block, 16 + 8 * i)
@@ -68,7 +80,7 @@ pub fn tag_block(block: &[u8], i: usize) -> u32
 
 // The flag of the i-th block of a descriptor.
 pub fn tag_flag(block: &[u8], i: usize) -> u32
-    requires { ⌜ (length (now block) ≡ 128) × (i < 8) ⌝ }
+    requires { ⌜ (length (now block) ≡ blockSize) × (i < maxTaken) ⌝ }
     ensures { λ r. ⌜ r ≡ (pairAt newTag (now (block .entry)) 16 i) .flag ⌝ }
 {
     get_word(block, 16 + 8 * i + 4)
@@ -76,7 +88,7 @@ pub fn tag_flag(block: &[u8], i: usize) -> u32
 
 // The i-th block is one that the disk has, and its flag is 0 or 1.
 fn is_tag(s: Shape, block: &[u8], i: usize) -> bool
-    requires { ⌜ (length (now block) ≡ 128) × (i < 8) ⌝ }
+    requires { ⌜ (length (now block) ≡ blockSize) × (i < maxTaken) ⌝ }
     ensures { λ r. ⌜ r ≡ isTag s (pairAt newTag (now (block .entry)) 16 i) ⌝ }
 {
     if s.blocks as u32 <= tag_block(block, i) {
@@ -86,7 +98,7 @@ fn is_tag(s: Shape, block: &[u8], i: usize) -> bool
 }
 
 fn are_tags(s: Shape, block: &[u8], n: usize) -> bool
-    requires { ⌜ (length (now block) ≡ 128) × (n ≤ 8) ⌝ }
+    requires { ⌜ (length (now block) ≡ blockSize) × (n ≤ maxTaken) ⌝ }
     ensures { λ r. ⌜ r ≡ every n (λ (i : ℕ). isTag s (pairAt newTag (now (block .entry)) 16 i)) ⌝ }
 {
     let mut i: usize = 0;
@@ -101,7 +113,7 @@ fn are_tags(s: Shape, block: &[u8], n: usize) -> bool
 
 // The i-th block is none of those before it.
 fn is_new(block: &[u8], i: usize) -> bool
-    requires { ⌜ (length (now block) ≡ 128) × (i < 8) ⌝ }
+    requires { ⌜ (length (now block) ≡ blockSize) × (i < maxTaken) ⌝ }
     ensures { λ r. ⌜ r ≡ isNew (now (block .entry)) i ⌝ }
 {
     let x = tag_block(block, i);
@@ -116,7 +128,7 @@ fn is_new(block: &[u8], i: usize) -> bool
 }
 
 fn are_new(block: &[u8], n: usize) -> bool
-    requires { ⌜ (length (now block) ≡ 128) × (n ≤ 8) ⌝ }
+    requires { ⌜ (length (now block) ≡ blockSize) × (n ≤ maxTaken) ⌝ }
     ensures { λ r. ⌜ r ≡ every n (isNew (now (block .entry))) ⌝ }
 {
     let mut i: usize = 0;
@@ -131,21 +143,21 @@ fn are_new(block: &[u8], n: usize) -> bool
 
 // The block is a descriptor with this number.
 pub fn is_descriptor(s: Shape, number: u32, block: &[u8]) -> bool
-    requires { ⌜ length (now block) ≡ 128 ⌝ }
+    requires { ⌜ length (now block) ≡ blockSize ⌝ }
     ensures { λ r. ⌜ r ≡ isDescriptor s number (now (block .entry)) ⌝ }
 {
     if !has_head(block, 1, number) {
         return false;
     }
-    if MAX_NUMBER < number {
+    if Shape::MAX_NUMBER < number {
         return false;
     }
-    let n = block_count(block);
-    if 8 < n {
+    let n = block_count(block) as usize;
+    if Shape::MAX_TAKEN < n {
         return false;
     }
-    if !are_tags(s, block, n as usize) {
+    if !are_tags(s, block, n) {
         return false;
     }
-    are_new(block, n as usize)
+    are_new(block, n)
 }

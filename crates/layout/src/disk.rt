@@ -4,17 +4,18 @@ ghost use Prim.Native.Nat.{_<_};
 ghost use lib.ListN.{length, replicate};
 ghost use Rattle.model.specs.Bytes.{store};
 ghost use Rattle.model.specs.Shape.{homeBlock};
+ghost use Rattle.model.specs.Limits.{diskSize};
 ghost use Rattle.model.proofs.Limits.{InRange};
 use crate::data::write_image;
 use model::Shape;
 
 // Home block b becomes the image.
-pub fn store_home(s: Shape, b: usize, image: [u8; 128], disk: &mut [u8])
-    requires { ⌜ InRange s × (length (now disk) ≡ 32896) × (b < 64) ⌝ }
+pub fn store_home(s: Shape, b: usize, image: [u8; Shape::BLOCK_SIZE], disk: &mut [u8])
+    requires { ⌜ InRange s × (length (now disk) ≡ diskSize) × (b < 64) ⌝ }
     ensures { λ _. ⌜ now (disk .exit) ≡ store (now (disk .entry)) (homeBlock b) image ⌝ }
 {
-    let from = 128 * s.home_block(b as u8);
-    let to = from + 128;
+    let from = Shape::BLOCK_SIZE * s.home_block(b as u8);
+    let to = from + Shape::BLOCK_SIZE;
     write_image(&mut disk[from..to], image);
 }
 

@@ -27,7 +27,6 @@ pub use descriptor_block::write_descriptor;
 pub use disk::store_home;
 pub use disk::zero_all;
 pub use words::MARK;
-pub use words::MAX_NUMBER;
 pub use words::get_word;
 pub use words::pair_word;
 pub use words::put_word;

@@ -4,13 +4,11 @@ ghost use Prim.Native.Nat.{_+_, _≤_, _<_, min};
 ghost use lib.ListN.{length};
 ghost use Rattle.model.specs.Bytes.{bytes, be4, replaced};
 ghost use Rattle.model.specs.Layout.{hasHead};
+ghost use Rattle.model.specs.Limits.{blockSize};
 ghost use Rattle.layout.specs.Words.{pairWord};
 
 // What every record block begins with.
 pub const MARK: u32 = 0xC03B3998;
-
-// The highest number of a transaction.
-pub const MAX_NUMBER: u32 = 4000000000;
 
 // A byte as a number: the bound stands here once.
 pub fn wide(x: u8) -> u32
@@ -44,7 +42,7 @@ pub fn put_word(b: &mut [u8], at: usize, w: u32)
 
 // The head of a record block, its mark, type and number, is the one given.
 pub fn has_head(b: &[u8], kind: u32, number: u32) -> bool
-    requires { ⌜ length (now b) ≡ 128 ⌝ }
+    requires { ⌜ length (now b) ≡ blockSize ⌝ }
     ensures { λ r. ⌜ r ≡ hasHead kind number (now (b .entry)) ⌝ }
 {
     if get_word(b, 0) != MARK {

@@ -9,8 +9,10 @@ ghost use Rattle.model.specs.Lists.{below, select};
 ghost use Rattle.model.specs.Bytes.{Bytes, blockAt};
 ghost use Rattle.model.specs.Shape.{homeBlock};
 ghost use Rattle.model.specs.Printing.{isZero, homeLines};
+ghost use Rattle.model.specs.Limits.{diskSize};
 ghost use Rattle.cells.specs.Cells.{worldIn};
 ghost use Rattle.lines.specs.Lines.{homeLine, isPrinted};
+use model::Shape;
 
 // Whether every byte is zero.
 fn is_zero(block: &[u8]) -> bool
@@ -28,11 +30,11 @@ fn is_zero(block: &[u8]) -> bool
 
 // Whether home block b has a line.
 fn is_printed(b: u8, disk: &[u8]) -> bool
-    requires { ⌜ (length (now disk) ≡ 32896) × (b ≤ 254) ⌝ }
+    requires { ⌜ (length (now disk) ≡ diskSize) × (b ≤ 254) ⌝ }
     ensures { λ r. ⌜ r ≡ isPrinted (now (disk .entry)) b ⌝ }
 {
-    let from = 128 * (b as usize) + 128;
-    let to = from + 128;
+    let from = Shape::BLOCK_SIZE * (b as usize) + Shape::BLOCK_SIZE;
+    let to = from + Shape::BLOCK_SIZE;
     !is_zero(&disk[from..to])
 }
 
@@ -46,7 +48,7 @@ fn grown(n: usize, printed: bool) -> usize
 
 // Those below a count, ascending, put at the start of the buffer: how many there are.
 fn printed_below(count: u8, disk: &[u8], numbers: &mut [u8]) -> usize
-    requires { ⌜ (length (now disk) ≡ 32896) × (length (now numbers) ≡ 256) ⌝ }
+    requires { ⌜ (length (now disk) ≡ diskSize) × (length (now numbers) ≡ 256) ⌝ }
     ensures { λ r. ⌜ (take r (now (numbers .exit)) ≡ select (isPrinted (now (disk .entry))) (below count)) × (r ≤ 255) ⌝ }
 {
     let mut n: usize = 0;
@@ -61,7 +63,7 @@ fn printed_below(count: u8, disk: &[u8], numbers: &mut [u8]) -> usize
 
 // The numbers of the home blocks that have a line, put at the start of the buffer: how many there are.
 pub fn home_blocks(w: &[u64; 512], disk: &[u8], numbers: &mut [u8]) -> usize
-    requires { ⌜ (length (now disk) ≡ 32896) × (length (now numbers) ≡ 256) ⌝ }
+    requires { ⌜ (length (now disk) ≡ diskSize) × (length (now numbers) ≡ 256) ⌝ }
     ensures { λ r. ⌜
         ((m : Bytes) → map (homeLine (now (disk .entry))) (take r (now (numbers .exit))) ≡ homeLines (worldIn (now (w .entry)) (now (disk .entry)) m))
         × (r ≤ 255)
@@ -73,10 +75,10 @@ pub fn home_blocks(w: &[u64; 512], disk: &[u8], numbers: &mut [u8]) -> usize
 
 // The first eight bytes of home block b.
 pub fn first_bytes(b: u8, disk: &[u8]) -> &[u8]
-    requires { ⌜ length (now disk) ≡ 32896 ⌝ }
+    requires { ⌜ length (now disk) ≡ diskSize ⌝ }
     ensures { λ r. ⌜ (now r ≡ take 8 (blockAt (now (disk .entry)) (homeBlock b))) × (length (now r) ≡ 8) ⌝ }
 {
-    let from = 128 * (b as usize) + 128;
+    let from = Shape::BLOCK_SIZE * (b as usize) + Shape::BLOCK_SIZE;
     let to = from + 8;
     &disk[from..to]
 }

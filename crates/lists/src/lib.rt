@@ -7,6 +7,7 @@ ghost use lib.ListN.{length};
 ghost use Rattle.model.specs.Card.{withName, withBlock};
 ghost use Rattle.model.specs.Write.{passesNames};
 ghost use Rattle.model.specs.declared.Transaction.{Transaction};
+ghost use Rattle.model.specs.Limits.{maxTaken};
 ghost use Rattle.cells.specs.Cells.{transactionIn};
 ghost use Rattle.cells.specs.Changes.{openedOr, IsPlace, ChangedAt};
 use cells::BLOCKS;
@@ -36,7 +37,7 @@ pub fn add_name(w: &mut [u64], at: usize, n: Name)
 
 // The block taken.
 pub fn add_block(w: &mut [u64], at: usize, b: u8)
-    requires { ⌜ (length (now w) ≡ 512) × IsPlace at × ((transactionIn (now w) at) .count < 8) ⌝ }
+    requires { ⌜ (length (now w) ≡ 512) × IsPlace at × ((transactionIn (now w) at) .count < maxTaken) ⌝ }
     ensures { λ _. ⌜ ChangedAt at (λ (t : Transaction). withBlock t b) (now (w .entry)) (now (w .exit)) ⌝ }
 {
     let i = byte_in(w, at + COUNT);

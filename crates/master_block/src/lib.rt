@@ -10,11 +10,11 @@ ghost use Rattle.model.specs.Lists.{below};
 ghost use Rattle.model.specs.Shape.{checked, clamped};
 ghost use Rattle.model.specs.Card.{newTail};
 ghost use Rattle.model.specs.Layout.{masterBlock, tailIn, isTail, isMaster};
+ghost use Rattle.model.specs.Limits.{blockSize, diskSize};
 ghost use Rattle.layout.specs.Words.{pairWord};
 ghost use Rattle.layout.specs.Loops.{every};
 ghost use Rattle.master_block.specs.Tails.{masterFrom, tailOrNone};
 use layout::MARK;
-use layout::MAX_NUMBER;
 use layout::get_word;
 use layout::pair_word;
 use layout::put_word;
@@ -54,7 +54,7 @@ fn master_word(s: Shape, tails: [Tail; 8], i: usize) -> u32
 
 // The master of this shape and these tails.
 fn write_master(block: &mut [u8], s: Shape, tails: [Tail; 8])
-    requires { ⌜ length (now block) ≡ 128 ⌝ }
+    requires { ⌜ length (now block) ≡ blockSize ⌝ }
     ensures { λ _. ⌜ now (block .exit) ≡ masterBlock (clamped s) (λ (c : ℕ). getD tails c (newTail 0 0)) ⌝ }
 {
     let mut i: usize = 0;
@@ -67,17 +67,17 @@ fn write_master(block: &mut [u8], s: Shape, tails: [Tail; 8])
 
 // The master stored, with these tails.
 pub fn store_master(s: Shape, tails: [Tail; 8], disk: &mut [u8])
-    requires { ⌜ length (now disk) ≡ 32896 ⌝ }
+    requires { ⌜ length (now disk) ≡ diskSize ⌝ }
     ensures { λ _. ⌜
         now (disk .exit) ≡ store (now (disk .entry)) 0 (masterBlock (clamped s) (λ (c : ℕ). getD tails c (newTail 0 0)))
         ⌝ }
 {
-    write_master(&mut disk[0..128], s, tails);
+    write_master(&mut disk[0..Shape::BLOCK_SIZE], s, tails);
 }
 
 // The shape that a master gives, if its numbers are within the limits.
 pub fn read_shape(block: &[u8]) -> Checked
-    requires { ⌜ length (now block) ≡ 128 ⌝ }
+    requires { ⌜ length (now block) ≡ blockSize ⌝ }
     ensures { λ r. ⌜
         r ≡ checked (be4 (now (block .entry)) 12) (be4 (now (block .entry)) 16) (be4 (now (block .entry)) 20)
         ⌝ }
@@ -90,21 +90,21 @@ pub fn read_shape(block: &[u8]) -> Checked
 
 // The tail of core c is within its limits.
 fn is_tail(s: Shape, block: &[u8], c: usize) -> bool
-    requires { ⌜ (length (now block) ≡ 128) × (c < 8) ⌝ }
+    requires { ⌜ (length (now block) ≡ blockSize) × (c < 8) ⌝ }
     ensures { λ r. ⌜ r ≡ isTail s (tailIn (now (block .entry)) c) ⌝ }
 {
     let number = get_word(block, 24 + 8 * c);
     if number < 1 {
         return false;
     }
-    if MAX_NUMBER + 1 < number {
+    if Shape::MAX_NUMBER + 1 < number {
         return false;
     }
     get_word(block, 24 + 8 * c + 4) < s.journal as u32
 }
 
 fn are_tails(s: Shape, block: &[u8], cores: usize) -> bool
-    requires { ⌜ (length (now block) ≡ 128) × (cores ≤ 8) ⌝ }
+    requires { ⌜ (length (now block) ≡ blockSize) × (cores ≤ 8) ⌝ }
     ensures { λ r. ⌜ r ≡ every cores (λ (c : ℕ). isTail s (tailIn (now (block .entry)) c)) ⌝ }
 {
     let mut c: usize = 0;
@@ -119,7 +119,7 @@ fn are_tails(s: Shape, block: &[u8], cores: usize) -> bool
 
 // The block is a master that RECOVER takes.
 pub fn is_master(block: &[u8]) -> bool
-    requires { ⌜ length (now block) ≡ 128 ⌝ }
+    requires { ⌜ length (now block) ≡ blockSize ⌝ }
     ensures { λ r. ⌜ r ≡ isMaster (now (block .entry)) ⌝ }
 {
     if get_word(block, 0) != MARK {
@@ -137,7 +137,7 @@ pub fn is_master(block: &[u8]) -> bool
 
 // The tail of core c, and the empty one for a core that the disk has not.
 fn read_tail(block: &[u8], c: usize) -> Tail
-    requires { ⌜ (length (now block) ≡ 128) × (isMaster (now block) ≡ true) × (c < 8) ⌝ }
+    requires { ⌜ (length (now block) ≡ blockSize) × (isMaster (now block) ≡ true) × (c < 8) ⌝ }
     ensures { λ r. ⌜ r ≡ tailOrNone (now (block .entry)) c ⌝ }
 {
     if get_word(block, 12) <= c as u32 {
@@ -156,7 +156,7 @@ fn read_tail(block: &[u8], c: usize) -> Tail
 
 // The tails of a master: recovery reads them only after it took the block for one, so each position fits a byte.
 pub fn read_tails(block: &[u8]) -> [Tail; 8]
-    requires { ⌜ (length (now block) ≡ 128) × (isMaster (now block) ≡ true) ⌝ }
+    requires { ⌜ (length (now block) ≡ blockSize) × (isMaster (now block) ≡ true) ⌝ }
     ensures { λ r. ⌜ r ≡ map (tailOrNone (now (block .entry))) (below 8) ⌝ }
 {
     let mut tails = [Tail {

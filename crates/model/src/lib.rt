@@ -41,9 +41,9 @@ pub struct Transaction {
     pub live: bool,
     pub stamp: u64,
     pub count: u8,
-    pub blocks: [u8; 8],
+    pub blocks: [u8; Shape::MAX_TAKEN],
     pub named: u8,
-    pub names: [Name; 12],
+    pub names: [Name; Shape::MAX_NAMES],
 }
 
 // A core: the number of its running transaction, or of the next one to open; the blocks of its committed unretired
@@ -112,6 +112,23 @@ impl Shape {
     pub const MIN_JOURNAL: u32 = 4;
 
     pub const MAX_JOURNAL: u32 = 24;
+
+    // The lent disk and memory, and a block of them.
+    pub const DISK_SIZE: usize = 32896;
+
+    pub const MEMORY_SIZE: usize = 16384;
+
+    pub const BLOCK_SIZE: usize = 128;
+
+    // The blocks that a transaction takes and the names that its list has, at most.
+    pub const MAX_TAKEN: usize = 8;
+
+    pub const MAX_NAMES: usize = 12;
+
+    // The highest number of a transaction; the highest offset of a WRITE, four bytes before the block's end.
+    pub const MAX_NUMBER: u32 = 4000000000;
+
+    pub const MAX_OFFSET: u8 = 124;
 
     // The shape of these numbers, if each is within its limits.
     pub fn new(cores: u32, blocks: u32, journal: u32) -> Checked

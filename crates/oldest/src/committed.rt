@@ -3,6 +3,7 @@ ghost use mathlib.Core.Path.{_≡_};
 ghost use Prim.Native.Nat.{_<_, min};
 ghost use lib.ListN.{length};
 ghost use Rattle.model.specs.Card.{shapeOf};
+ghost use Rattle.model.specs.Limits.{diskSize};
 ghost use Rattle.cells.specs.Cells.{cardIn};
 ghost use Rattle.oldest.specs.Oldest.{countAt, Counts, oldestAt};
 use cells::closed_place;
@@ -57,7 +58,7 @@ pub fn counts(w: &[u64]) -> [u8; 8]
 
 // Core c's oldest committed transaction.
 pub fn oldest_of(w: &[u64], c: u8, most: [u8; 8], disk: &[u8]) -> Found
-    requires { ⌜ (length (now w) ≡ 512) × (length (now disk) ≡ 32896)
+    requires { ⌜ (length (now w) ≡ 512) × (length (now disk) ≡ diskSize)
         × (c < (shapeOf (cardIn (now w))) .cores) × Counts (cardIn (now w)) most ⌝ }
     ensures { λ r. ⌜ r ≡ oldestAt (cardIn (now (w .entry))) (now (disk .entry)) c ⌝ }
 {

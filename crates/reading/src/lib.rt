@@ -8,6 +8,7 @@ use cells::block_refusal;
 use cells::is_held;
 use cells::shape_of;
 use cells::state_refusal;
+use model::Shape;
 
 // Where the bytes of a block stand: in no slice (0), the disk (1) or memory (2), from where on, and how many. A refused reading has
 // its number and 0 of each.
@@ -49,16 +50,16 @@ pub fn read_part(w: &[u64], b: u16, disk: &[u8], memory: &[u8]) -> BlockPart
         return BlockPart {
             number: 0,
             slice: 2,
-            from: 128 * block as usize,
-            length: 128,
+            from: Shape::BLOCK_SIZE * block as usize,
+            length: Shape::BLOCK_SIZE,
         };
     }
     let s = shape_of(w);
     BlockPart {
         number: 0,
         slice: 1,
-        from: 128 * s.home_block(block),
-        length: 128,
+        from: Shape::BLOCK_SIZE * s.home_block(block),
+        length: Shape::BLOCK_SIZE,
     }
 }
 

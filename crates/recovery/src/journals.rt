@@ -20,14 +20,14 @@ fn next_tail(t: Tail, count: usize) -> Tail
     ensures { λ r. ⌜ r ≡ tailPast t count ⌝ }
 {
     let number = t.number as usize + (count + 1);
-    if number < 4000000001 {
+    if number < Shape::MAX_NUMBER as usize + 1 {
         return Tail {
             number: number as u32,
             position: 0,
         };
     }
     Tail {
-        number: 4000000001,
+        number: Shape::MAX_NUMBER + 1,
         position: 0,
     }
 }
@@ -68,7 +68,7 @@ pub fn read_disk(s: Shape, disk: &[u8]) -> Journals
     requires { ⌜ Shaped s (now disk) ⌝ }
     ensures { λ r. ⌜ OnDisk s (now (disk .entry)) (r .tails) (r .committed) ⌝ }
 {
-    let tails = master_block::read_tails(&disk[0..128]);
+    let tails = master_block::read_tails(&disk[0..Shape::BLOCK_SIZE]);
     let committed = journal::read_journals(s, disk, tails, [s.journal; 8]);
     Journals { tails, committed }
 }
@@ -84,7 +84,7 @@ pub fn valid_set(s: Shape, disk: &[u8], all: Journals) -> [u16; 96]
 }
 
 // The newest image of block b in the valid set.
-pub fn newest_block(s: Shape, disk: &[u8], valid: &[u16; 96], b: u8) -> [u8; 128]
+pub fn newest_block(s: Shape, disk: &[u8], valid: &[u16; 96], b: u8) -> [u8; Shape::BLOCK_SIZE]
     requires { ⌜ Shaped s (now disk) × IsValid s (now disk) (now valid) ⌝ }
     ensures { λ r. ⌜ r ≡ newestImage (now (disk .entry)) b ⌝ }
 {

@@ -4,16 +4,17 @@ ghost use mathlib.Core.Bool.{true, cond, not};
 ghost use lib.ListN.{length};
 ghost use Rattle.model.specs.Bytes.{blockAt};
 ghost use Rattle.model.specs.Layout.{isMaster};
+ghost use Rattle.model.specs.Limits.{diskSize};
 ghost use Rattle.recovery.specs.Recovering.{Shaped};
 use model::Checked;
 use model::Shape;
 
 // Refusal 8, a first block that is no master.
 pub fn master_refusal(disk: &[u8]) -> u8
-    requires { ⌜ length (now disk) ≡ 32896 ⌝ }
+    requires { ⌜ length (now disk) ≡ diskSize ⌝ }
     ensures { λ r. ⌜ r ≡ cond (not (isMaster (blockAt (now (disk .entry)) 0))) 8 0 ⌝ }
 {
-    if master_block::is_master(&disk[0..128]) {
+    if master_block::is_master(&disk[0..Shape::BLOCK_SIZE]) {
         return 0;
     }
     8
@@ -21,10 +22,10 @@ pub fn master_refusal(disk: &[u8]) -> u8
 
 // The shape that the disk's master gives: one that was taken for a master has it within the limits.
 pub fn disk_shape(disk: &[u8]) -> Shape
-    requires { ⌜ (length (now disk) ≡ 32896) × (isMaster (blockAt (now disk) 0) ≡ true) ⌝ }
+    requires { ⌜ (length (now disk) ≡ diskSize) × (isMaster (blockAt (now disk) 0) ≡ true) ⌝ }
     ensures { λ r. ⌜ Shaped r (now (disk .entry)) ⌝ }
 {
-    let made = master_block::read_shape(&disk[0..128]);
+    let made = master_block::read_shape(&disk[0..Shape::BLOCK_SIZE]);
     let Checked::Fits(s) = made else {
         return Shape {
             cores: 1,

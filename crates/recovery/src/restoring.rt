@@ -9,6 +9,7 @@ ghost use Rattle.model.specs.Bytes.{blockAt};
 ghost use Rattle.model.specs.Layout.{isMaster};
 ghost use Rattle.model.specs.Command.{refusal};
 ghost use Rattle.model.specs.Recovery.{recoverConditions, recoverStep, recovered, recover};
+ghost use Rattle.model.specs.Limits.{diskSize};
 ghost use Rattle.cells.specs.Answer.{Meets, Stores};
 ghost use Rattle.cells.specs.Cells.{worldIn};
 ghost use Rattle.recovery.specs.Recovering.{Shaped, OnDisk, IsValid};
@@ -66,7 +67,7 @@ fn restore_block(w: &mut [u64], s: Shape, disk: &mut [u8], valid: &[u16; 96], b:
 
 // The next store of recovery over a disk whose first block is a master.
 fn recovered(w: &mut [u64], disk: &mut [u8])
-    requires { ⌜ (length (now w) ≡ 512) × (length (now disk) ≡ 32896) × (isMaster (blockAt (now disk) 0) ≡ true) ⌝ }
+    requires { ⌜ (length (now w) ≡ 512) × (length (now disk) ≡ diskSize) × (isMaster (blockAt (now disk) 0) ≡ true) ⌝ }
     ensures { λ _. ⌜ Stores recovered (now (w .entry)) (now (w .exit)) (now (disk .entry)) (now (disk .exit)) ⌝ }
 {
     let s = disk_shape(disk);

@@ -7,7 +7,7 @@ ghost use lib.ListN.{length};
 ghost use Rattle.model.specs.Card.{taken, coreOf, shapeOf};
 ghost use Rattle.model.specs.Command.{refusal};
 ghost use Rattle.model.specs.Write.{writer, takesBlock, passesNames, closedBlocks};
-ghost use Rattle.model.specs.Limits.{maxNumber};
+ghost use Rattle.model.specs.Limits.{maxTaken, maxNumber};
 ghost use Rattle.cells.specs.Cells.{transactionIn, cardIn};
 ghost use Rattle.rules.specs.Conditions.{Bounded, ownFull, backFull, sizeAfter, roomConditions};
 use crate::RuleMet;
@@ -32,7 +32,7 @@ fn passes_names(w: &[u64], at: usize, n: Name) -> bool
     requires { ⌜ (length (now w) ≡ 512) × (at + 24 ≤ 512) ⌝ }
     ensures { λ r. ⌜ r ≡ passesNames (transactionIn (now (w .entry)) at) n ⌝ }
 {
-    if name_count(w, at) < 12 {
+    if name_count(w, at) < Shape::MAX_NAMES {
         return false;
     }
     !lists_name(w, at, n)
@@ -68,7 +68,7 @@ fn back_full(w: &[u64], f: RuleMet) -> bool
 // How many blocks the writer of core c has; one that opens has none.
 fn writer_count(w: &[u64], c: u8, live: bool) -> usize
     requires { ⌜ (length (now w) ≡ 512) × (c < 8) × (live ≡ (coreOf (cardIn (now w)) c) .running .live) ⌝ }
-    ensures { λ r. ⌜ (r ≡ length (taken (writer (cardIn (now (w .entry))) c))) × (r ≤ 8) ⌝ }
+    ensures { λ r. ⌜ (r ≡ length (taken (writer (cardIn (now (w .entry))) c))) × (r ≤ maxTaken) ⌝ }
 {
     if !live {
         return 0;
@@ -78,13 +78,13 @@ fn writer_count(w: &[u64], c: u8, live: bool) -> usize
 
 // Refusal 25, for a writer that has so many blocks.
 fn ninth_block(f: RuleMet, count: usize) -> bool
-    ensures { λ r. ⌜ r ≡ (takesBlock (f .rule) && leb 8 count) ⌝ }
+    ensures { λ r. ⌜ r ≡ (takesBlock (f .rule) && leb maxTaken count) ⌝ }
 {
     let rule = f.rule;
     if !takes_block(rule) {
         return false;
     }
-    8 <= count
+    Shape::MAX_TAKEN <= count
 }
 
 // The blocks of the records of a core's closed unretired transactions, stored yet or not.
@@ -102,7 +102,7 @@ fn closed_blocks(w: &[u64], c: u8) -> usize
 
 // The blocks of the writer's record after this WRITE.
 fn size_after(f: RuleMet, count: usize) -> usize
-    requires { ⌜ count ≤ 8 ⌝ }
+    requires { ⌜ count ≤ maxTaken ⌝ }
     ensures { λ r. ⌜ (r ≡ sizeAfter (f .rule) count) × (r ≤ 11) ⌝ }
 {
     let rule = f.rule;
@@ -114,7 +114,7 @@ fn size_after(f: RuleMet, count: usize) -> usize
 
 // Refusal 26.
 fn journal_full(w: &[u64], s: Shape, f: RuleMet, count: usize) -> bool
-    requires { ⌜ (length (now w) ≡ 512) × Bounded f × (count ≤ 8) ⌝ }
+    requires { ⌜ (length (now w) ≡ 512) × Bounded f × (count ≤ maxTaken) ⌝ }
     ensures { λ r. ⌜ r ≡ ltb (s .journal) (closedBlocks (coreOf (cardIn (now (w .entry))) (f .core)) + sizeAfter (f .rule) count) ⌝ }
 {
     let used = closed_blocks(w, f.core);
@@ -130,7 +130,7 @@ fn numbers_end(own: Name, live: bool) -> bool
     if live {
         return false;
     }
-    4000000000 < own.number
+    Shape::MAX_NUMBER < own.number
 }
 
 // The number of the refusal, 0 for none.

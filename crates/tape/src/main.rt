@@ -5,6 +5,8 @@
 ghost use Prim.Native.Nat.{_≤_};
 ghost use mathlib.Core.Path.{_≡_};
 ghost use lib.ListN.{length};
+ghost use Rattle.model.specs.Limits.{diskSize};
+use model::Shape;
 
 mod input; // bytes read
 mod output; // text that waits to be written
@@ -188,7 +190,7 @@ fn run_tape(
 
 // The lines of the first n of these home blocks put at the start of the text: how much waits then.
 fn put_homes(text: &mut [u8], numbers: &[u8], n: usize, disk: &[u8]) -> usize
-    requires { ⌜ (length (now text) ≡ 65536) × (length (now numbers) ≡ 256) × (n ≤ 255) × (length (now disk) ≡ 32896) ⌝ }
+    requires { ⌜ (length (now text) ≡ 65536) × (length (now numbers) ≡ 256) × (n ≤ 255) × (length (now disk) ≡ diskSize) ⌝ }
     ensures { λ r. ⌜ r ≤ 65536 ⌝ }
 {
     let mut used: usize = 0;
@@ -203,7 +205,7 @@ fn put_homes(text: &mut [u8], numbers: &[u8], n: usize, disk: &[u8]) -> usize
 
 // What waits is written, then the home blocks that are not all zero: whether it all was.
 fn print_homes(used: usize, w: &[u64; 512], disk: &[u8], text: &mut [u8]) -> bool
-    requires { ⌜ (used ≤ 65536) × (length (now text) ≡ 65536) × (length (now disk) ≡ 32896) ⌝ }
+    requires { ⌜ (used ≤ 65536) × (length (now text) ≡ 65536) × (length (now disk) ≡ diskSize) ⌝ }
 {
     let p = output::flush(text, used);
     if p.failed {
@@ -218,8 +220,8 @@ fn print_homes(used: usize, w: &[u64; 512], disk: &[u8], text: &mut [u8]) -> boo
 
 fn main() {
     let mut state = [0u64; 512];
-    let mut disk = [0u8; 32896];
-    let mut memory = [0u8; 16384];
+    let mut disk = [0u8; Shape::DISK_SIZE];
+    let mut memory = [0u8; Shape::MEMORY_SIZE];
     let mut bytes = [0u8; 65536];
     let mut text = [0u8; 65536];
     firmware::session::blank(&mut state);

@@ -3,6 +3,7 @@ ghost use mathlib.Core.Path.{_≡_};
 ghost use Prim.Native.Nat.{_+_, _*_, _≤_};
 ghost use lib.ListN.{length};
 ghost use Rattle.model.specs.Bytes.{replaced};
+ghost use Rattle.model.specs.Limits.{blockSize};
 ghost use Rattle.transaction.specs.Writing.{InImage, loadedBy};
 use model::Rule;
 use model::Shape;
@@ -16,10 +17,10 @@ fn load_image(s: Shape, rule: Rule, b: u8, disk: &[u8], memory: &mut [u8])
     if !loads_image(rule) {
         return;
     }
-    let to = 128 * b as usize;
-    let to_end = to + 128;
-    let from = 128 * s.home_block(b);
-    let from_end = from + 128;
+    let to = Shape::BLOCK_SIZE * b as usize;
+    let to_end = to + Shape::BLOCK_SIZE;
+    let from = Shape::BLOCK_SIZE * s.home_block(b);
+    let from_end = from + Shape::BLOCK_SIZE;
     layout::copy_block(&mut memory[to..to_end], &disk[from..from_end]);
 }
 
@@ -45,9 +46,9 @@ pub fn write_memory(
     memory: &mut [u8],
 )
     requires { ⌜ InImage (now disk) (now memory) b o ⌝ }
-    ensures { λ _. ⌜ now (memory .exit) ≡ replaced (128 * b + o) 4 (loadedBy rule (now (disk .entry)) (now (memory .entry)) b) bytes ⌝ }
+    ensures { λ _. ⌜ now (memory .exit) ≡ replaced (blockSize * b + o) 4 (loadedBy rule (now (disk .entry)) (now (memory .entry)) b) bytes ⌝ }
 {
     load_image(s, rule, b, disk, memory);
-    let at = 128 * b as usize + o as usize;
+    let at = Shape::BLOCK_SIZE * b as usize + o as usize;
     put_bytes(memory, at, bytes);
 }

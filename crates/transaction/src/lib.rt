@@ -16,6 +16,7 @@ use cells::Answer;
 use cells::block_refusal;
 use cells::entry_refusal;
 use cells::shape_of;
+use model::Shape;
 use rules::find;
 use rules::room_refusal;
 
@@ -32,7 +33,7 @@ fn first_refusal(w: &[u64], c: u8, b: u16, o: u8, disk: &[u8], memory: &[u8]) ->
     if n != 0 {
         return n;
     }
-    if 124 < o {
+    if Shape::MAX_OFFSET < o {
         return 7;
     }
     0

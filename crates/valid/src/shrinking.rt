@@ -6,6 +6,7 @@ ghost use lib.ListN.{length};
 ghost use Rattle.model.proofs.Limits.{InRange};
 ghost use Rattle.model.specs.Shrink.{shrink};
 ghost use Rattle.model.specs.Valid.{namesMet, validSet};
+ghost use Rattle.model.specs.Limits.{blockSize, diskSize, maxNames};
 ghost use Rattle.layout.specs.Loops.{every};
 ghost use Rattle.journal.specs.Slots.{numbersOf, entry, entries, isFilled, filledFrom};
 ghost use Rattle.valid.specs.Sets.{numbered, isHere, slotMet, nameMet, keptSlot, struck, SameTo};
@@ -49,7 +50,7 @@ fn is_met(s: Shape, numbers: &[u32; 8], set: &[u16; 96], c: u32, k: u32) -> bool
 
 // Whether the i-th name of a commit is met.
 fn name_met(s: Shape, numbers: &[u32; 8], set: &[u16; 96], commit: &[u8], i: usize) -> bool
-    requires { ⌜ InRange s × (length (now commit) ≡ 128) × (i < 12) ⌝ }
+    requires { ⌜ InRange s × (length (now commit) ≡ blockSize) × (i < maxNames) ⌝ }
     ensures { λ r. ⌜ r ≡ nameMet s (now (numbers .entry)) (now (set .entry)) (now (commit .entry)) i ⌝ }
 {
     let c = layout::name_core(commit, i);
@@ -59,7 +60,7 @@ fn name_met(s: Shape, numbers: &[u32; 8], set: &[u16; 96], commit: &[u8], i: usi
 
 // Whether the first n names of a commit are.
 fn are_met(s: Shape, numbers: &[u32; 8], set: &[u16; 96], commit: &[u8], n: usize) -> bool
-    requires { ⌜ InRange s × (length (now commit) ≡ 128) × (n ≤ 12) ⌝ }
+    requires { ⌜ InRange s × (length (now commit) ≡ blockSize) × (n ≤ maxNames) ⌝ }
     ensures { λ r. ⌜ r ≡ every n (nameMet s (now (numbers .entry)) (now (set .entry)) (now (commit .entry))) ⌝ }
 {
     let mut i: usize = 0;
@@ -75,7 +76,7 @@ fn are_met(s: Shape, numbers: &[u32; 8], set: &[u16; 96], commit: &[u8], n: usiz
 // Whether each name of core c's transaction is met, with v the position after its descriptor. Its number and its stamp play
 // no part.
 fn names_met(s: Shape, disk: &[u8], numbers: &[u32; 8], set: &[u16; 96], c: u8, v: usize) -> bool
-    requires { ⌜ InRange s × (length (now disk) ≡ 32896) × (c < s .cores) × (1 ≤ v) × (v ≤ 256) ⌝ }
+    requires { ⌜ InRange s × (length (now disk) ≡ diskSize) × (c < s .cores) × (1 ≤ v) × (v ≤ 256) ⌝ }
     ensures { λ r. ⌜
         ((k : ℕ) → r ≡ namesMet s (now (disk .entry)) (numbered (now (numbers .entry)))
         (entries s (now (disk .entry)) (now (numbers .entry)) (now (set .entry)))
@@ -83,15 +84,18 @@ fn names_met(s: Shape, disk: &[u8], numbers: &[u32; 8], set: &[u16; 96], c: u8, 
         ⌝ }
 {
     let at = v - 1;
-    let count = at_most(layout::block_count(journal_part(s, disk, c, at)), 8);
-    let commit = journal_part(s, disk, c, at + (count as usize + 1));
-    let named = at_most(layout::name_count(commit), 12);
-    are_met(s, numbers, set, commit, named as usize)
+    let count = at_most(
+        layout::block_count(journal_part(s, disk, c, at)),
+        Shape::MAX_TAKEN,
+    );
+    let commit = journal_part(s, disk, c, at + (count + 1));
+    let named = at_most(layout::name_count(commit), Shape::MAX_NAMES);
+    are_met(s, numbers, set, commit, named)
 }
 
 // Slot i after one round: struck where a name is unmet.
 fn keep_slot(s: Shape, disk: &[u8], numbers: &[u32; 8], set: &[u16; 96], i: usize) -> u16
-    requires { ⌜ InRange s × (length (now disk) ≡ 32896) × (i < 96) ⌝ }
+    requires { ⌜ InRange s × (length (now disk) ≡ diskSize) × (i < 96) ⌝ }
     ensures { λ r. ⌜ r ≡ keptSlot s (now (disk .entry)) (now (numbers .entry)) (now (set .entry)) i ⌝ }
 {
     let v = slot_of(s, set, i);
@@ -106,7 +110,7 @@ fn keep_slot(s: Shape, disk: &[u8], numbers: &[u32; 8], set: &[u16; 96], i: usiz
 
 // The set after one round.
 fn strike_unmet(s: Shape, disk: &[u8], numbers: &[u32; 8], set: &[u16; 96]) -> [u16; 96]
-    requires { ⌜ InRange s × (length (now disk) ≡ 32896) ⌝ }
+    requires { ⌜ InRange s × (length (now disk) ≡ diskSize) ⌝ }
     ensures { λ r. ⌜ r ≡ struck s (now (disk .entry)) (now (numbers .entry)) (now (set .entry)) ⌝ }
 {
     let mut next = [0u16; 96];
@@ -121,7 +125,7 @@ fn strike_unmet(s: Shape, disk: &[u8], numbers: &[u32; 8], set: &[u16; 96]) -> [
 // One round in place: its copy of the set is gone before the next one begins. It is called from two places, so the compiler
 // keeps it out of the recursion, whose frames stay small.
 fn strike_round(s: Shape, disk: &[u8], numbers: &[u32; 8], set: &mut [u16; 96])
-    requires { ⌜ InRange s × (length (now disk) ≡ 32896) ⌝ }
+    requires { ⌜ InRange s × (length (now disk) ≡ diskSize) ⌝ }
     ensures { λ _. ⌜ now (set .exit) ≡ struck s (now (disk .entry)) (now (numbers .entry)) (now (set .entry)) ⌝ }
 {
     let next = strike_unmet(s, disk, numbers, set);
@@ -131,7 +135,7 @@ fn strike_round(s: Shape, disk: &[u8], numbers: &[u32; 8], set: &mut [u16; 96])
 // The largest part of the set in which each name is met: struck until none goes. The count of those remaining falls with
 // each call.
 fn shrink_set(s: Shape, disk: &[u8], numbers: &[u32; 8], set: &mut [u16; 96], count: usize)
-    requires { ⌜ InRange s × (length (now disk) ≡ 32896) × (count ≡ filledFrom s (now set) 0 96) ⌝ }
+    requires { ⌜ InRange s × (length (now disk) ≡ diskSize) × (count ≡ filledFrom s (now set) 0 96) ⌝ }
     ensures { λ _. ⌜
         entries s (now (disk .entry)) (now (numbers .entry)) (now (set .exit))
         ≡ shrink (namesMet s (now (disk .entry)) (numbered (now (numbers .entry))))
@@ -182,7 +186,7 @@ fn same_slots(a: &[u16; 96], b: &[u16; 96]) -> bool
 
 // The valid set of the transactions read; the first round is done here, and mostly none goes. No public entry.
 pub fn valid_slots(s: Shape, disk: &[u8], tails: [Tail; 8], committed: [u16; 96]) -> [u16; 96]
-    requires { ⌜ InRange s × (length (now disk) ≡ 32896) ⌝ }
+    requires { ⌜ InRange s × (length (now disk) ≡ diskSize) ⌝ }
     ensures { λ r. ⌜
         entries s (now (disk .entry)) (numbersOf tails) r
         ≡ validSet s (now (disk .entry)) (numbered (numbersOf tails))

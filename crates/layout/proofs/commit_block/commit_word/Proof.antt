@@ -7,6 +7,6 @@ use Rattle.layout.proofs.commit_block.commit_word.Tie as tie
 pub commit-word-spec : {M : Type 1} → statement M
 commit-word-spec =
     tie.close
-    (tie.spec (λ c κs. search needs) (λ c. search needs) (λ c. search needs) (λ c. search needs) (λ c. search needs)
+    (tie.spec (λ c. search needs) (λ c κs. search needs) (λ c. search needs) (λ c. search needs) (λ c. search needs) (λ c. search needs)
     (λ c. search needs) (λ c. search (needs, commit-head)) (λ c. search needs) (λ c. search (needs, commit-rest))
     (λ c. search needs) (λ c. search needs) (λ c κs. search needs) (λ c. search (needs, commit-pair)))

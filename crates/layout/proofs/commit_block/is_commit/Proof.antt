@@ -11,5 +11,5 @@ unfolding isCommit
 is-commit-spec =
     tie.close
     (tie.spec (λ c κs. search needs) (λ c. search (needs, tests)) (λ c κs. search needs) (λ c. search (needs, tests))
-    (λ c κs. search needs) (λ c. search (needs, tests)) (λ c. search needs) (λ c κs. search needs)
+    (λ c κs. search needs) (λ c. search needs) (λ c. search (needs, tests)) (λ c κs. search needs)
     (λ c. search (needs, tests, listable-same)))

@@ -7,7 +7,7 @@ use Rattle.layout.proofs.descriptor_block.descriptor_word.Tie as tie
 pub descriptor-word-spec : {M : Type 1} → statement M
 descriptor-word-spec =
     tie.close
-    (tie.spec (λ c κs. search needs) (λ c. search needs) (λ c. search needs) (λ c. search needs)
+    (tie.spec (λ c. search needs) (λ c κs. search needs) (λ c. search needs) (λ c. search needs) (λ c. search needs)
     (λ c. search (needs, descriptor-head)) (λ c. search needs) (λ c. search (needs, descriptor-rest))
     (λ c. search needs) (λ c κs. search needs) (λ c. search needs) (λ c κs. search needs) (λ c κs. search needs)
     (λ c. search (needs, descriptor-pair)))

@@ -11,5 +11,5 @@ unfolding isDescriptor
 is-descriptor-spec =
     tie.close
     (tie.spec (λ c κs. search needs) (λ c. search (needs, tests)) (λ c. search (needs, tests)) (λ c κs. search needs)
-    (λ c. search (needs, tests)) (λ c. search needs) (λ c κs. search needs) (λ c. search (needs, tests, tags-no))
-    (λ c. search needs) (λ c κs. search needs) (λ c. search (needs, tests, tags-yes, new-same)))
+    (λ c. search needs) (λ c. search (needs, tests)) (λ c κs. search needs) (λ c. search (needs, tests, tags-no))
+    (λ c κs. search needs) (λ c. search (needs, tests, tags-yes, new-same)))

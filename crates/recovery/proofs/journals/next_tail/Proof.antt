@@ -5,4 +5,4 @@ use Rattle.recovery.proofs.journals.next_tail.Statement.{statement}
 use Rattle.recovery.proofs.journals.next_tail.Tie as tie
 
 pub next-tail-spec : {M : Type 1} → statement M
-next-tail-spec = tie.close (tie.spec (λ c. search needs) (λ c. search needs) (λ c. search needs) (λ c. search needs) (λ c. search (needs, next-below)) (λ c. search (needs, next-last)))
+next-tail-spec = tie.close (tie.spec (λ c. search needs) (λ c. search needs) (λ c. search needs) (λ c. search needs) (λ c. search needs) (λ c. search needs) (λ c. search (needs, next-below)) (λ c. search needs) (λ c. search (needs, next-last)))
