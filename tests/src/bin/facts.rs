@@ -21,7 +21,7 @@ use mathlib.Core.List.{List, [], _∷_}
 use mathlib.Core.Bool.{Bool, true, false}
 use Rattle.model.specs.Bytes.{Bytes, padded, zeroDisk, zeroMemory}
 use Rattle.model.specs.Card.{blankCard, downCard}
-use Rattle.model.specs.Tape.{Line, blankWorld}
+use Rattle.model.specs.Printing.{Line, blankWorld}
 use Rattle.model.proofs.Computes.{computes}
 use Rattle.seen.specs.Seen.{Seen, Read, Met, noise, laid, resized, endOf, seen, met, line, read, against, changed, sees}
 ";
