@@ -220,9 +220,12 @@ read-whole t at u e = go (readAt t at) refl u e
     go unknown q u e = absurd (true≢false u)
     go early q u e = absurd (true≢false e)
 
-pub next-known : (t : Bytes) (at : ℕ) → isUnknown (readAt t at) ≡ false → isEarly (readAt t at) ≡ false → nextOffset t at ≡ at + 1 + operandLength (commandByte t at)
+pub next-whole : (t : Bytes) (at : ℕ) (k : Command) → readAt t at ≡ whole k → nextOffset t at ≡ at + 1 + operandLength (commandByte t at)
 unfolding nextOffset offsetPast
-next-known t at u e = let w = read-whole t at u e in rw (w .1) refl
+next-whole t at k e = rw e refl
+
+pub next-known : (t : Bytes) (at : ℕ) → isUnknown (readAt t at) ≡ false → isEarly (readAt t at) ≡ false → nextOffset t at ≡ at + 1 + operandLength (commandByte t at)
+next-known t at u e = let w = read-whole t at u e in next-whole t at (w .0) (w .1)
 
 -- ---- a run by any card over any world
 module _ {W : Type 0} where

@@ -6,8 +6,6 @@ ghost use Prim.Native.Nat.{_≤_};
 ghost use mathlib.Core.Path.{_≡_};
 ghost use lib.ListN.{length};
 
-mod turn; // one command: the numbers of its line, and whether the tape goes on
-mod homes; // which home blocks have a line
 mod input; // bytes read
 mod output; // text that waits to be written
 
@@ -46,7 +44,7 @@ fn step(
     }
     let from = c.from;
     let to = c.size;
-    let t = turn::run_command(c.offset, &bytes[from..to], w, disk, memory);
+    let t = lines::turn::run_command(c.offset, &bytes[from..to], w, disk, memory);
     next.offset = t.next;
     next.from = from + t.taken;
     next.used = output::put_line(text, p.used, t);
@@ -197,7 +195,7 @@ fn put_homes(text: &mut [u8], numbers: &[u8], n: usize, disk: &[u8]) -> usize
     let mut i: usize = 0;
     while i < n {
         let b = numbers[i];
-        used = output::put_home(text, used, b, homes::first_bytes(b, disk));
+        used = output::put_home(text, used, b, lines::homes::first_bytes(b, disk));
         i += 1;
     }
     used
@@ -212,7 +210,7 @@ fn print_homes(used: usize, w: &[u64; 512], disk: &[u8], text: &mut [u8]) -> boo
         return false;
     }
     let mut numbers = [0u8; 256];
-    let n = homes::home_blocks(w, disk, &mut numbers);
+    let n = lines::homes::home_blocks(w, disk, &mut numbers);
     let more = put_homes(text, &numbers, n, disk);
     let q = output::flush(text, more);
     !q.failed

@@ -2,7 +2,7 @@
 ghost use Prim.Native.Nat.{_+_, _≤_, _<_};
 ghost use mathlib.Core.Path.{_≡_};
 ghost use lib.ListN.{length};
-use crate::turn::Turn;
+use lines::turn::Turn;
 
 // How much text waits, and whether a write failed.
 pub struct Waiting {

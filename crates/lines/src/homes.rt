@@ -8,9 +8,9 @@ ghost use Prim.Native.Nat.{_+_};
 ghost use Rattle.model.specs.Lists.{below, select};
 ghost use Rattle.model.specs.Bytes.{Bytes, blockAt};
 ghost use Rattle.model.specs.Shape.{homeBlock};
-ghost use Rattle.model.specs.Printing.{homeCount, isZero, homeLines};
+ghost use Rattle.model.specs.Printing.{isZero, homeLines};
 ghost use Rattle.cells.specs.Cells.{worldIn};
-ghost use Rattle.tape.specs.Program.{homeLine, isPrinted};
+ghost use Rattle.lines.specs.Lines.{homeLine, isPrinted};
 
 // Whether every byte is zero.
 fn is_zero(block: &[u8]) -> bool

@@ -3,11 +3,11 @@ use Prim.Native.Nat.{_≤_, _-_}
 use mathlib.Core.Path.{_≡_}
 use lib.ListN.{length, take}
 use Rattle.model.specs.Lists.{below, select}
-use Rattle.tape.specs.Program.{isPrinted}
-use Rattle.tape.proofs.PageLaws.{grown-few, printed-none, printed-more, printed-end}
+use Rattle.lines.specs.Lines.{isPrinted}
+use Rattle.lines.proofs.PageLaws.{grown-few, printed-none, printed-more, printed-end}
 use borrow.Author.Needs.{needs}
-use Rattle.tape.proofs.homes.printed_below.Statement.{statement}
-use Rattle.tape.proofs.homes.printed_below.Tie as tie
+use Rattle.lines.proofs.homes.printed_below.Statement.{statement}
+use Rattle.lines.proofs.homes.printed_below.Tie as tie
 
 abbrev Inv-loop : tie.InvT-loop
 Inv-loop count disk numbers₀ n₀ b₀ numbers n b = (length numbers ≡ length numbers₀) × (n ≤ b) × (b ≤ count) × (take n numbers ≡ select (isPrinted disk) (below b))

@@ -1,5 +1,5 @@
 -- One command of the program: its line is the model's, and the tape goes on where the model's does.
-use Prim.Native.Nat.{ℕ, _+_, _-_, _≤_, _<_, min}
+use Prim.Native.Nat.{ℕ, _+_, _-_, _≤_, _<_}
 use native.Mathlib.Omega.{arith}
 use native.Mathlib.Nat.{le-max-right}
 use mathlib.Core.Path.{_≡_, refl, sym, ap, _∙_}
@@ -8,17 +8,16 @@ use mathlib.Core.List.{List}
 use lib.ListN.{length}
 use Rattle.model.specs.Bytes.{Bytes}
 use Rattle.model.specs.Command.{wrongLength}
-use Rattle.model.specs.Tape.{Command, operandLength, Read, whole, unknown, early, isUnknown, isEarly, commandByte, readAt, offsetPast, nextOffset}
+use Rattle.model.specs.Tape.{Command, Read, whole, unknown, early, isUnknown, isEarly, readAt, offsetPast, nextOffset}
 use Rattle.model.specs.Step.{step, stepAt}
 use Rattle.model.specs.Printing.{Line}
-use Rattle.model.proofs.Tape.{next-within, whole-at}
+use Rattle.model.proofs.Tape.{next-within, next-whole, whole-at}
 use Rattle.cells.specs.Cells.{storesIn, worldIn}
-use Rattle.command.specs.Counting.{counted, Performs}
+use Rattle.command.specs.Counting.{Performs}
 use Rattle.command.proofs.CountLaws.{counted-sum}
 use Rattle.firmware.specs.Session.{RunsCommand}
 use Rattle.firmware.specs.declared.session.Reply.{Reply}
-use Rattle.tape.specs.Program.{isWhole, advanced, Turned}
-use Rattle.tape.specs.declared.turn.Turn.{Turn}
+use Rattle.lines.specs.Lines.{isWhole, advanced, Turned}
 use Rattle.model.proofs.OwnBytes.{ownBytes, same-byte, same-read, same-command, same-next}
 
 -- ---- whole or not
@@ -85,7 +84,6 @@ module _ (t s : Bytes) (at : ℕ) (v : List ℕ) (d m : Bytes) (u : List ℕ) (e
         line = λ h. line-same at (p .byte ∙ sym (same-byte t at s 0 q)) (f .answer) (y ∙ f .stores ∙ sym (counted-sum (storesIn v) ((stepAt t at w) .stores) (omega arith) (omega arith)));
         goes-on = λ h l.
             let o = is-whole (readAt t at) (b ∙ sym x ∙ h) in
-            let a : nextOffset t at ≡ at + 1 + operandLength (commandByte t at) = unfold nextOffset offsetPast in rw (o .1) in
-            omega (arith, z, p .next, same-next t at s 0 q (o .0) (o .1), a, whole-at t at (o .0) (o .1) .within);
+            omega (arith, z, p .next, same-next t at s 0 q (o .0) (o .1), next-whole t at (o .0) (o .1), whole-at t at (o .0) (o .1) .within);
         ends = λ h. next-last t at (b ∙ sym x ∙ h);
       }

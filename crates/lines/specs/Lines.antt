@@ -1,7 +1,7 @@
 -- What the program does with one command of a tape, and which home blocks have a line.
 use Prim.Native.Nat.{ℕ, _+_, _≤_, _<_, min}
 use mathlib.Core.Path.{_≡_}
-use mathlib.Core.List.{List, map}
+use mathlib.Core.List.{List}
 use mathlib.Core.Bool.{Bool, true, false, not}
 use lib.ListN.{length, take}
 use Rattle.model.specs.Bytes.{Bytes, blockAt}
@@ -12,7 +12,7 @@ use Rattle.model.specs.Printing.{isZero, Line, lineOf}
 use Rattle.model.proofs.Tape.{pointAt}
 use Rattle.cells.specs.Cells.{storesIn, worldIn}
 use Rattle.command.specs.Counting.{Performs}
-use Rattle.tape.specs.declared.turn.Turn.{Turn}
+use Rattle.lines.specs.declared.turn.Turn.{Turn}
 
 -- a known command with all its operands: after any other the tape ends
 abbrev pub isWhole : Read → Bool

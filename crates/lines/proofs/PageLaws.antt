@@ -1,5 +1,5 @@
--- Which home blocks are printed: how many there are, and whether one is all zero.
-use Prim.Native.Nat.{ℕ, suc, _+_, _-_, _*_, _≤_, _<_}
+-- Which home blocks have a line: whether one is all zero, and those below a count.
+use Prim.Native.Nat.{ℕ, _+_, _-_, _*_, _≤_, _<_}
 use native.Mathlib.Numerals.{add-one}
 use native.Mathlib.Omega.{arith}
 use mathlib.Core.Path.{_≡_, refl, sym, ap, _∙_}
@@ -16,7 +16,7 @@ use Rattle.model.specs.declared.Card.{Card}
 use Rattle.cells.specs.Cells.{world}
 use Rattle.model.specs.Printing.{isZero, homeCount, homeLines}
 use Rattle.model.proofs.Lists.{cases, all-append, all-mem, getD-mem}
-use Rattle.tape.specs.Program.{isPrinted, homeLine}
+use Rattle.lines.specs.Lines.{isPrinted, homeLine}
 
 -- ---- all zero
 module _ (b : Bytes) where

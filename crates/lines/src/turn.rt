@@ -5,7 +5,7 @@ ghost use lib.ListN.{length};
 ghost use Rattle.model.specs.Bytes.{Bytes};
 ghost use Rattle.model.specs.Tape.{readAt};
 ghost use Rattle.model.proofs.OwnBytes.{ownBytes};
-ghost use Rattle.tape.specs.Program.{isWhole, advanced, Turned};
+ghost use Rattle.lines.specs.Lines.{isWhole, advanced, Turned};
 
 // The four numbers of a command's line; the offset of the next command, how many of the bytes read this one took, and whether the
 // tape goes on.

@@ -5,10 +5,10 @@ use mathlib.Core.Bool.{true}
 use lib.Dec.{eqb}
 use lib.ListN.{length, take}
 use Rattle.model.specs.Lists.{all}
-use Rattle.tape.proofs.PageLaws.{zero-none, zero-more, zero-missed, zero-all}
+use Rattle.lines.proofs.PageLaws.{zero-none, zero-more, zero-missed, zero-all}
 use borrow.Author.Needs.{needs}
-use Rattle.tape.proofs.homes.is_zero.Statement.{statement}
-use Rattle.tape.proofs.homes.is_zero.Tie as tie
+use Rattle.lines.proofs.homes.is_zero.Statement.{statement}
+use Rattle.lines.proofs.homes.is_zero.Tie as tie
 
 abbrev Inv-loop : tie.InvT-loop
 Inv-loop block i₀ i = (i ≤ length block) × (all (eqb 0) (take i block) ≡ true)

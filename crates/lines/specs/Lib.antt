@@ -1,0 +1,2 @@
+-- What the contracts of the lines say.
+pub mod Lines

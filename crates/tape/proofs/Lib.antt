@@ -1,3 +1,0 @@
--- Laws that the proofs of the program cite.
-pub mod TurnLaws
-pub mod PageLaws
