@@ -1,11 +1,12 @@
 // facts: runs tapes on the model card and writes a scratch repository of facts that the definitions must compute alike.
 
+use card_tests::book::Book;
 use card_tests::card::{Card, Phase, Transaction};
-use card_tests::command::{from_hex, hex, Command};
+use card_tests::command::{self, from_hex, hex, Command};
 use card_tests::directed::{disk_with, put_record};
 use card_tests::foreign;
 use card_tests::generator::Generator;
-use card_tests::layout::{block_at, put_word, read_master, Name, Shape, Tail, BLOCK, DISK, LAST_TAIL, MEMORY};
+use card_tests::layout::{block_at, put_word, read_master, Name, Shape, Tail, BLOCK, DISK, LAST_TAIL, MEMORY, TAKEN};
 use card_tests::random::Random;
 use card_tests::shrink::tape_of;
 use std::fs;
@@ -20,19 +21,24 @@ use mathlib.Core.Path.{_≡_, refl}
 use mathlib.Core.List.{List, [], _∷_}
 use mathlib.Core.Bool.{Bool, true, false}
 use Rattle.model.specs.Bytes.{Bytes, padded, zeroDisk, zeroMemory}
+use Rattle.model.specs.Shape.{newShape}
 use Rattle.model.specs.Card.{blankCard, downCard}
-use Rattle.model.specs.Tape.{Line, blankWorld}
+use Rattle.model.specs.Printing.{Line, blankWorld}
 use Rattle.model.proofs.Computes.{computes}
 use Rattle.seen.specs.Seen.{Seen, Read, Met, noise, laid, resized, endOf, seen, met, line, read, against, changed, sees}
+use Rattle.seen.specs.Told.{told, mark, tells}
+use Rattle.crash.specs.Claims.{from-blank, from-down}
 ";
 
-/// A card with its slices, and the words that give the slices in a fact.
+/// A card with its slices, and the words that give the slices in a fact; of a card that is down over a disk as FORMAT leaves
+/// it, the shape.
 struct Start {
     card: Card,
     disk: Vec<u8>,
     memory: Vec<u8>,
     disk_text: String,
     memory_text: String,
+    formatted: Option<Shape>,
 }
 
 /// The files written so far, and what the summary tells.
@@ -42,6 +48,7 @@ struct Facts {
     commands_here: usize,
     files: usize,
     facts: usize,
+    told: usize,
     tapes: [usize; 2],
     commands: [usize; 2],
     answers: [usize; 34],
@@ -65,6 +72,7 @@ fn main() -> std::io::Result<()> {
     }
     facts.end_file()?;
     facts.wrong(&Start::blank(), &from_hex(SHORT), WRONG)?;
+    facts.wrong_told(&Start::blank(), &from_hex(SHORT))?;
     facts.report();
     fs::write(facts.folder.join("crates.txt"), facts.crates())
 }
@@ -128,7 +136,7 @@ impl Start {
     /// Memory is zero for seed 0 and noise for others.
     fn new(card: Card, disk: Vec<u8>, disk_text: String, memory_seed: u64) -> Start {
         let (memory, memory_text) = base(MEMORY, memory_seed);
-        Start { card, disk, memory, disk_text, memory_text }
+        Start { card, disk, memory, disk_text, memory_text, formatted: None }
     }
 
     /// A card that is down over a disk, told as blocks over a base.
@@ -136,6 +144,35 @@ impl Start {
         let (under, name) = base(DISK, disk_seed);
         let text = format!("laid 0 {} ({name})", block_list(&differing(&under, &disk)));
         Start::new(Card::down(), disk, text, memory_seed)
+    }
+
+    /// A card that is down over a disk as FORMAT leaves it.
+    fn formatted(shape: Shape, memory_seed: u64) -> Start {
+        let disk = disk_with(shape, &vec![Tail { number: 1, position: 0 }; shape.cores as usize]);
+        Start { formatted: Some(shape), ..Start::down(disk, 0, memory_seed) }
+    }
+
+    /// The start that ledger and service book have; none over a disk written elsewhere.
+    fn of_books(&self) -> Option<String> {
+        let memory = &self.memory_text;
+        match (self.card.phase, self.formatted) {
+            (Phase::Blank, _) => Some(format!("from-blank ({}) ({memory})", self.disk_text)),
+            (_, Some(shape)) => {
+                let (cores, blocks, journal) = (shape.cores, shape.blocks, shape.journal);
+                Some(format!("from-down (newShape {cores} {blocks} {journal}) ({memory})"))
+            }
+            _ => None,
+        }
+    }
+
+    /// The service book there: of a card that is down, as after FORMAT and a cut.
+    fn book(&self) -> Book {
+        let mut book = Book::default();
+        if let Some(Shape { cores, blocks, journal }) = self.formatted {
+            book.feed(Command::Format { cores, blocks, journal }, 0);
+            book.feed(Command::Cut, 0);
+        }
+        book
     }
 }
 
@@ -219,6 +256,11 @@ fn directed(facts: &mut Facts) {
         facts.tape(&start, &from_hex("07060707070500020000000041424344"), &mut random);
     }
     facts.tape(&last_numbers(), &from_hex(OPENS_LAST), &mut random);
+    for (shape, seed) in [([1, 1, 4], 0), ([2, 3, 6], 5), ([8, 64, 24], 0)] {
+        let [cores, blocks, journal] = shape;
+        let start = Start::formatted(Shape { cores, blocks, journal }, seed);
+        facts.tape(&start, &from_hex(AFTER_FORMAT), &mut random);
+    }
     wrong_lengths(facts);
 }
 
@@ -237,6 +279,9 @@ const WRONG: &[(&str, &str, &str)] = &[
     ("memory =", "209", "208"),
     ("reads =", "211", "210"),
 ];
+
+/// How many expectations are changed of what the books tell.
+const WRONG_TOLD: usize = 3;
 
 /// FORMAT beside its limits, then at them; WRITE, CLOSE, STORE and CHECKPOINT beside theirs.
 const LIMITS: &str = "01000104 01090104 01010004 01014104 01010103 01010119 01084018 01000000 \
@@ -268,6 +313,11 @@ fn last_numbers() -> Start {
 /// Recovery, 27 on core 0, then the last two numbers on core 1 and 27 there too.
 const OPENS_LAST: &str = "070707 020000000001020304 020100010005060708 0301 0401 0401 0401 0501 0501 \
     020100020009090909 0301 020100020001010101 0401 0401 0401 06 07 07 07 020100000001020304";
+
+/// Over a disk as FORMAT leaves it: one RECOVER, then a transaction kept over a cut between two home stores.
+const AFTER_FORMAT: &str =
+    "020000000001020304 06 07 07 020000000001020304 020000010005060708 0300 0400 0400 0400 0400 \
+    06 07 06 07 07 07 020000000409090909 0300";
 
 fn write(core: u8, block: u16) -> Command {
     Command::Write { core, block, offset: core, data: [65 + core, block as u8, 0xC0, 0x3B] }
@@ -337,7 +387,7 @@ fn wrong_lengths(facts: &mut Facts) {
 impl Facts {
     fn new(folder: PathBuf) -> Facts {
         let (tapes, commands, answers) = ([0; 2], [0; 2], [0; 34]);
-        Facts { folder, text: HEAD.into(), commands_here: 0, files: 0, facts: 0, tapes, commands, answers }
+        Facts { folder, text: HEAD.into(), commands_here: 0, files: 0, facts: 0, told: 0, tapes, commands, answers }
     }
 
     /// A fact about a tape from a start on. Says the disk at the end.
@@ -349,6 +399,13 @@ impl Facts {
         self.tapes[is_down as usize] += 1;
         self.count(&ran.answers, is_down);
         self.put(&hex(tape), &left, &right);
+        if let Some(books) = start.of_books() {
+            self.told += 1;
+            self.commands_here += ran.answers.len();
+            for (left, right) in ran.told_facts(start, tape, &books) {
+                self.put(&format!("{} by the books", hex(tape)), &left, &right);
+            }
+        }
         ran.disk
     }
 
@@ -405,6 +462,24 @@ impl Facts {
         Ok(())
     }
 
+    /// The same of what the books tell: a checksum of memory, of a reading, of the book's area.
+    fn wrong_told(&self, start: &Start, tape: &[u8]) -> std::io::Result<()> {
+        let books = start.of_books().expect("a start of the books");
+        for i in 0..WRONG_TOLD {
+            let mut ran = Ran::new(start, tape);
+            match i {
+                0 => ran.marks[1].memory += 1,
+                1 => ran.marks[2].reading += 1,
+                _ => ran.area += 1,
+            }
+            let [marks, _, area] = ran.told_facts(start, tape, &books);
+            let (left, right) = if i < 2 { marks } else { area };
+            let text = fact_text(1, "told", &left, &right);
+            self.write_crate(&format!("wrong{}", WRONG.len() + i + 1), &format!("{HEAD}{text}"))?;
+        }
+        Ok(())
+    }
+
     /// A crate for each file, so that each is computed in a process of its own.
     fn end_file(&mut self) -> std::io::Result<()> {
         self.files += 1;
@@ -426,15 +501,16 @@ impl Facts {
     }
 
     fn crates(&self) -> String {
-        let facts: String = (1..=self.files).map(|i| format!("facts{i}: model seen\n")).collect();
-        let wrong: String = (1..=WRONG.len()).map(|i| format!("wrong{i}: model seen\n")).collect();
-        format!("model:\nseen: model\n{facts}{wrong}")
+        let facts: String = (1..=self.files).map(|i| format!("facts{i}: model crash seen\n")).collect();
+        let wrong = 1..=WRONG.len() + WRONG_TOLD;
+        let wrong: String = wrong.map(|i| format!("wrong{i}: model crash seen\n")).collect();
+        format!("model:\ncrash: model\nseen: model crash\n{facts}{wrong}")
     }
 
     fn report(&self) {
-        println!("{} facts in {} files", self.facts, self.files);
+        println!("{} facts in {} files; {} tapes by the books alone too", self.facts, self.files, self.told);
         println!("blank starts: {} tapes, {} commands", self.tapes[0], self.commands[0]);
-        println!("foreign disks: {} tapes, {} commands", self.tapes[1], self.commands[1]);
+        println!("down over a disk: {} tapes, {} commands", self.tapes[1], self.commands[1]);
         let met = self.answers.iter().enumerate().filter(|(_, count)| **count > 0);
         let met: Vec<String> = met.map(|(answer, count)| format!("{answer}: {count}")).collect();
         println!("answers met: {}", met.join(", "));
@@ -444,28 +520,59 @@ impl Facts {
     }
 }
 
-/// What a tape answered, and the card and slices at its end.
+/// Checksums after a command: of the memory that it wrote, and of a block read.
+struct Mark {
+    memory: u64,
+    reading: u64,
+}
+
+/// What a tape answered, and the card and slices at its end; the checksum of the service book's area.
 struct Ran {
     lines: Vec<String>,
     answers: Vec<u8>,
+    marks: Vec<Mark>,
     card: Card,
     disk: Vec<u8>,
     memory: Vec<u8>,
+    area: u64,
 }
 
 impl Ran {
     fn new(start: &Start, tape: &[u8]) -> Ran {
         let (card, disk, memory) = (start.card, start.disk.clone(), start.memory.clone());
-        let mut ran = Ran { lines: Vec::new(), answers: Vec::new(), card, disk, memory };
-        let (mut offset, mut stores) = (0, 0);
+        let (lines, answers, marks) = (Vec::new(), Vec::new(), Vec::new());
+        let mut ran = Ran { lines, answers, marks, card, disk, memory, area: 0 };
+        let (mut offset, mut stores, mut book) = (0, 0, start.book());
         while offset < tape.len() {
             let outcome = ran.card.command(&mut ran.disk, &mut ran.memory, tape, offset);
             stores += outcome.stores as usize;
             ran.lines.push(format!("line {offset} {} {} {stores}", tape[offset], outcome.answer));
             ran.answers.push(outcome.answer);
+            let read = command::read(tape, offset).ok().map(|(command, _)| command);
+            read.iter().for_each(|command| book.feed(*command, outcome.answer));
+            ran.mark(offset, read.filter(|_| outcome.answer == 0));
             offset = if matches!(outcome.answer, 2 | 3) { tape.len() } else { outcome.next };
         }
+        ran.area = checksum(book.area());
         ran
+    }
+
+    /// The block read is another at each offset.
+    fn mark(&mut self, offset: usize, done: Option<Command>) {
+        let memory = done.map_or(0, |command| checksum(touched(command, &self.memory)));
+        let is_up = self.card.phase == Phase::Up;
+        let block = offset % self.card.shape.or_smallest().blocks as usize;
+        let reading = if is_up { checksum(self.card.read_block(&self.disk, &self.memory, block)) } else { 0 };
+        self.marks.push(Mark { memory, reading });
+    }
+
+    /// Both sides of the equations with what ledger and service book tell; each is computed by itself.
+    fn told_facts(&self, start: &Start, tape: &[u8], books: &str) -> [(String, String); 3] {
+        let (against, memory) = changes(&start.memory, &self.memory);
+        let told = |field: &str| format!("(told {} ({books}) {against}) .{field}", byte_list(tape));
+        let mark = |(line, mark): (&String, &Mark)| format!("mark ({line}) {} {}", mark.memory, mark.reading);
+        let marks = list(self.lines.iter().zip(&self.marks).rev().map(mark).collect());
+        [(told("marks"), marks), (told("memory"), memory), (told("area"), self.area.to_string())]
     }
 
     /// Both sides of the equation: lines, home blocks, every byte, state and readings of some blocks at the end.
@@ -493,7 +600,22 @@ impl Ran {
 
 fn fact_text(number: usize, title: &str, left: &str, right: &str) -> String {
     let claim = format!("-- {title}\npub fact-{number} :\n    {left}\n    ≡ {right}");
-    format!("\n{claim}\nunfolding computes sees\nfact-{number} = refl\n")
+    format!("\n{claim}\nunfolding computes sees tells\nfact-{number} = refl\n")
+}
+
+/// The number that the definition `checksum` gives.
+fn checksum(bytes: &[u8]) -> u64 {
+    bytes.iter().fold(0, |n, byte| (n * 257 + *byte as u64 + 1) % 999_983)
+}
+
+/// The bytes of memory that WRITE and CLOSE write.
+fn touched(command: Command, memory: &[u8]) -> &[u8] {
+    let (from, count) = match command {
+        Command::Write { block, .. } => (block as usize, 1),
+        Command::Close { core } => (64 + TAKEN * core as usize, TAKEN),
+        _ => (0, 0),
+    };
+    &memory[from * BLOCK..(from + count) * BLOCK]
 }
 
 /// What to compare a slice with, its start or zero bytes, whichever leaves less to tell; and the blocks changed.
