@@ -1,7 +1,7 @@
 -- The claims about whole tapes. Each is a predicate of a card, a function of tape, offset and world, so that it can be proved of
 -- ours and refuted of others. They fix answers, stores with their bytes and count, memory, journals, the course of recovery,
 -- what reading gives, and the home area.
-use Prim.Native.Nat.{ℕ, _+_, _*_, _<_}
+use Prim.Native.Nat.{ℕ, _*_, _<_}
 use mathlib.Core.Path.{_≡_}
 use mathlib.Core.Logic.{_≢_}
 use mathlib.Core.List.{List, [], _∷_, map, List·Memᴰ}
@@ -116,23 +116,21 @@ pub record DoneAs (k : Command) (l : Ledger) (w : World) (o : Outcome World) : T
   pub memory : o .world .memory ≡ memoryAfter k l (w .memory)
   pub stores : o .stores ≡ storeCount k
 
--- a command of a run in the world w, with n stores before it
-pub record PointKept (n : ℕ) (l : Ledger) (w : World) (p : Point World) : Type 0 where
-  pub before : p .before ≡ w
+-- a command of a run in the world w
+pub record PointKept (l : Ledger) (w : World) (p : Point World) : Type 0 where
   pub between : Between l w
   pub answer : p .outcome .answer ≡ answerOf (p .read) l
   -- 'A refusal answers its number alone .. and changes no byte of any lent buffer and nothing in the card's state.'
   pub refused : p .outcome .answer ≢ 0 → p .outcome ≡ refusedWith (p .outcome .answer) w
   pub done : (k : Command) → p .read ≡ whole k → p .outcome .answer ≡ 0 → DoneAs k l w (p .outcome)
-  pub stores : p .stores ≡ n + p .outcome .stores
 
-abbrev pub LedgerKept : ℕ → Ledger → World → List (Point World) → Type 0
-LedgerKept n l w [] = Between l w
-LedgerKept n l w (p ∷ ps) = PointKept n l w p × LedgerKept (p .stores) (enteredPoint p l) (p .outcome .world) ps
+abbrev pub LedgerKept : Ledger → World → List (Point World) → Type 0
+LedgerKept l w [] = Between l w
+LedgerKept l w (p ∷ ps) = PointKept l w p × LedgerKept (enteredPoint p l) (p .outcome .world) ps
 
 -- Demands 1 and 2, and recovery.
 abbrev pub Demands : TapeStep World → Type 0
-Demands f = OnRuns StartFits startWorld f (λ (s : Start) (ps : List (Point World)). LedgerKept 0 (startLedger s) (startWorld s) ps)
+Demands f = OnRuns StartFits startWorld f (λ (s : Start) (ps : List (Point World)). LedgerKept (startLedger s) (startWorld s) ps)
 
 -- ---- reading: 'The library also reads a block of a card that is up.'
 -- a block below B has the area as the card came up with all writes since

@@ -202,7 +202,7 @@ module _ (t : Bytes) (w : World) (tape-bytes : IsBytes t) (disk-bytes : IsBytes 
   demands-met =
       record {
         claim = from-start (λ (s : Start) (w : World) (ps : List (Point World)). AreaKept (startService s) ps) claim;
-        demands = from-start (λ (s : Start) (w : World) (ps : List (Point World)). LedgerKept 0 (startLedger s) w ps) demands;
+        demands = from-start (λ (s : Start) (w : World) (ps : List (Point World)). LedgerKept (startLedger s) w ps) demands;
         readings = from-start (λ (s : Start) (w : World) (ps : List (Point World)). ReadingsKept readBlock (startLedger s) w ps) readings;
         largest = largest-kept;
       }

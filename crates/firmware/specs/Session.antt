@@ -51,7 +51,7 @@ partIn b w = let p = partOf b w in record { number = p .number; slice = p .slice
 -- that is down over a disk as FORMAT leaves it. Kept is the largest such set of every book.
 pub record DemandsMet (t : Bytes) (w : World) : Type 0 where
   pub claim : (s : Start) → Stated s → w ≡ startWorld s → AreaKept (startService s) (run stepAt t w)
-  pub demands : (s : Start) → Stated s → w ≡ startWorld s → LedgerKept 0 (startLedger s) w (run stepAt t w)
+  pub demands : (s : Start) → Stated s → w ≡ startWorld s → LedgerKept (startLedger s) w (run stepAt t w)
   pub readings : (s : Start) → Stated s → w ≡ startWorld s → ReadingsKept readBlock (startLedger s) w (run stepAt t w)
   pub largest : (k : Book) → LargestKept k
 

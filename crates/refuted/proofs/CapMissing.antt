@@ -72,13 +72,13 @@ module _ (f : TapeStep World) (k : Command) (b : ℕ) (is : decoded b [] ≡ som
     p = pointAt f t at n w
 
     record DoneThen : Type 0 where
-      kept : PointKept n l w p
+      kept : PointKept l w p
       answer : p .outcome .answer ≡ 0
       rest : List (Point World)
       runs : Runs f t (at + 1) (p .stores) (p .outcome .world) rest
-      ledger : LedgerKept (p .stores) (carriedOut k l) (p .outcome .world) rest
+      ledger : LedgerKept (carriedOut k l) (p .outcome .world) rest
 
-    answered : PointKept n l w p → refusal (refusalsOf k l) ≡ 0 → p .outcome .answer ≡ 0
+    answered : PointKept l w p → refusal (refusalsOf k l) ≡ 0 → p .outcome .answer ≡ 0
     unfolding answerOf
     answered h z = h .answer ∙ ap (λ (r : Read). answerOf r l) read-is ∙ z
 
@@ -86,23 +86,23 @@ module _ (f : TapeStep World) (k : Command) (b : ℕ) (is : decoded b [] ≡ som
     unfolding enteredPoint heard entered
     entered-is a = ap (λ (r : Read). heard entered r (p .outcome .answer) l) read-is ∙ ap (λ (n : ℕ). entered k n l) a
 
-    done-then : (ps : List (Point World)) → Runs f t at n w ps → LedgerKept n l w ps → refusal (refusalsOf k l) ≡ 0 → DoneThen
+    done-then : (ps : List (Point World)) → Runs f t at n w ps → LedgerKept l w ps → refusal (refusalsOf k l) ≡ 0 → DoneThen
     done-then [] (at-end h) m z = absurd (omega (arith, on-tape))
     done-then (q ∷ qs) (one-more h e r) m z =
         let r₁ : Runs f t (nextOffset t at) (p .stores) (p .outcome .world) qs = subst (λ (q : Point World). Runs f t (nextOffset t at) (q .stores) (q .outcome .world) qs) e r in
-        let m₁ : LedgerKept n l w (p ∷ qs) = subst (λ (q : Point World). LedgerKept n l w (q ∷ qs)) e m in
+        let m₁ : LedgerKept l w (p ∷ qs) = subst (λ (q : Point World). LedgerKept l w (q ∷ qs)) e m in
         let a = answered (m₁ .0) z in
         record {
           kept = m₁ .0;
           answer = a;
           rest = qs;
           runs = subst (λ (i : ℕ). Runs f t i (p .stores) (p .outcome .world) qs) next-is r₁;
-          ledger = subst (λ (l : Ledger). LedgerKept (p .stores) l (p .outcome .world) qs) (entered-is a) (m₁ .1);
+          ledger = subst (λ (l : Ledger). LedgerKept l (p .outcome .world) qs) (entered-is a) (m₁ .1);
         }
 
-between-first : (n : ℕ) (l : Ledger) (w : World) (ps : List (Point World)) → LedgerKept n l w ps → Between l w
-between-first n l w [] h = h
-between-first n l w (p ∷ ps) h = h .0 .between
+between-first : (l : Ledger) (w : World) (ps : List (Point World)) → LedgerKept l w ps → Between l w
+between-first l w [] h = h
+between-first l w (p ∷ ps) h = h .0 .between
 
 -- ---- the ledgers on the way
 abbrev small : Shape
@@ -205,7 +205,7 @@ module _ (t : Bytes) where
   abbrev Refuted : ℕ → Type 0
   Refuted k =
       (at n : ℕ) (first : ℕ → ℕ) (w : World) (ps : List (Point World)) → first 0 + k ≡ suc maxNumber → drop at t ≡ rounds (suc k)
-      → Runs card t at n w ps → LedgerKept n (downBy first) w ps → ⊥
+      → Runs card t at n w ps → LedgerKept (downBy first) w ps → ⊥
 
   refuted-last : Refuted 0
   unfolding rounds commandAt obeyed cutLedger freshLedger
@@ -215,7 +215,7 @@ module _ (t : Bytes) where
       let o = card t at w in
       let phase : w .card .phase ≡ Down = x .kept .between .phase in
       let after : Between (freshLedger small [] (raised first)) (o .world) =
-      subst (λ (l : Ledger). Between l (o .world)) (recover-enters first) (between-first _ _ _ (x .rest) (x .ledger)) in
+      subst (λ (l : Ledger). Between l (o .world)) (recover-enters first) (between-first _ _ (x .rest) (x .ledger)) in
       let reached : o ≡ capMissing RECOVER w = done-of ((wrongLength w, 1) ∷ []) w (obeyed capMissing (readAt t at) w) (x .answer) ∙ ap (λ (r : Read). obeyed capMissing r w) r in
       let last : o ≡ recoverStepBy newestImage (tailBy unbounded) (blocksLeft w) w =
       reached ∙ done-of (recoverConditions w) w _ (sym (ap (λ (o : Outcome World). o .answer) reached) ∙ x .answer) in
@@ -234,11 +234,11 @@ module _ (t : Bytes) where
       let left₁ = left-next card RECOVER 7 is-seven bare-seven t at (6 ∷ ks) left in
       let p = pointAt card t at n w in
       let y = done-then card CUT 6 is-six bare-six t (at + 1) ks left₁ (p .stores) (p .outcome .world) (freshLedger small [] (raised first)) (x .rest) (x .runs)
-      (subst (λ (l : Ledger). LedgerKept (p .stores) l (p .outcome .world) (x .rest)) (recover-enters first) (x .ledger)) (cut-answer (raised first)) in
+      (subst (λ (l : Ledger). LedgerKept l (p .outcome .world) (x .rest)) (recover-enters first) (x .ledger)) (cut-answer (raised first)) in
       let q = pointAt card t (at + 1) (p .stores) (p .outcome .world) in
       ih (at + 1 + 1) (q .stores) (raised first) (q .outcome .world) (y .rest) (omega arith)
       (left-next card CUT 6 is-six bare-six t (at + 1) ks left₁) (y .runs)
-      (subst (λ (l : Ledger). LedgerKept (q .stores) l (q .outcome .world) (y .rest)) (cut-enters (raised first)) (y .ledger))
+      (subst (λ (l : Ledger). LedgerKept l (q .outcome .world) (y .rest)) (cut-enters (raised first)) (y .ledger))
 
   refuted : (k : ℕ) → Refuted k
   refuted zero = refuted-last

@@ -100,16 +100,16 @@ area-holds v (p ∷ ps) h = and-both (asked (comesUp p) (λ e. same-bytes (h .0 
 -- ---- demands 1 and 2, and the course of recovery
 -- a test of one point that follows from what is demanded of it
 pub record Check : Type 0 where
-  pub test : Ledger → Point World → Bool
-  pub follows : (n : ℕ) (l : Ledger) (p : Point World) → PointKept n l (p .before) p → test l p ≡ true
+  pub test : Ledger → World → Point World → Bool
+  pub follows : (l : Ledger) (w : World) (p : Point World) → PointKept l w p → test l w p ≡ true
 
 -- demand 1: the answer is the ledger's
-unfoldable pub answerTest : Ledger → Point World → Bool
-answerTest l p = eqb (p .outcome .answer) (answerOf (p .read) l)
+unfoldable pub answerTest : Ledger → World → Point World → Bool
+answerTest l w p = eqb (p .outcome .answer) (answerOf (p .read) l)
 
-pub answer-follows : (n : ℕ) (l : Ledger) (p : Point World) → PointKept n l (p .before) p → answerTest l p ≡ true
+pub answer-follows : (l : Ledger) (w : World) (p : Point World) → PointKept l w p → answerTest l w p ≡ true
 unfolding answerTest
-answer-follows n l p k = eq-eqb _ _ (k .answer)
+answer-follows l w p k = eq-eqb _ _ (k .answer)
 
 abbrev pub answerCheck : Check
 answerCheck = record { test = answerTest; follows = answer-follows }
@@ -128,12 +128,12 @@ same-world : (s : Shape) {w v : World} → w ≡ v → sameWorld s w v ≡ true
 unfolding sameWorld
 same-world s e = and-both (same-bytes (ap (λ (w : World). take (usedBytes s) (w .disk)) e)) (same-bytes (ap (λ (w : World). take (imageBytes s) (w .memory)) e))
 
-unfoldable pub refusedTest : Ledger → Point World → Bool
-refusedTest l p = cond (eqb (p .outcome .answer) 0) true (eqb (p .outcome .stores) 0 && sameWorld (l .shape) (p .outcome .world) (p .before))
+unfoldable pub refusedTest : Ledger → World → Point World → Bool
+refusedTest l w p = cond (eqb (p .outcome .answer) 0) true (eqb (p .outcome .stores) 0 && sameWorld (l .shape) (p .outcome .world) w)
 
-pub refused-follows : (n : ℕ) (l : Ledger) (p : Point World) → PointKept n l (p .before) p → refusedTest l p ≡ true
+pub refused-follows : (l : Ledger) (w : World) (p : Point World) → PointKept l w p → refusedTest l w p ≡ true
 unfolding refusedTest
-refused-follows n l p k =
+refused-follows l w p k =
     asked-not (eqb (p .outcome .answer) 0)
     (λ e.
     let r = k .refused (eqb-false _ _ e) in
@@ -156,13 +156,13 @@ of-done test (whole k) (suc n) h = refl
 of-done test unknown n h = refl
 of-done test early n h = refl
 
-abbrev pub doneTest : (Command → Ledger → World → Outcome World → Bool) → Ledger → Point World → Bool
-doneTest test l p = ofDone (λ (k : Command). test k l (p .before) (p .outcome)) (p .read) (p .outcome .answer)
+abbrev pub doneTest : (Command → Ledger → World → Outcome World → Bool) → Ledger → World → Point World → Bool
+doneTest test l w p = ofDone (λ (k : Command). test k l w (p .outcome)) (p .read) (p .outcome .answer)
 
 pub done-follows : (test : Command → Ledger → World → Outcome World → Bool)
     → ((k : Command) (l : Ledger) (w : World) (o : Outcome World) → DoneAs k l w o → test k l w o ≡ true)
-    → (n : ℕ) (l : Ledger) (p : Point World) → PointKept n l (p .before) p → doneTest test l p ≡ true
-done-follows test h n l p k = of-done _ (p .read) (p .outcome .answer) (λ c r z. h c l (p .before) (p .outcome) (k .done c r z))
+    → (l : Ledger) (w : World) (p : Point World) → PointKept l w p → doneTest test l w p ≡ true
+done-follows test h l w p k = of-done _ (p .read) (p .outcome .answer) (λ c r z. h c l w (p .outcome) (k .done c r z))
 
 -- demand 2: the stores counted
 unfoldable pub countTest : Command → Ledger → World → Outcome World → Bool
@@ -198,15 +198,14 @@ abbrev pub left-in-memory : Check
 left-in-memory = record { test = doneTest memoryTest; follows = done-follows memoryTest memory-follows }
 
 -- at every point of a run
-unfoldable pub holds : (Ledger → Point World → Bool) → Ledger → List (Point World) → Bool
-holds test l [] = true
-holds test l (p ∷ ps) = test l p && holds test (enteredPoint p l) ps
+unfoldable pub holds : (Ledger → World → Point World → Bool) → Ledger → World → List (Point World) → Bool
+holds test l w [] = true
+holds test l w (p ∷ ps) = test l w p && holds test (enteredPoint p l) (p .outcome .world) ps
 
-kept-holds : (c : Check) (n : ℕ) (l : Ledger) (w : World) (ps : List (Point World)) → LedgerKept n l w ps → holds (c .test) l ps ≡ true
+kept-holds : (c : Check) (l : Ledger) (w : World) (ps : List (Point World)) → LedgerKept l w ps → holds (c .test) l w ps ≡ true
 unfolding holds
-kept-holds c n l w [] h = refl
-kept-holds c n l w (p ∷ ps) h =
-    and-both (c .follows n l p (subst (λ (w : World). PointKept n l w p) (sym (h .0 .before)) (h .0))) (kept-holds c _ _ _ ps (h .1))
+kept-holds c l w [] h = refl
+kept-holds c l w (p ∷ ps) h = and-both (c .follows l w p (h .0)) (kept-holds c _ _ ps (h .1))
 
 -- ---- reading
 unfoldable pub readsTest : (ℕ → World → Bytes) → Ledger → World → Bool
@@ -256,9 +255,9 @@ module _ (f : TapeStep World) (t : Bytes) where
   unfolding blankWorld startWorld startService
   claim-holds k h = area-holds _ _ (k t h blankStart blank-fits)
 
-  pub demands-hold : Demands f → (c : Check) → IsBytes t → holds (c .test) blankLedger (run f t blankWorld) ≡ true
+  pub demands-hold : Demands f → (c : Check) → IsBytes t → holds (c .test) blankLedger blankWorld (run f t blankWorld) ≡ true
   unfolding blankWorld startWorld startLedger
-  demands-hold k c h = kept-holds c _ _ _ _ (k t h blankStart blank-fits)
+  demands-hold k c h = kept-holds c _ _ _ (k t h blankStart blank-fits)
 
   pub readings-hold : (read : ℕ → World → Bytes) → Readings read f → IsBytes t → readsHold read blankLedger blankWorld (run f t blankWorld) ≡ true
   unfolding blankWorld startWorld startLedger
@@ -277,7 +276,7 @@ failed t passed h k = clash (k (and-left (areBytes t) _ h)) (not-true _ (and-rig
 pub refutes-claim : (f : TapeStep World) (t : Bytes) → Fails t (areaHolds (emptyService 0) (run f t blankWorld)) → Claim f → ⊥
 refutes-claim f t h k = failed t _ h (claim-holds f t k)
 
-pub refutes-demands : (f : TapeStep World) (c : Check) (t : Bytes) → Fails t (holds (c .test) blankLedger (run f t blankWorld)) → Demands f → ⊥
+pub refutes-demands : (f : TapeStep World) (c : Check) (t : Bytes) → Fails t (holds (c .test) blankLedger blankWorld (run f t blankWorld)) → Demands f → ⊥
 refutes-demands f c t h k = failed t _ h (demands-hold f t k c)
 
 pub refutes-readings : (read : ℕ → World → Bytes) (f : TapeStep World) (t : Bytes)
@@ -288,7 +287,7 @@ refutes-readings read f t h k = failed t _ h (readings-hold f t read k)
 pub passes-area : (t : Bytes) → IsBytes t → areaHolds (emptyService 0) (run stepAt t blankWorld) ≡ true
 passes-area t = claim-holds stepAt t claim
 
-pub passes-check : (c : Check) (t : Bytes) → IsBytes t → holds (c .test) blankLedger (run stepAt t blankWorld) ≡ true
+pub passes-check : (c : Check) (t : Bytes) → IsBytes t → holds (c .test) blankLedger blankWorld (run stepAt t blankWorld) ≡ true
 passes-check c t = demands-hold stepAt t demands c
 
 pub passes-readings : (t : Bytes) → IsBytes t → readsHold readBlock blankLedger blankWorld (run stepAt t blankWorld) ≡ true

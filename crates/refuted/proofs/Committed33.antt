@@ -196,7 +196,7 @@ pub claim-33 : Claim (onTape onlyCommitted33)
 claim-33 t b s h = subst (AreaKept (startService s)) (same-runs t b s h) (claim t b s h)
 
 pub demands-33 : Demands (onTape onlyCommitted33)
-demands-33 t b s h = subst (LedgerKept 0 (startLedger s) (startWorld s)) (same-runs t b s h) (demands t b s h)
+demands-33 t b s h = subst (LedgerKept (startLedger s) (startWorld s)) (same-runs t b s h) (demands t b s h)
 
 pub readings-33 : Readings readBlock (onTape onlyCommitted33)
 readings-33 t b s h = subst (ReadingsKept readBlock (startLedger s) (startWorld s)) (same-runs t b s h) (readings t b s h)

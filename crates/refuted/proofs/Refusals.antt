@@ -23,7 +23,7 @@ use Rattle.refuted.proofs.Checks.{answerTest, answerCheck, holds, decid
 use Rattle.refuted.proofs.Tapes.{tests, format, write, close, stores, checkpoints, cut, recovers, thirteenth}
 
 unfoldable failsAnswers : Step World → Bytes → Bool
-failsAnswers f t = areBytes t && not (holds answerTest blankLedger (run (onTape f) t blankWorld))
+failsAnswers f t = areBytes t && not (holds answerTest blankLedger blankWorld (run (onTape f) t blankWorld))
 
 -- ---- under its condition: of each number a tape whose last command meets it
 abbrev pub conditionTapes : List (ℕ × Bytes)

@@ -195,12 +195,12 @@ journals-once l d h r =
     ∙ stored-once l c h)
 
 -- ---- along a run
-along : (n : ℕ) (l : Ledger) (w : World) (ps : List (Point World)) → NamesOnce (l .book) → LedgerKept n l w ps → OnceAlong l w ps
-along n l w [] h k = (h, λ b. journals-once l (w .disk) h (k .journals b))
-along n l w (p ∷ ps) h k = (
+along : (l : Ledger) (w : World) (ps : List (Point World)) → NamesOnce (l .book) → LedgerKept l w ps → OnceAlong l w ps
+along l w [] h k = (h, λ b. journals-once l (w .disk) h (k .journals b))
+along l w (p ∷ ps) h k = (
   h,
   λ b. journals-once l (w .disk) h (k .0 .between .journals b),
-  along (p .stores) (enteredPoint p l) (p .outcome .world) ps (unfold enteredPoint in heard-once (λ (l : Ledger). l .book) entered entered-once (p .read) (p .outcome .answer) l h) (k .1),
+  along (enteredPoint p l) (p .outcome .world) ps (unfold enteredPoint in heard-once (λ (l : Ledger). l .book) entered entered-once (p .read) (p .outcome .answer) l h) (k .1),
 )
 
 served-along : (v : Service) (ps : List (Point World)) → NamesOnce (v .book) → OnceServed v ps
@@ -220,4 +220,4 @@ start-once (from-down s m) = empty-once _
 
 -- In every run, from a blank card and from one that is down over a formatted disk: no list has a name twice.
 pub names-once : OnRuns StartFits startWorld stepAt (λ (s : Start) (ps : List (Point World)). OnceAlong (startLedger s) (startWorld s) ps)
-names-once t b s h = along 0 (startLedger s) (startWorld s) (run stepAt t (startWorld s)) (start-once s) (demands t b s h)
+names-once t b s h = along (startLedger s) (startWorld s) (run stepAt t (startWorld s)) (start-once s) (demands t b s h)

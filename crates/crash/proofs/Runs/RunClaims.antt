@@ -136,13 +136,13 @@ module _ (Related : Ledger → World → Type 0) where
 
   module _ (r : Simulation Related) (f : TapeStep World) (go : CardKeeps f) where
     -- Demands 1 and 2 and the course of recovery, at every point of a run.
-    ledger-kept : (t : Bytes) → IsBytes t → {at n : ℕ} {l : Ledger} {w : World} {ps : List (Point World)} → Related l w → Runs f t at n w ps → LedgerKept n l w ps
+    ledger-kept : (t : Bytes) → IsBytes t → {at n : ℕ} {l : Ledger} {w : World} {ps : List (Point World)} → Related l w → Runs f t at n w ps → LedgerKept l w ps
     unfolding enteredPoint
     ledger-kept t b {l = l} {w = w} here (at-end h) = r .between l w here
     ledger-kept t b {at} {n} {l} {w} here (one-more {p = p} {ps = ps} h e rest) =
         let g = go t b at l w here in (
-          subst (PointKept n l w) (sym e)
-              (record { before = refl; between = r .between l w here; answer = g .answer; refused = g .refused; done = g .done; stores = refl }),
+          subst (PointKept l w) (sym e)
+              (record { between = r .between l w here; answer = g .answer; refused = g .refused; done = g .done }),
           ledger-kept t b (subst (λ (p : Point World). Related (heard entered (p .read) (p .outcome .answer) l) (p .outcome .world)) (sym e) (g .next)) rest,
         )
 
