@@ -1,6 +1,7 @@
 -- The claims about whole tapes. Each is a predicate of a card, a function of tape, offset and world, so that it can be proved of
 -- ours and refuted of others. They fix answers, stores with their bytes and count, memory, journals, the course of recovery,
--- what reading gives, and the home area.
+-- what reading gives, and the home area. Of the card's state they fix whether it is blank, up or down, and that a refusal
+-- changes nothing; all of it is fixed, one command at a time, by `DecidesEach`.
 use Prim.Native.Nat.{ℕ, _+_, _*_, _<_}
 use mathlib.Core.Path.{_≡_}
 use mathlib.Core.Logic.{_≢_}
@@ -116,7 +117,7 @@ pub record DoneAs (k : Command) (l : Ledger) (w : World) (o : Outcome World) : T
   pub memory : o .world .memory ≡ memoryAfter k l (w .memory)
   pub stores : o .stores ≡ storeCount k
 
--- a command of a run in the world w, with n stores before it
+-- a command of a run in the world w, with n stores before it (`before` and `stores` hold of every run, by its definition)
 pub record PointKept (n : ℕ) (l : Ledger) (w : World) (p : Point World) : Type 0 where
   pub before : p .before ≡ w
   pub between : Between l w
