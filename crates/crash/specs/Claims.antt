@@ -1,6 +1,7 @@
 -- The claims about whole tapes. Each is a predicate of a card, a function of tape, offset and world, so that it can be proved of
 -- ours and refuted of others. They fix answers, stores with their bytes and count, memory, journals, the course of recovery,
--- what reading gives, and the home area.
+-- what reading gives, and the home area. Of the card's state they fix whether it is blank, up or down, and that a refusal
+-- changes nothing; all of it is fixed, one command at a time, by `DecidesEach`.
 use Prim.Native.Nat.{ℕ, _*_, _<_}
 use mathlib.Core.Path.{_≡_}
 use mathlib.Core.Logic.{_≢_}

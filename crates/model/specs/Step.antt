@@ -38,7 +38,8 @@ step k w = unless (conditionsOf k w) w (doneBy k w)
 unfoldable pub stepAt : TapeStep World
 stepAt = commandAt wrongLength step
 
--- ---- demand 1 for one command, of any card over any tape, disk, memory and card state: '1, 2, 3, then' the command's own
+-- ---- demand 1 for one command, of any card over any tape, disk, memory and card state: '1, 2, 3, then' the command's own. Where
+-- no condition holds, what the card makes of the command is what is defined, in every byte and in its whole state.
 unfoldable pub conditionsOn : Read → World → List (Bool × ℕ)
 conditionsOn (whole k) w = conditionsOf k w
 conditionsOn unknown w = (wrongLength w, 1) ∷ (true, 2) ∷ []

@@ -1,5 +1,5 @@
 -- For CHECKPOINT and RECOVER: the slots that were read have the entries of the journals, what was struck of them is the valid
--- set, and 'shares a block with one of lower stamp' asked of the slots was asked of all.
+-- set, and whether one of lower stamp shares a block, asked of the slots, was asked of all.
 use Rattle.model.proofs.Base.{ℕ, _<_, arith, _≡_, ap, _∙_, List, [], getD, lt-ltb, any, Bytes}
 use Rattle.model.specs.Journal.{journal, journals}
 use Rattle.model.specs.Valid.{validSet}

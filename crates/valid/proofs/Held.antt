@@ -1,4 +1,4 @@
--- 'They share a block' and 'it has a lower stamp and shares one' are what the loops over blocks answer. The lowest block from
+-- The loops over blocks answer whether two share a block, and whether one has a lower stamp and shares one. The lowest block from
 -- a place on that a set holds is found where the first test succeeds.
 use Rattle.model.proofs.Base.{ℕ, zero, suc, _+_, _≤_, _<_, arith, decLt, _≡_, refl, sym, ap, _∙_, Bool, true, false, _||_}
 use Rattle.model.proofs.Base.{true≢false, List, [], _∷_, _++_, map, append-assoc, List·Memᴰ, List·Memᴰ·head, List·Memᴰ·tail, eqb}
