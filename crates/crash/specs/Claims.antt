@@ -13,20 +13,20 @@ use Rattle.model.specs.Limits.{blockSize, diskSize, memorySize}
 use Rattle.model.specs.Lists.{below, all}
 use Rattle.model.specs.Bytes.{Bytes, part}
 use Rattle.model.specs.Shape.{inRange}
-use Rattle.model.specs.Card.{isBlank, isUp, blankCard, downCard}
+use Rattle.model.specs.Card.{isBlank, blankCard, downCard}
 use Rattle.model.specs.Journal.{journal, nameOf, blocksOf, namesOf, imageOf}
 use Rattle.model.specs.Shrink.{Within, DependsOn}
-use Rattle.model.specs.Command.{Outcome, refusedWith, World}
+use Rattle.model.specs.Command.{Outcome, refusal, refusedWith, World}
 use Rattle.model.specs.Tape.{Command, RECOVER, whole, TapeStep, Point, run, heard}
 use Rattle.model.specs.Format.{formatted}
 use Rattle.model.specs.Recovery.{shapeOn, tailOn}
-use Rattle.model.specs.Reading.{readNumber}
+use Rattle.model.specs.Reading.{Reader, readNumber}
 use Rattle.model.specs.declared.Committed.{Committed}
 use Rattle.model.specs.declared.Shape.{Shape}
 use Rattle.model.specs.declared.Name.{Name}
 use Rattle.crash.specs.Book.{Book, committedIn, kept}
 use Rattle.crash.specs.Service.{Service, emptyService, fed, bookArea}
-use Rattle.crash.specs.Ledger.{Ledger, Stored, freshLedger, blankLedger, imageNow, cutLedger, entered, storedSince, answerOf, diskAfter, memoryAfter, storeCount}
+use Rattle.crash.specs.Ledger.{Ledger, Stored, freshLedger, blankLedger, cutLedger, entered, storedSince, answerOf, diskAfter, memoryAfter, storeCount, readRefusals, readNow}
 
 abbrev pub IsBytes : Bytes → Type 0
 IsBytes s = all (λ (x : ℕ). ltb x 256) s ≡ true
@@ -134,17 +134,17 @@ abbrev pub Demands : TapeStep World → Type 0
 Demands f = OnRuns StartFits startWorld f (λ (s : Start) (ps : List (Point World)). LedgerKept (startLedger s) (startWorld s) ps)
 
 -- ---- reading: 'The library also reads a block of a card that is up.'
--- a block below B has the area as the card came up with all writes since
-abbrev pub ReadsNow : (ℕ → World → Bytes) → Ledger → World → Type 0
-ReadsNow read l w = isUp (w .card .phase) ≡ true → (b : ℕ) → b < l .shape .blocks → read b w ≡ imageNow l b
+-- of every block the number and the bytes are the ledger's
+abbrev pub ReadsNow : Reader → Ledger → World → Type 0
+ReadsNow r l w = (b : ℕ) → (r .number b w ≡ refusal (readRefusals b l)) × (r .bytes b w ≡ readNow b l)
 
 -- before every command and after the last
-abbrev pub ReadingsKept : (ℕ → World → Bytes) → Ledger → World → List (Point World) → Type 0
-ReadingsKept read l w [] = ReadsNow read l w
-ReadingsKept read l w (p ∷ ps) = ReadsNow read l w × ReadingsKept read (enteredPoint p l) (p .outcome .world) ps
+abbrev pub ReadingsKept : Reader → Ledger → World → List (Point World) → Type 0
+ReadingsKept r l w [] = ReadsNow r l w
+ReadingsKept r l w (p ∷ ps) = ReadsNow r l w × ReadingsKept r (enteredPoint p l) (p .outcome .world) ps
 
-abbrev pub Readings : (ℕ → World → Bytes) → TapeStep World → Type 0
-Readings read f = OnRuns StartFits startWorld f (λ (s : Start) (ps : List (Point World)). ReadingsKept read (startLedger s) (startWorld s) ps)
+abbrev pub Readings : Reader → TapeStep World → Type 0
+Readings r f = OnRuns StartFits startWorld f (λ (s : Start) (ps : List (Point World)). ReadingsKept r (startLedger s) (startWorld s) ps)
 
 -- ---- 'Kept is the largest set .. in which each has all that it depends on there: every other such set lies in it.'
 abbrev pub Lists : Book → Name → Name → Type 0

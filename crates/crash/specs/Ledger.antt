@@ -345,3 +345,11 @@ unfoldable pub answerOf : Read → Ledger → ℕ
 answerOf (whole k) l = refusal (refusalsOf k l)
 answerOf unknown l = 2
 answerOf early l = 3
+
+-- ---- reading a block: its conditions, and what is handed back
+unfoldable pub readRefusals : ℕ → Ledger → List (Bool × ℕ)
+readRefusals b l = (isBlank (l .phase), 20) ∷ (isDown (l .phase), 22) ∷ (leb (l .shape .blocks) b, 6) ∷ []
+
+-- a block below B has the area as the card came up with all writes since; 'A refused reading hands back a part of no bytes'
+unfoldable pub readNow : ℕ → Ledger → Bytes
+readNow b l = cond (eqb (refusal (readRefusals b l)) 0) (imageNow l b) []

@@ -11,7 +11,7 @@ use Rattle.model.specs.Bytes.{Bytes}
 use Rattle.model.specs.Shape.{homeBlock}
 use Rattle.model.specs.Card.{holderOf, coreOf}
 use Rattle.model.specs.Command.{World, Outcome, Decided, refused, carried-out}
-use Rattle.model.specs.Reading.{readNumber, readBlock}
+use Rattle.model.specs.Reading.{readNumber, readBlock, blockReader}
 use Rattle.model.specs.Tape.{Point, commandByte, nextOffset, run, worldAfter, CHECKPOINT, CLOSE, CUT, Command, FORMAT, RECOVER, Read, STORE, WRITE, early, readAt, unknown, whole}
 use Rattle.model.specs.declared.Card.{Card}
 use Rattle.model.specs.Format.{formatted}
@@ -203,7 +203,7 @@ module _ (t : Bytes) (w : World) (tape-bytes : IsBytes t) (disk-bytes : IsBytes 
       record {
         claim = from-start (λ (s : Start) (w : World) (ps : List (Point World)). AreaKept (startService s) ps) claim;
         demands = from-start (λ (s : Start) (w : World) (ps : List (Point World)). LedgerKept (startLedger s) w ps) demands;
-        readings = from-start (λ (s : Start) (w : World) (ps : List (Point World)). ReadingsKept readBlock (startLedger s) w ps) readings;
+        readings = from-start (λ (s : Start) (w : World) (ps : List (Point World)). ReadingsKept blockReader (startLedger s) w ps) readings;
         largest = largest-kept;
       }
 

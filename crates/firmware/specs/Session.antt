@@ -9,7 +9,7 @@ use lib.Dec.{eqb}
 use Rattle.model.specs.Lists.{all}
 use Rattle.model.specs.Bytes.{Bytes}
 use Rattle.model.specs.Command.{World}
-use Rattle.model.specs.Reading.{readBlock}
+use Rattle.model.specs.Reading.{readBlock, blockReader}
 use Rattle.model.specs.Tape.{Point, commandByte, nextOffset, run, worldAfter}
 use Rattle.model.specs.Step.{stepAt}
 use Rattle.model.specs.declared.Shape.{Shape}
@@ -52,7 +52,7 @@ partIn b w = let p = partOf b w in record { number = p .number; slice = p .slice
 pub record DemandsMet (t : Bytes) (w : World) : Type 0 where
   pub claim : (s : Start) → Stated s → w ≡ startWorld s → AreaKept (startService s) (run stepAt t w)
   pub demands : (s : Start) → Stated s → w ≡ startWorld s → LedgerKept (startLedger s) w (run stepAt t w)
-  pub readings : (s : Start) → Stated s → w ≡ startWorld s → ReadingsKept readBlock (startLedger s) w (run stepAt t w)
+  pub readings : (s : Start) → Stated s → w ≡ startWorld s → ReadingsKept blockReader (startLedger s) w (run stepAt t w)
   pub largest : (k : Book) → LargestKept k
 
 -- The command at an offset of a tape t, over the cells v, the disk d and memory m, left u, e and k: what it performs, its byte, and

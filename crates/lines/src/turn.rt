@@ -3,7 +3,7 @@ ghost use Prim.Native.Nat.{_≤_};
 ghost use mathlib.Core.Path.{_≡_};
 ghost use lib.ListN.{length};
 ghost use Rattle.model.specs.Bytes.{Bytes};
-ghost use Rattle.model.specs.Tape.{readAt};
+ghost use Rattle.model.specs.Tape.{readAt, nextOffset};
 ghost use Rattle.model.proofs.OwnBytes.{ownBytes};
 ghost use Rattle.lines.specs.Lines.{isWhole, advanced, Turned};
 
@@ -50,6 +50,7 @@ pub fn run_command(
     ensures { λ r. ⌜
         ((t : Bytes) → ownBytes t offset ≡ ownBytes (now (read .entry)) 0
         → Turned t offset (now (w .entry)) (now (disk .entry)) (now (memory .entry)) (now (w .exit)) (now (disk .exit)) (now (memory .exit)) r)
+        × (r .taken ≡ nextOffset (now (read .entry)) 0)
         × (r .taken ≤ length (now (read .entry)))
         ⌝ }
 {

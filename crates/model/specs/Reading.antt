@@ -8,6 +8,11 @@ use Rattle.model.specs.Shape.{homeBlock}
 use Rattle.model.specs.Card.{holderOf}
 use Rattle.model.specs.Command.{World, refusal, notUp, noBlock}
 
+-- a reader: the number that it answers for a block, and the bytes that it hands back
+pub record Reader : Type 0 where
+  pub number : ℕ → World → ℕ
+  pub bytes : ℕ → World → Bytes
+
 unfoldable pub readConditions : ℕ → World → List (Bool × ℕ)
 readConditions b w = notUp w ((noBlock w b, 6) ∷ [])
 
@@ -20,3 +25,6 @@ readNumber b w = refusal (readConditions b w)
 unfoldable pub readBlock : ℕ → World → Bytes
 readBlock b w =
     cond (eqb (readNumber b w) 0) (cond ((holderOf (w .card) b) .held) (blockAt (w .memory) b) (blockAt (w .disk) (homeBlock b))) []
+
+abbrev pub blockReader : Reader
+blockReader = record { number = readNumber; bytes = readBlock }

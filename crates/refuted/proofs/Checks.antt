@@ -9,17 +9,16 @@ use lib.Dec.{eqb, ltb}
 use borrow.Author.Tests.{eqb-true, eqb-false, eq-eqb, not-true}
 use Rattle.model.specs.Lists.{all, below}
 use Rattle.model.specs.Bytes.{Bytes, zeroDisk, zeroMemory}
-use Rattle.model.specs.Card.{isUp}
 use Rattle.model.specs.Command.{Outcome, refusal, Decided, refused, carried-out, World}
-use Rattle.model.specs.Reading.{readNumber, readBlock}
+use Rattle.model.specs.Reading.{readNumber, Reader, blockReader}
 use Rattle.model.specs.Tape.{Command, FORMAT, WRITE, CLOSE, STORE, CHECKPOINT, CUT, RECOVER, Read, whole, unknown, early, readAt, TapeStep, Point, run}
 use Rattle.model.specs.Step.{stepAt, conditionsOn, DecidesEach}
 use Rattle.model.specs.Printing.{blankWorld}
 use Rattle.model.specs.declared.Shape.{Shape}
-use Rattle.model.proofs.Lists.{and-both, and-left, and-right, mem-all, mem-below}
+use Rattle.model.proofs.Lists.{and-both, and-left, and-right, mem-all}
 use Rattle.model.proofs.Command.{first-refusal, clear-refusal, read-answer, command-decided}
 use Rattle.crash.specs.Service.{Service, emptyService, bookArea}
-use Rattle.crash.specs.Ledger.{Ledger, blankLedger, imageNow, answerOf, diskAfter, memoryAfter, storeCount}
+use Rattle.crash.specs.Ledger.{Ledger, blankLedger, answerOf, diskAfter, memoryAfter, storeCount, readNow, readRefusals}
 use Rattle.crash.specs.Claims.{IsBytes, Start, from-blank, startWorld, startService, startLedger, StartFits, ComesUp, homeArea, fedPoint, AreaKept, Claim, enteredPoint, DoneAs, PointKept, LedgerKept, Demands, ReadsNow, ReadingsKept, Readings}
 use Rattle.crash.proofs.Disk.BlockBytes.{zero-bytes}
 use Rattle.crash.proofs.Books.Tests.{clash, impossible}
@@ -208,19 +207,20 @@ kept-holds c l w [] h = refl
 kept-holds c l w (p ∷ ps) h = and-both (c .follows l w p (h .0)) (kept-holds c _ _ ps (h .1))
 
 -- ---- reading
-unfoldable pub readsTest : (ℕ → World → Bytes) → Ledger → World → Bool
-readsTest read l w = cond (isUp (w .card .phase)) (all (λ (b : ℕ). sameBytes (read b w) (imageNow l b)) (below (l .shape .blocks))) true
+-- of the blocks below B, and of the first that is not
+unfoldable pub readsTest : Reader → Ledger → World → Bool
+readsTest r l w = all (λ (b : ℕ). eqb (r .number b w) (refusal (readRefusals b l)) && sameBytes (r .bytes b w) (readNow b l)) (below (suc (l .shape .blocks)))
 
-reads-follow : (read : ℕ → World → Bytes) (l : Ledger) (w : World) → ReadsNow read l w → readsTest read l w ≡ true
+reads-follow : (r : Reader) (l : Ledger) (w : World) → ReadsNow r l w → readsTest r l w ≡ true
 unfolding readsTest
-reads-follow read l w h = asked (isUp (w .card .phase)) (λ e. mem-all _ _ (λ b m. same-bytes (h e b (mem-below (l .shape .blocks) m))))
+reads-follow r l w h = mem-all _ _ (λ b m. and-both (eq-eqb _ _ (h b .0)) (same-bytes (h b .1)))
 
 -- before every command and after the last
-unfoldable pub readsHold : (ℕ → World → Bytes) → Ledger → World → List (Point World) → Bool
+unfoldable pub readsHold : Reader → Ledger → World → List (Point World) → Bool
 readsHold read l w [] = readsTest read l w
 readsHold read l w (p ∷ ps) = readsTest read l w && readsHold read (enteredPoint p l) (p .outcome .world) ps
 
-reads-hold : (read : ℕ → World → Bytes) (l : Ledger) (w : World) (ps : List (Point World)) → ReadingsKept read l w ps → readsHold read l w ps ≡ true
+reads-hold : (read : Reader) (l : Ledger) (w : World) (ps : List (Point World)) → ReadingsKept read l w ps → readsHold read l w ps ≡ true
 unfolding readsHold
 reads-hold read l w [] h = reads-follow read l w h
 reads-hold read l w (p ∷ ps) h = and-both (reads-follow read l w (h .0)) (reads-hold read _ _ ps (h .1))
@@ -259,7 +259,7 @@ module _ (f : TapeStep World) (t : Bytes) where
   unfolding blankWorld startWorld startLedger
   demands-hold k c h = kept-holds c _ _ _ (k t h blankStart blank-fits)
 
-  pub readings-hold : (read : ℕ → World → Bytes) → Readings read f → IsBytes t → readsHold read blankLedger blankWorld (run f t blankWorld) ≡ true
+  pub readings-hold : (read : Reader) → Readings read f → IsBytes t → readsHold read blankLedger blankWorld (run f t blankWorld) ≡ true
   unfolding blankWorld startWorld startLedger
   readings-hold read k h = reads-hold read _ _ _ (k t h blankStart blank-fits)
 
@@ -279,7 +279,7 @@ refutes-claim f t h k = failed t _ h (claim-holds f t k)
 pub refutes-demands : (f : TapeStep World) (c : Check) (t : Bytes) → Fails t (holds (c .test) blankLedger blankWorld (run f t blankWorld)) → Demands f → ⊥
 refutes-demands f c t h k = failed t _ h (demands-hold f t k c)
 
-pub refutes-readings : (read : ℕ → World → Bytes) (f : TapeStep World) (t : Bytes)
+pub refutes-readings : (read : Reader) (f : TapeStep World) (t : Bytes)
     → Fails t (readsHold read blankLedger blankWorld (run f t blankWorld)) → Readings read f → ⊥
 refutes-readings read f t h k = failed t _ h (readings-hold f t read k)
 
@@ -290,8 +290,8 @@ passes-area t = claim-holds stepAt t claim
 pub passes-check : (c : Check) (t : Bytes) → IsBytes t → holds (c .test) blankLedger blankWorld (run stepAt t blankWorld) ≡ true
 passes-check c t = demands-hold stepAt t demands c
 
-pub passes-readings : (t : Bytes) → IsBytes t → readsHold readBlock blankLedger blankWorld (run stepAt t blankWorld) ≡ true
-passes-readings t = readings-hold stepAt t readBlock readings
+pub passes-readings : (t : Bytes) → IsBytes t → readsHold blockReader blankLedger blankWorld (run stepAt t blankWorld) ≡ true
+passes-readings t = readings-hold stepAt t blockReader readings
 
 pub passes-decides : (t : Bytes) (w : World) → decidesTest stepAt t w ≡ true
 passes-decides = decides stepAt command-decided

@@ -21,7 +21,7 @@ use Rattle.model.specs.Command.{World, Outcome, unless, noCore}
 use Rattle.model.specs.Checkpoint.{validNow, committedOf, oldest, share, sharesLower, checkpointConditions, checkpointed}
 use Rattle.model.specs.Tape.{Command, Read, whole, unknown, early, Step, Point, readAt, obeyed, runFrom, run, commandByte, commandAt, nextOffset}
 use Rattle.model.specs.Step.{conditionsOf, doneBy, step, stepAt}
-use Rattle.model.specs.Reading.{readBlock}
+use Rattle.model.specs.Reading.{blockReader}
 use Rattle.model.specs.declared.Shape.{Shape}
 use Rattle.model.specs.declared.Name.{Name}
 use Rattle.model.proofs.Lists.{cases, and-left, any-mem, mem-below}
@@ -198,5 +198,5 @@ claim-33 t b s h = subst (AreaKept (startService s)) (same-runs t b s h) (claim 
 pub demands-33 : Demands (onTape onlyCommitted33)
 demands-33 t b s h = subst (LedgerKept (startLedger s) (startWorld s)) (same-runs t b s h) (demands t b s h)
 
-pub readings-33 : Readings readBlock (onTape onlyCommitted33)
-readings-33 t b s h = subst (ReadingsKept readBlock (startLedger s) (startWorld s)) (same-runs t b s h) (readings t b s h)
+pub readings-33 : Readings blockReader (onTape onlyCommitted33)
+readings-33 t b s h = subst (ReadingsKept blockReader (startLedger s) (startWorld s)) (same-runs t b s h) (readings t b s h)

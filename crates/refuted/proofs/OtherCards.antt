@@ -9,7 +9,7 @@ use Rattle.model.specs.Step.{stepAt}
 use Rattle.model.specs.Printing.{blankWorld}
 use Rattle.crash.specs.Claims.{Claim, Demands, Readings}
 use Rattle.refuted.specs.Parts.{onTape, ignoring}
-use Rattle.refuted.specs.Wrong.{tailOneAbove, tailKept, stampsGoOn, validityOneDeep, allCommittedValid, highestFirst, flagIgnored, cutKeepsPlace, cutKeepsMemory, writerTakesRunning, onlyWriterNames, onlyHolderNames, nameTwice, notLoaded, no26OnOpen, only26Stored, no24OfHolder, stampAtOpen, stampAtCommit, noEscape, twelfthDropped, storesImages, noWrap, retiresAtOnce, homeFromMemory, holderStays, refusalOverwrites, fromHome, fromMemory, exchanged}
+use Rattle.refuted.specs.Wrong.{tailOneAbove, tailKept, stampsGoOn, validityOneDeep, allCommittedValid, highestFirst, flagIgnored, cutKeepsPlace, cutKeepsMemory, writerTakesRunning, onlyWriterNames, onlyHolderNames, nameTwice, notLoaded, no26OnOpen, only26Stored, no24OfHolder, stampAtOpen, stampAtCommit, noEscape, twelfthDropped, storesImages, noWrap, retiresAtOnce, homeFromMemory, holderStays, refusalOverwrites, fromHome, fromMemory, exchanged, handsWhileDown, neverRefuses}
 use Rattle.refuted.proofs.Checks.{refutes-claim, refutes-demands, refutes-readings, answerCheck, unchanged, bytesCheck, left-in-memory}
 use Rattle.refuted.proofs.Tapes.{tests, format, write, writeWord, close, stores, checkpoints, cut, recovers, lostWriter, oneKept, twelveNames, thirteenth}
 
@@ -232,3 +232,11 @@ reading-exchanged = refutes-readings exchanged stepAt oneWrite refl
 pub from-memory : Readings fromMemory stepAt → ⊥
 unfolding tests
 from-memory = refutes-readings fromMemory stepAt oneKept refl
+
+pub hands-while-down : Readings handsWhileDown stepAt → ⊥
+unfolding tests
+hands-while-down = refutes-readings handsWhileDown stepAt (format 1 1 4 ++ cut) refl
+
+pub never-refuses : Readings neverRefuses stepAt → ⊥
+unfolding tests
+never-refuses = refutes-readings neverRefuses stepAt (format 1 1 4) refl

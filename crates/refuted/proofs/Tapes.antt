@@ -6,12 +6,12 @@ use Rattle.model.specs.Lists.{below}
 use Rattle.model.specs.Bytes.{Bytes, bytes}
 use Rattle.crash.specs.Claims.{homeArea, startWorld, startLedger, fedPoint, enteredPoint}
 use Rattle.crash.specs.Service.{bookArea}
-use Rattle.crash.specs.Ledger.{blankLedger, freshLedger, imageNow, closeLedger, unretired, metIn, validIn, blocksIn, cutLedger, recoverLedger, carriedOut, entered, storedOf, storedSince, recordTags, recordOf, recordBlocks, recordStored, tailsPast, checkpointStored, recoverStored, diskAfter, storeCount, copiesStored, memoryAfter, namesCount, holderNames, formatRefusals, namesPass, blocksAfter, journalPasses, numberPasses, writeRefusals, closeRefusals, storeRefusals, sharesLowerIn, checkpointRefusals, refusalsOf, answerOf}
+use Rattle.crash.specs.Ledger.{blankLedger, freshLedger, imageNow, closeLedger, unretired, metIn, validIn, blocksIn, cutLedger, recoverLedger, carriedOut, entered, storedOf, storedSince, recordTags, recordOf, recordBlocks, recordStored, tailsPast, checkpointStored, recoverStored, diskAfter, storeCount, copiesStored, memoryAfter, namesCount, holderNames, formatRefusals, namesPass, blocksAfter, journalPasses, numberPasses, writeRefusals, closeRefusals, storeRefusals, sharesLowerIn, checkpointRefusals, refusalsOf, answerOf, readNow, readRefusals}
 use Rattle.crash.proofs.Books.BookExamples.{books}
 use Rattle.refuted.proofs.Checks.{sameBytes, isRecover, comesUp, areaHolds, answerTest, usedBytes, imageBytes, sameWorld, refusedTest, ofDone, countTest, bytesTest, memoryTest, holds, readsTest, readsHold, decidesTest}
 
 unfoldable pub tests : Unit {0}
-unfolding books homeArea startWorld startLedger fedPoint enteredPoint bookArea blankLedger freshLedger imageNow closeLedger unretired metIn validIn blocksIn cutLedger recoverLedger carriedOut entered storedOf storedSince recordTags recordOf recordBlocks recordStored tailsPast checkpointStored recoverStored diskAfter storeCount copiesStored memoryAfter namesCount holderNames formatRefusals namesPass blocksAfter journalPasses numberPasses writeRefusals closeRefusals storeRefusals sharesLowerIn checkpointRefusals refusalsOf answerOf sameBytes isRecover comesUp areaHolds answerTest usedBytes imageBytes sameWorld refusedTest ofDone countTest bytesTest memoryTest holds readsTest readsHold decidesTest
+unfolding books readRefusals readNow homeArea startWorld startLedger fedPoint enteredPoint bookArea blankLedger freshLedger imageNow closeLedger unretired metIn validIn blocksIn cutLedger recoverLedger carriedOut entered storedOf storedSince recordTags recordOf recordBlocks recordStored tailsPast checkpointStored recoverStored diskAfter storeCount copiesStored memoryAfter namesCount holderNames formatRefusals namesPass blocksAfter journalPasses numberPasses writeRefusals closeRefusals storeRefusals sharesLowerIn checkpointRefusals refusalsOf answerOf sameBytes isRecover comesUp areaHolds answerTest usedBytes imageBytes sameWorld refusedTest ofDone countTest bytesTest memoryTest holds readsTest readsHold decidesTest
 tests = tt
 
 -- ---- commands of a tape

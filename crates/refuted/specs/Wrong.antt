@@ -20,7 +20,7 @@ use Rattle.model.specs.Checkpoint.{committedNow, validNow, committedOf, oldest,
 use Rattle.model.specs.Recovery.{shapeOn, tailOn, committedOn, validOn, recoverConditions, blocksLeft, placeOf, imageFound, newestImage, recoveredTo, emptiedTail, recoverStep}
 use Rattle.model.specs.Tape.{Step, CHECKPOINT, CLOSE, CUT, Command, FORMAT, RECOVER, STORE, WRITE}
 use Rattle.model.specs.Step.{step}
-use Rattle.model.specs.Reading.{readNumber}
+use Rattle.model.specs.Reading.{readNumber, Reader, readBlock}
 use Rattle.model.specs.Limits.{maxNumber}
 use Rattle.model.specs.declared.Phase.the-variants.{Up}
 use Rattle.model.specs.declared.Found.{Found}
@@ -330,14 +330,31 @@ refusalOverwrites k w =
 -- ---- reading: 'a part of memory while a transaction still in a journal, closed or running, holds the block, otherwise a part of
 -- the disk'
 -- always a part of the disk, always one of memory, and the two exchanged
-abbrev pub fromHome : ℕ → World → Bytes
-fromHome b w = cond (eqb (readNumber b w) 0) (blockAt (w .disk) (homeBlock b)) []
+abbrev homeBytes : ℕ → World → Bytes
+homeBytes b w = cond (eqb (readNumber b w) 0) (blockAt (w .disk) (homeBlock b)) []
 
-abbrev pub fromMemory : ℕ → World → Bytes
-fromMemory b w = cond (eqb (readNumber b w) 0) (blockAt (w .memory) b) []
+abbrev memoryBytes : ℕ → World → Bytes
+memoryBytes b w = cond (eqb (readNumber b w) 0) (blockAt (w .memory) b) []
 
-abbrev pub exchanged : ℕ → World → Bytes
-exchanged b w = cond ((holderOf (w .card) b) .held) (fromHome b w) (fromMemory b w)
+abbrev handingBack : (ℕ → World → Bytes) → Reader
+handingBack bytes = record { number = readNumber; bytes = bytes }
+
+abbrev pub fromHome : Reader
+fromHome = handingBack homeBytes
+
+abbrev pub fromMemory : Reader
+fromMemory = handingBack memoryBytes
+
+abbrev pub exchanged : Reader
+exchanged = handingBack (λ (b : ℕ) (w : World). cond ((holderOf (w .card) b) .held) (homeBytes b w) (memoryBytes b w))
+
+-- 'A refused reading hands back a part of no bytes': a card that is down hands back a part of the disk
+abbrev pub handsWhileDown : Reader
+handsWhileDown = handingBack (λ (b : ℕ) (w : World). cond (isDown (w .card .phase)) (blockAt (w .disk) (homeBlock b)) (readBlock b w))
+
+-- '20 blank', '22 down', '6 block not below B': no reading is refused
+abbrev pub neverRefuses : Reader
+neverRefuses = record { number = λ (b : ℕ) (w : World). 0; bytes = readBlock }
 
 -- ---- a card that is not wrong
 -- '33 .. a lower-stamped unretired transaction': only committed ones are looked at. No run tells it from the model's.

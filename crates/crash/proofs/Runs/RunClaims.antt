@@ -15,7 +15,7 @@ use Rattle.model.specs.Shape.{homeBlock}
 use Rattle.model.specs.Card.{isBlank, isUp, isDown}
 use Rattle.model.specs.Command.{Outcome, refusal, refusedWith, World, wrongLength}
 use Rattle.model.specs.Tape.{Command, FORMAT, WRITE, CLOSE, STORE, CHECKPOINT, CUT, RECOVER, Read, whole, unknown, early, isUnknown, isEarly, readAt, operandsAt, TapeStep, Point, obeyed, commandAt, heard, commandByte, operandLength}
-use Rattle.model.specs.Reading.{readConditions, readNumber, readBlock}
+use Rattle.model.specs.Reading.{readConditions, readNumber, blockReader}
 use Rattle.model.specs.Step.{conditionsOf, doneBy, step, stepAt}
 use Rattle.model.proofs.Lists.{cases, flatMap-append, flatMap-below}
 use Rattle.model.proofs.Command.{unless-done, refusal-passed, step-answer, step-refused, step-done}
@@ -54,7 +54,7 @@ pub record Carried (Related : Ledger → World → Type 0) (l : Ledger) (w : Wor
 pub record Simulation (Related : Ledger → World → Type 0) : Type 0 where
   pub sizes : (l : Ledger) (w : World) → Related l w → wrongLength w ≡ false
   pub between : (l : Ledger) (w : World) → Related l w → Between l w
-  pub reads : (l : Ledger) (w : World) → Related l w → ReadsNow readBlock l w
+  pub reads : (l : Ledger) (w : World) → Related l w → ReadsNow blockReader l w
   pub answers : (l : Ledger) (w : World) → Related l w → (k : Command) → refusal (conditionsOf k w) ≡ refusal (refusalsOf k l)
   pub carries : (l : Ledger) (w : World) → Related l w → (k : Command) → HasData k → refusal (refusalsOf k l) ≡ 0 → Carried Related l w k
 
@@ -147,7 +147,7 @@ module _ (Related : Ledger → World → Type 0) where
         )
 
     -- What reading gives, at every point of a run.
-    readings-kept : (t : Bytes) → IsBytes t → {at n : ℕ} {l : Ledger} {w : World} {ps : List (Point World)} → Related l w → Runs f t at n w ps → ReadingsKept readBlock l w ps
+    readings-kept : (t : Bytes) → IsBytes t → {at n : ℕ} {l : Ledger} {w : World} {ps : List (Point World)} → Related l w → Runs f t at n w ps → ReadingsKept blockReader l w ps
     unfolding enteredPoint
     readings-kept t b {l = l} {w = w} here (at-end h) = r .reads l w here
     readings-kept t b {at} {n} {l} {w} here (one-more {p = p} {ps = ps} h e rest) =
@@ -281,5 +281,5 @@ module _ (Related : Ledger → World → Type 0) (r : Simulation Related) (start
   pub demands-kept : Demands f
   demands-kept t b s h = ledger-kept Related r f go t b (starts s h) (run-runs f t (startWorld s))
 
-  pub reading : Readings readBlock f
+  pub reading : Readings blockReader f
   reading t b s h = readings-kept Related r f go t b (starts s h) (run-runs f t (startWorld s))

@@ -10,13 +10,13 @@ use mathlib.Core.Option.{some}
 use mathlib.Core.Bool.{Bool, true, false, So, cond, not, _&&_, _||_}
 use mathlib.Core.List.{List, [], _∷_, List·Memᴰ, _++_, List·Memᴰ·not-nil}
 use lib.ListN.{length, getD, drop, length-take, length-drop}
-use lib.Dec.{eqb, ltb}
+use lib.Dec.{eqb, ltb, leb}
 use borrow.Author.Tests.{ne-eqb, eqb-true, eqb-false, ltb-true, ltb-false, leb-false, not-false}
 use Rattle.model.specs.Lists.{below}
 use Rattle.model.specs.Bytes.{Bytes}
 use Rattle.model.specs.Shape.{between, inRange, newShape}
-use Rattle.model.specs.Card.{blankCard, isBlank, isUp, isDown, emptyCard, freshCard}
-use Rattle.model.specs.Command.{World, refusal, wrongLength, Clear}
+use Rattle.model.specs.Card.{blankCard, isBlank, isUp, isDown, emptyCard, freshCard, shapeOf}
+use Rattle.model.specs.Command.{World, refusal, wrongLength, Clear, noBlock}
 use Rattle.model.specs.Format.{formatted}
 use Rattle.model.specs.Write.{written}
 use Rattle.model.specs.Commit.{closed, stored}
@@ -26,8 +26,8 @@ use Rattle.model.proofs.Lists.{cases}
 use Rattle.model.proofs.Command.{Numbered, refusal-clear, refusal-passed}
 use Rattle.crash.specs.Book.{Write, image, keptWrites, emptyBook, hasRunning, running}
 use Rattle.crash.specs.Service.{noted}
-use Rattle.crash.specs.Ledger.{Ledger, freshLedger, blankLedger, refusalsOf, recoverLedger, formatRefusals, writeRefusals, closeRefusals, storeRefusals, checkpointRefusals, notUpFor, storedSince, diskAfter, storeCount, carriedOut, memoryAfter}
-use Rattle.crash.specs.Claims.{JournalsRead, Claim, Demands, DoneAs, Readings, ReadsNow, Start, StartFits, from-blank, from-down, startLedger, startWorld}
+use Rattle.crash.specs.Ledger.{Ledger, freshLedger, blankLedger, refusalsOf, recoverLedger, formatRefusals, writeRefusals, closeRefusals, storeRefusals, checkpointRefusals, notUpFor, storedSince, diskAfter, storeCount, carriedOut, memoryAfter, readNow, readRefusals}
+use Rattle.crash.specs.Claims.{JournalsRead, Claim, Demands, DoneAs, Readings, Start, StartFits, from-blank, from-down, startLedger, startWorld}
 use Rattle.crash.proofs.Commands.CardFormat.{format-home, format-up, down-start}
 use Rattle.crash.proofs.Commands.CardRecover.{recover-home, recovered-home, recover-master, recovered-bytes}
 use Rattle.crash.proofs.Commands.PhaseAnswers.{down-answers, blank-answers, up-answers}
@@ -43,8 +43,9 @@ use Rattle.model.specs.Tape.{CHECKPOINT, CLOSE, CUT, Command, FORMAT, RECOVER, 
 use Rattle.crash.proofs.Runs.UpSteps.{RelatedUp, checkpoint-at, close-at, close-memory, cut-at, fresh-at, holder-open, store-at, up-reads, write-at, write-memory}
 use Rattle.model.proofs.Sizes.{checkpointed-memory, recoverStep-memory}
 use Rattle.model.specs.Step.{conditionsOf, doneBy, stepAt}
-use Rattle.model.specs.Reading.{readBlock}
+use Rattle.model.specs.Reading.{readBlock, blockReader, readConditions, readNumber}
 use Rattle.crash.proofs.Books.BookEntries.{nextName}
+use Rattle.crash.proofs.Disk.ReadMaster.{shape-up}
 use Rattle.model.specs.declared.Name.{Name}
 use Rattle.model.specs.declared.Shape.{Shape}
 use Rattle.model.specs.declared.Card.{Card}
@@ -211,8 +212,29 @@ pub blank-phase : {l : Ledger} {w : World} → RelatedBlank l w → w .card .pha
 unfolding blankCard emptyCard freshCard
 blank-phase b = ap (λ (x : Card). x .phase) (b .card)
 
+-- a reading answers by the ledger
+read-number : (l : Ledger) (w : World) → Related l w → (b : ℕ) → readNumber b w ≡ refusal (readRefusals b l)
+unfolding readNumber readConditions noBlock refusal shapeOf readRefusals blankLedger
+read-number l w (related-blank h) b = rw (right-length w (h .disk) (h .memory), blank-phase h, h .ledger) refl
+read-number l w (related-down h) b = rw (right-length w (h .disk .size) (h .memory), h .phase, h .ledger) refl
+read-number l w (related-up h) b = rw (right-length w (h .up .disk .size) (h .up .memory), h .up .phase, h .up .ledger, shape-up (h .up)) refl
+
+read-bytes : (l : Ledger) (w : World) → Related l w → (b : ℕ) → readBlock b w ≡ readNow b l
+unfolding readBlock readNow readRefusals refusal blankLedger
+read-bytes l w r b = go (refusal (readRefusals b l)) refl r
+  where
+    go : (n : ℕ) → refusal (readRefusals b l) ≡ n → Related l w → readBlock b w ≡ readNow b l
+    go (suc n) e r = rw (read-number l w r b, e, ne-eqb (suc n) 0 (λ z. omega arith)) refl
+    go zero e (related-up u) = up-reads u b (low (leb (l .shape .blocks) b) refl) ∙ sym (rw e refl)
+      where
+        low : (t : Bool) → leb (l .shape .blocks) b ≡ t → b < l .shape .blocks
+        low true h = absurd (let q : refusal (readRefusals b l) ≡ 6 = rw (u .up .ledger, h) refl in omega arith)
+        low false h = leb-false _ _ h
+    go zero e (related-down d) = absurd (let q : refusal (readRefusals b l) ≡ 22 = rw (d .ledger) refl in omega arith)
+    go zero e (related-blank h) = absurd (let q : refusal (readRefusals b l) ≡ 20 = rw (h .ledger) refl in omega arith)
+
 pub related-simulation : Simulation Related
-related-simulation = record { sizes = sizes; between = λ l w h. record { phase = phase l w h; journals = journals l w h }; reads = reads; answers = answers; carries = carries }
+related-simulation = record { sizes = sizes; between = λ l w h. record { phase = phase l w h; journals = journals l w h }; reads = λ l w h b. (read-number l w h b, read-bytes l w h b); answers = answers; carries = carries }
   where
     sizes : (l : Ledger) (w : World) → Related l w → wrongLength w ≡ false
     sizes l w (related-blank b) = right-length w (b .disk) (b .memory)
@@ -228,11 +250,6 @@ related-simulation = record { sizes = sizes; between = λ l w h. record { phase 
     journals l w (related-blank b) h = clash (ap isBlank (blank-phase b)) h
     journals l w (related-up u) h = journals-read (u .up .well-formed) (u .up .disk)
     journals l w (related-down d) h = journals-read (d .well-formed) (d .disk)
-
-    reads : (l : Ledger) (w : World) → Related l w → ReadsNow readBlock l w
-    reads l w (related-blank b) h = clash h (ap isUp (blank-phase b))
-    reads l w (related-up u) h = up-reads u
-    reads l w (related-down d) h = clash h (ap isUp (d .phase))
 
     answers : (l : Ledger) (w : World) → Related l w → (k : Command) → refusal (conditionsOf k w) ≡ refusal (refusalsOf k l)
     answers l w (related-blank b) k = rw (b .ledger) (blank-answers w (b .card) (b .disk) (b .memory) k)
@@ -256,7 +273,7 @@ claim-of = claim-kept Related related-simulation starts
 pub demands-of : (f : TapeStep World) → CardKeeps Related f → Demands f
 demands-of = demands-kept Related related-simulation starts
 
-pub readings-of : (f : TapeStep World) → CardKeeps Related f → Readings readBlock f
+pub readings-of : (f : TapeStep World) → CardKeeps Related f → Readings blockReader f
 readings-of = reading Related related-simulation starts
 
 -- Demand 3: whenever recovery brings the card up, the home area is the blank one with the kept writes, in issue order.
@@ -268,11 +285,11 @@ pub demands : Demands stepAt
 demands = demands-of stepAt (point-keeps Related related-simulation)
 
 -- What reading gives.
-pub readings : Readings readBlock stepAt
+pub readings : Readings blockReader stepAt
 readings = readings-of stepAt (point-keeps Related related-simulation)
 
 -- Whatever is the same function of tape, offset and world meets them too: nobody need believe how `stepAt` is defined.
-pub same-meets : (f : TapeStep World) → ((t : Bytes) (at : ℕ) (w : World) → f t at w ≡ stepAt t at w) → Claim f × Demands f × Readings readBlock f
+pub same-meets : (f : TapeStep World) → ((t : Bytes) (at : ℕ) (w : World) → f t at w ≡ stepAt t at w) → Claim f × Demands f × Readings blockReader f
 same-meets f h = let g = same-keeps Related related-simulation f h in (claim-of f g, demands-of f g, readings-of f g)
 
 -- 'A transaction uncommitted at a cut never commits': a card that has come up reads no transaction in any journal, and

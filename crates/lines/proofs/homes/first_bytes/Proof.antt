@@ -1,4 +1,4 @@
--- `tape::homes::first_bytes` meets its contract: a part of a part of the disk.
+-- `lines::homes::first_bytes` meets its contract: a part of a part of the disk.
 use native.Mathlib.Omega.{arith}
 use lib.ListN.{length-take, length-drop}
 use Rattle.lines.proofs.PageLaws.{first-part}

@@ -1,4 +1,4 @@
--- `tape::homes::grown` meets its contract: both cases.
+-- `lines::homes::grown` meets its contract: both cases.
 use borrow.Author.Needs.{needs}
 use Rattle.lines.proofs.PageLaws.{grown-more, grown-same}
 use Rattle.lines.proofs.homes.grown.Statement.{statement}

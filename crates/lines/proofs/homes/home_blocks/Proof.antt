@@ -1,4 +1,4 @@
--- `tape::homes::home_blocks` meets its contract: the count, then those below it.
+-- `lines::homes::home_blocks` meets its contract: the count, then those below it.
 use Rattle.lines.proofs.PageLaws.{printed-lines}
 use borrow.Author.Needs.{needs}
 use Rattle.lines.proofs.homes.home_blocks.Statement.{statement}

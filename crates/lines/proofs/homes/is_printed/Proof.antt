@@ -1,4 +1,4 @@
--- `tape::homes::is_printed` meets its contract: the block is a part of the disk.
+-- `lines::homes::is_printed` meets its contract: the block is a part of the disk.
 use Rattle.lines.proofs.PageLaws.{printed-part}
 use borrow.Author.Needs.{needs}
 use Rattle.lines.proofs.homes.is_printed.Statement.{statement}

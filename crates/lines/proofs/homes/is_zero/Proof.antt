@@ -1,4 +1,4 @@
--- `tape::is_zero` meets its contract. Invariant: the first i bytes are zero.
+-- `lines::is_zero` meets its contract. Invariant: the first i bytes are zero.
 use Prim.Native.Nat.{_≤_, _-_}
 use mathlib.Core.Path.{_≡_}
 use mathlib.Core.Bool.{true}

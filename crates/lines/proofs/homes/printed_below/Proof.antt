@@ -1,4 +1,4 @@
--- `tape::homes::printed_below` meets its contract. Invariant: those below b are put.
+-- `lines::homes::printed_below` meets its contract. Invariant: those below b are put.
 use Prim.Native.Nat.{_≤_, _-_}
 use mathlib.Core.Path.{_≡_}
 use lib.ListN.{length, take}

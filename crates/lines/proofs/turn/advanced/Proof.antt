@@ -1,4 +1,4 @@
--- `tape::turn::advanced` meets its contract: the sum, or the largest number.
+-- `lines::turn::advanced` meets its contract: the sum, or the largest number.
 use Rattle.lines.proofs.TurnLaws.{advanced-most, advanced-sum}
 use borrow.Author.Needs.{needs}
 use Rattle.lines.proofs.turn.advanced.Statement.{statement}

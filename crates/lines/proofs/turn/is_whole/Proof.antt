@@ -1,4 +1,4 @@
--- `tape::turn::is_whole` meets its contract: both tests.
+-- `lines::turn::is_whole` meets its contract: both tests.
 use Rattle.lines.proofs.TurnLaws.{whole-unknown, whole-known}
 use borrow.Author.Needs.{needs}
 use Rattle.lines.proofs.turn.is_whole.Statement.{statement}
