@@ -553,16 +553,16 @@ impl Ran {
             ran.mark(offset, read.filter(|_| outcome.answer == 0));
             offset = if matches!(outcome.answer, 2 | 3) { tape.len() } else { outcome.next };
         }
-        ran.area = checksum(book.area());
+        ran.area = checksum(0, book.area());
         ran
     }
 
-    /// The block read is another at each offset.
+    /// The block read is another at each offset, the first that is not below B among them; the checksum begins with reading's number.
     fn mark(&mut self, offset: usize, done: Option<Command>) {
-        let memory = done.map_or(0, |command| checksum(touched(command, &self.memory)));
-        let is_up = self.card.phase == Phase::Up;
-        let block = offset % self.card.shape.or_smallest().blocks as usize;
-        let reading = if is_up { checksum(self.card.read_block(&self.disk, &self.memory, block)) } else { 0 };
+        let memory = done.map_or(0, |command| checksum(0, touched(command, &self.memory)));
+        let block = offset % (self.card.shape.blocks as usize + 1);
+        let number = self.card.read_number(&self.disk, &self.memory, block);
+        let reading = checksum(number, self.card.read_block(&self.disk, &self.memory, block));
         self.marks.push(Mark { memory, reading });
     }
 
@@ -604,8 +604,8 @@ fn fact_text(number: usize, title: &str, left: &str, right: &str) -> String {
 }
 
 /// The number that the definition `checksum` gives.
-fn checksum(bytes: &[u8]) -> u64 {
-    bytes.iter().fold(0, |n, byte| (n * 257 + *byte as u64 + 1) % 999_983)
+fn checksum(from: u8, bytes: &[u8]) -> u64 {
+    bytes.iter().fold(from as u64, |n, byte| (n * 257 + *byte as u64 + 1) % 999_983)
 }
 
 /// The bytes of memory that WRITE and CLOSE write.
