@@ -19,3 +19,4 @@ pub mod Reading
 pub mod Step
 pub mod Printing
 pub mod Cases
+pub mod JournalPage
