@@ -1,0 +1,2 @@
+-- Laws that the proofs of the journal page cite.
+pub mod LineLaws
