@@ -1,2 +1,3 @@
 -- Laws that the proofs of the journal page cite.
 pub mod LineLaws
+pub mod FieldLaws

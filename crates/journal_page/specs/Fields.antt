@@ -1,18 +1,25 @@
 -- The fields of a line as the code holds them: six, of which those of no columns are none.
-use Prim.Native.Nat.{ℕ, _-_}
-use mathlib.Core.List.{List, map}
-use mathlib.Core.Bool.{Bool, false, cond, not}
+use Prim.Native.Nat.{ℕ, _-_, _≤_, _<_}
+use mathlib.Core.Path.{_≡_}
+use mathlib.Core.List.{List, [], _∷_, map}
+use mathlib.Core.Bool.{Bool, true, false, cond, not}
 use lib.ListN.{getD}
 use lib.Dec.{eqb}
 use Rattle.model.specs.Lists.{select}
 use Rattle.model.specs.Bytes.{bytes}
-use Rattle.model.specs.JournalPage.{space, numeral, word, covers}
+use Rattle.model.specs.JournalPage.{space, numeral, word, covers, refusalFields}
 use Rattle.model.specs.JournalPage as page
+use Rattle.model.specs.declared.Shape.{Shape}
+use Rattle.model.specs.declared.Committed.{Committed}
+use Rattle.journal.specs.Slots.{isFilled, filledFrom}
 use Rattle.journal_page.specs.declared.line.Field.{Field}
+
+abbrev pub newField : ℕ → ℕ → Bool → ℕ → Field
+newField first width word value = record { first = first; width = width; word = word; value = value }
 
 -- what stands past the end of an array
 abbrev pub noField : Field
-noField = record { first = 0; width = 0; word = false; value = 0 }
+noField = newField 0 0 false 0
 
 -- a number set right, or a word: the letters are the bytes of the value
 unfoldable pub fieldIn : Field → page.Field
@@ -28,3 +35,21 @@ coversAt fs k i = covers (fieldIn (getD fs i noField)) k
 -- what a field shows at one of its columns
 unfoldable pub fieldByte : page.Field → ℕ → ℕ
 fieldByte f k = getD (f .text) (k - f .first) space
+
+-- a transaction with another number: a slot's is counted from its core's tail
+abbrev pub numbered : ℕ → Committed → Committed
+numbered k e = record { core = e .core; number = k; position = e .position; count = e .count; stamp = e .stamp; named = e .named }
+
+-- the letters of the word kept, or of the word left
+abbrev pub lettersOf : Bool → ℕ
+lettersOf kept = cond kept 0x6B657074 0x6C656674
+
+-- line i of a page that has one line, of a refusal
+abbrev pub refusedLine : ℕ → ℕ → List page.Field
+refusedLine n i = getD (refusalFields n ∷ []) i []
+
+-- slot i holds the n-th transaction of a set, from 0; past the last slot there are not so many
+pub record IsNth (s : Shape) (set : List ℕ) (n i : ℕ) : Type 0 where
+  pub filled : i < 96 → isFilled s set i ≡ true
+  pub before : i < 96 → filledFrom s set 0 i ≡ n
+  pub past : 96 ≤ i → filledFrom s set 0 96 ≤ n

@@ -1,5 +1,9 @@
 // The journal page of a disk: each of its lines laid into a lent buffer, column by column. Paper 02, request (a).
+mod disk_lines; // the page of a disk: how many lines, and each of them
+mod fields; // the fields of the head, of a transaction and of a refusal
 mod line; // any line: the byte at each column
 
+pub use disk_lines::page_line;
+pub use disk_lines::page_lines;
 pub use line::Field;
 pub use line::lay_line;
