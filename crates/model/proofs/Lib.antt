@@ -20,3 +20,4 @@ pub mod OneStore
 pub mod Sizes
 pub mod OwnBytes
 pub mod JournalPage
+pub mod JournalPageCases
