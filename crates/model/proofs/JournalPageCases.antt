@@ -1,11 +1,11 @@
 -- Pages that are computed, against texts that are written out. Then wrong definitions that they tell from the right one.
-use Prim.Native.Nat.{ℕ, _+_, _-_, _^_}
+use Prim.Native.Nat.{ℕ, _+_, _-_, _/_, _%_, _^_}
 use Prim.Native.Char.{code}
 use Prim.Native.String.{String, [] as no-text, _∷_ as _then_}
 use native.Mathlib.Omega.{arith}
-use mathlib.Core.Path.{_≡_, refl, ap}
+use mathlib.Core.Path.{_≡_, refl, sym, ap}
 use mathlib.Core.Logic.{_≢_}
-use mathlib.Core.Bool.{Bool, cond}
+use mathlib.Core.Bool.{Bool, true, cond}
 use mathlib.Core.List.{List, [], _∷_, _++_, map}
 use lib.ListN.{length, take, getD, replicate}
 use lib.Dec.{eqb}
@@ -16,7 +16,7 @@ use Rattle.model.specs.Card.{newTail, newName}
 use Rattle.model.specs.Layout.{Tag, newTag, masterBlock, descriptorBlock, commitBlock}
 use Rattle.model.specs.Journal.{nameOf}
 use Rattle.model.specs.Valid.{isIn}
-use Rattle.model.specs.Recovery.{committedOn, validOn}
+use Rattle.model.specs.Recovery.{shapeOn, committedOn, validOn}
 use Rattle.model.specs.Printing.{blankWorld}
 use Rattle.model.specs.Tape.{run, worldAfter}
 use Rattle.model.specs.Step.{stepAt}
@@ -27,6 +27,7 @@ use Rattle.model.specs.declared.Tail.{Tail}
 use Rattle.model.specs.declared.Name.{Name}
 use Rattle.model.specs.declared.Committed.{Committed}
 use Rattle.model.proofs.Computes.{computes}
+use Rattle.model.proofs.JournalPage.{page-lines}
 
 -- ---- what is expected: a text, blanks to column 64 and a line feed
 unfoldable pub textBytes : String → Bytes
@@ -136,3 +137,57 @@ pub buffers-after :
     map (laid (refusalFields 8)) (replicate 64 7 ∷ replicate 65 7 ∷ replicate 66 7 ∷ []) ≡ replicate 64 7 ∷ line " 8" ∷ replicate 66 7 ∷ []
 unfolding pageComputes
 buffers-after = refl
+
+-- ---- wrong definitions, each with the byte or the length that tells it apart
+-- the page of a disk that recovery would not refuse, with other fields
+unfoldable pub pageBy : (Bool → Committed → List Field) → Bytes → List Bytes
+pageBy fields d = map lineBytes (headFields (shapeOn d) ∷ map (λ (e : Committed). fields (isIn (validOn d) (nameOf e)) e) (committedOn d))
+
+-- with the right fields it is the page
+pub page-by : (d : Bytes) → pageRefusal d ≡ 0 → pageBy transactionFields d ≡ pageBytes d
+unfolding pageBy pageBytes transactionLine
+page-by d h = sym (ap (map lineBytes) (page-lines d h))
+
+-- lines filled to column 63
+unfoldable pub filledShort : List Field → Bytes
+filledShort fs = take 63 (lineBytes fs) ++ 0x0A ∷ []
+
+pub short-fill-differs : map filledShort (pageOf diskP1) ≢ pageBytes diskP1
+unfolding pageComputes filledShort
+short-fill-differs e = let h : _≡_ {A = ℕ} 64 65 = ap (λ (ls : List Bytes). length (getD ls 0 [])) e in omega arith
+
+-- block count and name count exchanged
+unfoldable pub countsExchanged : Bool → Committed → List Field
+countsExchanged kept e =
+    numeral 1 2 (e .core) ∷ numeral 4 10 (e .number) ∷ numeral 15 20 (e .stamp) ∷
+    numeral 36 2 (e .named) ∷ numeral 39 2 (e .count) ∷ word 42 (keptOrLeft kept) ∷ []
+
+pub counts-differ : pageBy countsExchanged diskP1 ≢ pageBytes diskP1
+unfolding pageComputes pageBy countsExchanged
+counts-differ e = let h : _≡_ {A = ℕ} 0x31 0x30 = ap (λ (ls : List Bytes). getD (getD ls 2 []) 36 0) e in omega arith
+
+-- numbers with leading zeros
+unfoldable pub zerosLead : ℕ → ℕ → ℕ → Field
+zerosLead first width n = record { first = first; text = map (λ (i : ℕ). 0x30 + n / 10 ^ (width - (i + 1)) % 10) (below width) }
+
+unfoldable pub withZeros : Bool → Committed → List Field
+withZeros kept e =
+    zerosLead 1 2 (e .core) ∷ zerosLead 4 10 (e .number) ∷ zerosLead 15 20 (e .stamp) ∷
+    zerosLead 36 2 (e .count) ∷ zerosLead 39 2 (e .named) ∷ word 42 (keptOrLeft kept) ∷ []
+
+pub zeros-differ : pageBy withZeros diskP1 ≢ pageBytes diskP1
+unfolding pageComputes pageBy zerosLead withZeros
+zeros-differ e = let h : _≡_ {A = ℕ} 0x30 0x20 = ap (λ (ls : List Bytes). getD (getD ls 1 []) 0 0) e in omega arith
+
+-- every committed one called kept
+unfoldable pub allKept : Bool → Committed → List Field
+allKept kept e = transactionFields true e
+
+pub all-kept-differs : pageBy allKept diskP2 ≢ pageBytes diskP2
+unfolding pageComputes pageBy allKept
+all-kept-differs e = let h : _≡_ {A = ℕ} 0x6B 0x6C = ap (λ (ls : List Bytes). getD (getD ls 1 []) 41 0) e in omega arith
+
+-- only what is kept shown
+pub kept-alone-differs : map lineBytes (headFields (shapeOn diskP2) ∷ map (transactionFields true) (validOn diskP2)) ≢ pageBytes diskP2
+unfolding pageComputes
+kept-alone-differs e = let h : _≡_ {A = ℕ} 3 4 = ap length e in omega arith
