@@ -19,3 +19,5 @@ pub mod Records
 pub mod OneStore
 pub mod Sizes
 pub mod OwnBytes
+pub mod JournalPage
+pub mod JournalPageCases

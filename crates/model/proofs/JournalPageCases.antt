@@ -1,0 +1,193 @@
+-- Pages that are computed, against texts that are written out. Then wrong definitions that they tell from the right one.
+use Prim.Native.Nat.{ℕ, _+_, _-_, _/_, _%_, _^_}
+use Prim.Native.Char.{code}
+use Prim.Native.String.{String, [] as no-text, _∷_ as _then_}
+use native.Mathlib.Omega.{arith}
+use mathlib.Core.Path.{_≡_, refl, sym, ap}
+use mathlib.Core.Logic.{_≢_}
+use mathlib.Core.Bool.{Bool, true, cond}
+use mathlib.Core.List.{List, [], _∷_, _++_, map}
+use lib.ListN.{length, take, getD, replicate}
+use lib.Dec.{eqb}
+use Rattle.model.specs.Lists.{below}
+use Rattle.model.specs.Bytes.{Bytes, store, zeroDisk}
+use Rattle.model.specs.Shape.{newShape, journalBlock}
+use Rattle.model.specs.Card.{newTail, newName}
+use Rattle.model.specs.Layout.{Tag, newTag, masterBlock, descriptorBlock, commitBlock}
+use Rattle.model.specs.Journal.{nameOf}
+use Rattle.model.specs.Valid.{isIn}
+use Rattle.model.specs.Recovery.{shapeOn, committedOn, validOn}
+use Rattle.model.specs.Printing.{blankWorld}
+use Rattle.model.specs.Tape.{run, worldAfter}
+use Rattle.model.specs.Step.{stepAt}
+use Rattle.model.specs.JournalPage.{Field, digitAt, numeral, word, covers, shownAt, byteAt, lineBytes, headFields, keptOrLeft, transactionFields}
+use Rattle.model.specs.JournalPage.{refusalFields, pageRefusal, transactionLine, pageOf, lineAt, layNumber, laid}
+use Rattle.model.specs.declared.Shape.{Shape}
+use Rattle.model.specs.declared.Tail.{Tail}
+use Rattle.model.specs.declared.Name.{Name}
+use Rattle.model.specs.declared.Committed.{Committed}
+use Rattle.model.proofs.Computes.{computes}
+use Rattle.model.proofs.JournalPage.{page-lines}
+
+-- ---- what is expected: a text, blanks to column 64 and a line feed
+unfoldable pub textBytes : String → Bytes
+textBytes no-text = []
+textBytes (c then s) = code c ∷ textBytes s
+
+unfoldable pub line : String → Bytes
+line s = textBytes s ++ replicate (64 - length (textBytes s)) 0x20 ++ 0x0A ∷ []
+
+-- ---- what is computed: a disk's page, line by line, and the disk that a tape leaves
+unfoldable pub pageBytes : Bytes → List Bytes
+pageBytes d = map lineBytes (pageOf d)
+
+unfoldable pub diskAfter : Bytes → Bytes
+diskAfter t = (worldAfter blankWorld (run stepAt t blankWorld)) .disk
+
+-- P1 just before its CUT: both committed
+unfoldable pub diskP1 : Bytes
+diskP1 =
+    diskAfter
+    (1 ∷ 2 ∷ 4 ∷ 0x0C ∷ 2 ∷ 0 ∷ 0 ∷ 3 ∷ 0 ∷ 0x41 ∷ 0x42 ∷ 0x43 ∷ 0x44 ∷ 2 ∷ 1 ∷ 0 ∷ 3 ∷ 4 ∷ 0x45 ∷ 0x46 ∷ 0x47 ∷ 0x48 ∷ 3 ∷ 0 ∷ 4 ∷ 0 ∷ 4 ∷ 0 ∷
+    4 ∷ 0 ∷ 5 ∷ 0 ∷ 3 ∷ 1 ∷ 4 ∷ 1 ∷ 4 ∷ 1 ∷ [])
+
+-- P2 just before its CUT, with a third core that commits two: core 1 is uncommitted, so core 0, which names it, is left
+unfoldable pub diskP2 : Bytes
+diskP2 =
+    diskAfter
+    (1 ∷ 3 ∷ 4 ∷ 0x0C ∷ 2 ∷ 0 ∷ 0 ∷ 3 ∷ 0 ∷ 0x41 ∷ 0x42 ∷ 0x43 ∷ 0x44 ∷ 2 ∷ 1 ∷ 0 ∷ 3 ∷ 4 ∷ 0x45 ∷ 0x46 ∷ 0x47 ∷ 0x48 ∷ 3 ∷ 0 ∷ 4 ∷ 0 ∷ 4 ∷ 0 ∷
+    4 ∷ 0 ∷ 5 ∷ 0 ∷ 3 ∷ 1 ∷ 4 ∷ 1 ∷ 2 ∷ 2 ∷ 0 ∷ 1 ∷ 0 ∷ 1 ∷ 2 ∷ 3 ∷ 4 ∷ 3 ∷ 2 ∷ 4 ∷ 2 ∷ 4 ∷ 2 ∷ 4 ∷ 2 ∷
+    2 ∷ 2 ∷ 0 ∷ 2 ∷ 0 ∷ 1 ∷ 2 ∷ 3 ∷ 4 ∷ 2 ∷ 2 ∷ 0 ∷ 0 ∷ 0 ∷ 1 ∷ 2 ∷ 3 ∷ 4 ∷ 3 ∷ 2 ∷ 4 ∷ 2 ∷ 4 ∷ 2 ∷ 4 ∷ 2 ∷ 4 ∷ 2 ∷ [])
+
+-- made block by block, of the largest shape: core 7's record stands at position 20 and round to 5, with the highest number and
+-- stamp, as many blocks as a record has, and as many names
+abbrev largest : Shape
+largest = newShape 8 64 24
+
+unfoldable pub diskLargest : Bytes
+diskLargest =
+    store
+    (store (store zeroDisk 0 (masterBlock largest (λ (c : ℕ). cond (eqb c 7) (newTail 4000000000 20) (newTail 1 0)))) (journalBlock largest 7 20)
+    (descriptorBlock 4000000000 (map (λ (b : ℕ). newTag b 0) (below 8))))
+    (journalBlock largest 7 29) (commitBlock 4000000000 (2 ^ 64 - 1) (map (λ (i : ℕ). newName 7 (i + 1)) (below 12)))
+
+unfoldable pub pageComputes : Unit {0}
+unfolding computes digitAt numeral covers shownAt byteAt lineBytes headFields keptOrLeft transactionFields refusalFields pageRefusal transactionLine pageOf lineAt layNumber laid textBytes line pageBytes diskAfter diskP1 diskP2 diskLargest
+pageComputes = tt
+
+-- ---- pages
+pub page-P1 : pageBytes diskP1
+    ≡ line " 2  4 12"
+    ∷ line " 0          1                    1  1  1 kept"
+    ∷ line " 1          1                    2  0  1 kept"
+    ∷ []
+unfolding pageComputes
+page-P1 = refl
+
+pub page-P2 : pageBytes diskP2
+    ≡ line " 3  4 12"
+    ∷ line " 0          1                    1  1  1 left"
+    ∷ line " 2          1                    3  1  0 kept"
+    ∷ line " 2          2                    4  2  0 kept"
+    ∷ []
+unfolding pageComputes
+page-P2 = refl
+
+pub page-largest : pageBytes diskLargest
+    ≡ line " 8 64 24"
+    ∷ line " 7 4000000000 18446744073709551615  8 12 kept"
+    ∷ []
+unfolding pageComputes
+page-largest = refl
+
+-- an unfit master: 8; a disk of another length: 1, its master fit or not
+pub page-unfit : pageBytes zeroDisk ≡ line " 8" ∷ []
+unfolding pageComputes
+page-unfit = refl
+
+pub page-none : pageBytes [] ≡ line " 1" ∷ []
+unfolding pageComputes
+page-none = refl
+
+pub page-short : pageBytes (take 32895 diskP1) ≡ line " 1" ∷ []
+unfolding pageComputes
+page-short = refl
+
+pub page-long : pageBytes (diskP1 ++ 0 ∷ []) ≡ line " 1" ∷ []
+unfolding pageComputes
+page-long = refl
+
+-- ---- numbers set right: nought is one 0, no 0 leads, and of a number that is wider the lowest digits
+pub numerals :
+    map (λ (n : ℕ). (numeral 1 2 n) .text) (0 ∷ 7 ∷ 10 ∷ 99 ∷ 100 ∷ 123 ∷ [])
+    ≡ textBytes " 0" ∷ textBytes " 7" ∷ textBytes "10" ∷ textBytes "99" ∷ textBytes "00" ∷ textBytes "23" ∷ []
+unfolding pageComputes
+numerals = refl
+
+pub numeral-wide : (numeral 4 10 0) .text ++ (numeral 15 20 1000) .text ≡ textBytes "         0                1000"
+unfolding pageComputes
+numeral-wide = refl
+
+-- ---- the buffer: of 64 or 66 bytes it is refused with 1 and stays, of 65 it gets the line
+pub buffers : map layNumber (replicate 64 7 ∷ replicate 65 7 ∷ replicate 66 7 ∷ []) ≡ 1 ∷ 0 ∷ 1 ∷ []
+unfolding pageComputes
+buffers = refl
+
+pub buffers-after :
+    map (laid (refusalFields 8)) (replicate 64 7 ∷ replicate 65 7 ∷ replicate 66 7 ∷ []) ≡ replicate 64 7 ∷ line " 8" ∷ replicate 66 7 ∷ []
+unfolding pageComputes
+buffers-after = refl
+
+-- ---- wrong definitions, each with the byte or the length that tells it apart
+-- the page of a disk that recovery would not refuse, with other fields
+unfoldable pub pageBy : (Bool → Committed → List Field) → Bytes → List Bytes
+pageBy fields d = map lineBytes (headFields (shapeOn d) ∷ map (λ (e : Committed). fields (isIn (validOn d) (nameOf e)) e) (committedOn d))
+
+-- with the right fields it is the page
+pub page-by : (d : Bytes) → pageRefusal d ≡ 0 → pageBy transactionFields d ≡ pageBytes d
+unfolding pageBy pageBytes transactionLine
+page-by d h = sym (ap (map lineBytes) (page-lines d h))
+
+-- lines filled to column 63
+unfoldable pub filledShort : List Field → Bytes
+filledShort fs = take 63 (lineBytes fs) ++ 0x0A ∷ []
+
+pub short-fill-differs : map filledShort (pageOf diskP1) ≢ pageBytes diskP1
+unfolding pageComputes filledShort
+short-fill-differs e = let h : _≡_ {A = ℕ} 64 65 = ap (λ (ls : List Bytes). length (getD ls 0 [])) e in omega arith
+
+-- block count and name count exchanged
+unfoldable pub countsExchanged : Bool → Committed → List Field
+countsExchanged kept e =
+    numeral 1 2 (e .core) ∷ numeral 4 10 (e .number) ∷ numeral 15 20 (e .stamp) ∷
+    numeral 36 2 (e .named) ∷ numeral 39 2 (e .count) ∷ word 42 (keptOrLeft kept) ∷ []
+
+pub counts-differ : pageBy countsExchanged diskP1 ≢ pageBytes diskP1
+unfolding pageComputes pageBy countsExchanged
+counts-differ e = let h : _≡_ {A = ℕ} 0x31 0x30 = ap (λ (ls : List Bytes). getD (getD ls 2 []) 36 0) e in omega arith
+
+-- numbers with leading zeros
+unfoldable pub zerosLead : ℕ → ℕ → ℕ → Field
+zerosLead first width n = record { first = first; text = map (λ (i : ℕ). 0x30 + n / 10 ^ (width - (i + 1)) % 10) (below width) }
+
+unfoldable pub withZeros : Bool → Committed → List Field
+withZeros kept e =
+    zerosLead 1 2 (e .core) ∷ zerosLead 4 10 (e .number) ∷ zerosLead 15 20 (e .stamp) ∷
+    zerosLead 36 2 (e .count) ∷ zerosLead 39 2 (e .named) ∷ word 42 (keptOrLeft kept) ∷ []
+
+pub zeros-differ : pageBy withZeros diskP1 ≢ pageBytes diskP1
+unfolding pageComputes pageBy zerosLead withZeros
+zeros-differ e = let h : _≡_ {A = ℕ} 0x30 0x20 = ap (λ (ls : List Bytes). getD (getD ls 1 []) 0 0) e in omega arith
+
+-- every committed one called kept
+unfoldable pub allKept : Bool → Committed → List Field
+allKept kept e = transactionFields true e
+
+pub all-kept-differs : pageBy allKept diskP2 ≢ pageBytes diskP2
+unfolding pageComputes pageBy allKept
+all-kept-differs e = let h : _≡_ {A = ℕ} 0x6B 0x6C = ap (λ (ls : List Bytes). getD (getD ls 1 []) 41 0) e in omega arith
+
+-- only what is kept shown
+pub kept-alone-differs : map lineBytes (headFields (shapeOn diskP2) ∷ map (transactionFields true) (validOn diskP2)) ≢ pageBytes diskP2
+unfolding pageComputes
+kept-alone-differs e = let h : _≡_ {A = ℕ} 3 4 = ap length e in omega arith
