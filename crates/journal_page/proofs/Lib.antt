@@ -1,3 +1,4 @@
 -- Laws that the proofs of the journal page cite.
 pub mod LineLaws
 pub mod FieldLaws
+pub mod DiskLineLaws

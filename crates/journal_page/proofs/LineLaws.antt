@@ -52,16 +52,16 @@ letter zero n i d h = absurd (omega arith)
 letter (suc w) n i d h =
     elim (decLt i w) [
       | yes l ↦ (
-        let e : w - (i + 1) + 1 ≡ suc w - (i + 1) = omega arith in
-        List·getD-append (bytes w (n / 256)) (n % 256 ∷ []) d i (omega (arith, length-bytes w (n / 256)))
-        ∙ letter w (n / 256) i d l
-        ∙ ap (λ (x : ℕ). x % 256) (div-div-eq-div-mul n 256 (256 ^ (w - (i + 1))) ∙ ap (λ (x : ℕ). n / x) (sym (pow-succ' 256 (w - (i + 1)))))
-        ∙ ap (λ (x : ℕ). n / 256 ^ x % 256) (sym (add-one (w - (i + 1))) ∙ e))
+          let e : w - (i + 1) + 1 ≡ suc w - (i + 1) = omega arith in
+          List·getD-append (bytes w (n / 256)) (n % 256 ∷ []) d i (omega (arith, length-bytes w (n / 256)))
+          ∙ letter w (n / 256) i d l
+          ∙ ap (λ (x : ℕ). x % 256) (div-div-eq-div-mul n 256 (256 ^ (w - (i + 1))) ∙ ap (λ (x : ℕ). n / x) (sym (pow-succ' 256 (w - (i + 1)))))
+          ∙ ap (λ (x : ℕ). n / 256 ^ x % 256) (sym (add-one (w - (i + 1))) ∙ e))
       | no g ↦ (
-        let e : suc w - (i + 1) ≡ 0 = omega arith in
-        getD-last (bytes w (n / 256)) (n % 256) d i (omega (arith, length-bytes w (n / 256)))
-        ∙ ap (λ (x : ℕ). x % 256) (shift-none n 256)
-        ∙ ap (λ (x : ℕ). n / 256 ^ x % 256) (sym e))
+          let e : suc w - (i + 1) ≡ 0 = omega arith in
+          getD-last (bytes w (n / 256)) (n % 256) d i (omega (arith, length-bytes w (n / 256)))
+          ∙ ap (λ (x : ℕ). x % 256) (shift-none n 256)
+          ∙ ap (λ (x : ℕ). n / 256 ^ x % 256) (sym e))
     ]
 
 -- ---- the columns of a field
@@ -188,3 +188,6 @@ module _ (fs : List page.Field) where
         → (_≡_ {A = ℕ} 0 (layNumber out)) × (line ≡ laid fs out)
     unfolding layNumber laid lineBytes
     right-size h line i w q = (rw (eq-eqb (length out) 65 h), rw (eq-eqb (length out) 65 h) (filled-all (λ (i : ℕ). byteAt fs (i + 1)) 65 line i w q))
+
+pub laid-same : (fs gs : List page.Field) (out line : Bytes) → line ≡ laid fs out → fs ≡ gs → line ≡ laid gs out
+laid-same fs gs out line e q = e ∙ ap (λ (x : List page.Field). laid x out) q

@@ -69,14 +69,7 @@ fn nth_slot(s: Shape, set: &[u16; 96], n: usize) -> usize
 }
 
 // The fields of the transaction in slot i of the core whose tail is t.
-fn slot_fields(
-    s: Shape,
-    disk: &[u8],
-    t: Tail,
-    set: &[u16; 96],
-    i: usize,
-    kept: bool,
-) -> [Field; 6]
+fn slot_fields(s: Shape, disk: &[u8], t: Tail, set: &[u16; 96], i: usize, kept: bool) -> [Field; 6]
     requires { ⌜ InRange s × (length (now disk) ≡ diskSize) × (i < 96) × (isFilled s (now set) i ≡ true) ⌝ }
     ensures { λ r. ⌜
         fieldsIn r ≡ transactionFields kept

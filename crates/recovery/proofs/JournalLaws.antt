@@ -22,7 +22,7 @@ use Rattle.valid.specs.declared.newest.Image.{Image}
 use Rattle.valid.specs.Sets.{numbered}
 use Rattle.valid.specs.Newest.{foundImage, firstOr, heldFrom}
 use Rattle.valid.proofs.Model.{found-bytes, image-numbers, held-numbers, read-count}
-use Rattle.valid.proofs.Commands.{core-journal, slots-valid}
+use Rattle.valid.proofs.Commands.{core-journal, slots-read, slots-valid}
 use Rattle.cells.specs.Cells.{world}
 use Rattle.recovery.specs.Recovering.{numbersOn, tailAfter, Shaped, OnDisk, IsValid}
 
@@ -74,6 +74,11 @@ module _ (d : Bytes) (s : Shape) (z : s ≡ shapeOn d) (l : InRange s) (ts : Lis
     tails-emptied : (out : List Tail) → out ≡ map (tailAfter s ts set) (below 8) → out ≡ map (emptiedTail d) (below 8)
     tails-emptied out q = q ∙ map-below _ _ 8 tail-emptied
 
+    -- all that is committed
+    committed-read : entries s d (numbersOf ts) set ≡ committedOn d
+    unfolding committedOn
+    committed-read = rw (← z) (slots-read l d ts (replicate 8 (s .journal)) set r (tailOn d) (λ (c : ℕ). s .journal) disk-tail whole-read)
+
     -- and of them the valid set
     valid-read : (v : List ℕ) → entries s d (numbersOf ts) v ≡ validSet s d (numbered (numbersOf ts)) (entries s d (numbersOf ts) set) → entries s d (numbersOn d) v ≡ validOn d
     unfolding numbersOn validOn committedOn blockAt part
@@ -93,6 +98,13 @@ master-tails-read d s ts set r = r .tails
 module _ (d : Bytes) (s : Shape) (g : Shaped s d) (ts : List Tail) (set : List ℕ) (r : OnDisk s d ts set) where
   pub tails-after : (after : List Tail) → after ≡ map (tailAfter s ts set) (below 8) → after ≡ map (emptiedTail d) (below 8)
   tails-after after q = tails-emptied d s (g .shape) (g .range) ts (master-tails-read d s ts set r) set (r .slots) after q
+
+  pub all-committed : entries s d (numbersOf ts) set ≡ committedOn d
+  all-committed = committed-read d s (g .shape) (g .range) ts (master-tails-read d s ts set r) set (r .slots)
+
+  pub same-numbers : numbersOf ts ≡ numbersOn d
+  unfolding numbersOn
+  same-numbers = ap numbersOf (r .tails)
 
   pub all-valid : (v : List ℕ) → entries s d (numbersOf ts) v ≡ validSet s d (numbered (numbersOf ts)) (entries s d (numbersOf ts) set) → IsValid s d v
   all-valid v q = record { valid = valid-read d s (g .shape) (g .range) ts (master-tails-read d s ts set r) set (r .slots) v q }
