@@ -1,10 +1,12 @@
-// lib.rs: an independent model of the revision D storage card, with a service book, a ledger, tapes and checks.
+// lib.rs: an independent model of the revision D storage card, with a service book, a ledger, tapes and checks,
+// and with the journal page of a disk.
 
 pub mod book;
 pub mod card;
 pub mod checks;
 pub mod command;
 pub mod directed;
+pub mod disks;
 pub mod few;
 pub mod foreign;
 pub mod generator;
