@@ -13,6 +13,7 @@ pub mod generator;
 pub mod journal;
 pub mod layout;
 pub mod ledger;
+pub mod page;
 pub mod program;
 pub mod random;
 pub mod second_reader;
