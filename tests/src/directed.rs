@@ -1,7 +1,11 @@
-// directed.rs: disks and tapes made for the worst cases: full journals, and names in a chain that strike one a round.
+// directed.rs: disks and tapes made for the worst cases: full journals, names in a chain that strike one a round, and
+// transactions with the most of all.
 
 use crate::command::Command;
-use crate::layout::{commit, descriptor, master, read_master, Name, Shape, Tail, Tails, BLOCK, CORES, DISK, HOMES};
+use crate::layout::{
+    commit, descriptor, master, read_master, Name, Shape, Tail, Tails, BLOCK, CORES, DISK, HOMES, LAST_NUMBER,
+    LAST_TAIL, NAMES,
+};
 
 pub const LARGEST: Shape = Shape { cores: 8, blocks: 64, journal: 24 };
 
@@ -49,6 +53,21 @@ pub fn put_chain(disk: &mut [u8], counts: [usize; CORES], blocks: usize, is_met:
 pub fn chain_disk(blocks: usize, is_met: bool) -> Vec<u8> {
     let mut disk = disk_with(LARGEST, &[Tail { number: 1, position: 0 }; CORES]);
     put_chain(&mut disk, [LARGEST.journal as usize / (blocks + 2); CORES], blocks, is_met);
+    disk
+}
+
+/// A disk of the largest shape where each core's one transaction has the most of all: number, stamp, blocks, names. Its list
+/// names nothing but itself. What follows it in the journal has a number too high to be read.
+pub fn brimful_disk() -> Vec<u8> {
+    let position = 20;
+    let mut disk = disk_with(LARGEST, &[Tail { number: LAST_NUMBER, position }; CORES]);
+    for core in 0..LARGEST.cores {
+        let (at, name) = (position as usize, Name { core, number: LAST_NUMBER });
+        put_record(&mut disk, LARGEST, name, at, &[63, 0, 1, 2, 3, 4, 5, 6], &[name; NAMES]);
+        put_record(&mut disk, LARGEST, Name { core, number: LAST_TAIL }, at + 10, &[], &[]);
+        let stamp = LARGEST.place(core, at + 9) * BLOCK + 12;
+        disk[stamp..stamp + 8].fill(0xFF);
+    }
     disk
 }
 

@@ -2,7 +2,8 @@
 
 use crate::few::Few;
 use crate::layout::{
-    block_at, unescaped, word, Block, Name, Shape, Tails, COMMIT, CORES, DESCRIPTOR, LAST_NUMBER, MARK, NAMES, TAKEN,
+    block_at, read_master, unescaped, word, Block, Name, Shape, Tails, COMMIT, CORES, DESCRIPTOR, LAST_NUMBER, MARK,
+    NAMES, TAKEN,
 };
 
 /// One committed transaction as its journal tells it.
@@ -52,6 +53,12 @@ pub struct Journals {
 pub type Set = u128;
 
 impl Journals {
+    /// The shape of a disk and its whole journals, as recovery reads them; 8 where the master is unfit.
+    pub fn of_disk(disk: &[u8]) -> Result<(Shape, Journals), u8> {
+        let (shape, tails) = read_master(disk).ok_or(8)?;
+        Ok((shape, Journals::read(disk, shape, &tails, &[usize::MAX; CORES])))
+    }
+
     /// Reads at most `limits[core]` records of each core, from its tail on.
     pub fn read(disk: &[u8], shape: Shape, tails: &Tails, limits: &[usize; CORES]) -> Journals {
         let mut all = Journals { records: Vec::new(), tails: *tails, starts: [0; CORES + 1] };

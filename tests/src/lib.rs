@@ -1,16 +1,19 @@
-// lib.rs: an independent model of the revision D storage card, with a service book, a ledger, tapes and checks.
+// lib.rs: an independent model of the revision D storage card, with a service book, a ledger, tapes and checks,
+// and with the journal page of a disk.
 
 pub mod book;
 pub mod card;
 pub mod checks;
 pub mod command;
 pub mod directed;
+pub mod disks;
 pub mod few;
 pub mod foreign;
 pub mod generator;
 pub mod journal;
 pub mod layout;
 pub mod ledger;
+pub mod page;
 pub mod program;
 pub mod random;
 pub mod second_reader;

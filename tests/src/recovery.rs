@@ -2,7 +2,7 @@
 
 use crate::card::{Card, Done, Lent};
 use crate::journal::{Journals, Record, Set};
-use crate::layout::{copy_of, master, read_master, Block, Shape, Tail, Tails, CORES, LAST_TAIL, ZERO};
+use crate::layout::{copy_of, master, Block, Shape, Tail, Tails, LAST_TAIL, ZERO};
 use crate::wrong::Wrong;
 
 impl Card {
@@ -86,8 +86,7 @@ impl Card {
     }
 
     pub(crate) fn recover(&mut self, lent: &mut Lent) -> Done {
-        let (shape, tails) = read_master(lent.disk).ok_or(8)?;
-        let journals = Journals::read(lent.disk, shape, &tails, &[usize::MAX; CORES]);
+        let (shape, journals) = Journals::of_disk(lent.disk)?;
         let valid = self.valid_set(&journals);
         match self.next_home(lent.disk, shape, &journals, valid) {
             Some((block, image)) => {

@@ -1,12 +1,12 @@
 // cases.rs: the nine cases of the paper, as the tape program prints them, and the ways in which a tape ends.
 
-use card_tests::card::Card;
 use card_tests::command::from_hex;
-use card_tests::layout::{DISK, MEMORY};
+use card_tests::disks::{disk_after, P1_UNCUT};
 use card_tests::program::print_tape;
 
-const FIRST: &str = "01 02 04 0C | 02 00 0003 00 41424344 | 02 01 0003 04 45464748 | 03 00 | 04 00 | 04 00 | 04 00 \
-    | 05 00 | 03 01 | 04 01 | 04 01 | 06 | 07 | 07";
+fn first() -> String {
+    format!("{P1_UNCUT} | 06 | 07 | 07")
+}
 
 /// What is printed up to the first store of core 1.
 const FIRST_LINES: [&str; 10] = [
@@ -33,12 +33,12 @@ fn prints(tape: &str, lines: &[&str]) {
 #[test]
 fn p1_both_commit_and_come_back() {
     let end = ["36 4 0 5", "38 6 0 5", "39 7 0 6", "40 7 0 7", "block 3 4142434445464748"];
-    prints(FIRST, &[&FIRST_LINES[..], &end].concat());
+    prints(&first(), &[&FIRST_LINES[..], &end].concat());
 }
 
 #[test]
 fn p2_a_commit_missing_brings_nothing_back() {
-    let tape = FIRST.replacen("04 01 | 04 01", "04 01", 1);
+    let tape = first().replacen("04 01 | 04 01", "04 01", 1);
     prints(&tape, &[&FIRST_LINES[..], &["36 6 0 4", "37 7 0 5", "38 7 23 5"]].concat());
 }
 
@@ -80,7 +80,7 @@ fn p6_the_number_after_a_cut() {
         "block 0 1111111100000000",
     ];
     prints(tape, &[&ONE_COMMITTED[..], &end].concat());
-    let disk = disk_after(tape);
+    let disk = disk_after(&from_hex(tape));
     assert_eq!(disk[24..32], [0, 0, 0, 3, 0, 0, 0, 0], "tail number and position in the master");
     assert_eq!(disk[3 * 128 + 8..3 * 128 + 12], [0, 0, 0, 3], "number of the descriptor at position 0");
 }
@@ -139,21 +139,10 @@ fn a_card_that_is_down_still_prints_its_blocks() {
     prints(tape, &[&ONE_COMMITTED[..], &end].concat());
 }
 
-fn disk_after(tape: &str) -> Vec<u8> {
-    let tape = from_hex(tape);
-    let (mut disk, mut memory, mut card) = (vec![0xEE; DISK], vec![0xEE; MEMORY], Card::blank());
-    let mut offset = 0;
-    while offset < tape.len() {
-        offset = card.command(&mut disk, &mut memory, &tape, offset).next;
-    }
-    disk
-}
-
 #[test]
 fn the_bytes_of_the_first_case() {
-    let tape = from_hex(FIRST);
-    let disk = disk_after(FIRST.split("| 06").next().unwrap());
-    assert_eq!(tape.len(), 41);
+    let disk = disk_after(&from_hex(P1_UNCUT));
+    assert_eq!(from_hex(&first()).len(), 41);
     let block = |index: usize, digits: &str| {
         let mut bytes = from_hex(digits);
         bytes.resize(128, 0);

@@ -1,8 +1,9 @@
 // lib.rs: the proved library behind a safe wrapper, a watcher that compares it with the independent model, cells that no run made,
-// a gauge of stack, and the tape program.
+// a gauge of stack, the journal page, and the programs.
 
 pub mod cells;
 pub mod made_up;
+pub mod page;
 pub mod paint;
 pub mod program;
 pub mod session;

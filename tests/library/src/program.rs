@@ -1,18 +1,23 @@
-// program.rs: the tape program, run on a tape.
+// program.rs: the programs, and the scripts over them, run on an input.
 
 use std::io::Write;
 use std::process::{Child, Command, Output, Stdio};
 
 pub const ROOT: &str = concat!(env!("CARGO_MANIFEST_DIR"), "/../..");
 
+/// A program by its name, not begun yet.
+pub fn program(name: &str) -> Command {
+    Command::new(format!("{ROOT}/target/bin/{name}"))
+}
+
 /// The program, begun; standard input, output and error are those of the child.
-pub fn begin() -> Child {
-    begun(&mut Command::new(format!("{ROOT}/target/bin/tape")))
+pub fn begin(name: &str) -> Child {
+    begun(&mut program(name))
 }
 
 /// The script over the program, with its arguments.
-pub fn script(arguments: &[&str]) -> Child {
-    begun(Command::new(format!("{ROOT}/bin/tape")).args(arguments))
+pub fn script(name: &str, arguments: &[&str]) -> Child {
+    begun(Command::new(format!("{ROOT}/bin/{name}")).args(arguments))
 }
 
 fn begun(command: &mut Command) -> Child {
@@ -20,18 +25,18 @@ fn begun(command: &mut Command) -> Child {
     command.spawn().expect("the program is built")
 }
 
-/// All that it prints on a tape. A tape that ends early is not read to its end.
-pub fn ended(mut child: Child, tape: &[u8]) -> Output {
+/// All that it prints on an input. One that tells enough early is not read to its end.
+pub fn ended(mut child: Child, bytes: &[u8]) -> Output {
     let mut input = child.stdin.take().expect("standard input");
     std::thread::scope(|scope| {
-        scope.spawn(move || input.write_all(tape));
+        scope.spawn(move || input.write_all(bytes));
         child.wait_with_output().expect("it ends")
     })
 }
 
-/// What is printed on a tape by a program that does not fail.
-pub fn printed(child: Child, tape: &[u8]) -> String {
-    let out = ended(child, tape);
+/// What is printed on an input by a program that does not fail.
+pub fn printed(child: Child, bytes: &[u8]) -> String {
+    let out = ended(child, bytes);
     assert!(out.status.success() && out.stderr.is_empty(), "{out:?}");
     String::from_utf8(out.stdout).expect("text")
 }

@@ -2,14 +2,14 @@
 // home blocks, and that tell programs with a flaw of their own apart. What is printed is out before more input is awaited; a
 // read or a write that fails is said.
 
-use card_library::program::{begin, ended, printed, ROOT};
+use card_library::program::{begin, ended, printed, program, ROOT};
 use card_tests::directed::LARGEST;
 use card_tests::generator::Generator;
 use card_tests::program::{generated, print_tape, print_with, FLAWS, PIECE};
 use card_tests::random::Random;
 use std::fs::File;
 use std::io::{BufRead, BufReader, Write};
-use std::process::{Command, Stdio};
+use std::process::Stdio;
 use std::sync::mpsc::channel;
 use std::time::Duration;
 
@@ -25,7 +25,7 @@ fn the_nine_tapes_print_what_the_model_prints() {
     for case in 1..=9 {
         let text = std::fs::read_to_string(format!("{ROOT}/tapes/p{case}.hex")).expect("the tape is there");
         let tape = from_hex(&text);
-        assert_eq!(printed(begin(), &tape), print_tape(&tape), "P{case}");
+        assert_eq!(printed(begin("tape"), &tape), print_tape(&tape), "P{case}");
     }
 }
 
@@ -35,9 +35,9 @@ fn random_bytes_print_what_the_model_prints() {
     for _ in 0..50 {
         let mut tape = vec![1, 2, 4, 12];
         tape.extend((0..random.below(3000)).map(|_| random.below(8) as u8));
-        assert_eq!(printed(begin(), &tape), print_tape(&tape));
+        assert_eq!(printed(begin("tape"), &tape), print_tape(&tape));
         let any: Vec<u8> = (0..random.below(40)).map(|_| random.byte()).collect();
-        assert_eq!(printed(begin(), &any), print_tape(&any));
+        assert_eq!(printed(begin("tape"), &any), print_tape(&any));
     }
 }
 
@@ -78,7 +78,7 @@ fn generated_tapes_print_what_the_model_prints() {
     let mut told = vec![0; FLAWS.len()];
     for tape in &tapes {
         let right = print_tape(tape);
-        assert_eq!(printed(begin(), tape), right);
+        assert_eq!(printed(begin("tape"), tape), right);
         tally.count(&right);
         for (count, (flaw, _)) in told.iter_mut().zip(FLAWS) {
             *count += (print_with(tape, *flaw) != right) as usize;
@@ -99,7 +99,7 @@ fn generated_tapes_print_what_the_model_prints() {
 #[test]
 fn a_line_is_out_before_more_input_is_awaited() {
     let tape = from_hex("0102040C 020000030041424344 020100030445464748 0300 0400 0400 0400 06 07 07");
-    let mut child = begin();
+    let mut child = begin("tape");
     let (sender, receiver) = channel();
     let lines = BufReader::new(child.stdout.take().expect("standard output")).lines();
     std::thread::spawn(move || lines.for_each(|line| sender.send(line.expect("a line")).expect("it is awaited")));
@@ -124,14 +124,17 @@ fn a_line_is_out_before_more_input_is_awaited() {
 /// The program has no status; it says that it failed.
 #[test]
 fn a_failed_write_or_read_is_said() {
-    let program = || Command::new(format!("{ROOT}/target/bin/tape"));
     let full = File::options().write(true).open("/dev/full").expect("a full device");
-    let full =
-        program().stdin(Stdio::piped()).stdout(full).stderr(Stdio::piped()).spawn().expect("the program is built");
+    let full = program("tape")
+        .stdin(Stdio::piped())
+        .stdout(full)
+        .stderr(Stdio::piped())
+        .spawn()
+        .expect("the program is built");
     let said = ended(full, &[1, 2, 4, 12]).stderr;
     assert_eq!(said, b"tape: standard output cannot be written\n");
     let folder = File::open(ROOT).expect("a folder");
-    let out = program().stdin(folder).output().expect("it ends");
+    let out = program("tape").stdin(folder).output().expect("it ends");
     assert_eq!(
         (out.stdout.as_slice(), out.stderr.as_slice()),
         (&b""[..], &b"tape: standard input cannot be read\n"[..])

@@ -26,29 +26,29 @@ fn refused(out: Output, words: &str) {
 fn hex_is_taken_as_the_paper_has_it() {
     let text = b"01 02 04 0C | 02 00 0003 00 abCDefO1 # O\r\n".map(|byte| if byte == b'O' { b'0' } else { byte });
     let text = [&text[..], b"\r\n# \xFF 0\n\t03 00|06"].concat();
-    assert_eq!(printed(script(&[&file("paper.hex", &text)]), &[]), print_tape(&TAPE));
-    assert_eq!(printed(script(&[&file("tape", &TAPE)]), &[]), print_tape(&TAPE));
-    assert_eq!(printed(script(&[]), &TAPE), print_tape(&TAPE));
-    assert_eq!(printed(script(&[&file("empty.hex", b"# none\n")]), &[]), "");
+    assert_eq!(printed(script("tape", &[&file("paper.hex", &text)]), &[]), print_tape(&TAPE));
+    assert_eq!(printed(script("tape", &[&file("tape", &TAPE)]), &[]), print_tape(&TAPE));
+    assert_eq!(printed(script("tape", &[]), &TAPE), print_tape(&TAPE));
+    assert_eq!(printed(script("tape", &[&file("empty.hex", b"# none\n")]), &[]), "");
     // an unknown byte ends the tape before all of it is read
     let long = "09".repeat(100_000);
-    assert_eq!(printed(script(&[&file("long.hex", long.as_bytes())]), &[]), "0 9 2 0\n");
+    assert_eq!(printed(script("tape", &[&file("long.hex", long.as_bytes())]), &[]), "0 9 2 0\n");
 }
 
 #[test]
 fn a_wrong_file_is_refused() {
-    let of = |name: &str, text: &[u8]| ended(script(&[&file(name, text)]), &[]);
+    let of = |name: &str, text: &[u8]| ended(script("tape", &[&file(name, text)]), &[]);
     refused(of("odd.hex", b"0102040C 0"), "odd number");
     refused(of("wrong.hex", b"0102040C 0x"), "not a hex digit: 'x'");
     refused(of("zero.hex", b"0102040C\0"), "not a hex digit");
-    refused(ended(script(&["no/such.hex"]), &[]), "no such file");
-    refused(ended(script(&[ROOT]), &[]), "a directory");
-    refused(ended(script(&["one", "two"]), &[]), "one file");
+    refused(ended(script("tape", &["no/such.hex"]), &[]), "no such file");
+    refused(ended(script("tape", &[ROOT]), &[]), "a directory");
+    refused(ended(script("tape", &["one", "two"]), &[]), "one file");
     let closed = file("closed.hex", b"06");
     Command::new("chmod").args(["000", &closed]).status().expect("chmod");
     // root reads it all the same
     if File::open(&closed).is_err() {
-        refused(ended(script(&[&closed]), &[]), "cannot be read");
+        refused(ended(script("tape", &[&closed]), &[]), "cannot be read");
     }
 }
 

@@ -1,0 +1,169 @@
+// journal_page.rs: the library's page of a disk is the model's, line by line, on disks of runs, foreign and damaged ones and slices of
+// a wrong length. Only a buffer of 65 bytes is touched.
+
+use card_library::page::{lay_line, line_count};
+use card_tests::command::from_hex;
+use card_tests::directed::{brimful_disk, chain_disk};
+use card_tests::disks::{disk_after, each_disk, P1_UNCUT};
+use card_tests::foreign::{self, SPOILS};
+use card_tests::layout::{put_word, read_master, BLOCK, DISK, HOMES};
+use card_tests::page::{line_at, page, Line};
+use card_tests::random::Random;
+
+/// Tells a kind by the fields of a line and how many lines its page has.
+type IsMet = fn(&[&str], usize) -> bool;
+
+/// What is to be met.
+const KINDS: [(&str, IsMet); 16] = [
+    ("kept", |line, _| line.last() == Some(&"kept")),
+    ("left", |line, _| line.last() == Some(&"left")),
+    ("the last core", |line, _| line.len() == 6 && line[0] == "7"),
+    ("a number of two digits", |line, _| line.len() == 6 && line[1].len() == 2),
+    ("a number of ten digits", |line, _| line.len() == 6 && line[1].len() == 10),
+    ("a stamp of two digits", |line, _| line.len() == 6 && line[2].len() == 2),
+    ("a stamp of ten digits", |line, _| line.len() == 6 && line[2].len() == 10),
+    ("a stamp of twenty digits", |line, _| line.len() == 6 && line[2].len() == 20),
+    ("no block", |line, _| line.len() == 6 && line[3] == "0"),
+    ("eight blocks", |line, _| line.len() == 6 && line[3] == "8"),
+    ("no name", |line, _| line.len() == 6 && line[4] == "0"),
+    ("twelve names", |line, _| line.len() == 6 && line[4] == "12"),
+    ("a head alone", |line, lines| line.len() == 3 && lines == 1),
+    ("a head over many lines", |line, lines| line.len() == 3 && lines > 20),
+    ("refused with 1", |line, lines| line == ["1"] && lines == 1),
+    ("refused with 8", |line, lines| line == ["8"] && lines == 1),
+];
+
+/// How often each kind was met.
+#[derive(Default)]
+struct Met([usize; KINDS.len()]);
+
+impl Met {
+    fn count(&mut self, page: &[Line]) {
+        for line in page {
+            let text = std::str::from_utf8(line).expect("text");
+            let fields: Vec<&str> = text.split_whitespace().collect();
+            for (count, (_, is_met)) in self.0.iter_mut().zip(KINDS) {
+                *count += is_met(&fields, page.len()) as usize;
+            }
+        }
+    }
+
+    fn require(&self, least: usize) {
+        for (count, (words, _)) in self.0.iter().zip(KINDS) {
+            assert!(*count >= least, "met {count} times: {words}");
+        }
+    }
+}
+
+/// The model's page of a disk, held against every line that the library lays, two past the last, and the farthest.
+fn compared(disk: &[u8]) -> Vec<Line> {
+    let right = page(disk);
+    assert_eq!(line_count(disk), right.len());
+    for i in (0..right.len() + 2).chain([usize::MAX]) {
+        let (mut out, line) = ([0xA5; 65], line_at(&right, i));
+        assert_eq!(lay_line(disk, i, &mut out), 0);
+        assert!(out == line, "line {i} is '{}', the model's '{}'", out.escape_ascii(), line.escape_ascii());
+    }
+    right
+}
+
+/// A copy with one to four bits flipped: in the master, anywhere, or mostly in the heads of blocks that its shape uses.
+fn damaged(random: &mut Random, disk: &[u8]) -> Vec<u8> {
+    let mut copy = disk.to_vec();
+    let used = read_master(disk).map_or(DISK / BLOCK, |(shape, _)| shape.used());
+    for _ in 0..random.between(1, 4) {
+        let at = match random.below(8) {
+            0 => random.below(BLOCK),
+            1 => random.below(DISK),
+            _ => random.below(used) * BLOCK + random.below(32),
+        };
+        copy[at] ^= 1 << random.below(8);
+    }
+    copy
+}
+
+fn p1_disk() -> Vec<u8> {
+    disk_after(&from_hex(P1_UNCUT))
+}
+
+#[test]
+fn the_page_is_the_models() {
+    let (mut random, mut met, mut altered) = (Random::new(51), Met::default(), 0);
+    each_disk(200_000, 51, |disk| {
+        let right = compared(disk);
+        met.count(&right);
+        if random.chance(100) {
+            met.count(&compared(&foreign::disk(&mut random, disk)));
+        }
+        if random.chance(300) {
+            let other = compared(&damaged(&mut random, disk));
+            met.count(&other);
+            altered += (other != right) as usize;
+        }
+        if random.chance(10) {
+            met.count(&compared(&disk[..random.below(DISK)]));
+        }
+    });
+    met.require(100);
+    assert!(altered > 1000, "damage altered {altered} pages");
+}
+
+#[test]
+fn full_journals_are_shown() {
+    assert_eq!(compared(&brimful_disk()).len(), 9);
+    for (blocks, is_met, lines) in [(0, false, 97), (0, true, 97), (1, false, 65), (1, true, 65), (8, true, 17)] {
+        assert_eq!(compared(&chain_disk(blocks, is_met)).len(), lines);
+    }
+}
+
+/// Each bit of the master, and of descriptors and commits; and words just outside their range.
+#[test]
+fn a_flipped_bit_is_read_as_the_model_reads_it() {
+    let first = 1 + HOMES;
+    let disks = [(p1_disk(), [0, 5, 7, 17, 18]), (brimful_disk(), [0, first + 20, first + 5, first + 44, first + 29])];
+    for (mut disk, blocks) in disks {
+        for at in blocks.into_iter().flat_map(|block| block * BLOCK..(block + 1) * BLOCK) {
+            for bit in 0..8 {
+                disk[at] ^= 1 << bit;
+                compared(&disk);
+                disk[at] ^= 1 << bit;
+            }
+        }
+        for (at, word) in SPOILS {
+            let mut spoilt = disk.clone();
+            put_word(&mut spoilt, at, word);
+            compared(&spoilt);
+        }
+    }
+}
+
+/// The slice begins with a disk that has a page, or that is refused for its master too.
+#[test]
+fn a_disk_of_another_length_is_refused() {
+    for disk in [p1_disk(), brimful_disk(), vec![0; DISK]] {
+        let twice = [&disk[..], &disk].concat();
+        let near = (DISK - 16..=DISK + 16).filter(|length| *length != DISK);
+        for length in near.chain([0, 1, BLOCK, 2 * DISK]) {
+            assert_eq!(compared(&twice[..length]).len(), 1);
+        }
+    }
+}
+
+/// No byte of a page is above 127; those around the buffer and in it are.
+#[test]
+fn only_a_buffer_of_65_bytes_is_touched() {
+    let around: [u8; 200] = std::array::from_fn(|at| 128 | at as u8);
+    let disks = [p1_disk(), brimful_disk(), vec![0; DISK], vec![0; DISK + 1], Vec::new()];
+    for (disk, length) in disks.iter().flat_map(|disk| (0..=130).map(move |length| (disk, length))) {
+        let (right, before) = (page(disk), disk.clone());
+        for i in (0..right.len() + 2).chain([1 << 8, 1 << 16, 1 << 32, usize::MAX]) {
+            let (mut area, mut due) = (around, around);
+            if length == 65 {
+                due[30..95].copy_from_slice(&line_at(&right, i));
+            }
+            let number = lay_line(disk, i, &mut area[30..30 + length]);
+            assert_eq!(number, (length != 65) as u8, "a buffer of {length} bytes, line {i}");
+            assert!(area == due && *disk == before, "a buffer of {length} bytes, line {i}: a byte that is not due");
+        }
+    }
+}

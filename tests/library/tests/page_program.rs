@@ -1,0 +1,94 @@
+// page_program.rs: the page program prints the model's page of a disk. It reads on until it has a byte more than a disk, or no more
+// come; a read or a write that fails is said.
+
+use card_library::program::{begin, ended, printed, program, ROOT};
+use card_tests::command::from_hex;
+use card_tests::directed::{brimful_disk, chain_disk};
+use card_tests::disks::{disk_after, each_disk, P1_UNCUT};
+use card_tests::foreign;
+use card_tests::layout::DISK;
+use card_tests::page::print_page;
+use card_tests::random::Random;
+use std::fs::File;
+use std::io::Write;
+use std::process::Stdio;
+use std::sync::mpsc::channel;
+use std::time::Duration;
+
+/// The made ones, then some that generated tapes leave, and as many foreign ones.
+fn disks() -> Vec<Vec<u8>> {
+    let mut disks = vec![disk_after(&from_hex(P1_UNCUT)), brimful_disk(), chain_disk(0, true), chain_disk(1, false)];
+    let (mut random, mut seen) = (Random::new(61), 0);
+    each_disk(30_000, 61, |disk| {
+        seen += 1;
+        if seen % 200 == 0 {
+            disks.extend([disk.to_vec(), foreign::disk(&mut random, disk)]);
+        }
+    });
+    disks
+}
+
+#[test]
+fn the_page_printed_is_the_models() {
+    let mut pages = Vec::new();
+    for disk in disks() {
+        let right = print_page(&disk);
+        assert_eq!(printed(begin("page"), &disk), right);
+        pages.push(right);
+    }
+    let with = |word: &str| pages.iter().filter(|page| page.contains(word)).count();
+    let refused = pages.iter().filter(|page| page.trim() == "8").count();
+    let counts = [pages.len(), with("kept"), with("left"), refused];
+    assert!(counts[0] >= 60 && counts[1..].iter().all(|count| *count >= 5), "{counts:?}");
+}
+
+/// The input begins with a disk that has a page, or that is refused for its master too.
+#[test]
+fn an_input_of_another_length_is_refused() {
+    let refusal = format!("{:64}\n", " 1");
+    for disk in [brimful_disk(), vec![0; DISK]] {
+        let long = disk.repeat(32);
+        for length in [0, 1, 128, DISK - 1, DISK + 1, DISK + 2, 2 * DISK, 1_000_000] {
+            assert_eq!(printed(begin("page"), &long[..length]), refusal, "{length} bytes");
+        }
+    }
+}
+
+#[test]
+fn a_disk_that_comes_in_pieces_is_read_whole() {
+    let disk = chain_disk(1, true);
+    let mut child = begin("page");
+    let mut input = child.stdin.take().expect("standard input");
+    for piece in disk.chunks(3000) {
+        input.write_all(piece).expect("it is read");
+        std::thread::sleep(Duration::from_millis(10));
+    }
+    drop(input);
+    let out = child.wait_with_output().expect("it ends");
+    assert_eq!(String::from_utf8(out.stdout).expect("text"), print_page(&disk));
+}
+
+/// A byte more than a disk has tells enough.
+#[test]
+fn it_ends_while_a_longer_input_is_still_open() {
+    let mut child = begin("page");
+    let mut input = child.stdin.take().expect("standard input");
+    input.write_all(&[0; DISK + 1]).expect("it is read");
+    let (sender, receiver) = channel();
+    std::thread::spawn(move || sender.send(child.wait_with_output().expect("it ends")));
+    let out = receiver.recv_timeout(Duration::from_secs(20)).expect("in time");
+    assert_eq!(String::from_utf8(out.stdout).expect("text"), print_page(&[0; DISK + 1]));
+    drop(input);
+}
+
+/// The program has no status; it says that it failed.
+#[test]
+fn a_failed_write_or_read_is_said() {
+    let is_said = |words: Vec<u8>| words.iter().filter(|byte| **byte == b'\n').count() == 1;
+    let full = File::options().write(true).open("/dev/full").expect("a full device");
+    let full = program("page").stdin(Stdio::piped()).stdout(full).stderr(Stdio::piped()).spawn();
+    assert!(is_said(ended(full.expect("the program is built"), &brimful_disk()).stderr));
+    let folder = File::open(ROOT).expect("a folder");
+    let out = program("page").stdin(folder).output().expect("it ends");
+    assert!(out.stdout.is_empty() && is_said(out.stderr));
+}

@@ -1,0 +1,59 @@
+// page.rs: the journal page of a disk for the paper log (paper 02, request a): a head line, then a line for each transaction that
+// recovery would read. A disk that it would refuse has one line, with the number.
+
+use crate::journal::{Journals, Record};
+use crate::layout::{Shape, DISK};
+use std::fmt::Display;
+
+/// What a line of the log holds; the line feed comes after it.
+pub const COLUMNS: usize = 64;
+
+pub type Line = [u8; COLUMNS + 1];
+
+/// All lines of a disk's page.
+pub fn page(disk: &[u8]) -> Vec<Line> {
+    let (shape, journals) = match read(disk) {
+        Ok(read) => read,
+        Err(refusal) => return vec![set(&[(2, &refusal)])],
+    };
+    let valid = journals.valid(journals.everything());
+    let records = journals.records.iter().enumerate();
+    let lines = records.map(|(i, record)| transaction(record, valid >> i & 1 == 1));
+    std::iter::once(head(shape)).chain(lines).collect()
+}
+
+/// Line `i` of a page; one past the last has no fields.
+pub fn line_at(page: &[Line], i: usize) -> Line {
+    page.get(i).copied().unwrap_or_else(|| set(&[]))
+}
+
+/// What the page program prints on a disk.
+pub fn print_page(disk: &[u8]) -> String {
+    String::from_utf8(page(disk).concat()).expect("text")
+}
+
+/// What recovery would read of a disk, or its refusal.
+fn read(disk: &[u8]) -> Result<(Shape, Journals), u8> {
+    if disk.len() == DISK {
+        Journals::of_disk(disk)
+    } else {
+        Err(1)
+    }
+}
+
+fn head(shape: Shape) -> Line {
+    set(&[(2, &shape.cores), (2, &shape.blocks), (2, &shape.journal)])
+}
+
+fn transaction(record: &Record, is_kept: bool) -> Line {
+    let Record { core, number, stamp, blocks, names, .. } = record;
+    let word = if is_kept { "kept" } else { "left" };
+    set(&[(2, core), (10, number), (20, stamp), (2, &blocks.len()), (2, &names.len()), (4, &word)])
+}
+
+/// A line of fields, each set right in so many columns: a blank between two, blanks to the last column, a line feed.
+fn set(fields: &[(usize, &dyn Display)]) -> Line {
+    let texts: Vec<String> = fields.iter().map(|&(width, field)| format!("{field:>width$}")).collect();
+    let text = format!("{:<COLUMNS$}\n", texts.join(" "));
+    text.into_bytes().try_into().expect("no field is wider than its columns")
+}
