@@ -1,8 +1,10 @@
 // The exported entries. A foreign caller lends the cells, the tape and both slices; no entry asks for anything. No part of a slice
 // crosses the boundary, so reading without copying answers where the part stands.
 ghost use mathlib.Core.Path.{_≡_};
+ghost use lib.ListN.{length};
 ghost use Rattle.model.specs.Card.{blankCard, downCard};
 ghost use Rattle.model.specs.Reading.{readNumber};
+ghost use Rattle.model.specs.JournalPage.{pageOf, lineAt, layNumber, laid};
 ghost use Rattle.cells.specs.Cells.{cellsOf, worldIn};
 ghost use Rattle.firmware.specs.Session.{readInto, RunsCommand, RunsTape, partIn};
 use crate::session::Part;
@@ -90,4 +92,23 @@ pub extern "C" fn rev_d_read_block<'a>(
         ⌝ }
 {
     crate::session::copy_block(w, b, disk, memory, out)
+}
+
+// How many lines the journal page of a disk has.
+#[no_mangle]
+pub extern "C" fn rev_d_page_lines(disk: &[u8]) -> usize
+    ensures { λ r. ⌜ r ≡ length (pageOf (now (disk .entry))) ⌝ }
+{
+    journal_page::page_lines(disk)
+}
+
+// Line i of that page, from 0, laid into a lent buffer of 65 bytes; another length is answered with 1, and no byte is touched.
+#[no_mangle]
+pub extern "C" fn rev_d_page_line(disk: &[u8], i: usize, buffer: &mut [u8]) -> u8
+    ensures { λ r. ⌜
+        (r ≡ layNumber (now (buffer .entry)))
+        × (now (buffer .exit) ≡ laid (lineAt (now (disk .entry)) i) (now (buffer .entry)))
+        ⌝ }
+{
+    journal_page::page_line(disk, i, buffer)
 }
