@@ -5,23 +5,33 @@ use mathlib.Core.Logic.{_↔_}
 use mathlib.Core.Bool.{and-false}
 use lib.ListN.{List·getD-eq-default}
 use Rattle.model.specs.Limits.{diskSize, memorySize}
+use Rattle.model.specs.Lists.{Each}
 use Rattle.model.specs.Bytes.{blockAt, zeroMemory}
-use Rattle.model.specs.Card.{isBlank, isUp, freshCard, emptyCard, downCard}
+use Rattle.model.specs.Card.{isBlank, isUp, sameName, freshCard, emptyCard, downCard}
 use Rattle.model.specs.Layout.{isMaster}
+use Rattle.model.specs.Journal.{nameOf, journal, journals}
+use Rattle.model.specs.Valid.{isIn}
+use Rattle.model.specs.Checkpoint.{oldest}
 use Rattle.model.specs.Command.{World, refusal, wrongLength}
-use Rattle.model.specs.Recovery.{shapeOn, committedOn, recoverConditions, recovered, recover}
+use Rattle.model.specs.Recovery.{shapeOn, tailOn, committedOn, validOn, recoverConditions, recovered, recover}
 use Rattle.model.specs.Tape.{RECOVER}
 use Rattle.model.specs.Step.{doneBy}
 use Rattle.model.specs.JournalPage.{Field, lineSize, space, lineFeed, digitAt, numeral, covers, shownAt, byteAt, lineBytes}
-use Rattle.model.specs.JournalPage.{headFields, keptOrLeft, transactionFields, refusalFields, pageRefusal, transactionLine, pageOf, lineAt}
+use Rattle.model.specs.JournalPage.{headFields, keptOrLeft, transactionFields, refusalFields, pageRefusal, transactionLine, pageOf, lineAt, layNumber, laid}
 use Rattle.model.specs.declared.Phase.{Phase}
 use Rattle.model.specs.declared.Phase.the-variants.{Down}
 use Rattle.model.specs.declared.Shape.{Shape}
+use Rattle.model.specs.declared.Tail.{Tail}
 use Rattle.model.specs.declared.Committed.{Committed}
 use Rattle.model.proofs.Base.{ℕ, zero, suc, _+_, _-_, _*_, _/_, _%_, _^_, _≤_, _<_, arith, add-one, decLt, _≡_, refl, sym, ap, ap₂, _∙_, _≢_}
 use Rattle.model.proofs.Base.{Bool, true, false, true≢false, cond, not, List, [], _∷_, _++_, map, map-append, length, getD, replicate}
+use Rattle.model.proofs.Base.{List·Memᴰ, List·Memᴰ·head, List·Memᴰ·tail, List·Memᴰ·not-nil, List·Memᴰ·cases-cons, Memᴰ·cast, append-nil, flatMap, any, _⊎_, inl, inr, subst}
 use Rattle.model.proofs.Base.{length-map, length-replicate, eqb, eq-eqb, ne-eqb, eqb-true, eqb-false, below, Bytes}
-use Rattle.model.proofs.Lists.{cases, length-below, getD-map, getD-map-below, map-below}
+use Rattle.model.proofs.Lists.{cases, length-below, getD-map, getD-map-below, map-below, each-append, each-getD, getD-each, mem-each, any-mem, mem-any, flatMap-append, mem-flatMap, mem-below}
+use Rattle.model.proofs.Journal.{KnownRecord, records-known}
+use Rattle.model.proofs.Records.{journal-known, journals-distinct}
+use Rattle.model.proofs.Shrink.{Distinct}
+use Rattle.model.proofs.Valid.{sameName-true, sameName-refl, valid-within}
 use Rattle.model.proofs.Command.{unless-answer, done-answer}
 
 power-positive : (k : ℕ) → 0 < 10 ^ k
@@ -258,3 +268,109 @@ page-refused-only d n h r =
     let e : map lineBytes (headFields (shapeOn d) ∷ map (transactionLine d) (committedOn d)) ≡ lineBytes (refusalFields n) ∷ [] =
     sym (ap (map lineBytes) (page-lines d r)) ∙ h in
     head-apart (shapeOn d) n (ap (λ (ls : List Bytes). getD ls 0 []) e)
+
+-- ---- the buffer
+-- one of 65 bytes gets the line and 0 is answered
+pub lay-done : (fs : List Field) (out : Bytes) → length out ≡ lineSize → (layNumber out ≡ 0) × (laid fs out ≡ lineBytes fs)
+unfolding layNumber laid
+lay-done fs out h = let e : eqb (length out) lineSize ≡ true = eq-eqb (length out) lineSize h in (rw e refl, rw e refl)
+
+-- one of another length stays as it was and 1 is answered
+pub lay-refused : (fs : List Field) (out : Bytes) → length out ≢ lineSize → (layNumber out ≡ 1) × (laid fs out ≡ out)
+unfolding layNumber laid
+lay-refused fs out h = let e : eqb (length out) lineSize ≡ false = ne-eqb (length out) lineSize h in (rw e refl, rw e refl)
+
+pub laid-length : (fs : List Field) (out : Bytes) → length (laid fs out) ≡ length out
+laid-length fs out =
+    cases (eqb (length out) lineSize)
+    (λ t. let h : length out ≡ lineSize = eqb-true (length out) lineSize t in ap length (lay-done fs out h .1) ∙ (line-length fs ∙ sym h))
+    (λ t. ap length (lay-refused fs out (eqb-false (length out) lineSize t) .1))
+
+-- ---- the order, and the words
+-- a comes before b: it has a lower core, or the same core and a lower number
+abbrev pub Before : Committed → Committed → Type 0
+Before a b = (a .core < b .core) ⊎ ((a .core ≡ b .core) × (a .number < b .number))
+
+-- each comes before all after it
+abbrev pub Ascending : List Committed → Type 0
+Ascending [] = Unit {0}
+Ascending (e ∷ es) = Each (Before e) es × Ascending es
+
+each-mem : {A : Type 0} (P : A → Type 0) (xs : List A) → Each P xs → {x : A} → List·Memᴰ x xs → P x
+each-mem P [] a m = absurd (List·Memᴰ·not-nil m)
+each-mem P (y ∷ ys) a m = elim (List·Memᴰ·cases-cons m) [ inl e ↦ subst P (sym e) (a .0) | inr t ↦ each-mem P ys (a .1) t ]
+
+ascending-append : (xs ys : List Committed) → Ascending xs → Ascending ys → ((x y : Committed) → List·Memᴰ x xs → List·Memᴰ y ys → Before x y)
+    → Ascending (xs ++ ys)
+ascending-append [] ys a b h = b
+ascending-append (x ∷ xs) ys a b h = (
+  each-append (Before x) xs ys (a .0) (mem-each (Before x) ys (λ y m. h x y (List·Memᴰ·head refl) m)),
+  ascending-append xs ys (a .1) b (λ u v m n. h u v (List·Memᴰ·tail m) n),
+)
+
+ascending-getD : (es : List Committed) → Ascending es → (i j : ℕ) (z : Committed) → i < j → j < length es → Before (getD es i z) (getD es j z)
+ascending-getD [] a i j z h l = absurd (omega arith)
+ascending-getD (e ∷ es) a i zero z h l = absurd (omega arith)
+ascending-getD (e ∷ es) a zero (suc j) z h l = each-getD (Before e) es (a .0) j z (omega arith)
+ascending-getD (e ∷ es) a (suc i) (suc j) z h l = ascending-getD es (a .1) i j z (omega arith) (omega arith)
+
+getD-ascending : (es : List Committed) (z : Committed) → ((i j : ℕ) → i < j → j < length es → Before (getD es i z) (getD es j z)) → Ascending es
+getD-ascending [] z h = tt
+getD-ascending (e ∷ es) z h = (
+  getD-each (Before e) es z (λ j l. h 0 (suc j) (omega arith) (omega arith)),
+  getD-ascending es z (λ i j k l. h (suc i) (suc j) (omega arith) (omega arith)),
+)
+
+module _ (s : Shape) (d : Bytes) (tailAt : ℕ → Tail) (most : ℕ → ℕ) where
+  abbrev one : ℕ → List Committed
+  one c = journal s d c (tailAt c) (most c)
+
+  -- the numbers of one core's journal follow one another
+  one-ascending : (c : ℕ) → Ascending (one c)
+  unfolding journal
+  one-ascending c =
+      getD-ascending (one c) (oldest [])
+      (λ i j h l.
+      let known : (n : ℕ) → n < length (one c) → KnownRecord s d c ((tailAt c) .number + n) (getD (one c) n (oldest [])) =
+      λ n k. records-known s d c (most c) ((tailAt c) .number) ((tailAt c) .position) (s .journal) n (oldest []) k .0 in
+      let a = known i (omega arith) in
+      let b = known j l in
+      inr (a .core ∙ sym (b .core), omega (arith, a .number, b .number)))
+
+  cores-ascending : (n : ℕ) → Ascending (flatMap one (below n))
+  unfolding below flatMap
+  cores-ascending zero = tt
+  cores-ascending (suc n) =
+      subst Ascending (sym (flatMap-append one (below n) (n ∷ [])))
+      (ascending-append (flatMap one (below n)) (one n ++ []) (cores-ascending n) (subst Ascending (sym (append-nil (one n))) (one-ascending n)) between)
+    where
+      between : (x y : Committed) → List·Memᴰ x (flatMap one (below n)) → List·Memᴰ y (one n ++ []) → Before x y
+      between x y m l =
+          let r = mem-flatMap one (below n) m in
+          let a = journal-known s d (r .0) (tailAt (r .0)) (most (r .0)) x (r .2) in
+          let b = journal-known s d n (tailAt n) (most n) y (subst (λ (es : List Committed). List·Memᴰ y es) (append-nil (one n)) l) in
+          inl (omega (arith, a .1 .core, b .1 .core, mem-below n (r .1)))
+
+-- what is read of a disk is in order of core and number, strictly
+pub committed-ascending : (d : Bytes) → Ascending (committedOn d)
+unfolding committedOn journals
+committed-ascending d = cores-ascending (shapeOn d) d (tailOn d) (λ (c : ℕ). (shapeOn d) .journal) ((shapeOn d) .cores)
+
+pub order : (d : Bytes) (i j : ℕ) (z : Committed) → i < j → j < length (committedOn d) → Before (getD (committedOn d) i z) (getD (committedOn d) j z)
+order d = ascending-getD (committedOn d) (committed-ascending d)
+
+-- no two of them have one name
+pub committed-distinct : (d : Bytes) → Distinct nameOf (committedOn d)
+unfolding committedOn
+committed-distinct d = journals-distinct (shapeOn d) d (tailOn d) (λ (c : ℕ). (shapeOn d) .journal)
+
+-- the word is kept exactly for those in the valid set
+pub kept-valid : (d : Bytes) (e : Committed) → List·Memᴰ e (committedOn d) → (isIn (validOn d) (nameOf e) ≡ true ↔ List·Memᴰ e (validOn d))
+unfolding isIn
+kept-valid d e m = (there, λ v. mem-any (λ (u : Committed). sameName (nameOf e) (nameOf u)) v (sameName-refl (nameOf e)))
+  where
+    there : any (λ (u : Committed). sameName (nameOf e) (nameOf u)) (validOn d) ≡ true → List·Memᴰ e (validOn d)
+    there h =
+        let r = any-mem (λ (u : Committed). sameName (nameOf e) (nameOf u)) (validOn d) h in
+        let within : List·Memᴰ (r .0) (committedOn d) = unfold validOn in valid-within (shapeOn d) d (tailOn d) (committedOn d) (r .0) (r .1) in
+        Memᴰ·cast (committed-distinct d e (r .0) m within (sameName-true (nameOf e) (nameOf (r .0)) (r .2))) (r .1)
