@@ -1,8 +1,6 @@
 -- The journal page of paper 02, request (a): the bytes of its lines column by column, which disk has a page of one line, which
 -- lines the page of any other has, and which word each of them has.
-use native.Mathlib.Nat.{div-one, div-eq-of-lt, div-add-mod', div-div-eq-div-mul, le-div-iff-mul-le, one-le-pow, pow-suc}
 use mathlib.Core.Logic.{_↔_}
-use mathlib.Core.Bool.{and-false}
 use lib.ListN.{List·getD-eq-default}
 use Rattle.model.specs.Limits.{diskSize, memorySize}
 use Rattle.model.specs.Lists.{Each}
@@ -23,19 +21,17 @@ use Rattle.model.specs.declared.Phase.the-variants.{Down}
 use Rattle.model.specs.declared.Shape.{Shape}
 use Rattle.model.specs.declared.Tail.{Tail}
 use Rattle.model.specs.declared.Committed.{Committed}
-use Rattle.model.proofs.Base.{ℕ, zero, suc, _+_, _-_, _*_, _/_, _%_, _^_, _≤_, _<_, arith, add-one, decLt, _≡_, refl, sym, ap, ap₂, _∙_, _≢_}
-use Rattle.model.proofs.Base.{Bool, true, false, true≢false, cond, not, List, [], _∷_, _++_, map, map-append, length, getD, replicate}
+use Rattle.model.proofs.Base.{ℕ, zero, suc, _+_, _^_, _≤_, _<_, arith, add-one, _≡_, refl, sym, ap, _∙_, _≢_}
+use Rattle.model.proofs.Base.{Bool, true, false, true≢false, cond, not, List, [], _∷_, _++_, map, length, getD, replicate}
 use Rattle.model.proofs.Base.{List·Memᴰ, List·Memᴰ·head, List·Memᴰ·tail, List·Memᴰ·not-nil, List·Memᴰ·cases-cons, Memᴰ·cast, append-nil, flatMap, any, _⊎_, inl, inr, subst}
 use Rattle.model.proofs.Base.{length-map, length-replicate, eqb, eq-eqb, ne-eqb, eqb-true, eqb-false, below, Bytes}
-use Rattle.model.proofs.Lists.{cases, length-below, getD-map, getD-map-below, map-below, each-append, each-getD, getD-each, mem-each, any-mem, mem-any, flatMap-append, mem-flatMap, mem-below}
+use Rattle.model.proofs.Lists.{cases, length-below, getD-map, getD-map-below, each-append, each-getD, getD-each, mem-each, any-mem, mem-any, flatMap-append, mem-flatMap, mem-below}
+use Rattle.model.proofs.Numerals.{setRight, digit-last}
 use Rattle.model.proofs.Journal.{KnownRecord, records-known}
 use Rattle.model.proofs.Records.{journal-known, journals-distinct}
 use Rattle.model.proofs.Shrink.{Distinct}
 use Rattle.model.proofs.Valid.{sameName-true, sameName-refl, valid-within}
 use Rattle.model.proofs.Command.{unless-answer, done-answer}
-
-power-positive : (k : ℕ) → 0 < 10 ^ k
-power-positive k = omega (arith, one-le-pow k 10 (omega arith))
 
 -- ---- a line
 -- every line has 65 bytes
@@ -48,88 +44,9 @@ pub line-byte : (fs : List Field) (i : ℕ) → i < lineSize → getD (lineBytes
 unfolding lineBytes
 line-byte fs i h = getD-map-below (λ (i : ℕ). byteAt fs (i + 1)) lineSize i 0 h
 
--- the last digit of a number always stands; each one above it where the number reaches so far, else a blank
-pub digit-last : (n : ℕ) → digitAt n 0 ≡ 0x30 + n % 10
-unfolding digitAt
-digit-last n = rw (div-one n, and-false (eqb n 0)) refl
-
-pub digit-shown : (n place : ℕ) → 10 ^ place ≤ n → digitAt n place ≡ 0x30 + n / 10 ^ place % 10
-unfolding digitAt
-digit-shown n place h =
-    let q : 1 ≤ n / 10 ^ place = le-div-iff-mul-le {x = 1} (power-positive place) .1 (omega arith) in
-    rw (ne-eqb (n / 10 ^ place) 0 (λ e. omega arith)) refl
-
-pub digit-none : (n place : ℕ) → 0 < place → n < 10 ^ place → digitAt n place ≡ space
-unfolding digitAt
-digit-none n place p h = rw (div-eq-of-lt h, ne-eqb place 0 (λ e. omega arith)) refl
-
--- a number set right in so many columns, and so many blanks
-abbrev pub setRight : ℕ → ℕ → Bytes
-setRight width n = (numeral 0 width n) .text
-
+-- so many blanks
 abbrev pub blanks : ℕ → Bytes
 blanks n = replicate n space
-
--- the number that digits give, read on from acc; blanks count for nothing
-unfoldable pub readDigits : ℕ → Bytes → ℕ
-readDigits acc [] = acc
-readDigits acc (b ∷ bs) = readDigits (cond (eqb b space) acc (acc * 10 + (b - 0x30))) bs
-
-map-first : {A : Type 0} (f : ℕ → A) (n : ℕ) → map f (below (suc n)) ≡ f 0 ∷ map (λ (i : ℕ). f (suc i)) (below n)
-unfolding below
-map-first f zero = refl
-map-first f (suc n) =
-    map-append f (below (suc n)) (suc n ∷ [])
-    ∙ ap (λ (l : List _). l ++ (f (suc n) ∷ [])) (map-first f n)
-    ∙ ap (λ (l : List _). f 0 ∷ l) (sym (map-append (λ (i : ℕ). f (suc i)) (below n) (n ∷ [])))
-
--- set right in one column more: the digit of that place in front
-pub set-right-more : (w n : ℕ) → setRight (suc w) n ≡ digitAt n w ∷ setRight w n
-unfolding numeral
-set-right-more w n =
-    let place : (i : ℕ) → suc w - (suc i + 1) ≡ w - (i + 1) = λ i. omega arith in
-    map-first (λ (i : ℕ). digitAt n (suc w - (i + 1))) w
-    ∙ ap₂ _∷_ (ap (digitAt n) (omega arith))
-    (map-below (λ (i : ℕ). digitAt n (suc w - (suc i + 1))) (λ (i : ℕ). digitAt n (w - (i + 1))) w (λ i h. ap (digitAt n) (place i)))
-
--- one digit read on from those above it
-abbrev readOne : ℕ → ℕ → ℕ
-readOne acc b = cond (eqb b space) acc (acc * 10 + (b - 0x30))
-
-shown-step : (n w : ℕ) → digitAt n w ≡ 0x30 + n / 10 ^ w % 10 → readOne (n / 10 ^ suc w) (digitAt n w) ≡ n / 10 ^ w
-shown-step n w h =
-    let q = n / 10 ^ w in
-    let up : n / 10 ^ suc w ≡ q / 10 = rw (pow-suc 10 w) (sym (div-div-eq-div-mul n (10 ^ w) 10)) in
-    rw (h, ne-eqb (0x30 + q % 10) space (λ e. omega arith), up) (omega (arith, div-add-mod' q 10))
-
-blank-step : (n w : ℕ) → digitAt n w ≡ space → n < 10 ^ w → readOne (n / 10 ^ suc w) (digitAt n w) ≡ n / 10 ^ w
-blank-step n w h l =
-    let up : n / 10 ^ suc w ≡ n / 10 ^ w / 10 = rw (pow-suc 10 w) (sym (div-div-eq-div-mul n (10 ^ w) 10)) in
-    rw (h, up, div-eq-of-lt l) refl
-
-digit-step : (n w : ℕ) → readOne (n / 10 ^ suc w) (digitAt n w) ≡ n / 10 ^ w
-digit-step n zero = shown-step n zero (digit-last n ∙ rw (div-one n) refl)
-digit-step n (suc w) =
-    elim (decLt n (10 ^ suc w)) [
-      | yes lt ↦ blank-step n (suc w) (digit-none n (suc w) (omega arith) lt) lt
-      | no ge ↦ shown-step n (suc w) (digit-shown n (suc w) (omega arith))
-    ]
-
-read-more : (acc b : ℕ) (bs : Bytes) → readDigits acc (b ∷ bs) ≡ readDigits (readOne acc b) bs
-unfolding readDigits
-read-more acc b bs = refl
-
-set-right-upper : (w n : ℕ) → readDigits (n / 10 ^ w) (setRight w n) ≡ n
-set-right-upper zero n = unfold readDigits numeral below in div-one n
-set-right-upper (suc w) n =
-    ap (readDigits (n / 10 ^ suc w)) (set-right-more w n)
-    ∙ read-more (n / 10 ^ suc w) (digitAt n w) (setRight w n)
-    ∙ ap (λ (acc : ℕ). readDigits acc (setRight w n)) (digit-step n w)
-    ∙ set-right-upper w n
-
--- a number that its columns hold is read back from them
-pub set-right-value : (w n : ℕ) → n < 10 ^ w → readDigits 0 (setRight w n) ≡ n
-set-right-value w n h = rw (div-eq-of-lt h) at (set-right-upper w n)
 
 -- the head by its columns: C 1-2, B 4-5, J 7-8
 pub head-columns : (s : Shape) → lineBytes (headFields s)
@@ -374,3 +291,12 @@ kept-valid d e m = (there, λ v. mem-any (λ (u : Committed). sameName (nameOf e
         let r = any-mem (λ (u : Committed). sameName (nameOf e) (nameOf u)) (validOn d) h in
         let within : List·Memᴰ (r .0) (committedOn d) = unfold validOn in valid-within (shapeOn d) d (tailOn d) (committedOn d) (r .0) (r .1) in
         Memᴰ·cast (committed-distinct d e (r .0) m within (sameName-true (nameOf e) (nameOf (r .0)) (r .2))) (r .1)
+
+pub kept-line : (d : Bytes) (e : Committed) → List·Memᴰ e (committedOn d) → List·Memᴰ e (validOn d) → transactionLine d e ≡ transactionFields true e
+unfolding transactionLine
+kept-line d e m v = rw (kept-valid d e m .1 v) refl
+
+pub left-line : (d : Bytes) (e : Committed) → List·Memᴰ e (committedOn d) → (List·Memᴰ e (validOn d) → ⊥) → transactionLine d e ≡ transactionFields false e
+unfolding transactionLine
+left-line d e m v =
+    cases (isIn (validOn d) (nameOf e)) (λ t. absurd (v (kept-valid d e m .0 t))) (λ t. rw t refl)
