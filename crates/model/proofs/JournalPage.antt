@@ -21,9 +21,9 @@ use Rattle.model.specs.declared.Phase.the-variants.{Down}
 use Rattle.model.specs.declared.Shape.{Shape}
 use Rattle.model.specs.declared.Tail.{Tail}
 use Rattle.model.specs.declared.Committed.{Committed}
-use Rattle.model.proofs.Base.{ℕ, zero, suc, _+_, _^_, _≤_, _<_, arith, add-one, _≡_, refl, sym, ap, _∙_, _≢_}
+use Rattle.model.proofs.Base.{ℕ, zero, suc, _+_, _≤_, _<_, arith, add-one, _≡_, refl, sym, ap, _∙_, _≢_}
 use Rattle.model.proofs.Base.{Bool, true, false, true≢false, cond, not, List, [], _∷_, _++_, map, length, getD, replicate}
-use Rattle.model.proofs.Base.{List·Memᴰ, List·Memᴰ·head, List·Memᴰ·tail, List·Memᴰ·not-nil, List·Memᴰ·cases-cons, Memᴰ·cast, append-nil, flatMap, any, _⊎_, inl, inr, subst}
+use Rattle.model.proofs.Base.{List·Memᴰ, List·Memᴰ·head, List·Memᴰ·tail, Memᴰ·cast, append-nil, flatMap, any, _⊎_, inl, inr, subst}
 use Rattle.model.proofs.Base.{length-map, length-replicate, eqb, eq-eqb, ne-eqb, eqb-true, eqb-false, below, Bytes}
 use Rattle.model.proofs.Lists.{cases, length-below, getD-map, getD-map-below, each-append, each-getD, getD-each, mem-each, any-mem, mem-any, flatMap-append, mem-flatMap, mem-below}
 use Rattle.model.proofs.Numerals.{setRight, digit-last}
@@ -212,10 +212,6 @@ Before a b = (a .core < b .core) ⊎ ((a .core ≡ b .core) × (a .number < b .n
 abbrev pub Ascending : List Committed → Type 0
 Ascending [] = Unit {0}
 Ascending (e ∷ es) = Each (Before e) es × Ascending es
-
-each-mem : {A : Type 0} (P : A → Type 0) (xs : List A) → Each P xs → {x : A} → List·Memᴰ x xs → P x
-each-mem P [] a m = absurd (List·Memᴰ·not-nil m)
-each-mem P (y ∷ ys) a m = elim (List·Memᴰ·cases-cons m) [ inl e ↦ subst P (sym e) (a .0) | inr t ↦ each-mem P ys (a .1) t ]
 
 ascending-append : (xs ys : List Committed) → Ascending xs → Ascending ys → ((x y : Committed) → List·Memᴰ x xs → List·Memᴰ y ys → Before x y)
     → Ascending (xs ++ ys)

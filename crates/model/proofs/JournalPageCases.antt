@@ -13,7 +13,7 @@ use Rattle.model.specs.Lists.{below}
 use Rattle.model.specs.Bytes.{Bytes, store, zeroDisk}
 use Rattle.model.specs.Shape.{newShape, journalBlock}
 use Rattle.model.specs.Card.{newTail, newName}
-use Rattle.model.specs.Layout.{Tag, newTag, masterBlock, descriptorBlock, commitBlock}
+use Rattle.model.specs.Layout.{newTag, masterBlock, descriptorBlock, commitBlock}
 use Rattle.model.specs.Journal.{nameOf}
 use Rattle.model.specs.Valid.{isIn}
 use Rattle.model.specs.Recovery.{shapeOn, committedOn, validOn}
@@ -23,8 +23,6 @@ use Rattle.model.specs.Step.{stepAt}
 use Rattle.model.specs.JournalPage.{Field, digitAt, numeral, word, covers, shownAt, byteAt, lineBytes, headFields, keptOrLeft, transactionFields}
 use Rattle.model.specs.JournalPage.{refusalFields, pageRefusal, transactionLine, pageOf, lineAt, layNumber, laid}
 use Rattle.model.specs.declared.Shape.{Shape}
-use Rattle.model.specs.declared.Tail.{Tail}
-use Rattle.model.specs.declared.Name.{Name}
 use Rattle.model.specs.declared.Committed.{Committed}
 use Rattle.model.proofs.Computes.{computes}
 use Rattle.model.proofs.JournalPage.{page-lines}

@@ -9,7 +9,7 @@ use Rattle.model.specs.Recovery.{shapeOn, tailOn, committedOn}
 use Rattle.model.specs.JournalPage.{pageRefusal}
 use Rattle.model.specs.declared.Shape.{Shape}
 use Rattle.model.specs.declared.Committed.{Committed}
-use Rattle.model.proofs.Base.{ℕ, zero, suc, _+_, _*_, _^_, _≤_, _<_, arith, _≡_, true, List, [], _∷_, List·Memᴰ, length, take, drop, length-take, leb-true, Bytes}
+use Rattle.model.proofs.Base.{ℕ, zero, suc, _+_, _*_, _^_, _≤_, _<_, arith, _≡_, true, List, [], _∷_, List·Memᴰ, length, drop, length-take, leb-true, Bytes}
 use Rattle.model.proofs.Lists.{and-left, and-right, each-take}
 use Rattle.model.proofs.Limits.{InRange}
 use Rattle.model.proofs.Words.{IsByte}
