@@ -85,7 +85,8 @@ refusal-down : (w : World) → w .card .phase ≡ Down → length (w .memory) �
 unfolding recoverConditions
 refusal-down w q h = refusal-from w (w .card .phase) q h
 
-is-down : downCard .phase ≡ Down
+-- the card as a cut leaves it is down
+pub is-down : downCard .phase ≡ Down
 unfolding downCard emptyCard freshCard
 is-down = refl
 
@@ -93,6 +94,7 @@ length-zeroMemory : length zeroMemory ≡ memorySize
 unfolding zeroMemory
 length-zeroMemory = length-replicate {A = ℕ} memorySize 0
 
+-- the number on a page, as a function of the disk
 pub refusal-number : (d : Bytes) → pageRefusal d ≡ diskRefusal d
 unfolding pageRefusal
 refusal-number d = refusal-down (record { card = downCard; disk = d; memory = zeroMemory }) is-down length-zeroMemory
@@ -154,9 +156,11 @@ pub page-lines : (d : Bytes) → pageRefusal d ≡ 0 → pageOf d ≡ headFields
 unfolding pageOf
 page-lines d h = rw (h, pageOf)
 
+-- as many lines as transactions read, and the head
 pub page-length : (d : Bytes) → pageRefusal d ≡ 0 → length (pageOf d) ≡ 1 + length (committedOn d)
 page-length d h = ap length (page-lines d h) ∙ omega (arith, length-map (committedOn d) (transactionLine d))
 
+-- line 0 is the head
 pub page-head : (d : Bytes) → pageRefusal d ≡ 0 → lineAt d 0 ≡ headFields (shapeOn d)
 unfolding lineAt
 page-head d h = rw (page-lines d h) refl
@@ -197,6 +201,7 @@ pub lay-refused : (fs : List Field) (out : Bytes) → length out ≢ lineSize �
 unfolding layNumber laid
 lay-refused fs out h = let e : eqb (length out) lineSize ≡ false = ne-eqb (length out) lineSize h in (rw e refl, rw e refl)
 
+-- its length stays in any case
 pub laid-length : (fs : List Field) (out : Bytes) → length (laid fs out) ≡ length out
 laid-length fs out =
     cases (eqb (length out) lineSize)
@@ -269,6 +274,7 @@ pub committed-ascending : (d : Bytes) → Ascending (committedOn d)
 unfolding committedOn journals
 committed-ascending d = cores-ascending (shapeOn d) d (tailOn d) (λ (c : ℕ). (shapeOn d) .journal) ((shapeOn d) .cores)
 
+-- the same by index: of two lines the earlier has a lower core, or the same core and a lower number
 pub order : (d : Bytes) (i j : ℕ) (z : Committed) → i < j → j < length (committedOn d) → Before (getD (committedOn d) i z) (getD (committedOn d) j z)
 order d = ascending-getD (committedOn d) (committed-ascending d)
 
@@ -288,6 +294,7 @@ kept-valid d e m = (there, λ v. mem-any (λ (u : Committed). sameName (nameOf e
         let within : List·Memᴰ (r .0) (committedOn d) = unfold validOn in valid-within (shapeOn d) d (tailOn d) (committedOn d) (r .0) (r .1) in
         Memᴰ·cast (committed-distinct d e (r .0) m within (sameName-true (nameOf e) (nameOf (r .0)) (r .2))) (r .1)
 
+-- the line of one in the valid set, and of one that is not
 pub kept-line : (d : Bytes) (e : Committed) → List·Memᴰ e (committedOn d) → List·Memᴰ e (validOn d) → transactionLine d e ≡ transactionFields true e
 unfolding transactionLine
 kept-line d e m v = rw (kept-valid d e m .1 v) refl

@@ -47,6 +47,7 @@ each-journalAt : (s : Shape) (d : Bytes) (c p : ℕ) → Each IsByte d → Each 
 unfolding journalAt blockAt
 each-journalAt s d c p a = each-part (128 * journalBlock s c p) 128 d a
 
+-- the number of a descriptor that fits is at most 4,000,000,000
 pub descriptor-number : (s : Shape) (k : ℕ) (b : Bytes) → isDescriptor s k b ≡ true → k ≤ maxNumber
 unfolding isDescriptor
 descriptor-number s k b h = leb-true k maxNumber (and-right (hasHead 1 k b) _ (and-left _ _ (and-left _ _ (and-left _ _ h))))
@@ -59,10 +60,12 @@ pub record Fits (e : Committed) : Type 0 where
   pub count : e .count < 10 ^ 2
   pub named : e .named < 10 ^ 2
 
+-- the shape that the head shows is within its limits
 pub shape-limits : (d : Bytes) → pageRefusal d ≡ 0 → InRange (shapeOn d)
 unfolding shapeOn
 shape-limits d h = master-limits (blockAt d 0) (refusal-numbers d .2 .0 h .1)
 
+-- each transaction of a disk's page fits
 pub committed-fits : (d : Bytes) → pageRefusal d ≡ 0 → Each IsByte d → (e : Committed) → List·Memᴰ e (committedOn d) → Fits e
 unfolding committedOn
 committed-fits d h a e m =
