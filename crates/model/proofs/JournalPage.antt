@@ -1,31 +1,37 @@
 -- The journal page of paper 02, request (a): the bytes of its lines column by column, which disk has a page of one line, which
 -- lines the page of any other has, and which word each of them has.
-use native.Mathlib.Nat.{div-one, div-eq-of-lt, div-add-mod', div-div-eq-div-mul, le-div-iff-mul-le, one-le-pow, pow-suc}
 use mathlib.Core.Logic.{_↔_}
-use mathlib.Core.Bool.{and-false}
 use lib.ListN.{List·getD-eq-default}
 use Rattle.model.specs.Limits.{diskSize, memorySize}
+use Rattle.model.specs.Lists.{Each}
 use Rattle.model.specs.Bytes.{blockAt, zeroMemory}
-use Rattle.model.specs.Card.{isBlank, isUp, freshCard, emptyCard, downCard}
+use Rattle.model.specs.Card.{isBlank, isUp, sameName, freshCard, emptyCard, downCard}
 use Rattle.model.specs.Layout.{isMaster}
+use Rattle.model.specs.Journal.{nameOf, journal, journals}
+use Rattle.model.specs.Valid.{isIn}
+use Rattle.model.specs.Checkpoint.{oldest}
 use Rattle.model.specs.Command.{World, refusal, wrongLength}
-use Rattle.model.specs.Recovery.{shapeOn, committedOn, recoverConditions, recovered, recover}
+use Rattle.model.specs.Recovery.{shapeOn, tailOn, committedOn, validOn, recoverConditions, recovered, recover}
 use Rattle.model.specs.Tape.{RECOVER}
 use Rattle.model.specs.Step.{doneBy}
 use Rattle.model.specs.JournalPage.{Field, lineSize, space, lineFeed, digitAt, numeral, covers, shownAt, byteAt, lineBytes}
-use Rattle.model.specs.JournalPage.{headFields, keptOrLeft, transactionFields, refusalFields, pageRefusal, transactionLine, pageOf, lineAt}
+use Rattle.model.specs.JournalPage.{headFields, keptOrLeft, transactionFields, refusalFields, pageRefusal, transactionLine, pageOf, lineAt, layNumber, laid}
 use Rattle.model.specs.declared.Phase.{Phase}
 use Rattle.model.specs.declared.Phase.the-variants.{Down}
 use Rattle.model.specs.declared.Shape.{Shape}
+use Rattle.model.specs.declared.Tail.{Tail}
 use Rattle.model.specs.declared.Committed.{Committed}
-use Rattle.model.proofs.Base.{ℕ, zero, suc, _+_, _-_, _*_, _/_, _%_, _^_, _≤_, _<_, arith, add-one, decLt, _≡_, refl, sym, ap, ap₂, _∙_, _≢_}
-use Rattle.model.proofs.Base.{Bool, true, false, true≢false, cond, not, List, [], _∷_, _++_, map, map-append, length, getD, replicate}
+use Rattle.model.proofs.Base.{ℕ, zero, suc, _+_, _≤_, _<_, arith, add-one, _≡_, refl, sym, ap, _∙_, _≢_}
+use Rattle.model.proofs.Base.{Bool, true, false, true≢false, cond, not, List, [], _∷_, _++_, map, length, getD, replicate}
+use Rattle.model.proofs.Base.{List·Memᴰ, List·Memᴰ·head, List·Memᴰ·tail, Memᴰ·cast, append-nil, flatMap, any, _⊎_, inl, inr, subst}
 use Rattle.model.proofs.Base.{length-map, length-replicate, eqb, eq-eqb, ne-eqb, eqb-true, eqb-false, below, Bytes}
-use Rattle.model.proofs.Lists.{cases, length-below, getD-map, getD-map-below, map-below}
+use Rattle.model.proofs.Lists.{cases, length-below, getD-map, getD-map-below, each-append, each-getD, getD-each, mem-each, any-mem, mem-any, flatMap-append, mem-flatMap, mem-below}
+use Rattle.model.proofs.Numerals.{setRight, digit-last}
+use Rattle.model.proofs.Journal.{KnownRecord, records-known}
+use Rattle.model.proofs.Records.{journal-known, journals-distinct}
+use Rattle.model.proofs.Shrink.{Distinct}
+use Rattle.model.proofs.Valid.{sameName-true, sameName-refl, valid-within}
 use Rattle.model.proofs.Command.{unless-answer, done-answer}
-
-power-positive : (k : ℕ) → 0 < 10 ^ k
-power-positive k = omega (arith, one-le-pow k 10 (omega arith))
 
 -- ---- a line
 -- every line has 65 bytes
@@ -38,88 +44,9 @@ pub line-byte : (fs : List Field) (i : ℕ) → i < lineSize → getD (lineBytes
 unfolding lineBytes
 line-byte fs i h = getD-map-below (λ (i : ℕ). byteAt fs (i + 1)) lineSize i 0 h
 
--- the last digit of a number always stands; each one above it where the number reaches so far, else a blank
-pub digit-last : (n : ℕ) → digitAt n 0 ≡ 0x30 + n % 10
-unfolding digitAt
-digit-last n = rw (div-one n, and-false (eqb n 0)) refl
-
-pub digit-shown : (n place : ℕ) → 10 ^ place ≤ n → digitAt n place ≡ 0x30 + n / 10 ^ place % 10
-unfolding digitAt
-digit-shown n place h =
-    let q : 1 ≤ n / 10 ^ place = le-div-iff-mul-le {x = 1} (power-positive place) .1 (omega arith) in
-    rw (ne-eqb (n / 10 ^ place) 0 (λ e. omega arith)) refl
-
-pub digit-none : (n place : ℕ) → 0 < place → n < 10 ^ place → digitAt n place ≡ space
-unfolding digitAt
-digit-none n place p h = rw (div-eq-of-lt h, ne-eqb place 0 (λ e. omega arith)) refl
-
--- a number set right in so many columns, and so many blanks
-abbrev pub setRight : ℕ → ℕ → Bytes
-setRight width n = (numeral 0 width n) .text
-
+-- so many blanks
 abbrev pub blanks : ℕ → Bytes
 blanks n = replicate n space
-
--- the number that digits give, read on from acc; blanks count for nothing
-unfoldable pub readDigits : ℕ → Bytes → ℕ
-readDigits acc [] = acc
-readDigits acc (b ∷ bs) = readDigits (cond (eqb b space) acc (acc * 10 + (b - 0x30))) bs
-
-map-first : {A : Type 0} (f : ℕ → A) (n : ℕ) → map f (below (suc n)) ≡ f 0 ∷ map (λ (i : ℕ). f (suc i)) (below n)
-unfolding below
-map-first f zero = refl
-map-first f (suc n) =
-    map-append f (below (suc n)) (suc n ∷ [])
-    ∙ ap (λ (l : List _). l ++ (f (suc n) ∷ [])) (map-first f n)
-    ∙ ap (λ (l : List _). f 0 ∷ l) (sym (map-append (λ (i : ℕ). f (suc i)) (below n) (n ∷ [])))
-
--- set right in one column more: the digit of that place in front
-pub set-right-more : (w n : ℕ) → setRight (suc w) n ≡ digitAt n w ∷ setRight w n
-unfolding numeral
-set-right-more w n =
-    let place : (i : ℕ) → suc w - (suc i + 1) ≡ w - (i + 1) = λ i. omega arith in
-    map-first (λ (i : ℕ). digitAt n (suc w - (i + 1))) w
-    ∙ ap₂ _∷_ (ap (digitAt n) (omega arith))
-    (map-below (λ (i : ℕ). digitAt n (suc w - (suc i + 1))) (λ (i : ℕ). digitAt n (w - (i + 1))) w (λ i h. ap (digitAt n) (place i)))
-
--- one digit read on from those above it
-abbrev readOne : ℕ → ℕ → ℕ
-readOne acc b = cond (eqb b space) acc (acc * 10 + (b - 0x30))
-
-shown-step : (n w : ℕ) → digitAt n w ≡ 0x30 + n / 10 ^ w % 10 → readOne (n / 10 ^ suc w) (digitAt n w) ≡ n / 10 ^ w
-shown-step n w h =
-    let q = n / 10 ^ w in
-    let up : n / 10 ^ suc w ≡ q / 10 = rw (pow-suc 10 w) (sym (div-div-eq-div-mul n (10 ^ w) 10)) in
-    rw (h, ne-eqb (0x30 + q % 10) space (λ e. omega arith), up) (omega (arith, div-add-mod' q 10))
-
-blank-step : (n w : ℕ) → digitAt n w ≡ space → n < 10 ^ w → readOne (n / 10 ^ suc w) (digitAt n w) ≡ n / 10 ^ w
-blank-step n w h l =
-    let up : n / 10 ^ suc w ≡ n / 10 ^ w / 10 = rw (pow-suc 10 w) (sym (div-div-eq-div-mul n (10 ^ w) 10)) in
-    rw (h, up, div-eq-of-lt l) refl
-
-digit-step : (n w : ℕ) → readOne (n / 10 ^ suc w) (digitAt n w) ≡ n / 10 ^ w
-digit-step n zero = shown-step n zero (digit-last n ∙ rw (div-one n) refl)
-digit-step n (suc w) =
-    elim (decLt n (10 ^ suc w)) [
-      | yes lt ↦ blank-step n (suc w) (digit-none n (suc w) (omega arith) lt) lt
-      | no ge ↦ shown-step n (suc w) (digit-shown n (suc w) (omega arith))
-    ]
-
-read-more : (acc b : ℕ) (bs : Bytes) → readDigits acc (b ∷ bs) ≡ readDigits (readOne acc b) bs
-unfolding readDigits
-read-more acc b bs = refl
-
-set-right-upper : (w n : ℕ) → readDigits (n / 10 ^ w) (setRight w n) ≡ n
-set-right-upper zero n = unfold readDigits numeral below in div-one n
-set-right-upper (suc w) n =
-    ap (readDigits (n / 10 ^ suc w)) (set-right-more w n)
-    ∙ read-more (n / 10 ^ suc w) (digitAt n w) (setRight w n)
-    ∙ ap (λ (acc : ℕ). readDigits acc (setRight w n)) (digit-step n w)
-    ∙ set-right-upper w n
-
--- a number that its columns hold is read back from them
-pub set-right-value : (w n : ℕ) → n < 10 ^ w → readDigits 0 (setRight w n) ≡ n
-set-right-value w n h = rw (div-eq-of-lt h) at (set-right-upper w n)
 
 -- the head by its columns: C 1-2, B 4-5, J 7-8
 pub head-columns : (s : Shape) → lineBytes (headFields s)
@@ -158,7 +85,8 @@ refusal-down : (w : World) → w .card .phase ≡ Down → length (w .memory) �
 unfolding recoverConditions
 refusal-down w q h = refusal-from w (w .card .phase) q h
 
-is-down : downCard .phase ≡ Down
+-- the card as a cut leaves it is down
+pub is-down : downCard .phase ≡ Down
 unfolding downCard emptyCard freshCard
 is-down = refl
 
@@ -166,6 +94,7 @@ length-zeroMemory : length zeroMemory ≡ memorySize
 unfolding zeroMemory
 length-zeroMemory = length-replicate {A = ℕ} memorySize 0
 
+-- the number on a page, as a function of the disk
 pub refusal-number : (d : Bytes) → pageRefusal d ≡ diskRefusal d
 unfolding pageRefusal
 refusal-number d = refusal-down (record { card = downCard; disk = d; memory = zeroMemory }) is-down length-zeroMemory
@@ -227,9 +156,11 @@ pub page-lines : (d : Bytes) → pageRefusal d ≡ 0 → pageOf d ≡ headFields
 unfolding pageOf
 page-lines d h = rw (h, pageOf)
 
+-- as many lines as transactions read, and the head
 pub page-length : (d : Bytes) → pageRefusal d ≡ 0 → length (pageOf d) ≡ 1 + length (committedOn d)
 page-length d h = ap length (page-lines d h) ∙ omega (arith, length-map (committedOn d) (transactionLine d))
 
+-- line 0 is the head
 pub page-head : (d : Bytes) → pageRefusal d ≡ 0 → lineAt d 0 ≡ headFields (shapeOn d)
 unfolding lineAt
 page-head d h = rw (page-lines d h) refl
@@ -258,3 +189,117 @@ page-refused-only d n h r =
     let e : map lineBytes (headFields (shapeOn d) ∷ map (transactionLine d) (committedOn d)) ≡ lineBytes (refusalFields n) ∷ [] =
     sym (ap (map lineBytes) (page-lines d r)) ∙ h in
     head-apart (shapeOn d) n (ap (λ (ls : List Bytes). getD ls 0 []) e)
+
+-- ---- the buffer
+-- one of 65 bytes gets the line and 0 is answered
+pub lay-done : (fs : List Field) (out : Bytes) → length out ≡ lineSize → (layNumber out ≡ 0) × (laid fs out ≡ lineBytes fs)
+unfolding layNumber laid
+lay-done fs out h = let e : eqb (length out) lineSize ≡ true = eq-eqb (length out) lineSize h in (rw e refl, rw e refl)
+
+-- one of another length stays as it was and 1 is answered
+pub lay-refused : (fs : List Field) (out : Bytes) → length out ≢ lineSize → (layNumber out ≡ 1) × (laid fs out ≡ out)
+unfolding layNumber laid
+lay-refused fs out h = let e : eqb (length out) lineSize ≡ false = ne-eqb (length out) lineSize h in (rw e refl, rw e refl)
+
+-- its length stays in any case
+pub laid-length : (fs : List Field) (out : Bytes) → length (laid fs out) ≡ length out
+laid-length fs out =
+    cases (eqb (length out) lineSize)
+    (λ t. let h : length out ≡ lineSize = eqb-true (length out) lineSize t in ap length (lay-done fs out h .1) ∙ (line-length fs ∙ sym h))
+    (λ t. ap length (lay-refused fs out (eqb-false (length out) lineSize t) .1))
+
+-- ---- the order, and the words
+-- a comes before b: it has a lower core, or the same core and a lower number
+abbrev pub Before : Committed → Committed → Type 0
+Before a b = (a .core < b .core) ⊎ ((a .core ≡ b .core) × (a .number < b .number))
+
+-- each comes before all after it
+abbrev pub Ascending : List Committed → Type 0
+Ascending [] = Unit {0}
+Ascending (e ∷ es) = Each (Before e) es × Ascending es
+
+ascending-append : (xs ys : List Committed) → Ascending xs → Ascending ys → ((x y : Committed) → List·Memᴰ x xs → List·Memᴰ y ys → Before x y)
+    → Ascending (xs ++ ys)
+ascending-append [] ys a b h = b
+ascending-append (x ∷ xs) ys a b h = (
+  each-append (Before x) xs ys (a .0) (mem-each (Before x) ys (λ y m. h x y (List·Memᴰ·head refl) m)),
+  ascending-append xs ys (a .1) b (λ u v m n. h u v (List·Memᴰ·tail m) n),
+)
+
+ascending-getD : (es : List Committed) → Ascending es → (i j : ℕ) (z : Committed) → i < j → j < length es → Before (getD es i z) (getD es j z)
+ascending-getD [] a i j z h l = absurd (omega arith)
+ascending-getD (e ∷ es) a i zero z h l = absurd (omega arith)
+ascending-getD (e ∷ es) a zero (suc j) z h l = each-getD (Before e) es (a .0) j z (omega arith)
+ascending-getD (e ∷ es) a (suc i) (suc j) z h l = ascending-getD es (a .1) i j z (omega arith) (omega arith)
+
+getD-ascending : (es : List Committed) (z : Committed) → ((i j : ℕ) → i < j → j < length es → Before (getD es i z) (getD es j z)) → Ascending es
+getD-ascending [] z h = tt
+getD-ascending (e ∷ es) z h = (
+  getD-each (Before e) es z (λ j l. h 0 (suc j) (omega arith) (omega arith)),
+  getD-ascending es z (λ i j k l. h (suc i) (suc j) (omega arith) (omega arith)),
+)
+
+module _ (s : Shape) (d : Bytes) (tailAt : ℕ → Tail) (most : ℕ → ℕ) where
+  abbrev one : ℕ → List Committed
+  one c = journal s d c (tailAt c) (most c)
+
+  -- the numbers of one core's journal follow one another
+  one-ascending : (c : ℕ) → Ascending (one c)
+  unfolding journal
+  one-ascending c =
+      getD-ascending (one c) (oldest [])
+      (λ i j h l.
+      let known : (n : ℕ) → n < length (one c) → KnownRecord s d c ((tailAt c) .number + n) (getD (one c) n (oldest [])) =
+      λ n k. records-known s d c (most c) ((tailAt c) .number) ((tailAt c) .position) (s .journal) n (oldest []) k .0 in
+      let a = known i (omega arith) in
+      let b = known j l in
+      inr (a .core ∙ sym (b .core), omega (arith, a .number, b .number)))
+
+  cores-ascending : (n : ℕ) → Ascending (flatMap one (below n))
+  unfolding below flatMap
+  cores-ascending zero = tt
+  cores-ascending (suc n) =
+      subst Ascending (sym (flatMap-append one (below n) (n ∷ [])))
+      (ascending-append (flatMap one (below n)) (one n ++ []) (cores-ascending n) (subst Ascending (sym (append-nil (one n))) (one-ascending n)) between)
+    where
+      between : (x y : Committed) → List·Memᴰ x (flatMap one (below n)) → List·Memᴰ y (one n ++ []) → Before x y
+      between x y m l =
+          let r = mem-flatMap one (below n) m in
+          let a = journal-known s d (r .0) (tailAt (r .0)) (most (r .0)) x (r .2) in
+          let b = journal-known s d n (tailAt n) (most n) y (subst (λ (es : List Committed). List·Memᴰ y es) (append-nil (one n)) l) in
+          inl (omega (arith, a .1 .core, b .1 .core, mem-below n (r .1)))
+
+-- what is read of a disk is in order of core and number, strictly
+pub committed-ascending : (d : Bytes) → Ascending (committedOn d)
+unfolding committedOn journals
+committed-ascending d = cores-ascending (shapeOn d) d (tailOn d) (λ (c : ℕ). (shapeOn d) .journal) ((shapeOn d) .cores)
+
+-- the same by index: of two lines the earlier has a lower core, or the same core and a lower number
+pub order : (d : Bytes) (i j : ℕ) (z : Committed) → i < j → j < length (committedOn d) → Before (getD (committedOn d) i z) (getD (committedOn d) j z)
+order d = ascending-getD (committedOn d) (committed-ascending d)
+
+-- no two of them have one name
+pub committed-distinct : (d : Bytes) → Distinct nameOf (committedOn d)
+unfolding committedOn
+committed-distinct d = journals-distinct (shapeOn d) d (tailOn d) (λ (c : ℕ). (shapeOn d) .journal)
+
+-- the word is kept exactly for those in the valid set
+pub kept-valid : (d : Bytes) (e : Committed) → List·Memᴰ e (committedOn d) → (isIn (validOn d) (nameOf e) ≡ true ↔ List·Memᴰ e (validOn d))
+unfolding isIn
+kept-valid d e m = (there, λ v. mem-any (λ (u : Committed). sameName (nameOf e) (nameOf u)) v (sameName-refl (nameOf e)))
+  where
+    there : any (λ (u : Committed). sameName (nameOf e) (nameOf u)) (validOn d) ≡ true → List·Memᴰ e (validOn d)
+    there h =
+        let r = any-mem (λ (u : Committed). sameName (nameOf e) (nameOf u)) (validOn d) h in
+        let within : List·Memᴰ (r .0) (committedOn d) = unfold validOn in valid-within (shapeOn d) d (tailOn d) (committedOn d) (r .0) (r .1) in
+        Memᴰ·cast (committed-distinct d e (r .0) m within (sameName-true (nameOf e) (nameOf (r .0)) (r .2))) (r .1)
+
+-- the line of one in the valid set, and of one that is not
+pub kept-line : (d : Bytes) (e : Committed) → List·Memᴰ e (committedOn d) → List·Memᴰ e (validOn d) → transactionLine d e ≡ transactionFields true e
+unfolding transactionLine
+kept-line d e m v = rw (kept-valid d e m .1 v) refl
+
+pub left-line : (d : Bytes) (e : Committed) → List·Memᴰ e (committedOn d) → (List·Memᴰ e (validOn d) → ⊥) → transactionLine d e ≡ transactionFields false e
+unfolding transactionLine
+left-line d e m v =
+    cases (isIn (validOn d) (nameOf e)) (λ t. absurd (v (kept-valid d e m .0 t))) (λ t. rw t refl)

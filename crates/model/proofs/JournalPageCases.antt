@@ -3,31 +3,25 @@ use Prim.Native.Nat.{ℕ, _+_, _-_, _/_, _%_, _^_}
 use Prim.Native.Char.{code}
 use Prim.Native.String.{String, [] as no-text, _∷_ as _then_}
 use native.Mathlib.Omega.{arith}
-use mathlib.Core.Path.{_≡_, refl, sym, ap}
+use mathlib.Core.Path.{_≡_, refl, ap}
 use mathlib.Core.Logic.{_≢_}
-use mathlib.Core.Bool.{Bool, true, cond}
+use mathlib.Core.Bool.{Bool, true, false}
 use mathlib.Core.List.{List, [], _∷_, _++_, map}
 use lib.ListN.{length, take, getD, replicate}
-use lib.Dec.{eqb}
 use Rattle.model.specs.Lists.{below}
 use Rattle.model.specs.Bytes.{Bytes, store, zeroDisk}
 use Rattle.model.specs.Shape.{newShape, journalBlock}
 use Rattle.model.specs.Card.{newTail, newName}
-use Rattle.model.specs.Layout.{Tag, newTag, masterBlock, descriptorBlock, commitBlock}
-use Rattle.model.specs.Journal.{nameOf}
-use Rattle.model.specs.Valid.{isIn}
-use Rattle.model.specs.Recovery.{shapeOn, committedOn, validOn}
+use Rattle.model.specs.Layout.{newTag, masterBlock, descriptorBlock, commitBlock}
 use Rattle.model.specs.Printing.{blankWorld}
 use Rattle.model.specs.Tape.{run, worldAfter}
 use Rattle.model.specs.Step.{stepAt}
 use Rattle.model.specs.JournalPage.{Field, digitAt, numeral, word, covers, shownAt, byteAt, lineBytes, headFields, keptOrLeft, transactionFields}
 use Rattle.model.specs.JournalPage.{refusalFields, pageRefusal, transactionLine, pageOf, lineAt, layNumber, laid}
 use Rattle.model.specs.declared.Shape.{Shape}
-use Rattle.model.specs.declared.Tail.{Tail}
-use Rattle.model.specs.declared.Name.{Name}
 use Rattle.model.specs.declared.Committed.{Committed}
 use Rattle.model.proofs.Computes.{computes}
-use Rattle.model.proofs.JournalPage.{page-lines}
+use Rattle.model.proofs.Journal.{storesAt}
 
 -- ---- what is expected: a text, blanks to column 64 and a line feed
 unfoldable pub textBytes : String → Bytes
@@ -51,28 +45,31 @@ diskP1 =
     (1 ∷ 2 ∷ 4 ∷ 0x0C ∷ 2 ∷ 0 ∷ 0 ∷ 3 ∷ 0 ∷ 0x41 ∷ 0x42 ∷ 0x43 ∷ 0x44 ∷ 2 ∷ 1 ∷ 0 ∷ 3 ∷ 4 ∷ 0x45 ∷ 0x46 ∷ 0x47 ∷ 0x48 ∷ 3 ∷ 0 ∷ 4 ∷ 0 ∷ 4 ∷ 0 ∷
     4 ∷ 0 ∷ 5 ∷ 0 ∷ 3 ∷ 1 ∷ 4 ∷ 1 ∷ 4 ∷ 1 ∷ [])
 
--- P2 just before its CUT, with a third core that commits two: core 1 is uncommitted, so core 0, which names it, is left
+-- P2 just before its CUT, with a third core that commits: core 1 is uncommitted, so core 0, which names it, is left
 unfoldable pub diskP2 : Bytes
 diskP2 =
     diskAfter
     (1 ∷ 3 ∷ 4 ∷ 0x0C ∷ 2 ∷ 0 ∷ 0 ∷ 3 ∷ 0 ∷ 0x41 ∷ 0x42 ∷ 0x43 ∷ 0x44 ∷ 2 ∷ 1 ∷ 0 ∷ 3 ∷ 4 ∷ 0x45 ∷ 0x46 ∷ 0x47 ∷ 0x48 ∷ 3 ∷ 0 ∷ 4 ∷ 0 ∷ 4 ∷ 0 ∷
-    4 ∷ 0 ∷ 5 ∷ 0 ∷ 3 ∷ 1 ∷ 4 ∷ 1 ∷ 2 ∷ 2 ∷ 0 ∷ 1 ∷ 0 ∷ 1 ∷ 2 ∷ 3 ∷ 4 ∷ 3 ∷ 2 ∷ 4 ∷ 2 ∷ 4 ∷ 2 ∷ 4 ∷ 2 ∷
-    2 ∷ 2 ∷ 0 ∷ 2 ∷ 0 ∷ 1 ∷ 2 ∷ 3 ∷ 4 ∷ 2 ∷ 2 ∷ 0 ∷ 0 ∷ 0 ∷ 1 ∷ 2 ∷ 3 ∷ 4 ∷ 3 ∷ 2 ∷ 4 ∷ 2 ∷ 4 ∷ 2 ∷ 4 ∷ 2 ∷ 4 ∷ 2 ∷ [])
+    4 ∷ 0 ∷ 5 ∷ 0 ∷ 3 ∷ 1 ∷ 4 ∷ 1 ∷ 2 ∷ 2 ∷ 0 ∷ 1 ∷ 0 ∷ 1 ∷ 2 ∷ 3 ∷ 4 ∷ 3 ∷ 2 ∷ 4 ∷ 2 ∷ 4 ∷ 2 ∷ 4 ∷ 2 ∷ [])
 
--- made block by block, of the largest shape: core 7's record stands at position 20 and round to 5, with the highest number and
--- stamp, as many blocks as a record has, and as many names
-abbrev largest : Shape
-largest = newShape 8 64 24
+-- made block by block: two records, from position 9 on and round. The second has the highest number and stamp, as many blocks as a
+-- record may have and as many names.
+abbrev roundShape : Shape
+roundShape = newShape 1 10 12
 
-unfoldable pub diskLargest : Bytes
-diskLargest =
-    store
-    (store (store zeroDisk 0 (masterBlock largest (λ (c : ℕ). cond (eqb c 7) (newTail 4000000000 20) (newTail 1 0)))) (journalBlock largest 7 20)
-    (descriptorBlock 4000000000 (map (λ (b : ℕ). newTag b 0) (below 8))))
-    (journalBlock largest 7 29) (commitBlock 4000000000 (2 ^ 64 - 1) (map (λ (i : ℕ). newName 7 (i + 1)) (below 12)))
+unfoldable pub diskHighest : Bytes
+diskHighest =
+    storesAt roundShape 0 9
+    (descriptorBlock 3999999999 [] ∷ commitBlock 3999999999 1 [] ∷ descriptorBlock 4000000000 (map (λ (b : ℕ). newTag b 0) (below 8)) ∷ [])
+    (store (store zeroDisk 0 (masterBlock roundShape (λ (c : ℕ). newTail 3999999999 9))) (journalBlock roundShape 0 20)
+    (commitBlock 4000000000 (2 ^ 64 - 1) (map (λ (i : ℕ). newName 0 (i + 1)) (below 12))))
+
+-- formatted, and nothing more
+unfoldable pub diskFormatted : Bytes
+diskFormatted = store zeroDisk 0 (masterBlock (newShape 1 1 4) (λ (c : ℕ). newTail 1 0))
 
 unfoldable pub pageComputes : Unit {0}
-unfolding computes digitAt numeral covers shownAt byteAt lineBytes headFields keptOrLeft transactionFields refusalFields pageRefusal transactionLine pageOf lineAt layNumber laid textBytes line pageBytes diskAfter diskP1 diskP2 diskLargest
+unfolding computes digitAt numeral covers shownAt byteAt lineBytes headFields keptOrLeft transactionFields refusalFields pageRefusal transactionLine pageOf lineAt layNumber laid textBytes line pageBytes diskAfter diskP1 diskP2 diskHighest diskFormatted storesAt
 pageComputes = tt
 
 -- ---- pages
@@ -88,17 +85,17 @@ pub page-P2 : pageBytes diskP2
     ≡ line " 3  4 12"
     ∷ line " 0          1                    1  1  1 left"
     ∷ line " 2          1                    3  1  0 kept"
-    ∷ line " 2          2                    4  2  0 kept"
     ∷ []
 unfolding pageComputes
 page-P2 = refl
 
-pub page-largest : pageBytes diskLargest
-    ≡ line " 8 64 24"
-    ∷ line " 7 4000000000 18446744073709551615  8 12 kept"
+pub page-highest : pageBytes diskHighest
+    ≡ line " 1 10 12"
+    ∷ line " 0 3999999999                    1  0  0 kept"
+    ∷ line " 0 4000000000 18446744073709551615  8 12 kept"
     ∷ []
 unfolding pageComputes
-page-largest = refl
+page-highest = refl
 
 -- an unfit master: 8; a disk of another length: 1, its master fit or not
 pub page-unfit : pageBytes zeroDisk ≡ line " 8" ∷ []
@@ -109,13 +106,11 @@ pub page-none : pageBytes [] ≡ line " 1" ∷ []
 unfolding pageComputes
 page-none = refl
 
-pub page-short : pageBytes (take 32895 diskP1) ≡ line " 1" ∷ []
+-- one byte too few, none, one too many
+pub page-lengths : map pageBytes (take 32895 diskFormatted ∷ diskFormatted ∷ (diskFormatted ++ 0 ∷ []) ∷ [])
+    ≡ (line " 1" ∷ []) ∷ (line " 1  1  4" ∷ []) ∷ (line " 1" ∷ []) ∷ []
 unfolding pageComputes
-page-short = refl
-
-pub page-long : pageBytes (diskP1 ++ 0 ∷ []) ≡ line " 1" ∷ []
-unfolding pageComputes
-page-long = refl
+page-lengths = refl
 
 -- ---- numbers set right: nought is one 0, no 0 leads, and of a number that is wider the lowest digits
 pub numerals :
@@ -139,55 +134,40 @@ unfolding pageComputes
 buffers-after = refl
 
 -- ---- wrong definitions, each with the byte or the length that tells it apart
--- the page of a disk that recovery would not refuse, with other fields
-unfoldable pub pageBy : (Bool → Committed → List Field) → Bytes → List Bytes
-pageBy fields d = map lineBytes (headFields (shapeOn d) ∷ map (λ (e : Committed). fields (isIn (validOn d) (nameOf e)) e) (committedOn d))
-
--- with the right fields it is the page
-pub page-by : (d : Bytes) → pageRefusal d ≡ 0 → pageBy transactionFields d ≡ pageBytes d
-unfolding pageBy pageBytes transactionLine
-page-by d h = sym (ap (map lineBytes) (page-lines d h))
-
 -- lines filled to column 63
 unfoldable pub filledShort : List Field → Bytes
 filledShort fs = take 63 (lineBytes fs) ++ 0x0A ∷ []
 
-pub short-fill-differs : map filledShort (pageOf diskP1) ≢ pageBytes diskP1
+pub short-fill-differs : (fs : List Field) → filledShort fs ≢ lineBytes fs
 unfolding pageComputes filledShort
-short-fill-differs e = let h : _≡_ {A = ℕ} 64 65 = ap (λ (ls : List Bytes). length (getD ls 0 [])) e in omega arith
+short-fill-differs fs e = let h : _≡_ {A = ℕ} 64 65 = ap length e in omega arith
 
--- block count and name count exchanged
+-- block count and name count exchanged: core 1's transaction of P1 has no block and one name
+abbrev secondOfP1 : Committed
+secondOfP1 = record { core = 1; number = 1; position = 0; count = 0; stamp = 2; named = 1 }
+
 unfoldable pub countsExchanged : Bool → Committed → List Field
 countsExchanged kept e =
     numeral 1 2 (e .core) ∷ numeral 4 10 (e .number) ∷ numeral 15 20 (e .stamp) ∷
     numeral 36 2 (e .named) ∷ numeral 39 2 (e .count) ∷ word 42 (keptOrLeft kept) ∷ []
 
-pub counts-differ : pageBy countsExchanged diskP1 ≢ pageBytes diskP1
-unfolding pageComputes pageBy countsExchanged
-counts-differ e = let h : _≡_ {A = ℕ} 0x31 0x30 = ap (λ (ls : List Bytes). getD (getD ls 2 []) 36 0) e in omega arith
+pub second-line : lineBytes (transactionFields true secondOfP1) ≡ line " 1          1                    2  0  1 kept"
+unfolding pageComputes
+second-line = refl
+
+pub counts-differ : lineBytes (countsExchanged true secondOfP1) ≢ lineBytes (transactionFields true secondOfP1)
+unfolding pageComputes countsExchanged
+counts-differ e = let h : _≡_ {A = ℕ} 0x31 0x30 = ap (λ (b : Bytes). getD b 36 0) e in omega arith
 
 -- numbers with leading zeros
 unfoldable pub zerosLead : ℕ → ℕ → ℕ → Field
 zerosLead first width n = record { first = first; text = map (λ (i : ℕ). 0x30 + n / 10 ^ (width - (i + 1)) % 10) (below width) }
 
-unfoldable pub withZeros : Bool → Committed → List Field
-withZeros kept e =
-    zerosLead 1 2 (e .core) ∷ zerosLead 4 10 (e .number) ∷ zerosLead 15 20 (e .stamp) ∷
-    zerosLead 36 2 (e .count) ∷ zerosLead 39 2 (e .named) ∷ word 42 (keptOrLeft kept) ∷ []
+pub zeros-differ : (zerosLead 1 2 8) .text ≢ (numeral 1 2 8) .text
+unfolding pageComputes zerosLead
+zeros-differ e = let h : _≡_ {A = ℕ} 0x30 0x20 = ap (λ (b : Bytes). getD b 0 0) e in omega arith
 
-pub zeros-differ : pageBy withZeros diskP1 ≢ pageBytes diskP1
-unfolding pageComputes pageBy zerosLead withZeros
-zeros-differ e = let h : _≡_ {A = ℕ} 0x30 0x20 = ap (λ (ls : List Bytes). getD (getD ls 1 []) 0 0) e in omega arith
-
--- every committed one called kept
-unfoldable pub allKept : Bool → Committed → List Field
-allKept kept e = transactionFields true e
-
-pub all-kept-differs : pageBy allKept diskP2 ≢ pageBytes diskP2
-unfolding pageComputes pageBy allKept
-all-kept-differs e = let h : _≡_ {A = ℕ} 0x6B 0x6C = ap (λ (ls : List Bytes). getD (getD ls 1 []) 41 0) e in omega arith
-
--- only what is kept shown
-pub kept-alone-differs : map lineBytes (headFields (shapeOn diskP2) ∷ map (transactionFields true) (validOn diskP2)) ≢ pageBytes diskP2
+-- the other word
+pub words-differ : (e : Committed) → lineBytes (transactionFields true e) ≢ lineBytes (transactionFields false e)
 unfolding pageComputes
-kept-alone-differs e = let h : _≡_ {A = ℕ} 3 4 = ap length e in omega arith
+words-differ e q = let h : _≡_ {A = ℕ} 0x6B 0x6C = ap (λ (b : Bytes). getD b 41 0) q in omega arith

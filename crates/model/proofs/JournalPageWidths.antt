@@ -1,0 +1,82 @@
+-- Every number on a page fits its columns, if the disk is one of bytes: so each is read back from its line.
+use Rattle.model.specs.Limits.{maxNumber}
+use Rattle.model.specs.Lists.{Each}
+use Rattle.model.specs.Bytes.{number, part, be4, blockAt}
+use Rattle.model.specs.Shape.{journalBlock}
+use Rattle.model.specs.Layout.{hasHead, isDescriptor, stampIn}
+use Rattle.model.specs.Journal.{journalAt}
+use Rattle.model.specs.Recovery.{shapeOn, tailOn, committedOn}
+use Rattle.model.specs.JournalPage.{pageRefusal}
+use Rattle.model.specs.declared.Shape.{Shape}
+use Rattle.model.specs.declared.Committed.{Committed}
+use Rattle.model.proofs.Base.{ℕ, zero, suc, _+_, _*_, _^_, _≤_, _<_, arith, _≡_, true, List, [], _∷_, List·Memᴰ, length, drop, length-take, leb-true, Bytes}
+use Rattle.model.proofs.Lists.{and-left, and-right, each-take}
+use Rattle.model.proofs.Limits.{InRange}
+use Rattle.model.proofs.Words.{IsByte}
+use Rattle.model.proofs.Records.{journals-known}
+use Rattle.model.proofs.OneStore.{master-limits}
+use Rattle.model.proofs.JournalPage.{refusal-numbers}
+
+word-low : (xs : Bytes) → Each IsByte xs → length xs ≤ 4 → number 0 xs < 4294967296
+unfolding number
+word-low [] a h = omega arith
+word-low (x ∷ []) a h = omega (arith, a .0)
+word-low (x ∷ y ∷ []) a h = omega (arith, a .0, a .1 .0)
+word-low (x ∷ y ∷ z ∷ []) a h = omega (arith, a .0, a .1 .0, a .1 .1 .0)
+word-low (x ∷ y ∷ z ∷ u ∷ []) a h = omega (arith, a .0, a .1 .0, a .1 .1 .0, a .1 .1 .1 .0)
+word-low (x ∷ y ∷ z ∷ u ∷ v ∷ xs) a h = absurd (omega arith)
+
+each-drop : {A : Type 0} (P : A → Type 0) (n : ℕ) (xs : List A) → Each P xs → Each P (drop n xs)
+each-drop P zero xs a = a
+each-drop P (suc n) [] a = tt
+each-drop P (suc n) (x ∷ xs) a = each-drop P n xs (a .1)
+
+each-part : (at n : ℕ) (d : Bytes) → Each IsByte d → Each IsByte (part at n d)
+unfolding part
+each-part at n d a = each-take IsByte n (drop at d) (each-drop IsByte at d a)
+
+be4-low : (b : Bytes) (at : ℕ) → Each IsByte b → be4 b at < 4294967296
+unfolding be4 part
+be4-low b at a = word-low (part at 4 b) (each-part at 4 b a) (omega (arith, length-take 4 (drop at b)))
+
+stamp-low : (b : Bytes) → Each IsByte b → stampIn b < 10 ^ 20
+unfolding stampIn
+stamp-low b a = omega (arith, be4-low b 12 a, be4-low b 16 a)
+
+each-journalAt : (s : Shape) (d : Bytes) (c p : ℕ) → Each IsByte d → Each IsByte (journalAt s d c p)
+unfolding journalAt blockAt
+each-journalAt s d c p a = each-part (128 * journalBlock s c p) 128 d a
+
+-- the number of a descriptor that fits is at most 4,000,000,000
+pub descriptor-number : (s : Shape) (k : ℕ) (b : Bytes) → isDescriptor s k b ≡ true → k ≤ maxNumber
+unfolding isDescriptor
+descriptor-number s k b h = leb-true k maxNumber (and-right (hasHead 1 k b) _ (and-left _ _ (and-left _ _ (and-left _ _ h))))
+
+-- the numbers of a transaction fit the columns of its line
+pub record Fits (e : Committed) : Type 0 where
+  pub core : e .core < 10 ^ 2
+  pub number : e .number < 10 ^ 10
+  pub stamp : e .stamp < 10 ^ 20
+  pub count : e .count < 10 ^ 2
+  pub named : e .named < 10 ^ 2
+
+-- the shape that the head shows is within its limits
+pub shape-limits : (d : Bytes) → pageRefusal d ≡ 0 → InRange (shapeOn d)
+unfolding shapeOn
+shape-limits d h = master-limits (blockAt d 0) (refusal-numbers d .2 .0 h .1)
+
+-- each transaction of a disk's page fits
+pub committed-fits : (d : Bytes) → pageRefusal d ≡ 0 → Each IsByte d → (e : Committed) → List·Memᴰ e (committedOn d) → Fits e
+unfolding committedOn
+committed-fits d h a e m =
+    let s = shapeOn d in
+    let r = journals-known s d (tailOn d) (λ (c : ℕ). s .journal) e m in
+    let k = r .1 .1 in
+    let f = journalAt s d (e .core) (e .position + (e .count + 1)) in
+    record {
+      core = omega (arith, r .0, (shape-limits d h) .few-cores);
+      number = omega (arith, k .number, descriptor-number s _ _ (k .descriptor));
+      stamp = omega (arith, k .stamp, stamp-low f (each-journalAt s d (e .core) (e .position + (e .count + 1)) a));
+      count = omega (arith, k .few);
+      named = omega (arith, k .short);
+    }
