@@ -8,7 +8,8 @@
  * - No pointer is null, also where its length is 0. A pointer with a length has that many bytes behind it, `cells` has 512 cells
  *   and is aligned to 8, `out` has 128 bytes.
  * - rev_d_command and rev_d_tape write cells, disk and memory: no two of cells, tape, disk and memory overlap.
- * - A reading writes nothing but `out`, which overlaps none of the others.
+ * - A reading writes nothing but `out`, which overlaps none of the others; rev_d_page_line nothing but `buffer`, which does not
+ *   overlap the disk.
  * Nothing else is: slices of any length, any tape, any offset and any value in any cell have an answer.
  */
 #ifndef REV_D_H
@@ -21,11 +22,12 @@
 extern "C" {
 #endif
 
-/* Cells, and bytes of the two slices; slices of another length are answered 1. A block has 128 bytes. */
+/* Cells, and bytes of the two slices; slices of another length are answered 1. A block has 128 bytes, a line of the journal page 65. */
 #define REV_D_CELLS 512
 #define REV_D_DISK 32896
 #define REV_D_MEMORY 16384
 #define REV_D_BLOCK 128
+#define REV_D_LINE 65
 
 /* What a number stands for: 0 is done, any other a refusal, which changes no cell and no byte.
  *
@@ -142,6 +144,17 @@ struct rev_d_part rev_d_read_part(const uint64_t *cells, uint16_t block, const u
 
 uint8_t rev_d_read_block(const uint64_t *cells, uint16_t block, const uint8_t *disk, size_t disk_length, const uint8_t *memory,
                          size_t memory_length, uint8_t *out);
+
+/* The journal page of a disk, for the service log: how many lines it has, and line i, from 0, laid into `buffer`: 64 columns and a
+ * line feed. A buffer that is not 65 bytes long is answered 1 and stays as it was; any other answer is 0.
+ *
+ * A disk that RECOVER would refuse, on a card that is down over it, has one line: the number (1 or 8) in columns 1-2. Any other has
+ * a head line, C 1-2, B 4-5, J 7-8, and a line for each committed transaction, in order of core and number: core 1-2, number 4-13,
+ * stamp 15-34, how many blocks 36-37 and names 39-40, then `kept`, in the valid set, or `left` in 42-45. Numbers are set right, all
+ * other columns are blank. A line past the last is blank. */
+size_t rev_d_page_lines(const uint8_t *disk, size_t disk_length);
+
+uint8_t rev_d_page_line(const uint8_t *disk, size_t disk_length, size_t i, uint8_t *buffer, size_t buffer_length);
 
 #ifdef __cplusplus
 }

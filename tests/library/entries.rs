@@ -7,5 +7,7 @@ entries! {
     "rev_d_tape",
     "rev_d_read_number",
     "rev_d_read_part",
-    "rev_d_read_block"
+    "rev_d_read_block",
+    "rev_d_page_lines",
+    "rev_d_page_line"
 }

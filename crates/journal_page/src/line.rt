@@ -15,6 +15,14 @@ pub struct Field {
     pub value: u64,
 }
 
+// The columns of a line; a line feed stands behind them.
+const COLUMNS: u8 = 64;
+
+const LINE_SIZE: usize = 65;
+
+// What fills a line where nothing is shown.
+const SPACE: u8 = b' ';
+
 // What is left of n without its lowest places.
 fn shifted(n: u64, base: u64, places: u8) -> u64
     requires { ⌜ 1 ≤ base ⌝ }
@@ -45,7 +53,7 @@ fn digit_at(n: u64, place: u8) -> u8
         return digit(left);
     }
     if left == 0 {
-        return b' ';
+        return SPACE;
     }
     digit(left)
 }
@@ -92,14 +100,14 @@ fn shown_at(fields: [Field; 6], column: u8) -> u8
         }
         i += 1;
     }
-    b' '
+    SPACE
 }
 
 // The byte at a column.
 fn byte_at(fields: [Field; 6], column: u8) -> u8
     ensures { λ r. ⌜ r ≡ byteAt (fieldsIn fields) column ⌝ }
 {
-    if 64 < column {
+    if COLUMNS < column {
         return b'\n';
     }
     shown_at(fields, column)
@@ -111,11 +119,11 @@ pub fn lay_line(fields: [Field; 6], line: &mut [u8]) -> u8
         (r ≡ layNumber (now (line .entry))) × (now (line .exit) ≡ laid (fieldsIn fields) (now (line .entry)))
         ⌝ }
 {
-    if line.len() != 65 {
+    if line.len() != LINE_SIZE {
         return 1;
     }
     let mut i: usize = 0;
-    while i < 65 {
+    while i < LINE_SIZE {
         line[i] = byte_at(fields, i as u8 + 1);
         i += 1;
     }

@@ -1,6 +1,7 @@
 // stack: how much stack the entries of the library use, over generated tapes and over the worst disks and tapes that are
 // known. `frames` gives the bound that the code itself has.
 
+use card_library::page;
 use card_library::paint::{touched, Touched};
 use card_library::session::Session;
 use card_library::stage::Stage;
@@ -47,6 +48,8 @@ struct Gauge {
     /// The same of reading a block, and of running one command as a tape.
     reading: usize,
     tape: usize,
+    /// And of the journal page: its count of lines, and its last line.
+    page: usize,
 }
 
 impl Gauge {
@@ -64,7 +67,15 @@ impl Gauge {
             used(|| _ = card.read_block(0, disk, memory, &mut block)),
         ];
         self.reading = readings.into_iter().fold(self.reading, usize::max);
+        self.lay_page();
         next
+    }
+
+    fn lay_page(&mut self) {
+        let (disk, mut lines, mut line) = (&self.stage.disk, 0, [0; 65]);
+        let counted = used(|| lines = page::line_count(disk));
+        let laid = used(|| _ = page::lay_line(disk, lines - 1, &mut line));
+        self.page = self.page.max(counted).max(laid);
     }
 
     fn run_as_tape(&mut self, rest: &[u8]) {
@@ -81,9 +92,9 @@ impl Gauge {
         }
     }
 
-    /// Of each command, of a tape, of reading.
+    /// Of each command, of a tape, of reading, of the page.
     fn figures(&self) -> impl Iterator<Item = usize> + '_ {
-        self.most[1..].iter().copied().chain([self.tape, self.reading])
+        self.most[1..].iter().copied().chain([self.tape, self.reading, self.page])
     }
 
     fn print(&self, name: &str) {
@@ -136,7 +147,7 @@ fn generated(commands: u64) -> Gauge {
 fn main() {
     let commands = std::env::args().nth(1).map_or(50_000, |arg| arg.parse().expect("a number"));
     println!("bytes of stack below the call of an entry");
-    let names = ["FORMAT", "WRITE", "CLOSE", "STORE", "CHECKPOINT", "CUT", "RECOVER", "tape", "reading"];
+    let names = ["FORMAT", "WRITE", "CLOSE", "STORE", "CHECKPOINT", "CUT", "RECOVER", "tape", "reading", "page"];
     println!("{:<34} {}", "", names.map(|name| format!("{name:>10}")).join(" "));
     let (chain, links) = directed::chain_tape();
     let full = directed::full_tape();
