@@ -8,6 +8,7 @@ use Rattle.model.specs.JournalPage.{space, digitAt, numeral, covers, shownAt, b
 use Rattle.model.specs.JournalPage as page
 use Rattle.model.proofs.Lists.{cases, length-below, getD-map-below, and-left, and-right}
 use Rattle.model.proofs.Words.{length-bytes}
+use Rattle.model.proofs.JournalPage.{lay-done, lay-refused}
 use Rattle.layout.proofs.Loops.{Missed, missed-more, some-not, Filled, filled-all}
 use Rattle.journal_page.specs.declared.line.Field.{Field}
 use Rattle.journal_page.specs.Fields.{noField, fieldIn, fieldsIn, fieldByte, coversAt}
@@ -180,14 +181,13 @@ module _ (fs : List page.Field) where
   byte-shown k r h e = rw (le-leb k 64 h) e
 
   module _ (out : Bytes) where
-    pub wrong-size : (length out ≡ 65 → ⊥) → (_≡_ {A = ℕ} 1 (layNumber out)) × (out ≡ laid fs out)
-    unfolding layNumber laid
-    wrong-size h = (rw (ne-eqb (length out) 65 h), rw (ne-eqb (length out) 65 h))
+    pub wrong-size : (length out ≡ 65 → ⊥) → (1 ≡ layNumber out) × (out ≡ laid fs out)
+    wrong-size h = let r = lay-refused fs out h in (sym (r .0), sym (r .1))
 
     pub right-size : length out ≡ 65 → (line : Bytes) (i : ℕ) → Filled (λ (i : ℕ). byteAt fs (i + 1)) 65 line i → 65 ≤ i
-        → (_≡_ {A = ℕ} 0 (layNumber out)) × (line ≡ laid fs out)
-    unfolding layNumber laid lineBytes
-    right-size h line i w q = (rw (eq-eqb (length out) 65 h), rw (eq-eqb (length out) 65 h) (filled-all (λ (i : ℕ). byteAt fs (i + 1)) 65 line i w q))
+        → (0 ≡ layNumber out) × (line ≡ laid fs out)
+    unfolding lineBytes
+    right-size h line i w q = let r = lay-done fs out h in (sym (r .0), filled-all (λ (i : ℕ). byteAt fs (i + 1)) 65 line i w q ∙ sym (r .1))
 
 pub laid-same : (fs gs : List page.Field) (out line : Bytes) → line ≡ laid fs out → fs ≡ gs → line ≡ laid gs out
 laid-same fs gs out line e q = e ∙ ap (λ (x : List page.Field). laid x out) q
