@@ -1,6 +1,6 @@
-// The page program. A disk is read from standard input, and its journal page printed: every byte of it was laid by the library. A
-// byte more than a disk has tells that the input is too long, so no more are read. Where the read or the write fails, the program
-// says so on standard error; after a failed read it prints no page.
+// The page program. A disk is read from standard input, and its journal page is printed, every byte of it as the library laid it. One
+// byte more than a disk has is enough to refuse the input, so no more are read. Where a read or the write fails, the program says so
+// on standard error; after a failed read nothing is printed.
 ghost use Prim.Native.Nat.{_*_, _≤_};
 ghost use lib.ListN.{length};
 ghost use Rattle.model.specs.JournalPage.{lineSize};
@@ -44,6 +44,7 @@ fn print_page(disk: &[u8], text: &mut [u8]) -> bool
 
 fn main() {
     let mut bytes = [0u8; Shape::DISK_SIZE + 1];
+    // room for the longest page
     let mut text = [0u8; 97 * 65];
     let got = read_on(&mut bytes);
     if got.failed {
