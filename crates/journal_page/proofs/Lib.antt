@@ -2,3 +2,4 @@
 pub mod LineLaws
 pub mod FieldLaws
 pub mod DiskLineLaws
+pub mod PageTextLaws

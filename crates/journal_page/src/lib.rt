@@ -2,8 +2,10 @@
 mod disk_lines; // the page of a disk: how many lines, and each of them
 mod fields; // the fields of the head, of a transaction and of a refusal
 mod line; // any line: the byte at each column
+mod page_text; // the whole page, line behind line
 
 pub use disk_lines::page_line;
 pub use disk_lines::page_lines;
 pub use line::Field;
 pub use line::lay_line;
+pub use page_text::lay_page;

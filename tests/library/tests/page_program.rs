@@ -28,6 +28,20 @@ fn disks() -> Vec<Vec<u8>> {
     disks
 }
 
+/// Two tied transactions as in P1, and a third whose partner is not committed.
+const GATE_TAPE: &str =
+    "01 03 04 0C | 02 00 0003 00 41424344 | 02 01 0003 04 45464748 | 03 00 | 04 00 | 04 00 | 04 00 | 03 01 | 04 01 | 04 01 \
+    | 02 02 0002 00 494A4B4C | 02 00 0002 04 4D4E4F50 | 03 02 | 04 02 | 04 02 | 04 02";
+
+/// The gate runs the program on this file, and compares what it prints with the other.
+#[test]
+fn the_gates_disk_and_page_are_those_of_a_tape() {
+    let file = |name: &str| std::fs::read(format!("{ROOT}/crates/page/{name}")).expect("it is there");
+    let disk = disk_after(&from_hex(GATE_TAPE));
+    assert!(file("stdin") == disk);
+    assert_eq!(String::from_utf8(file("stdout")).expect("text"), print_page(&disk));
+}
+
 #[test]
 fn the_page_printed_is_the_models() {
     let mut pages = Vec::new();

@@ -1,0 +1,27 @@
+// The whole page as text: its lines one behind the other.
+ghost use Prim.Native.Nat.{_*_, _≤_};
+ghost use mathlib.Core.Path.{_≡_};
+ghost use mathlib.Core.List.{flatMap};
+ghost use lib.ListN.{length, take};
+ghost use Rattle.model.specs.JournalPage.{lineSize, lineBytes, pageOf};
+use crate::disk_lines::page_line;
+use crate::disk_lines::page_lines;
+
+// Every line of the page laid into its 65 bytes of the text: how many bytes the page has. The longest page has 97 lines.
+pub fn lay_page(disk: &[u8], text: &mut [u8]) -> usize
+    requires { ⌜ 97 * lineSize ≤ length (now text) ⌝ }
+    ensures { λ r. ⌜
+        (r ≡ lineSize * length (pageOf (now (disk .entry)))) × (r ≤ 97 * lineSize)
+        × (take r (now (text .exit)) ≡ flatMap lineBytes (pageOf (now (disk .entry))))
+        ⌝ }
+{
+    let n = page_lines(disk);
+    let mut i: usize = 0;
+    while i < n {
+        let from = 65 * i;
+        let to = from + 65;
+        page_line(disk, i, &mut text[from..to]);
+        i += 1;
+    }
+    65 * n
+}
