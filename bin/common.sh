@@ -11,8 +11,8 @@ fail() {
   exit 1
 }
 
-# The words of the command line: the file, where there is one, can be read. Standard output is then 3, standard input 4.
-take_words() {
+# The arguments: the file, where there is one, can be read. Standard output is then 3, standard input 4.
+take_arguments() {
   [ $# -le 1 ] || fail 'one file at most'
   file=${1-}
   if [ $# = 1 ]; then

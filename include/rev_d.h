@@ -22,7 +22,8 @@
 extern "C" {
 #endif
 
-/* Cells, and bytes of the two slices; slices of another length are answered 1. A block has 128 bytes, a line of the journal page 65. */
+/* Cells, and bytes of the two slices: commands and readings answer slices of another length with 1. A block has 128 bytes, a line of
+ * the journal page 65. */
 #define REV_D_CELLS 512
 #define REV_D_DISK 32896
 #define REV_D_MEMORY 16384
@@ -146,12 +147,12 @@ uint8_t rev_d_read_block(const uint64_t *cells, uint16_t block, const uint8_t *d
                          size_t memory_length, uint8_t *out);
 
 /* The journal page of a disk, for the service log: how many lines it has, and line i, from 0, laid into `buffer`: 64 columns and a
- * line feed. A buffer that is not 65 bytes long is answered 1 and stays as it was; any other answer is 0.
+ * line feed. A buffer that is not 65 bytes long is answered 1 and stays as it was; one of 65 bytes is answered 0, whatever the disk.
  *
  * A disk that RECOVER would refuse, on a card that is down over it, has one line: the number (1 or 8) in columns 1-2. Any other has
- * a head line, C 1-2, B 4-5, J 7-8, and a line for each committed transaction, in order of core and number: core 1-2, number 4-13,
- * stamp 15-34, how many blocks 36-37 and names 39-40, then `kept`, in the valid set, or `left` in 42-45. Numbers are set right, all
- * other columns are blank. A line past the last is blank. */
+ * a head line, C 1-2, B 4-5, J 7-8, and a line for each committed transaction that is not retired, in order of core and number: core
+ * 1-2, number 4-13, stamp 15-34, how many blocks 36-37 and names 39-40, then `kept`, in the valid set, or `left` in 42-45. Numbers are
+ * set right, all other columns are blank. A line past the last has 64 blanks and the line feed. */
 size_t rev_d_page_lines(const uint8_t *disk, size_t disk_length);
 
 uint8_t rev_d_page_line(const uint8_t *disk, size_t disk_length, size_t i, uint8_t *buffer, size_t buffer_length);

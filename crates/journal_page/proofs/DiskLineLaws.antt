@@ -1,7 +1,7 @@
 -- The lines of a disk's page from the slots of its journals: the n-th transaction stands in the slot that has n filled ones before it,
 -- and it is in the valid set where the same slot of that set is filled.
-use Rattle.model.proofs.Base.{ℕ, zero, suc, _+_, _-_, _*_, _/_, _%_, _≤_, _<_, arith, add-zero, add-one, _≡_, refl, sym, ap, _∙_, Bool, true, false}
-use Rattle.model.proofs.Base.{cond, not, List, [], _∷_, _++_, map, map-append, append-assoc, length, getD, length-map, eqb, eq-eqb, ne-eqb, eqb-false}
+use Rattle.model.proofs.Base.{ℕ, zero, suc, _+_, _-_, _*_, _/_, _%_, _≤_, _<_, arith, add-zero, _≡_, refl, sym, ap, _∙_, Bool, true, false}
+use Rattle.model.proofs.Base.{cond, not, List, [], _∷_, _++_, map, map-append, append-assoc, length, getD, getD-at, length-map, eq-eqb, ne-eqb, eqb-false}
 use Rattle.model.proofs.Base.{not-true, lt-ltb, Bytes}
 use lib.ListN.{List·getD-eq-default}
 use Rattle.model.specs.Limits.{diskSize}
@@ -21,14 +21,14 @@ use Rattle.model.specs.declared.Found.the-variants.{Whole, Miss}
 use Rattle.model.proofs.Lists.{cases}
 use Rattle.model.proofs.Limits.{InRange}
 use Rattle.model.proofs.JournalPage.{refusal-number, refusal-numbers, refused-page, page-lines, page-length, page-head}
-use Rattle.journal.specs.Slots.{tailFor, numbersOf, slotOf, isFilled, entry, foundAt, listOf, entriesTo, entries, filledFrom}
-use Rattle.journal.proofs.Slots.{number-at, empty-slot, filled-slot}
+use Rattle.journal.specs.Slots.{numbersOf, slotOf, isFilled, entry, foundAt, listOf, entriesTo, entries, filledFrom}
+use Rattle.journal.proofs.Slots.{number-at}
 use Rattle.journal.proofs.Entries.{slot-core, one-no, count-none, count-more}
 use Rattle.valid.specs.Sets.{tailNumber, isHere}
 use Rattle.valid.proofs.Sets.{holds-found, entries-length, in-slot}
 use Rattle.recovery.specs.Recovering.{numbersOn, Shaped, OnDisk, IsValid}
 use Rattle.recovery.proofs.JournalLaws.{all-committed, same-numbers}
-use Rattle.journal_page.specs.Fields.{refusedLine, IsNth, numbered}
+use Rattle.journal_page.specs.Fields.{refusedLine, IsNth, withNumber}
 
 -- ---- a disk that recovery would refuse
 module _ (d : Bytes) where
@@ -110,12 +110,6 @@ module _ (s : Shape) (d : Bytes) (set : List ℕ) where
       let l = listOf (foundAt s d ks set (suc i + k)) in
       (r .0 ++ l, rw (z, entriesTo, r .1) (append-assoc (entriesTo s d ks set i) (e ∷ r .0) l))
 
-  getD-behind : {A : Type 0} (xs ys : List A) (x z : A) (n : ℕ) → length xs ≡ n → getD (xs ++ (x ∷ ys)) n z ≡ x
-  getD-behind [] ys x z zero h = refl
-  getD-behind [] ys x z (suc n) h = absurd (omega arith)
-  getD-behind (y ∷ xs) ys x z zero h = absurd (omega arith)
-  getD-behind (y ∷ xs) ys x z (suc n) h = getD-behind xs ys x z n (omega arith)
-
   nth-entry : {A : Type 0} (f : Committed → A) (z : A) (ks : List ℕ) (i n : ℕ) → i < 96 → isFilled s set i ≡ true → filledFrom s set 0 i ≡ n
       → getD (map f (entries s d ks set)) n z ≡ f (entry s d (i / 12) (getD ks (i / 12) 0 + i % 12) (slotOf s set i))
   unfolding entries
@@ -124,7 +118,7 @@ module _ (s : Shape) (d : Bytes) (set : List ℕ) where
       let r = later-slots ks i (95 - i) e (holds-found s d ks set i h) in
       let y : suc i + (95 - i) ≡ 96 = omega arith in
       let q : entriesTo s d ks set 96 ≡ entriesTo s d ks set i ++ (e ∷ r .0) = rw y at (r .1) in
-      rw (q, map-append) (getD-behind (map f (entriesTo s d ks set i)) (map f (r .0)) (f e) z n (length-map (entriesTo s d ks set i) f ∙ entries-length s d ks set i ∙ b))
+      rw (q, map-append) (getD-at (map f (entriesTo s d ks set i)) (f e) (map f (r .0)) z n (length-map (entriesTo s d ks set i) f ∙ entries-length s d ks set i ∙ b))
 
   -- the transaction in a filled slot, with another number
   module _ (i : ℕ) (h : isFilled s set i ≡ true) where
@@ -139,16 +133,16 @@ module _ (s : Shape) (d : Bytes) (set : List ℕ) where
           let z : _≡_ {A = ℕ} 0 1 = cc in
           absurd (omega arith)
 
-      numbered-entry : (e : Committed) → r ≡ Whole e → (k : ℕ) → numbered k e ≡ entry s d (i / 12) k (slotOf s set i)
+      entry-numbered : (e : Committed) → r ≡ Whole e → (k : ℕ) → withNumber k e ≡ entry s d (i / 12) k (slotOf s set i)
       unfolding entry
-      numbered-entry e m k =
+      entry-numbered e m k =
           let y : Whole e ≡ Whole (entry s d (i / 12) (getD [] (i / 12) 0 + i % 12) (slotOf s set i)) = sym m ∙ q ∙ holds-found s d [] set i h in
           let z : e ≡ entry s d (i / 12) (getD [] (i / 12) 0 + i % 12) (slotOf s set i) = cc in
           rw z
 
-      pub slot-shown : (e : Committed) → r ≡ Whole e → (kept : Bool) (k : ℕ) (fs : List page.Field) → fs ≡ transactionFields kept (numbered k e)
+      pub slot-shown : (e : Committed) → r ≡ Whole e → (kept : Bool) (k : ℕ) (fs : List page.Field) → fs ≡ transactionFields kept (withNumber k e)
           → fs ≡ transactionFields kept (entry s d (i / 12) k (slotOf s set i))
-      slot-shown e m kept k fs y = y ∙ ap (transactionFields kept) (numbered-entry e m k)
+      slot-shown e m kept k fs y = y ∙ ap (transactionFields kept) (entry-numbered e m k)
 
 -- it is in a set where that set's slot is filled
 in-same-slot : (s : Shape) (d : Bytes) (ks set v : List ℕ) → InRange s → (i : ℕ) → isFilled s set i ≡ true

@@ -1,11 +1,11 @@
 -- The six fields that the code holds are those of the definition; a field of no columns is none.
-use Rattle.model.proofs.Base.{ℕ, _≡_, refl, Bool, true, false, List, [], _∷_, map, select}
+use Rattle.model.proofs.Base.{ℕ, _≡_, refl, Bool, true, false, [], _∷_, select}
 use Rattle.model.specs.Bytes.{bytes}
-use Rattle.model.specs.JournalPage.{numeral, headFields, keptOrLeft, transactionFields, refusalFields}
+use Rattle.model.specs.JournalPage.{headFields, keptOrLeft, transactionFields, refusalFields}
 use Rattle.model.specs.declared.Shape.{Shape}
 use Rattle.model.specs.declared.Committed.{Committed}
 use Rattle.journal_page.specs.declared.line.Field.{Field}
-use Rattle.journal_page.specs.Fields.{noField, newField, fieldIn, fieldsIn, lettersOf, numbered}
+use Rattle.journal_page.specs.Fields.{noField, newField, fieldIn, fieldsIn, lettersOf, withNumber}
 
 pub none-is : (f : Field) → f ≡ noField → fieldsIn (f ∷ f ∷ f ∷ f ∷ f ∷ f ∷ []) ≡ []
 unfolding fieldsIn select
@@ -29,6 +29,6 @@ letters false = refl
 pub transaction-is : (t : Committed) (number : ℕ) (kept : Bool) (a b c d e f : Field)
     → a ≡ newField 1 2 false (t .core) → b ≡ newField 4 10 false number → c ≡ newField 15 20 false (t .stamp)
     → d ≡ newField 36 2 false (t .count) → e ≡ newField 39 2 false (t .named) → f ≡ newField 42 4 true (lettersOf kept)
-    → fieldsIn (a ∷ b ∷ c ∷ d ∷ e ∷ f ∷ []) ≡ transactionFields kept (numbered number t)
+    → fieldsIn (a ∷ b ∷ c ∷ d ∷ e ∷ f ∷ []) ≡ transactionFields kept (withNumber number t)
 unfolding fieldsIn select fieldIn transactionFields
 transaction-is t number kept a b c d e f p q r x y z = rw (p, q, r, x, y, z, letters kept)

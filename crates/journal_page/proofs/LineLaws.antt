@@ -1,17 +1,17 @@
 -- Any line: digits and letters by their places, the columns of a field, the first field that has a column.
 use native.Mathlib.Nat.{pow-zero, pow-suc, pow-succ', div-one, div-div-eq-div-mul}
 use Rattle.model.proofs.Base.{ℕ, zero, suc, _+_, _-_, _/_, _%_, _^_, _≤_, _<_, arith, decLt, add-one, _≡_, refl, sym, ap, _∙_, Bool, true, false}
-use Rattle.model.proofs.Base.{cond, not, _&&_, List, [], _∷_, _++_, map, length, getD, length-map, List·getD-append, eqb, ltb, leb}
-use Rattle.model.proofs.Base.{eq-eqb, ne-eqb, eqb-true, eqb-false, lt-ltb, le-ltb, ltb-true, le-leb, lt-leb, leb-true, below, select, Bytes}
+use Rattle.model.proofs.Base.{cond, _&&_, List, [], _∷_, _++_, length, getD, getD-at, length-map, List·getD-append, eqb, ltb, leb}
+use Rattle.model.proofs.Base.{eq-eqb, ne-eqb, eqb-true, lt-ltb, le-ltb, ltb-true, le-leb, lt-leb, leb-true, below, select, Bytes}
 use Rattle.model.specs.Bytes.{bytes}
-use Rattle.model.specs.JournalPage.{space, digitAt, numeral, covers, shownAt, byteAt, lineBytes, layNumber, laid}
+use Rattle.model.specs.JournalPage.{space, lineFeed, digitAt, numeral, covers, shownAt, byteAt, lineBytes, layNumber, laid}
 use Rattle.model.specs.JournalPage as page
 use Rattle.model.proofs.Lists.{cases, length-below, getD-map-below, and-left, and-right}
 use Rattle.model.proofs.Words.{length-bytes}
 use Rattle.model.proofs.JournalPage.{lay-done, lay-refused}
 use Rattle.layout.proofs.Loops.{Missed, missed-more, some-not, Filled, filled-all}
 use Rattle.journal_page.specs.declared.line.Field.{Field}
-use Rattle.journal_page.specs.Fields.{noField, fieldIn, fieldsIn, fieldByte, coversAt}
+use Rattle.journal_page.specs.Fields.{noField, fieldIn, fieldsIn, fieldByte}
 
 -- ---- a number without its lowest places
 pub shift-none : (n b : ℕ) → n ≡ n / b ^ 0
@@ -32,7 +32,7 @@ module _ (n place left : ℕ) (e : left ≡ n / 10 ^ place) where
       (λ t. rw (t, eq-eqb place 0 h) (q ∙ ap (λ (x : ℕ). 0x30 + x % 10) e))
       (λ t. rw t (q ∙ ap (λ (x : ℕ). 0x30 + x % 10) e))
 
-  pub digit-none : (place ≡ 0 → ⊥) → left ≡ 0 → 0x20 ≡ digitAt n place
+  pub digit-none : (place ≡ 0 → ⊥) → left ≡ 0 → space ≡ digitAt n place
   unfolding digitAt
   digit-none h z = rw (eq-eqb (n / 10 ^ place) 0 (sym e ∙ z), ne-eqb place 0 h)
 
@@ -41,12 +41,6 @@ module _ (n place left : ℕ) (e : left ≡ n / 10 ^ place) where
   digit-some r q h = rw (ne-eqb (n / 10 ^ place) 0 (λ z. h (e ∙ z))) (q ∙ ap (λ (x : ℕ). 0x30 + x % 10) e)
 
 -- ---- a word: its letters are the bytes of a number
-getD-last : (xs : Bytes) (x d n : ℕ) → n ≡ length xs → getD (xs ++ (x ∷ [])) n d ≡ x
-getD-last [] x d zero h = refl
-getD-last [] x d (suc n) h = absurd (omega arith)
-getD-last (y ∷ xs) x d zero h = absurd (omega arith)
-getD-last (y ∷ xs) x d (suc n) h = getD-last xs x d n (omega arith)
-
 letter : (w n i d : ℕ) → i < w → getD (bytes w n) i d ≡ n / 256 ^ (w - (i + 1)) % 256
 unfolding bytes
 letter zero n i d h = absurd (omega arith)
@@ -60,7 +54,7 @@ letter (suc w) n i d h =
           ∙ ap (λ (x : ℕ). n / 256 ^ x % 256) (sym (add-one (w - (i + 1))) ∙ e))
       | no g ↦ (
           let e : suc w - (i + 1) ≡ 0 = omega arith in
-          getD-last (bytes w (n / 256)) (n % 256) d i (omega (arith, length-bytes w (n / 256)))
+          getD-at (bytes w (n / 256)) (n % 256) [] d i (omega (arith, length-bytes w (n / 256)))
           ∙ ap (λ (x : ℕ). x % 256) (shift-none n 256)
           ∙ ap (λ (x : ℕ). n / 256 ^ x % 256) (sym e))
     ]
@@ -129,6 +123,10 @@ module _ (f : Field) where
             ∙ sym (getD-map-below (λ (i : ℕ). digitAt (f .value) (f .width - (i + 1))) (f .width) (k - f .first) space (omega (arith, covered-from, covered-to))))
 
 -- ---- the first field that has a column
+-- column k is one of the i-th field's
+unfoldable pub coversAt : List Field → ℕ → ℕ → Bool
+coversAt fs k i = covers (fieldIn (getD fs i noField)) k
+
 shown-cons : (f : Field) (fs : List Field) (k : ℕ)
     → shownAt (fieldsIn (f ∷ fs)) k ≡ cond (covers (fieldIn f) k) (fieldByte (fieldIn f) k) (shownAt (fieldsIn fs) k)
 unfolding fieldsIn select shownAt fieldByte
@@ -167,12 +165,12 @@ module _ (fs : List Field) (l : length fs ≡ 6) (k i : ℕ) (w : Missed (covers
   unfolding coversAt
   shown-more r e h q = missed-more (coversAt fs k) 6 i r w e h q
 
-  pub shown-end : 6 ≤ i → 0x20 ≡ shownAt (fieldsIn fs) k
+  pub shown-end : 6 ≤ i → space ≡ shownAt (fieldsIn fs) k
   shown-end h = none-shown fs k (λ j z. some-not (coversAt fs k) i (w .fails) j (omega arith))
 
 -- ---- the byte at a column, and the line laid
 module _ (fs : List page.Field) where
-  pub byte-feed : (k : ℕ) → 64 < k → 0x0A ≡ byteAt fs k
+  pub byte-feed : (k : ℕ) → 64 < k → lineFeed ≡ byteAt fs k
   unfolding byteAt
   byte-feed k h = rw (lt-leb k 64 h)
 

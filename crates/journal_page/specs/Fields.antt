@@ -7,7 +7,7 @@ use lib.ListN.{getD}
 use lib.Dec.{eqb}
 use Rattle.model.specs.Lists.{select}
 use Rattle.model.specs.Bytes.{bytes}
-use Rattle.model.specs.JournalPage.{space, numeral, word, covers, refusalFields}
+use Rattle.model.specs.JournalPage.{space, numeral, word, refusalFields}
 use Rattle.model.specs.JournalPage as page
 use Rattle.model.specs.declared.Shape.{Shape}
 use Rattle.model.specs.declared.Committed.{Committed}
@@ -17,7 +17,7 @@ use Rattle.journal_page.specs.declared.line.Field.{Field}
 abbrev pub newField : ℕ → ℕ → Bool → ℕ → Field
 newField first width word value = record { first = first; width = width; word = word; value = value }
 
--- what stands past the end of an array
+-- a place of the six that holds no field, and what stands past the end of an array
 abbrev pub noField : Field
 noField = newField 0 0 false 0
 
@@ -28,17 +28,13 @@ fieldIn f = cond (f .word) (word (f .first) (bytes (f .width) (f .value))) (nume
 unfoldable pub fieldsIn : List Field → List page.Field
 fieldsIn fs = map fieldIn (select (λ (f : Field). not (eqb (f .width) 0)) fs)
 
--- column k is one of the i-th field's
-unfoldable pub coversAt : List Field → ℕ → ℕ → Bool
-coversAt fs k i = covers (fieldIn (getD fs i noField)) k
-
 -- what a field shows at one of its columns
 unfoldable pub fieldByte : page.Field → ℕ → ℕ
 fieldByte f k = getD (f .text) (k - f .first) space
 
 -- a transaction with another number: a slot's is counted from its core's tail
-abbrev pub numbered : ℕ → Committed → Committed
-numbered k e = record { core = e .core; number = k; position = e .position; count = e .count; stamp = e .stamp; named = e .named }
+abbrev pub withNumber : ℕ → Committed → Committed
+withNumber k e = record { core = e .core; number = k; position = e .position; count = e .count; stamp = e .stamp; named = e .named }
 
 -- the letters of the word kept, or of the word left
 abbrev pub lettersOf : Bool → ℕ

@@ -100,7 +100,7 @@ fn transaction_line(s: Shape, disk: &[u8], n: usize) -> [Field; 6]
     slot_fields(s, disk, t, &committed, i, kept)
 }
 
-// The page of a disk that recovery would refuse with n.
+// The fields of line i where recovery would refuse the disk with n: none past the first.
 fn refused_line(n: u8, i: usize) -> [Field; 6]
     ensures { λ r. ⌜ fieldsIn r ≡ refusedLine n i ⌝ }
 {
@@ -126,12 +126,12 @@ fn fields_of(disk: &[u8], i: usize) -> [Field; 6]
 }
 
 // Line i of the page laid into the buffer. Any length but 65 bytes is answered with 1, and no byte is touched.
-pub fn page_line(disk: &[u8], i: usize, line: &mut [u8]) -> u8
+pub fn page_line(disk: &[u8], i: usize, buffer: &mut [u8]) -> u8
     ensures { λ r. ⌜
-        (r ≡ layNumber (now (line .entry)))
-        × (now (line .exit) ≡ laid (lineAt (now (disk .entry)) i) (now (line .entry)))
+        (r ≡ layNumber (now (buffer .entry)))
+        × (now (buffer .exit) ≡ laid (lineAt (now (disk .entry)) i) (now (buffer .entry)))
         ⌝ }
 {
     let fields = fields_of(disk, i);
-    lay_line(fields, line)
+    lay_line(fields, buffer)
 }

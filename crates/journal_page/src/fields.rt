@@ -3,11 +3,12 @@ ghost use mathlib.Core.Path.{_≡_};
 ghost use mathlib.Core.Bool.{true, false};
 ghost use mathlib.Core.List.{[]};
 ghost use Rattle.model.specs.JournalPage.{headFields, transactionFields, refusalFields};
-ghost use Rattle.journal_page.specs.Fields.{noField, newField, fieldsIn, lettersOf, numbered};
+ghost use Rattle.journal_page.specs.Fields.{noField, newField, fieldsIn, lettersOf, withNumber};
 use crate::line::Field;
 use model::Committed;
 use model::Shape;
 
+// The letters of the two words, as the bytes of a number.
 const KEPT: u64 = 0x6B657074;
 
 const LEFT: u64 = 0x6C656674;
@@ -80,7 +81,7 @@ fn kept_or_left(kept: bool) -> Field
 
 // A transaction: core, number, stamp, how many blocks and names, and whether it is in the valid set.
 pub fn transaction_fields(e: Committed, number: u64, kept: bool) -> [Field; 6]
-    ensures { λ r. ⌜ fieldsIn r ≡ transactionFields kept (numbered number e) ⌝ }
+    ensures { λ r. ⌜ fieldsIn r ≡ transactionFields kept (withNumber number e) ⌝ }
 {
     [
         numeral(1, 2, e.core as u64),

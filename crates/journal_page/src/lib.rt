@@ -7,5 +7,6 @@ mod page_text; // the whole page, line behind line
 pub use disk_lines::page_line;
 pub use disk_lines::page_lines;
 pub use line::Field;
+pub use line::LINE_SIZE;
 pub use line::lay_line;
 pub use page_text::lay_page;

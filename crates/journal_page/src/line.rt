@@ -1,13 +1,12 @@
 // A line of the page: what each column shows is decided here alone, for whatever fields the line has.
-ghost use Prim.Native.Nat.{_+_, _-_, _*_, _/_, _%_, _^_, _≤_, _<_};
+ghost use Prim.Native.Nat.{_+_, _/_, _%_, _^_, _≤_};
 ghost use mathlib.Core.Path.{_≡_};
 ghost use mathlib.Core.Bool.{true};
-ghost use lib.ListN.{length};
 ghost use Rattle.model.specs.JournalPage.{digitAt, covers, shownAt, byteAt, layNumber, laid};
 ghost use Rattle.journal_page.specs.Fields.{fieldIn, fieldsIn, fieldByte};
 
 // A field of a line: its first column, counted from 1, how many it has, and what stands there: a number set right, or a word whose
-// letters are the bytes of one. A field of no columns is none.
+// letters are the bytes of the value. A field of no columns is none.
 pub struct Field {
     pub first: u8,
     pub width: u8,
@@ -18,7 +17,7 @@ pub struct Field {
 // The columns of a line; a line feed stands behind them.
 const COLUMNS: u8 = 64;
 
-const LINE_SIZE: usize = 65;
+pub const LINE_SIZE: usize = 65;
 
 // What fills a line where nothing is shown.
 const SPACE: u8 = b' ';
@@ -114,17 +113,17 @@ fn byte_at(fields: [Field; 6], column: u8) -> u8
 }
 
 // A line of these fields laid into the buffer, column by column. Any length but 65 bytes is answered with 1, and no byte is touched.
-pub fn lay_line(fields: [Field; 6], line: &mut [u8]) -> u8
+pub fn lay_line(fields: [Field; 6], buffer: &mut [u8]) -> u8
     ensures { λ r. ⌜
-        (r ≡ layNumber (now (line .entry))) × (now (line .exit) ≡ laid (fieldsIn fields) (now (line .entry)))
+        (r ≡ layNumber (now (buffer .entry))) × (now (buffer .exit) ≡ laid (fieldsIn fields) (now (buffer .entry)))
         ⌝ }
 {
-    if line.len() != LINE_SIZE {
+    if buffer.len() != LINE_SIZE {
         return 1;
     }
     let mut i: usize = 0;
     while i < LINE_SIZE {
-        line[i] = byte_at(fields, i as u8 + 1);
+        buffer[i] = byte_at(fields, i as u8 + 1);
         i += 1;
     }
     0

@@ -6,6 +6,7 @@ ghost use lib.ListN.{length, take};
 ghost use Rattle.model.specs.JournalPage.{lineSize, lineBytes, pageOf};
 use crate::disk_lines::page_line;
 use crate::disk_lines::page_lines;
+use crate::line::LINE_SIZE;
 
 // Every line of the page laid into its 65 bytes of the text: how many bytes the page has. The longest page has 97 lines.
 pub fn lay_page(disk: &[u8], text: &mut [u8]) -> usize
@@ -18,10 +19,10 @@ pub fn lay_page(disk: &[u8], text: &mut [u8]) -> usize
     let n = page_lines(disk);
     let mut i: usize = 0;
     while i < n {
-        let from = 65 * i;
-        let to = from + 65;
+        let from = LINE_SIZE * i;
+        let to = from + LINE_SIZE;
         page_line(disk, i, &mut text[from..to]);
         i += 1;
     }
-    65 * n
+    LINE_SIZE * n
 }

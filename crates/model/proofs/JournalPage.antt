@@ -31,6 +31,7 @@ use Rattle.model.proofs.Journal.{KnownRecord, records-known}
 use Rattle.model.proofs.Records.{journal-known, journals-distinct}
 use Rattle.model.proofs.Shrink.{Distinct}
 use Rattle.model.proofs.Valid.{sameName-true, sameName-refl, valid-within}
+use Rattle.model.proofs.Sizes.{length-zeroMemory}
 use Rattle.model.proofs.Command.{unless-answer, done-answer}
 
 -- ---- a line
@@ -67,6 +68,11 @@ pub refusal-columns : (n : ℕ) → lineBytes (refusalFields n) ≡ setRight 2 n
 unfolding lineBytes byteAt shownAt covers numeral refusalFields below
 refusal-columns n = refl
 
+-- a line without fields, as past the last of a page: 64 blanks and the line feed
+pub empty-columns : lineBytes [] ≡ blanks 64 ++ lineFeed ∷ []
+unfolding lineBytes byteAt shownAt below
+empty-columns = refl
+
 -- ---- a disk that recovery would refuse
 -- what RECOVER is refused with on a card that is down, over memory of its length, hangs on the disk alone: its length, then its master
 abbrev pub diskRefusal : Bytes → ℕ
@@ -86,13 +92,9 @@ unfolding recoverConditions
 refusal-down w q h = refusal-from w (w .card .phase) q h
 
 -- the card as a cut leaves it is down
-pub is-down : downCard .phase ≡ Down
+is-down : downCard .phase ≡ Down
 unfolding downCard emptyCard freshCard
 is-down = refl
-
-length-zeroMemory : length zeroMemory ≡ memorySize
-unfolding zeroMemory
-length-zeroMemory = length-replicate {A = ℕ} memorySize 0
 
 -- the number on a page, as a function of the disk
 pub refusal-number : (d : Bytes) → pageRefusal d ≡ diskRefusal d
@@ -107,10 +109,6 @@ refusal-memory w q h = refusal-down w q h ∙ sym (refusal-number (w .disk))
 pub recover-answer : (w : World) → w .card .phase ≡ Down → length (w .memory) ≡ memorySize → (recover w) .answer ≡ pageRefusal (w .disk)
 unfolding recover doneBy
 recover-answer w q h = unless-answer (recoverConditions w) w (recovered w) (done-answer RECOVER w) ∙ refusal-memory w q h
-
--- the same of the card as a cut leaves it
-pub recover-down : (d m : Bytes) → length m ≡ memorySize → (recover (record { card = downCard; disk = d; memory = m })) .answer ≡ pageRefusal d
-recover-down d m h = recover-answer (record { card = downCard; disk = d; memory = m }) is-down h
 
 -- 1 exactly where the disk has another length, 8 exactly where the length is right and the master unfit, 0 otherwise
 pub refusal-numbers : (d : Bytes)
@@ -200,13 +198,6 @@ lay-done fs out h = let e : eqb (length out) lineSize ≡ true = eq-eqb (length 
 pub lay-refused : (fs : List Field) (out : Bytes) → length out ≢ lineSize → (layNumber out ≡ 1) × (laid fs out ≡ out)
 unfolding layNumber laid
 lay-refused fs out h = let e : eqb (length out) lineSize ≡ false = ne-eqb (length out) lineSize h in (rw e refl, rw e refl)
-
--- its length stays in any case
-pub laid-length : (fs : List Field) (out : Bytes) → length (laid fs out) ≡ length out
-laid-length fs out =
-    cases (eqb (length out) lineSize)
-    (λ t. let h : length out ≡ lineSize = eqb-true (length out) lineSize t in ap length (lay-done fs out h .1) ∙ (line-length fs ∙ sym h))
-    (λ t. ap length (lay-refused fs out (eqb-false (length out) lineSize t) .1))
 
 -- ---- the order, and the words
 -- a comes before b: it has a lower core, or the same core and a lower number

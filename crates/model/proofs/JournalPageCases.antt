@@ -16,8 +16,9 @@ use Rattle.model.specs.Layout.{newTag, masterBlock, descriptorBlock, com
 use Rattle.model.specs.Printing.{blankWorld}
 use Rattle.model.specs.Tape.{run, worldAfter}
 use Rattle.model.specs.Step.{stepAt}
+use Rattle.model.specs.Cases.{Case, cases}
 use Rattle.model.specs.JournalPage.{Field, digitAt, numeral, word, covers, shownAt, byteAt, lineBytes, headFields, keptOrLeft, transactionFields}
-use Rattle.model.specs.JournalPage.{refusalFields, pageRefusal, transactionLine, pageOf, lineAt, layNumber, laid}
+use Rattle.model.specs.JournalPage.{refusalFields, pageRefusal, transactionLine, pageOf, layNumber, laid}
 use Rattle.model.specs.declared.Shape.{Shape}
 use Rattle.model.specs.declared.Committed.{Committed}
 use Rattle.model.proofs.Computes.{computes}
@@ -40,10 +41,7 @@ diskAfter t = (worldAfter blankWorld (run stepAt t blankWorld)) .disk
 
 -- P1 just before its CUT: both committed
 unfoldable pub diskP1 : Bytes
-diskP1 =
-    diskAfter
-    (1 ∷ 2 ∷ 4 ∷ 0x0C ∷ 2 ∷ 0 ∷ 0 ∷ 3 ∷ 0 ∷ 0x41 ∷ 0x42 ∷ 0x43 ∷ 0x44 ∷ 2 ∷ 1 ∷ 0 ∷ 3 ∷ 4 ∷ 0x45 ∷ 0x46 ∷ 0x47 ∷ 0x48 ∷ 3 ∷ 0 ∷ 4 ∷ 0 ∷ 4 ∷ 0 ∷
-    4 ∷ 0 ∷ 5 ∷ 0 ∷ 3 ∷ 1 ∷ 4 ∷ 1 ∷ 4 ∷ 1 ∷ [])
+diskP1 = diskAfter (take 38 (getD (map (λ (c : Case). c .tape) cases) 0 []))
 
 -- P2 just before its CUT, with a third core that commits: core 1 is uncommitted, so core 0, which names it, is left
 unfoldable pub diskP2 : Bytes
@@ -69,7 +67,7 @@ unfoldable pub diskFormatted : Bytes
 diskFormatted = store zeroDisk 0 (masterBlock (newShape 1 1 4) (λ (c : ℕ). newTail 1 0))
 
 unfoldable pub pageComputes : Unit {0}
-unfolding computes digitAt numeral covers shownAt byteAt lineBytes headFields keptOrLeft transactionFields refusalFields pageRefusal transactionLine pageOf lineAt layNumber laid textBytes line pageBytes diskAfter diskP1 diskP2 diskHighest diskFormatted storesAt
+unfolding computes digitAt numeral covers shownAt byteAt lineBytes headFields keptOrLeft transactionFields refusalFields pageRefusal transactionLine pageOf layNumber laid textBytes line pageBytes diskAfter diskP1 diskP2 diskHighest diskFormatted storesAt
 pageComputes = tt
 
 -- ---- pages
@@ -106,7 +104,7 @@ pub page-none : pageBytes [] ≡ line " 1" ∷ []
 unfolding pageComputes
 page-none = refl
 
--- one byte too few, none, one too many
+-- one byte too few, the right length, one too many
 pub page-lengths : map pageBytes (take 32895 diskFormatted ∷ diskFormatted ∷ (diskFormatted ++ 0 ∷ []) ∷ [])
     ≡ (line " 1" ∷ []) ∷ (line " 1  1  4" ∷ []) ∷ (line " 1" ∷ []) ∷ []
 unfolding pageComputes

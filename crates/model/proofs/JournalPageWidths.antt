@@ -1,4 +1,5 @@
--- Every number on a page fits its columns, if the disk is one of bytes: so each is read back from its line.
+-- Every number of a transaction fits the columns of its line, if the disk is one of bytes; those of the head by `shape-limits`. What fits
+-- is read back: `set-right-value` of `Numerals`.
 use Rattle.model.specs.Limits.{maxNumber}
 use Rattle.model.specs.Lists.{Each}
 use Rattle.model.specs.Bytes.{number, part, be4, blockAt}
@@ -17,14 +18,14 @@ use Rattle.model.proofs.Records.{journals-known}
 use Rattle.model.proofs.OneStore.{master-limits}
 use Rattle.model.proofs.JournalPage.{refusal-numbers}
 
-word-low : (xs : Bytes) → Each IsByte xs → length xs ≤ 4 → number 0 xs < 4294967296
+four-low : (xs : Bytes) → Each IsByte xs → length xs ≤ 4 → number 0 xs < 4294967296
 unfolding number
-word-low [] a h = omega arith
-word-low (x ∷ []) a h = omega (arith, a .0)
-word-low (x ∷ y ∷ []) a h = omega (arith, a .0, a .1 .0)
-word-low (x ∷ y ∷ z ∷ []) a h = omega (arith, a .0, a .1 .0, a .1 .1 .0)
-word-low (x ∷ y ∷ z ∷ u ∷ []) a h = omega (arith, a .0, a .1 .0, a .1 .1 .0, a .1 .1 .1 .0)
-word-low (x ∷ y ∷ z ∷ u ∷ v ∷ xs) a h = absurd (omega arith)
+four-low [] a h = omega arith
+four-low (x ∷ []) a h = omega (arith, a .0)
+four-low (x ∷ y ∷ []) a h = omega (arith, a .0, a .1 .0)
+four-low (x ∷ y ∷ z ∷ []) a h = omega (arith, a .0, a .1 .0, a .1 .1 .0)
+four-low (x ∷ y ∷ z ∷ u ∷ []) a h = omega (arith, a .0, a .1 .0, a .1 .1 .0, a .1 .1 .1 .0)
+four-low (x ∷ y ∷ z ∷ u ∷ v ∷ xs) a h = absurd (omega arith)
 
 each-drop : {A : Type 0} (P : A → Type 0) (n : ℕ) (xs : List A) → Each P xs → Each P (drop n xs)
 each-drop P zero xs a = a
@@ -37,7 +38,7 @@ each-part at n d a = each-take IsByte n (drop at d) (each-drop IsByte at d a)
 
 be4-low : (b : Bytes) (at : ℕ) → Each IsByte b → be4 b at < 4294967296
 unfolding be4 part
-be4-low b at a = word-low (part at 4 b) (each-part at 4 b a) (omega (arith, length-take 4 (drop at b)))
+be4-low b at a = four-low (part at 4 b) (each-part at 4 b a) (omega (arith, length-take 4 (drop at b)))
 
 stamp-low : (b : Bytes) → Each IsByte b → stampIn b < 10 ^ 20
 unfolding stampIn

@@ -84,7 +84,7 @@ unfolding recoverStep
 recoverStep-memory [] w = refl
 recoverStep-memory (b ∷ bs) w = refl
 
-length-zeroMemory : length zeroMemory ≡ 16384
+pub length-zeroMemory : length zeroMemory ≡ 16384
 unfolding zeroMemory
 length-zeroMemory = length-replicate {A = ℕ} 16384 0
 

@@ -9,7 +9,7 @@ use Rattle.model.specs.Bytes.{Bytes, zeroMemory}
 use Rattle.model.specs.Card.{downCard}
 use Rattle.model.specs.Journal.{nameOf}
 use Rattle.model.specs.Valid.{isIn}
-use Rattle.model.specs.Command.{World, refusal}
+use Rattle.model.specs.Command.{refusal}
 use Rattle.model.specs.Recovery.{shapeOn, committedOn, validOn, recoverConditions}
 use Rattle.model.specs.declared.Shape.{Shape}
 use Rattle.model.specs.declared.Committed.{Committed}
@@ -40,6 +40,7 @@ digitAt n place = let q = n / 10 ^ place in cond (eqb q 0 && not (eqb place 0)) 
 unfoldable pub numeral : ℕ → ℕ → ℕ → Field
 numeral first width n = record { first = first; text = map (λ (i : ℕ). digitAt n (width - (i + 1))) (below width) }
 
+-- 'the word': its letters from a column on
 abbrev pub word : ℕ → Bytes → Field
 word first letters = record { first = first; text = letters }
 
@@ -56,6 +57,7 @@ shownAt (f ∷ fs) k = cond (covers f k) (getD (f .text) (k - f .first) space) (
 unfoldable pub byteAt : List Field → ℕ → ℕ
 byteAt fs k = cond (leb k lastColumn) (shownAt fs k) lineFeed
 
+-- 'its bytes at each column', 1 to 65
 unfoldable pub lineBytes : List Field → Bytes
 lineBytes fs = map (λ (i : ℕ). byteAt fs (i + 1)) (below lineSize)
 
@@ -84,6 +86,7 @@ refusalFields n = numeral 1 2 n ∷ []
 unfoldable pub pageRefusal : Bytes → ℕ
 pageRefusal d = refusal (recoverConditions (record { card = downCard; disk = d; memory = zeroMemory }))
 
+-- a transaction of the disk: kept where its name is one of the valid set's
 unfoldable pub transactionLine : Bytes → Committed → List Field
 transactionLine d e = transactionFields (isIn (validOn d) (nameOf e)) e
 
@@ -97,9 +100,10 @@ pageOf d =
 unfoldable pub lineAt : Bytes → ℕ → List Field
 lineAt d i = getD (pageOf d) i []
 
--- ---- 'The library lays the line into a lent buffer of 65 bytes, another length giving 1': the answer, and the buffer afterwards
+-- ---- 'The library lays the line into a lent buffer of 65 bytes, another length giving 1': the number answered
 unfoldable pub layNumber : Bytes → ℕ
-layNumber out = cond (eqb (length out) lineSize) 0 1
+layNumber buffer = cond (eqb (length buffer) lineSize) 0 1
 
+-- the buffer afterwards: the line, or as it was
 unfoldable pub laid : List Field → Bytes → Bytes
-laid fs out = cond (eqb (length out) lineSize) (lineBytes fs) out
+laid fs buffer = cond (eqb (length buffer) lineSize) (lineBytes fs) buffer

@@ -4,6 +4,7 @@
 ghost use Prim.Native.Nat.{_*_, _≤_};
 ghost use lib.ListN.{length};
 ghost use Rattle.model.specs.JournalPage.{lineSize};
+use journal_page::LINE_SIZE;
 use model::Shape;
 
 // How many bytes were read, and whether a read failed.
@@ -45,7 +46,7 @@ fn print_page(disk: &[u8], text: &mut [u8]) -> bool
 fn main() {
     let mut bytes = [0u8; Shape::DISK_SIZE + 1];
     // room for the longest page
-    let mut text = [0u8; 97 * 65];
+    let mut text = [0u8; 97 * LINE_SIZE];
     let got = read_on(&mut bytes);
     if got.failed {
         io::write_all(2, b"page: standard input cannot be read\n");

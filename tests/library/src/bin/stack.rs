@@ -118,6 +118,7 @@ impl Watcher for Gauge {
 fn recovered(name: &str, disk: &[u8]) -> Gauge {
     let mut gauge = Gauge::default();
     gauge.start(true, disk, &[0; MEMORY]);
+    gauge.lay_page();
     for _ in 0..70 {
         gauge.run_all(&[Command::Recover]);
     }

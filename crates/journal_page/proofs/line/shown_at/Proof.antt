@@ -2,8 +2,7 @@
 use Prim.Native.Nat.{_-_}
 use borrow.Author.Needs.{needs}
 use Rattle.layout.proofs.Loops.{Missed, missed}
-use Rattle.journal_page.specs.Fields.{coversAt}
-use Rattle.journal_page.proofs.LineLaws.{is-covered, shown-hit, shown-more, shown-end}
+use Rattle.journal_page.proofs.LineLaws.{coversAt, is-covered, shown-hit, shown-more, shown-end}
 use Rattle.journal_page.proofs.line.shown_at.Statement.{statement}
 use Rattle.journal_page.proofs.line.shown_at.Tie as tie
 
