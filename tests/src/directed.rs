@@ -1,5 +1,5 @@
 // directed.rs: disks and tapes made for the worst cases: full journals, names in a chain that strike one a round, and
-// transactions with the most of all.
+// transactions with the highest number, stamp and counts.
 
 use crate::command::Command;
 use crate::layout::{
@@ -56,9 +56,9 @@ pub fn chain_disk(blocks: usize, is_met: bool) -> Vec<u8> {
     disk
 }
 
-/// A disk of the largest shape where each core's one transaction has the most of all: number, stamp, blocks, names. Its list
-/// names nothing but itself. What follows it in the journal has a number too high to be read.
-pub fn brimful_disk() -> Vec<u8> {
+/// A disk of the largest shape where each core's one transaction has the highest number and stamp, and the most blocks and
+/// names. Its list names nothing but itself. What follows it in the journal has a number too high to be read.
+pub fn highest_disk() -> Vec<u8> {
     let position = 20;
     let mut disk = disk_with(LARGEST, &[Tail { number: LAST_NUMBER, position }; CORES]);
     for core in 0..LARGEST.cores {

@@ -10,7 +10,7 @@ pub const P1_UNCUT: &str =
     "01 02 04 0C | 02 00 0003 00 41424344 | 02 01 0003 04 45464748 | 03 00 | 04 00 | 04 00 | 04 00 \
     | 05 00 | 03 01 | 04 01 | 04 01";
 
-/// The disk after a tape on a blank card, over slices of any content.
+/// The disk after a tape on a blank card, over slices filled with EE.
 pub fn disk_after(tape: &[u8]) -> Vec<u8> {
     let (mut disk, mut memory, mut card) = (vec![0xEE; DISK], vec![0xEE; MEMORY], Card::blank());
     let mut offset = 0;

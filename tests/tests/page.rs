@@ -2,7 +2,7 @@
 
 use card_tests::card::Card;
 use card_tests::command::from_hex;
-use card_tests::directed::{brimful_disk, chain_disk, disk_with, put_record, LARGEST};
+use card_tests::directed::{chain_disk, disk_with, highest_disk, put_record, LARGEST};
 use card_tests::disks::{disk_after, each_disk, P1_UNCUT};
 use card_tests::foreign::SPOILS;
 use card_tests::layout::{put_word, Name, Shape, Tail, DISK, LAST_NUMBER, LAST_TAIL, MEMORY};
@@ -85,7 +85,7 @@ fn a_record_without_blocks_has_a_line() {
 fn a_line_has_room_for_every_digit() {
     let full = (0..8).map(|core| format!(".{core}.4000000000.18446744073709551615..8.12.kept"));
     let texts: Vec<String> = std::iter::once(".8.64.24".into()).chain(full).collect();
-    shows(&brimful_disk(), &texts.iter().map(String::as_str).collect::<Vec<_>>());
+    shows(&highest_disk(), &texts.iter().map(String::as_str).collect::<Vec<_>>());
 }
 
 #[test]
@@ -184,7 +184,7 @@ fn every_page_is_as_the_ledger_tells_it() {
         assert_eq!(page(&disk[..short]), told_page(&disk[..short]));
     });
     assert!(lines > 50_000, "{lines} lines");
-    for disk in [brimful_disk(), chain_disk(0, true), chain_disk(1, false), disk_with(LARGEST, &[])] {
+    for disk in [highest_disk(), chain_disk(0, true), chain_disk(1, false), disk_with(LARGEST, &[])] {
         assert_eq!(page(&disk), told_page(&disk));
     }
 }

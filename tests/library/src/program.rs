@@ -1,5 +1,6 @@
-// program.rs: the programs, and the scripts over them, run on an input.
+// program.rs: the programs, and the scripts over them, run on an input; and what the tests of the scripts share.
 
+use std::fs::{remove_file, File};
 use std::io::Write;
 use std::process::{Child, Command, Output, Stdio};
 
@@ -13,11 +14,6 @@ pub fn program(name: &str) -> Command {
 /// The program, begun; standard input, output and error are those of the child.
 pub fn begin(name: &str) -> Child {
     begun(&mut program(name))
-}
-
-/// The script over the program, with its arguments.
-pub fn script(name: &str, arguments: &[&str]) -> Child {
-    begun(Command::new(format!("{ROOT}/bin/{name}")).args(arguments))
 }
 
 fn begun(command: &mut Command) -> Child {
@@ -39,4 +35,53 @@ pub fn printed(child: Child, bytes: &[u8]) -> String {
     let out = ended(child, bytes);
     assert!(out.status.success() && out.stderr.is_empty(), "{out:?}");
     String::from_utf8(out.stdout).expect("text")
+}
+
+/// The script over a program, by its name, and a folder for the files of its tests.
+pub struct Script {
+    pub name: &'static str,
+    pub folder: &'static str,
+}
+
+impl Script {
+    fn path(&self) -> String {
+        format!("{ROOT}/bin/{}", self.name)
+    }
+
+    /// The script, begun, with its arguments.
+    pub fn begin(&self, arguments: &[&str]) -> Child {
+        begun(Command::new(self.path()).args(arguments))
+    }
+
+    /// What comes of a line of bash, where `$1` is the script, `$2` a file and `$3` a directory.
+    pub fn shell(&self, line: &str, file: &str) -> Output {
+        let words = ["-c", line, "shell", &self.path(), file, ROOT];
+        Command::new("bash").args(words).stdin(Stdio::null()).output().expect("bash")
+    }
+
+    /// A file for one test.
+    pub fn file(&self, name: &str, bytes: &[u8]) -> String {
+        let path = format!("{}/{name}", self.folder);
+        std::fs::write(&path, bytes).expect("it is written");
+        path
+    }
+
+    /// Shows a file for one test that cannot be read.
+    pub fn closed_file(&self, name: &str, bytes: &[u8], show: impl FnOnce(&str)) {
+        let closed = self.file(name, bytes);
+        Command::new("chmod").args(["000", &closed]).status().expect("chmod");
+        // root reads it all the same
+        if File::open(&closed).is_err() {
+            show(&closed);
+        }
+        remove_file(&closed).expect("it is removed");
+    }
+
+    /// Nothing is printed, the status is 1, and one line of the script says why, in these words.
+    pub fn refused(&self, out: Output, words: &str) {
+        let said = String::from_utf8(out.stderr).expect("text");
+        assert!(out.stdout.is_empty() && out.status.code() == Some(1), "{said}");
+        let is_its_own = said.starts_with(&format!("{}: ", self.name));
+        assert!(is_its_own && said.contains(words) && said.lines().count() == 1, "{said}");
+    }
 }

@@ -3,7 +3,7 @@
 
 use card_library::page::{lay_line, line_count};
 use card_tests::command::from_hex;
-use card_tests::directed::{brimful_disk, chain_disk};
+use card_tests::directed::{chain_disk, highest_disk};
 use card_tests::disks::{disk_after, each_disk, P1_UNCUT};
 use card_tests::foreign::{self, SPOILS};
 use card_tests::layout::{put_word, read_master, BLOCK, DISK, HOMES};
@@ -110,7 +110,7 @@ fn the_page_is_the_models() {
 
 #[test]
 fn full_journals_are_shown() {
-    assert_eq!(compared(&brimful_disk()).len(), 9);
+    assert_eq!(compared(&highest_disk()).len(), 9);
     for (blocks, is_met, lines) in [(0, false, 97), (0, true, 97), (1, false, 65), (1, true, 65), (8, true, 17)] {
         assert_eq!(compared(&chain_disk(blocks, is_met)).len(), lines);
     }
@@ -120,7 +120,7 @@ fn full_journals_are_shown() {
 #[test]
 fn a_flipped_bit_is_read_as_the_model_reads_it() {
     let first = 1 + HOMES;
-    let disks = [(p1_disk(), [0, 5, 7, 17, 18]), (brimful_disk(), [0, first + 20, first + 5, first + 44, first + 29])];
+    let disks = [(p1_disk(), [0, 5, 7, 17, 18]), (highest_disk(), [0, first + 20, first + 5, first + 44, first + 29])];
     for (mut disk, blocks) in disks {
         for at in blocks.into_iter().flat_map(|block| block * BLOCK..(block + 1) * BLOCK) {
             for bit in 0..8 {
@@ -140,7 +140,7 @@ fn a_flipped_bit_is_read_as_the_model_reads_it() {
 /// The slice begins with a disk that has a page, or that is refused for its master too.
 #[test]
 fn a_disk_of_another_length_is_refused() {
-    for disk in [p1_disk(), brimful_disk(), vec![0; DISK]] {
+    for disk in [p1_disk(), highest_disk(), vec![0; DISK]] {
         let twice = [&disk[..], &disk].concat();
         let near = (DISK - 16..=DISK + 16).filter(|length| *length != DISK);
         for length in near.chain([0, 1, BLOCK, 2 * DISK]) {
@@ -153,7 +153,7 @@ fn a_disk_of_another_length_is_refused() {
 #[test]
 fn only_a_buffer_of_65_bytes_is_touched() {
     let around: [u8; 200] = std::array::from_fn(|at| 128 | at as u8);
-    let disks = [p1_disk(), brimful_disk(), vec![0; DISK], vec![0; DISK + 1], Vec::new()];
+    let disks = [p1_disk(), highest_disk(), vec![0; DISK], vec![0; DISK + 1], Vec::new()];
     for (disk, length) in disks.iter().flat_map(|disk| (0..=130).map(move |length| (disk, length))) {
         let (right, before) = (page(disk), disk.clone());
         for i in (0..right.len() + 2).chain([1 << 8, 1 << 16, 1 << 32, usize::MAX]) {

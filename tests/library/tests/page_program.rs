@@ -3,10 +3,10 @@
 
 use card_library::program::{begin, ended, printed, program, ROOT};
 use card_tests::command::from_hex;
-use card_tests::directed::{brimful_disk, chain_disk};
+use card_tests::directed::{chain_disk, highest_disk};
 use card_tests::disks::{disk_after, each_disk, P1_UNCUT};
 use card_tests::foreign;
-use card_tests::layout::DISK;
+use card_tests::layout::{BLOCK, DISK};
 use card_tests::page::print_page;
 use card_tests::random::Random;
 use std::fs::File;
@@ -17,7 +17,8 @@ use std::time::Duration;
 
 /// The made ones, then some that generated tapes leave, and as many foreign ones.
 fn disks() -> Vec<Vec<u8>> {
-    let mut disks = vec![disk_after(&from_hex(P1_UNCUT)), brimful_disk(), chain_disk(0, true), chain_disk(1, false)];
+    let p1 = disk_after(&from_hex(P1_UNCUT));
+    let mut disks = vec![p1, highest_disk(), chain_disk(0, true), chain_disk(1, false), vec![0; DISK]];
     let (mut random, mut seen) = (Random::new(61), 0);
     each_disk(30_000, 61, |disk| {
         seen += 1;
@@ -56,13 +57,19 @@ fn the_page_printed_is_the_models() {
     assert!(counts[0] >= 60 && counts[1..].iter().all(|count| *count >= 5), "{counts:?}");
 }
 
+#[test]
+fn a_disk_of_zero_bytes_is_refused_for_its_master() {
+    assert_eq!(printed(begin("page"), &[0; DISK]), format!("{:64}\n", " 8"));
+}
+
 /// The input begins with a disk that has a page, or that is refused for its master too.
 #[test]
 fn an_input_of_another_length_is_refused() {
     let refusal = format!("{:64}\n", " 1");
-    for disk in [brimful_disk(), vec![0; DISK]] {
+    for disk in [highest_disk(), vec![0; DISK]] {
         let long = disk.repeat(32);
-        for length in [0, 1, 128, DISK - 1, DISK + 1, DISK + 2, 2 * DISK, 1_000_000] {
+        let near = (DISK - 16..=DISK + 16).filter(|length| *length != DISK);
+        for length in near.chain([0, 1, BLOCK, 2 * DISK, 1_000_000]) {
             assert_eq!(printed(begin("page"), &long[..length]), refusal, "{length} bytes");
         }
     }
@@ -98,11 +105,12 @@ fn it_ends_while_a_longer_input_is_still_open() {
 /// The program has no status; it says that it failed.
 #[test]
 fn a_failed_write_or_read_is_said() {
-    let is_said = |words: Vec<u8>| words.iter().filter(|byte| **byte == b'\n').count() == 1;
     let full = File::options().write(true).open("/dev/full").expect("a full device");
     let full = program("page").stdin(Stdio::piped()).stdout(full).stderr(Stdio::piped()).spawn();
-    assert!(is_said(ended(full.expect("the program is built"), &brimful_disk()).stderr));
+    let said = ended(full.expect("the program is built"), &highest_disk()).stderr;
+    assert_eq!(said, b"page: standard output cannot be written\n");
     let folder = File::open(ROOT).expect("a folder");
     let out = program("page").stdin(folder).output().expect("it ends");
-    assert!(out.stdout.is_empty() && is_said(out.stderr));
+    assert!(out.stdout.is_empty());
+    assert_eq!(out.stderr, b"page: standard input cannot be read\n");
 }

@@ -1,66 +1,61 @@
 // page_script.rs: bin/page reads a file or standard input, and answers a wrong file or a closed output with one line and a status.
 
-use card_library::program::{ended, printed, script, ROOT};
+use card_library::program::{ended, printed, Script, ROOT};
 use card_tests::command::from_hex;
 use card_tests::disks::{disk_after, P1_UNCUT};
+use card_tests::layout::DISK;
 use card_tests::page::print_page;
-use std::fs::File;
-use std::path::PathBuf;
-use std::process::{Command, Output, Stdio};
 
-/// A file for one test.
-fn file(name: &str, bytes: &[u8]) -> String {
-    let path = PathBuf::from(env!("CARGO_TARGET_TMPDIR")).join(name);
-    std::fs::write(&path, bytes).expect("it is written");
-    path.to_str().expect("text").into()
-}
+const SCRIPT: Script = Script { name: "page", folder: env!("CARGO_TARGET_TMPDIR") };
 
-fn disk() -> Vec<u8> {
+/// With the fill cut off.
+const P1_PAGE: [&str; 3] =
+    [" 2  4 12", " 0          1                    1  1  1 kept", " 1          1                    2  0  1 kept"];
+
+fn p1_disk() -> Vec<u8> {
     disk_after(&from_hex(P1_UNCUT))
 }
 
-/// Nothing is printed, and one line says why.
-fn refused(out: Output) {
-    let said = String::from_utf8(out.stderr).expect("text");
-    assert!(out.stdout.is_empty() && out.status.code() == Some(1) && said.lines().count() == 1, "{said}");
-}
-
+/// Beside a file, standard input is not read.
 #[test]
 fn a_file_and_standard_input_have_the_same_page() {
-    let disk = disk();
-    assert_eq!(printed(script("page", &[&file("a disk", &disk)]), &[]), print_page(&disk));
-    assert_eq!(printed(script("page", &[&file("a disk", &disk)]), &[0; 100]), print_page(&disk));
-    assert_eq!(printed(script("page", &[]), &disk), print_page(&disk));
-    assert_eq!(printed(script("page", &[&file("no disk", &[])]), &disk), print_page(&[]));
-    assert_eq!(printed(script("page", &[]), &[]), print_page(&[]));
-    assert_eq!(printed(script("page", &[&file("two disks", &disk.repeat(2))]), &[]), print_page(&disk.repeat(2)));
+    let disk = p1_disk();
+    let two = disk.repeat(2);
+    let cases: [(&str, &[u8], &[&str]); 4] = [
+        ("a disk", &disk, &P1_PAGE),
+        ("two disks", &two, &[" 1"]),
+        ("no disk", &[], &[" 1"]),
+        ("zero bytes", &[0; DISK], &[" 8"]),
+    ];
+    for (name, bytes, lines) in cases {
+        let text: String = lines.iter().map(|line| format!("{line:64}\n")).collect();
+        assert_eq!(print_page(bytes), text, "{name}");
+        assert_eq!(printed(SCRIPT.begin(&[]), bytes), text, "{name}");
+        let path = SCRIPT.file(name, bytes);
+        for beside in [&[][..], &[0; 100], &disk] {
+            assert_eq!(printed(SCRIPT.begin(&[&path]), beside), text, "{name}");
+        }
+    }
 }
 
 #[test]
 fn a_wrong_file_is_refused() {
-    refused(ended(script("page", &["no/such disk"]), &disk()));
-    refused(ended(script("page", &[""]), &disk()));
-    refused(ended(script("page", &[ROOT]), &disk()));
-    let there = file("one of two", &disk());
-    refused(ended(script("page", &[&there, &there]), &disk()));
-    let closed = file("closed disk", &disk());
-    Command::new("chmod").args(["000", &closed]).status().expect("chmod");
-    // root reads it all the same
-    if File::open(&closed).is_err() {
-        refused(ended(script("page", &[&closed]), &disk()));
-    }
-    std::fs::remove_file(&closed).expect("it is removed");
+    let disk = p1_disk();
+    let of = |arguments: &[&str]| ended(SCRIPT.begin(arguments), &disk);
+    SCRIPT.refused(of(&["no/such disk"]), "no such file");
+    SCRIPT.refused(of(&[""]), "no such file");
+    SCRIPT.refused(of(&[ROOT]), "a directory");
+    let there = SCRIPT.file("one of two", &disk);
+    SCRIPT.refused(of(&[&there, &there]), "one file");
+    SCRIPT.closed_file("closed disk", &disk, |closed| SCRIPT.refused(of(&[closed]), "cannot be read"));
 }
 
 #[test]
 fn a_closed_output_or_input_ends_with_a_status() {
-    let path = file("some disk", &disk());
-    let shell = |line: &str| {
-        let words = ["-c", line, "shell", &format!("{ROOT}/bin/page"), &path, ROOT];
-        Command::new("bash").args(words).stdin(Stdio::null()).output().expect("bash")
-    };
-    refused(shell("\"$1\" \"$2\" >/dev/full"));
-    refused(shell("\"$1\" \"$2\" >&-"));
-    refused(shell("\"$1\" <&-"));
-    refused(shell("\"$1\" <\"$3\""));
+    let path = SCRIPT.file("some disk", &p1_disk());
+    let shell = |line: &str| SCRIPT.shell(line, &path);
+    SCRIPT.refused(shell("\"$1\" \"$2\" >/dev/full"), "standard output cannot be written");
+    SCRIPT.refused(shell("\"$1\" \"$2\" >&-"), "standard output is closed");
+    SCRIPT.refused(shell("\"$1\" <&-"), "standard input is closed");
+    SCRIPT.refused(shell("\"$1\" <\"$3\""), "standard input cannot be read");
 }
