@@ -32,7 +32,7 @@ pub record Field : Type 0 where
   pub first : ℕ
   pub text : Bytes
 
--- the digit of n at a place, counted from the right: none above the highest one, and nought is one 0
+-- the digit of n at a place, counted from the right; a blank above the highest one, and nought is one 0
 unfoldable pub digitAt : ℕ → ℕ → ℕ
 digitAt n place = let q = n / 10 ^ place in cond (eqb q 0 && not (eqb place 0)) space (0x30 + q % 10)
 

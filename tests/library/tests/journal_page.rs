@@ -33,23 +33,29 @@ const KINDS: [(&str, IsMet); 16] = [
     ("refused with 8", |line, lines| line == ["8"] && lines == 1),
 ];
 
-/// How often each kind was met.
+/// How often each kind was met, and how many pages and lines there were.
 #[derive(Default)]
-struct Met([usize; KINDS.len()]);
+struct Met {
+    kinds: [usize; KINDS.len()],
+    pages: usize,
+    lines: usize,
+}
 
 impl Met {
     fn count(&mut self, page: &[Line]) {
+        self.pages += 1;
+        self.lines += page.len();
         for line in page {
             let text = std::str::from_utf8(line).expect("text");
             let fields: Vec<&str> = text.split_whitespace().collect();
-            for (count, (_, is_met)) in self.0.iter_mut().zip(KINDS) {
+            for (count, (_, is_met)) in self.kinds.iter_mut().zip(KINDS) {
                 *count += is_met(&fields, page.len()) as usize;
             }
         }
     }
 
     fn require(&self, least: usize) {
-        for (count, (words, _)) in self.0.iter().zip(KINDS) {
+        for (count, (words, _)) in self.kinds.iter().zip(KINDS) {
             assert!(*count >= least, "met {count} times: {words}");
         }
     }
@@ -86,10 +92,10 @@ fn p1_disk() -> Vec<u8> {
     disk_after(&from_hex(P1_UNCUT))
 }
 
-#[test]
-fn the_page_is_the_models() {
-    let (mut random, mut met, mut altered) = (Random::new(51), Met::default(), 0);
-    each_disk(200_000, 51, |disk| {
+/// Every disk of so many generated commands, and copies of some: foreign, damaged, cut short.
+fn compare_pages(commands: u64, seed: u64) -> Met {
+    let (mut random, mut met, mut altered) = (Random::new(seed), Met::default(), 0);
+    each_disk(commands, seed, |disk| {
         let right = compared(disk);
         met.count(&right);
         if random.chance(100) {
@@ -106,6 +112,23 @@ fn the_page_is_the_models() {
     });
     met.require(100);
     assert!(altered > 1000, "damage altered {altered} pages");
+    met
+}
+
+#[test]
+fn the_page_is_the_models() {
+    compare_pages(200_000, 51);
+}
+
+#[test]
+#[ignore = "takes some minutes"]
+fn the_page_is_the_models_on_many_disks() {
+    let (mut pages, mut lines) = (0, 0);
+    for seed in 101..=120 {
+        let met = compare_pages(1_000_000, seed);
+        (pages, lines) = (pages + met.pages, lines + met.lines);
+        println!("seed {seed}: {pages} pages, {lines} lines");
+    }
 }
 
 #[test]
