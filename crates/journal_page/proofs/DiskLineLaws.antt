@@ -20,7 +20,7 @@ use Rattle.model.specs.declared.Found.{Found}
 use Rattle.model.specs.declared.Found.the-variants.{Whole, Miss}
 use Rattle.model.proofs.Lists.{cases}
 use Rattle.model.proofs.Limits.{InRange}
-use Rattle.model.proofs.JournalPage.{refusal-number, refusal-numbers, refused-page, page-lines, page-length, page-head}
+use Rattle.journal_page.proofs.PageLaws.{refusal-number, refusal-numbers, refused-page, page-lines, page-length, page-head}
 use Rattle.journal.specs.Slots.{numbersOf, slotOf, isFilled, entry, foundAt, listOf, entriesTo, entries, filledFrom}
 use Rattle.journal.proofs.Slots.{number-at}
 use Rattle.journal.proofs.Entries.{slot-core, one-no, count-none, count-more}
@@ -118,7 +118,8 @@ module _ (s : Shape) (d : Bytes) (set : List ℕ) where
       let r = later-slots ks i (95 - i) e (holds-found s d ks set i h) in
       let y : suc i + (95 - i) ≡ 96 = omega arith in
       let q : entriesTo s d ks set 96 ≡ entriesTo s d ks set i ++ (e ∷ r .0) = rw y at (r .1) in
-      rw (q, map-append) (getD-at (map f (entriesTo s d ks set i)) (f e) (map f (r .0)) z n (length-map (entriesTo s d ks set i) f ∙ entries-length s d ks set i ∙ b))
+      let l : length (map f (entriesTo s d ks set i)) ≡ n = length-map (entriesTo s d ks set i) f ∙ entries-length s d ks set i ∙ b in
+      rw (q, map-append) (getD-at (map f (entriesTo s d ks set i)) (f e) (map f (r .0)) z n l)
 
   -- the transaction in a filled slot, with another number
   module _ (i : ℕ) (h : isFilled s set i ≡ true) where
@@ -201,4 +202,7 @@ module _ (d : Bytes) (x : ℕ) (e : x ≡ pageRefusal d) (z : x ≡ 0) (s : Shap
   unfolding lineAt
   transaction-at h q =
       let y : suc (i - 1) ≡ i = omega arith in
-      q ∙ sym (ap (λ (l : List (List page.Field)). getD l i []) (page-lines d (sym e ∙ z)) ∙ ap (λ (k : ℕ). getD (headFields (shapeOn d) ∷ map (transactionLine d) (committedOn d)) k []) (sym y))
+      let lines = headFields (shapeOn d) ∷ map (transactionLine d) (committedOn d) in
+      let behind : getD (pageOf d) i [] ≡ getD lines (suc (i - 1)) [] =
+      ap (λ (l : List (List page.Field)). getD l i []) (page-lines d (sym e ∙ z)) ∙ ap (λ (k : ℕ). getD lines k []) (sym y) in
+      q ∙ sym behind

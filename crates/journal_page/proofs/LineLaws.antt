@@ -8,7 +8,7 @@ use Rattle.model.specs.JournalPage.{space, lineFeed, digitAt, numeral, covers, 
 use Rattle.model.specs.JournalPage as page
 use Rattle.model.proofs.Lists.{cases, length-below, getD-map-below, and-left, and-right}
 use Rattle.model.proofs.Words.{length-bytes}
-use Rattle.model.proofs.JournalPage.{lay-done, lay-refused}
+use Rattle.journal_page.proofs.PageLaws.{lay-done, lay-refused}
 use Rattle.layout.proofs.Loops.{Missed, missed-more, some-not, Filled, filled-all}
 use Rattle.journal_page.specs.declared.line.Field.{Field}
 use Rattle.journal_page.specs.Fields.{noField, fieldIn, fieldsIn, fieldByte}

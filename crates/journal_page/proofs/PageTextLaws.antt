@@ -6,7 +6,7 @@ use Rattle.model.proofs.Base.{take, drop, length-take, length-drop, length-appe
 use Rattle.model.specs.JournalPage.{lineBytes, pageOf, lineAt, laid}
 use Rattle.model.specs.JournalPage as page
 use Rattle.model.proofs.Lists.{flatMap-append}
-use Rattle.model.proofs.JournalPage.{line-length}
+use Rattle.journal_page.proofs.PageLaws.{line-length}
 
 -- a line laid into 65 bytes of the text
 laid-part : (fs : List page.Field) (text : Bytes) (i : ℕ) → 65 * i + 65 ≤ length text

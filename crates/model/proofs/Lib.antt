@@ -19,7 +19,3 @@ pub mod Records
 pub mod OneStore
 pub mod Sizes
 pub mod OwnBytes
-pub mod Numerals
-pub mod JournalPage
-pub mod JournalPageWidths
-pub mod JournalPageCases

@@ -19,5 +19,4 @@ pub mod Reading
 pub mod Step
 pub mod Printing
 pub mod Cases
--- paper 02, request (a)
 pub mod JournalPage

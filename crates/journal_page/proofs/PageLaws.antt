@@ -2,37 +2,37 @@
 -- lines the page of any other has, and which word each of them has.
 use mathlib.Core.Logic.{_↔_}
 use lib.ListN.{List·getD-eq-default}
 use Rattle.model.specs.Limits.{diskSize, memorySize}
 use Rattle.model.specs.Lists.{Each}
 use Rattle.model.specs.Bytes.{blockAt, zeroMemory}
 use Rattle.model.specs.Card.{isBlank, isUp, sameName, freshCard, emptyCard, downCard}
 use Rattle.model.specs.Layout.{isMaster}
 use Rattle.model.specs.Journal.{nameOf, journal, journals}
 use Rattle.model.specs.Valid.{isIn}
 use Rattle.model.specs.Checkpoint.{oldest}
 use Rattle.model.specs.Command.{World, refusal, wrongLength}
 use Rattle.model.specs.Recovery.{shapeOn, tailOn, committedOn, validOn, recoverConditions, recovered, recover}
 use Rattle.model.specs.Tape.{RECOVER}
 use Rattle.model.specs.Step.{doneBy}
 use Rattle.model.specs.JournalPage.{Field, lineSize, space, lineFeed, digitAt, numeral, covers, shownAt, byteAt, lineBytes}
 use Rattle.model.specs.JournalPage.{headFields, keptOrLeft, transactionFields, refusalFields, pageRefusal, transactionLine, pageOf, lineAt, layNumber, laid}
 use Rattle.model.specs.declared.Phase.{Phase}
 use Rattle.model.specs.declared.Phase.the-variants.{Down}
 use Rattle.model.specs.declared.Shape.{Shape}
 use Rattle.model.specs.declared.Tail.{Tail}
 use Rattle.model.specs.declared.Committed.{Committed}
 use Rattle.model.proofs.Base.{ℕ, zero, suc, _+_, _≤_, _<_, arith, add-one, _≡_, refl, sym, ap, _∙_, _≢_}
 use Rattle.model.proofs.Base.{Bool, true, false, true≢false, cond, not, List, [], _∷_, _++_, map, length, getD, replicate}
 use Rattle.model.proofs.Base.{List·Memᴰ, List·Memᴰ·head, List·Memᴰ·tail, Memᴰ·cast, append-nil, flatMap, any, _⊎_, inl, inr, subst}
 use Rattle.model.proofs.Base.{length-map, length-replicate, eqb, eq-eqb, ne-eqb, eqb-true, eqb-false, below, Bytes}
 use Rattle.model.proofs.Lists.{cases, length-below, getD-map, getD-map-below, each-append, each-getD, getD-each, mem-each, any-mem, mem-any, flatMap-append, mem-flatMap, mem-below}
-use Rattle.model.proofs.Numerals.{setRight, digit-last}
+use Rattle.journal_page.proofs.Numerals.{setRight, digit-last}
 use Rattle.model.proofs.Journal.{KnownRecord, records-known}
 use Rattle.model.proofs.Records.{journal-known, journals-distinct}
 use Rattle.model.proofs.Shrink.{Distinct}
 use Rattle.model.proofs.Valid.{sameName-true, sameName-refl, valid-within}
 use Rattle.model.proofs.Sizes.{length-zeroMemory}
 use Rattle.model.proofs.Command.{unless-answer, done-answer}
 
 -- ---- a line
 -- every line has 65 bytes

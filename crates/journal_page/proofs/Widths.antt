@@ -1,22 +1,22 @@
 -- Every number of a transaction fits the columns of its line, if the disk is one of bytes; those of the head by `shape-limits`. What fits
 -- is read back: `set-right-value` of `Numerals`.
 use Rattle.model.specs.Limits.{maxNumber}
 use Rattle.model.specs.Lists.{Each}
 use Rattle.model.specs.Bytes.{number, part, be4, blockAt}
 use Rattle.model.specs.Shape.{journalBlock}
 use Rattle.model.specs.Layout.{hasHead, isDescriptor, stampIn}
 use Rattle.model.specs.Journal.{journalAt}
 use Rattle.model.specs.Recovery.{shapeOn, tailOn, committedOn}
 use Rattle.model.specs.JournalPage.{pageRefusal}
 use Rattle.model.specs.declared.Shape.{Shape}
 use Rattle.model.specs.declared.Committed.{Committed}
 use Rattle.model.proofs.Base.{ℕ, zero, suc, _+_, _*_, _^_, _≤_, _<_, arith, _≡_, true, List, [], _∷_, List·Memᴰ, length, drop, length-take, leb-true, Bytes}
 use Rattle.model.proofs.Lists.{and-left, and-right, each-take}
 use Rattle.model.proofs.Limits.{InRange}
 use Rattle.model.proofs.Words.{IsByte}
 use Rattle.model.proofs.Records.{journals-known}
 use Rattle.model.proofs.OneStore.{master-limits}
-use Rattle.model.proofs.JournalPage.{refusal-numbers}
+use Rattle.journal_page.proofs.PageLaws.{refusal-numbers}
 
 four-low : (xs : Bytes) → Each IsByte xs → length xs ≤ 4 → number 0 xs < 4294967296
 unfolding number

@@ -1,0 +1,2 @@
+-- Pages that are computed.
+pub mod Cases
