@@ -1,5 +1,5 @@
 /* card.c: a card is formatted, written, committed, loses its power and is recovered; then the block is read where it stands.
- * Prints each command with its answer, and what came back. README.md, 'The library', says how it is built. */
+ * Prints each command with its answer, the journal page of the disk that the power left, and what came back. README.md, 'The library', says how it is built. */
 #include <assert.h>
 #include <stdio.h>
 
@@ -49,11 +49,21 @@ static void print_block(uint16_t block) {
     printf("\n");
 }
 
+static void print_page(void) {
+    uint8_t line[REV_D_LINE];
+    size_t lines = rev_d_page_lines(disk, sizeof disk);
+    for (size_t i = 0; i < lines; i++) {
+        if (rev_d_page_line(disk, sizeof disk, i, line, sizeof line) == 0) fwrite(line, 1, sizeof line, stdout);
+    }
+}
+
 int main(void) {
     rev_d_blank(cells);
     run(0, 31);
     print_block(3);
-    run(31, sizeof tape);
+    run(31, 40);
+    print_page();
+    run(40, sizeof tape);
     print_block(3);
     print_block(2);
     print_block(4);
