@@ -1,7 +1,7 @@
 -- Any line: digits and letters by their places, the columns of a field, the first field that has a column.
 use native.Mathlib.Nat.{pow-zero, pow-suc, pow-succ', div-one, div-div-eq-div-mul}
 use Rattle.model.proofs.Base.{ℕ, zero, suc, _+_, _-_, _/_, _%_, _^_, _≤_, _<_, arith, decLt, add-one, _≡_, refl, sym, ap, _∙_, Bool, true, false}
-use Rattle.model.proofs.Base.{cond, _&&_, List, [], _∷_, _++_, length, getD, getD-at, length-map, List·getD-append, eqb, ltb, leb}
+use Rattle.model.proofs.Base.{cond, _&&_, List, [], _∷_, length, getD, getD-at, length-map, List·getD-append, eqb, ltb, leb}
 use Rattle.model.proofs.Base.{eq-eqb, ne-eqb, eqb-true, lt-ltb, le-ltb, ltb-true, le-leb, lt-leb, leb-true, below, select, Bytes}
 use Rattle.model.specs.Bytes.{bytes}
 use Rattle.model.specs.JournalPage.{space, lineFeed, digitAt, numeral, covers, shownAt, byteAt, lineBytes, layNumber, laid}

@@ -24,7 +24,7 @@ use Rattle.model.specs.declared.Committed.{Committed}
 use Rattle.model.proofs.Base.{ℕ, zero, suc, _+_, _≤_, _<_, arith, add-one, _≡_, refl, sym, ap, _∙_, _≢_}
 use Rattle.model.proofs.Base.{Bool, true, false, true≢false, cond, not, List, [], _∷_, _++_, map, length, getD, replicate}
 use Rattle.model.proofs.Base.{List·Memᴰ, List·Memᴰ·head, List·Memᴰ·tail, Memᴰ·cast, append-nil, flatMap, any, _⊎_, inl, inr, subst}
-use Rattle.model.proofs.Base.{length-map, length-replicate, eqb, eq-eqb, ne-eqb, eqb-true, eqb-false, below, Bytes}
+use Rattle.model.proofs.Base.{length-map, eqb, eq-eqb, ne-eqb, eqb-true, eqb-false, below, Bytes}
 use Rattle.model.proofs.Lists.{cases, length-below, getD-map, getD-map-below, each-append, each-getD, getD-each, mem-each, any-mem, mem-any, flatMap-append, mem-flatMap, mem-below}
 use Rattle.journal_page.proofs.Numerals.{setRight, digit-last}
 use Rattle.model.proofs.Journal.{KnownRecord, records-known}
