@@ -2,12 +2,13 @@
 use native.Mathlib.Nat.{pow-zero, pow-suc, pow-succ', div-one, div-div-eq-div-mul}
 use Rattle.model.proofs.Base.{ℕ, zero, suc, _+_, _-_, _/_, _%_, _^_, _≤_, _<_, arith, decLt, add-one, _≡_, refl, sym, ap, _∙_, Bool, true, false}
 use Rattle.model.proofs.Base.{cond, _&&_, List, [], _∷_, length, getD, getD-at, length-map, List·getD-append, eqb, ltb, leb}
-use Rattle.model.proofs.Base.{eq-eqb, ne-eqb, eqb-true, lt-ltb, le-ltb, ltb-true, le-leb, lt-leb, leb-true, below, select, Bytes}
+use Rattle.model.proofs.Base.{eqb-true, lt-ltb, le-ltb, ltb-true, le-leb, lt-leb, leb-true, below, select, Bytes}
 use Rattle.model.specs.Bytes.{bytes}
 use Rattle.model.specs.JournalPage.{space, lineFeed, digitAt, numeral, covers, shownAt, byteAt, lineBytes, layNumber, laid}
 use Rattle.model.specs.JournalPage as page
 use Rattle.model.proofs.Lists.{cases, length-below, getD-map-below, and-left, and-right}
 use Rattle.model.proofs.Words.{length-bytes}
+use Rattle.journal_page.proofs.Numerals.{digit-blank, digit-left, digit-last}
 use Rattle.journal_page.proofs.PageLaws.{lay-done, lay-refused}
 use Rattle.layout.proofs.Loops.{Missed, missed-more, some-not, Filled, filled-all}
 use Rattle.journal_page.specs.declared.line.Field.{Field}
@@ -25,20 +26,16 @@ pub shift-all : (n b i k m : ℕ) → m ≡ n / b ^ i → i ≤ k → k ≤ i �
 shift-all n b i k m e p q = let z : i ≡ k = omega arith in e ∙ ap (λ (x : ℕ). n / b ^ x) z
 
 module _ (n place left : ℕ) (e : left ≡ n / 10 ^ place) where
-  pub digit-last : (r : ℕ) → r ≡ 0x30 + left % 10 → place ≡ 0 → r ≡ digitAt n place
-  unfolding digitAt
-  digit-last r q h =
-      cases (eqb (n / 10 ^ place) 0)
-      (λ t. rw (t, eq-eqb place 0 h) (q ∙ ap (λ (x : ℕ). 0x30 + x % 10) e))
-      (λ t. rw t (q ∙ ap (λ (x : ℕ). 0x30 + x % 10) e))
+  pub last-place : (r : ℕ) → r ≡ 0x30 + left % 10 → place ≡ 0 → r ≡ digitAt n place
+  last-place r q h =
+      let whole : left ≡ n = e ∙ ap (λ (k : ℕ). n / 10 ^ k) h ∙ sym (shift-none n 10) in
+      q ∙ ap (λ (x : ℕ). 0x30 + x % 10) whole ∙ sym (digit-last n) ∙ ap (digitAt n) (sym h)
 
-  pub digit-none : (place ≡ 0 → ⊥) → left ≡ 0 → space ≡ digitAt n place
-  unfolding digitAt
-  digit-none h z = rw (eq-eqb (n / 10 ^ place) 0 (sym e ∙ z), ne-eqb place 0 h)
+  pub none-left : (place ≡ 0 → ⊥) → left ≡ 0 → space ≡ digitAt n place
+  none-left h z = sym (digit-blank n place h (sym e ∙ z))
 
-  pub digit-some : (r : ℕ) → r ≡ 0x30 + left % 10 → (left ≡ 0 → ⊥) → r ≡ digitAt n place
-  unfolding digitAt
-  digit-some r q h = rw (ne-eqb (n / 10 ^ place) 0 (λ z. h (e ∙ z))) (q ∙ ap (λ (x : ℕ). 0x30 + x % 10) e)
+  pub some-left : (r : ℕ) → r ≡ 0x30 + left % 10 → (left ≡ 0 → ⊥) → r ≡ digitAt n place
+  some-left r q h = q ∙ ap (λ (x : ℕ). 0x30 + x % 10) e ∙ sym (digit-left n place (λ z. h (e ∙ z)))
 
 -- ---- a word: its letters are the bytes of a number
 letter : (w n i d : ℕ) → i < w → getD (bytes w n) i d ≡ n / 256 ^ (w - (i + 1)) % 256

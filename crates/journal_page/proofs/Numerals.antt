@@ -2,12 +2,21 @@
 use native.Mathlib.Nat.{div-one, div-eq-of-lt, div-add-mod', div-div-eq-div-mul, le-div-iff-mul-le, one-le-pow, pow-suc}
 use mathlib.Core.Bool.{and-false}
 use Rattle.model.specs.JournalPage.{space, digitAt, numeral}
-use Rattle.model.proofs.Base.{ℕ, zero, suc, _+_, _-_, _*_, _/_, _%_, _^_, _≤_, _<_, arith, decLt, _≡_, refl, sym, ap, ap₂, _∙_}
+use Rattle.model.proofs.Base.{ℕ, zero, suc, _+_, _-_, _*_, _/_, _%_, _^_, _≤_, _<_, arith, decLt, _≡_, refl, sym, ap, ap₂, _∙_, _≢_}
 use Rattle.model.proofs.Base.{cond, List, [], _∷_, _++_, map, map-append, eqb, ne-eqb, below, Bytes}
 use Rattle.model.proofs.Lists.{map-below}
 
 power-positive : (k : ℕ) → 0 < 10 ^ k
 power-positive k = omega (arith, one-le-pow k 10 (omega arith))
+
+-- a digit by what is left of the number at its place: a blank where nothing is, unless the place is the last one
+pub digit-blank : (n place : ℕ) → place ≢ 0 → n / 10 ^ place ≡ 0 → digitAt n place ≡ space
+unfolding digitAt
+digit-blank n place p h = rw (h, ne-eqb place 0 p) refl
+
+pub digit-left : (n place : ℕ) → n / 10 ^ place ≢ 0 → digitAt n place ≡ 0x30 + n / 10 ^ place % 10
+unfolding digitAt
+digit-left n place h = rw (ne-eqb (n / 10 ^ place) 0 h) refl
 
 -- the last digit of a number always stands; each one above it where the number reaches so far, else a blank
 pub digit-last : (n : ℕ) → digitAt n 0 ≡ 0x30 + n % 10
@@ -15,14 +24,12 @@ unfolding digitAt
 digit-last n = rw (div-one n, and-false (eqb n 0)) refl
 
 pub digit-shown : (n place : ℕ) → 10 ^ place ≤ n → digitAt n place ≡ 0x30 + n / 10 ^ place % 10
-unfolding digitAt
 digit-shown n place h =
     let q : 1 ≤ n / 10 ^ place = le-div-iff-mul-le {x = 1} (power-positive place) .1 (omega arith) in
-    rw (ne-eqb (n / 10 ^ place) 0 (λ e. omega arith)) refl
+    digit-left n place (λ e. omega arith)
 
 pub digit-none : (n place : ℕ) → 0 < place → n < 10 ^ place → digitAt n place ≡ space
-unfolding digitAt
-digit-none n place p h = rw (div-eq-of-lt h, ne-eqb place 0 (λ e. omega arith)) refl
+digit-none n place p h = digit-blank n place (λ e. omega arith) (div-eq-of-lt h)
 
 -- a number set right in so many columns
 abbrev pub setRight : ℕ → ℕ → Bytes

@@ -2,19 +2,18 @@
 use lib.Seq.{take-at}
 use borrow.Author.Needs.{needs}
 use Rattle.model.proofs.Base.{ℕ, _+_, _-_, _*_, _≤_, _<_, arith, add-one, _≡_, refl, sym, ap, ap₂, _∙_, List, [], _∷_, _++_, append-assoc, append-nil, length, getD}
-use Rattle.model.proofs.Base.{take, drop, length-take, length-drop, length-append, take-all, take-suc, eq-eqb, flatMap, Bytes}
+use Rattle.model.proofs.Base.{take, drop, length-take, length-drop, length-append, take-all, take-suc, flatMap, Bytes}
 use Rattle.model.specs.JournalPage.{lineBytes, pageOf, lineAt, laid}
 use Rattle.model.specs.JournalPage as page
 use Rattle.model.proofs.Lists.{flatMap-append}
-use Rattle.journal_page.proofs.PageLaws.{line-length}
+use Rattle.journal_page.proofs.PageLaws.{line-length, lay-done}
 
 -- a line laid into 65 bytes of the text
 laid-part : (fs : List page.Field) (text : Bytes) (i : ℕ) → 65 * i + 65 ≤ length text
     → laid fs (take (65 * i + 65 - 65 * i) (drop (65 * i) text)) ≡ lineBytes fs
-unfolding laid
 laid-part fs text i h =
     let l : length (take (65 * i + 65 - 65 * i) (drop (65 * i) text)) ≡ 65 = simp (length-take, length-drop) (omega arith) in
-    rw (eq-eqb _ 65 l)
+    lay-done fs _ l .1
 
 lines-more : (p : List (List page.Field)) (i : ℕ) → i < length p
     → flatMap lineBytes (take (i + 1) p) ≡ flatMap lineBytes (take i p) ++ lineBytes (getD p i [])
