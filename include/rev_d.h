@@ -150,9 +150,15 @@ uint8_t rev_d_read_block(const uint64_t *cells, uint16_t block, const uint8_t *d
  * line feed. A buffer that is not 65 bytes long is answered 1 and stays as it was; one of 65 bytes is answered 0, whatever the disk.
  *
  * A disk that RECOVER would refuse, on a card that is down over it, has one line: the number (1 or 8) in columns 1-2. Any other has
- * a head line, C 1-2, B 4-5, J 7-8, and a line for each committed transaction that is not retired, in order of core and number: core
- * 1-2, number 4-13, stamp 15-34, how many blocks 36-37 and names 39-40, then `kept`, in the valid set, or `left` in 42-45. Numbers are
- * set right, all other columns are blank. A line past the last has 64 blanks and the line feed. */
+ * a head line, C 1-2, B 4-5, J 7-8; a line for each committed transaction that is not retired, in order of core and number: core
+ * 1-2, number 4-13, stamp 15-34, how many blocks 36-37 and names 39-40, then `kept`, in the valid set, or `left` in 42-45; and a line
+ * for each core: core 1-2, and in 4-5 the end of its journal, that is why no further record was read. The first that fits of
+ *  1: no descriptor of the expected number, that number above 4,000,000,000, or no block left for one;
+ *  2: a descriptor field out of range or a block twice;
+ *  3: too few blocks left for data and commit;
+ *  4: no commit of that number with its fields in range.
+ * A page has 105 lines at most. Numbers are set right, all other columns are blank. A line past the last has 64 blanks and the
+ * line feed. */
 size_t rev_d_page_lines(const uint8_t *disk, size_t disk_length);
 
 uint8_t rev_d_page_line(const uint8_t *disk, size_t disk_length, size_t i, uint8_t *buffer, size_t buffer_length);

@@ -8,8 +8,8 @@ use crate::generator::Generator;
 use crate::layout::{block_at, read_master, Shape, Tail, BLOCK, DISK, HOMES, MEMORY};
 use crate::ledger::{Entry, Ledger, Line, Stored};
 use crate::random::Random;
-use crate::second_reader::read_journal;
-use crate::wrong::Wrong;
+use crate::second_reader::{journal_stop, read_journal, Stop};
+use crate::wrong::{Wrong, WrongReader};
 
 /// Which checks are made; a wrong card can be tried against one demand alone.
 #[derive(Clone, Copy, PartialEq, Eq, Debug)]
@@ -31,7 +31,9 @@ impl Checks {
     /// The exact bytes of the one block stored.
     pub const BYTES: Checks = Checks(128);
     pub const READING: Checks = Checks(256);
-    pub const ALL: Checks = Checks(511);
+    /// On runs from FORMAT a journal's reading ends with 1, or with 4 where an uncommitted record's descriptor stands.
+    pub const ENDS: Checks = Checks(512);
+    pub const ALL: Checks = Checks(1023);
     pub const NONE: Checks = Checks(0);
 
     fn has(self, check: Checks) -> bool {
@@ -73,6 +75,8 @@ pub struct Tally {
     pub longest_list: usize,
     pub most_records: usize,
     pub answers: [u64; 42],
+    /// Journals by their end, which were looked at on runs from FORMAT.
+    pub ends: [u64; 5],
 }
 
 pub struct Bench<'w> {
@@ -121,6 +125,7 @@ impl<'w> Bench<'w> {
             longest_list: 0,
             most_records: 0,
             answers,
+            ends: [0; 5],
         };
         Bench {
             checks,
@@ -171,6 +176,13 @@ impl<'w> Bench<'w> {
     /// Runs one given tape on a blank card.
     pub fn run_tape(&mut self, tape: &[u8]) -> Result<(), Failure> {
         self.start_blank();
+        self.tape = tape.to_vec();
+        self.run_from(0)
+    }
+
+    /// Runs one given tape on a card that is down over a disk.
+    pub fn run_tape_over(&mut self, disk: Vec<u8>, tape: &[u8]) -> Result<(), Failure> {
+        self.start_over(disk);
         self.tape = tape.to_vec();
         self.run_from(0)
     }
@@ -233,7 +245,12 @@ impl<'w> Bench<'w> {
 
     /// A card that is down over a disk written elsewhere.
     fn start_foreign(&mut self) {
-        self.disk = foreign::disk(&mut self.random, &self.disk);
+        let disk = foreign::disk(&mut self.random, &self.disk);
+        self.start_over(disk);
+    }
+
+    fn start_over(&mut self, disk: Vec<u8>) {
+        self.disk = disk;
         self.random.fill(&mut self.memory);
         self.card = Card::with(Phase::Down, self.wrong);
         self.ledger = Ledger::over(&self.disk, &self.memory);
@@ -382,6 +399,9 @@ impl<'w> Bench<'w> {
         if self.checks.has(Checks::JOURNAL) {
             self.check_journals(command, changed)?;
         }
+        if self.checks.has(Checks::ENDS) && !self.is_foreign {
+            self.check_ends(command)?;
+        }
         if self.checks.has(Checks::RECOVERY) {
             self.check_recovery(came_up, owed, &stored, changed)?;
         }
@@ -457,6 +477,23 @@ impl<'w> Bench<'w> {
         self.tally.longest_list = self.tally.longest_list.max(longest);
         self.tally.most_records = self.tally.most_records.max(read.len());
         require(same, "journal", || format!("the journal of core {core} does not read as the ledger has it"))
+    }
+
+    /// Whether up or down; only the master store of recovery does away with a torn record.
+    fn check_ends(&mut self, command: Command) -> Checked {
+        if matches!(command, Command::Write { .. } | Command::Close { .. }) {
+            return Ok(());
+        }
+        let Some((shape, tails)) = read_master(&self.disk) else {
+            return require(false, "ends", || "the master is bad".into());
+        };
+        for core in 0..shape.cores {
+            let Stop { end, .. } = journal_stop(&self.disk, shape, core, tails[core as usize], WrongReader::No);
+            let due = self.ledger.lines[core as usize].end();
+            self.tally.ends[end as usize] += 1;
+            require(end == due, "ends", || format!("the journal of core {core} ends with {end}, due is {due}"))?;
+        }
+        Ok(())
     }
 
     fn check_recovery(&self, came_up: bool, owed: usize, stored: &Stored, changed: &[usize]) -> Checked {

@@ -14,7 +14,7 @@ pub fn disk(random: &mut Random, run: &[u8]) -> Vec<u8> {
     }
 }
 
-fn put(disk: &mut [u8], index: usize, block: &Block) {
+pub fn put(disk: &mut [u8], index: usize, block: &Block) {
     disk[index * BLOCK..(index + 1) * BLOCK].copy_from_slice(block);
 }
 
@@ -40,12 +40,12 @@ fn damaged(random: &mut Random, run: &[u8]) -> Vec<u8> {
     disk
 }
 
-fn any_shape(random: &mut Random) -> Shape {
+pub(crate) fn any_shape(random: &mut Random) -> Shape {
     let blocks = random.pick(&[1, 2, 3, 8, 64]);
     Shape { cores: random.between(1, 8) as u8, blocks, journal: random.between(4, 24) as u8 }
 }
 
-fn any_tails(random: &mut Random, shape: Shape) -> Tails {
+pub(crate) fn any_tails(random: &mut Random, shape: Shape) -> Tails {
     let mut tails = Tails::default();
     let high = random.chance(400);
     for tail in &mut tails[..shape.cores as usize] {

@@ -1,4 +1,4 @@
-// journal.rs: reading records from the journals, the valid set of what was read, and the newest image of a block.
+// journal.rs: reading records from the journals and why it stops, the valid set of what was read, and the newest image of a block.
 
 use crate::few::Few;
 use crate::layout::{
@@ -42,10 +42,31 @@ impl Record {
     }
 }
 
+/// Why no record is read where one is looked for; the first that fits.
+#[derive(Clone, Copy, PartialEq, Eq, Debug)]
+pub enum End {
+    /// No descriptor of the expected number, that number above the last, or no block left for one.
+    NoDescriptor = 1,
+    /// A field of the descriptor out of range, or a block twice.
+    UnfitDescriptor = 2,
+    /// Too few blocks left for data and commit.
+    TooFewLeft = 3,
+    /// No commit of that number with its fields in range.
+    NoCommit = 4,
+}
+
+impl End {
+    pub fn number(self) -> u8 {
+        self as u8
+    }
+}
+
 /// All records read, in order of core and number.
 pub struct Journals {
     pub records: Vec<Record>,
     pub tails: Tails,
+    /// Of each core that is there; none where as many records were read as were asked for.
+    pub ends: [Option<End>; CORES],
     starts: [usize; CORES + 1],
 }
 
@@ -61,11 +82,12 @@ impl Journals {
 
     /// Reads at most `limits[core]` records of each core, from its tail on.
     pub fn read(disk: &[u8], shape: Shape, tails: &Tails, limits: &[usize; CORES]) -> Journals {
-        let mut all = Journals { records: Vec::new(), tails: *tails, starts: [0; CORES + 1] };
+        let (records, ends, starts) = (Vec::new(), [None; CORES], [0; CORES + 1]);
+        let mut all = Journals { records, tails: *tails, ends, starts };
         for (core, limit) in limits.iter().enumerate() {
             all.starts[core] = all.records.len();
             if core < shape.cores as usize {
-                read_journal(disk, shape, core as u8, tails, *limit, &mut all.records);
+                all.ends[core] = read_journal(disk, shape, core as u8, tails, *limit, &mut all.records);
             }
         }
         all.starts[CORES] = all.records.len();
@@ -113,41 +135,55 @@ impl Journals {
     }
 }
 
-fn read_journal(disk: &[u8], shape: Shape, core: u8, tails: &Tails, limit: usize, out: &mut Vec<Record>) {
+/// Reads on until there is no record, and says why, or until the limit.
+fn read_journal(
+    disk: &[u8],
+    shape: Shape,
+    core: u8,
+    tails: &Tails,
+    limit: usize,
+    out: &mut Vec<Record>,
+) -> Option<End> {
     let tail = tails[core as usize];
-    let (mut number, mut used, mut count) = (tail.number, 0, 0);
-    while count < limit {
-        let Some(record) = read_record(disk, shape, core, number, tail.position as usize, used) else { return };
-        used += record.length();
-        number += 1;
-        count += 1;
-        out.push(record);
+    let (mut number, mut used) = (tail.number, 0);
+    for _ in 0..limit {
+        match read_record(disk, shape, core, number, tail.position as usize, used) {
+            Ok(record) => {
+                used += record.length();
+                number += 1;
+                out.push(record);
+            }
+            Err(end) => return Some(end),
+        }
     }
+    None
 }
 
-/// The record that begins `used` blocks after the tail, or a miss.
-pub fn read_record(disk: &[u8], shape: Shape, core: u8, number: u32, tail: usize, used: usize) -> Option<Record> {
+/// The record that begins `used` blocks after the tail, or why there is none.
+pub fn read_record(disk: &[u8], shape: Shape, core: u8, number: u32, tail: usize, used: usize) -> Result<Record, End> {
     let start = (tail + used) % shape.journal as usize;
+    let left = (shape.journal as usize).saturating_sub(used);
     let mut record = Record { core, number, position: start as u8, ..Record::default() };
-    if number > LAST_NUMBER || used >= shape.journal as usize {
-        return None;
+    let first = block_at(disk, shape.place(core, start));
+    if left == 0 || number > LAST_NUMBER || !is_headed(first, DESCRIPTOR, number) {
+        return Err(End::NoDescriptor);
     }
-    read_descriptor(block_at(disk, shape.place(core, start)), shape, &mut record)?;
-    if used + record.length() > shape.journal as usize {
-        return None;
+    read_entries(first, shape, &mut record).ok_or(End::UnfitDescriptor)?;
+    if left < record.length() {
+        return Err(End::TooFewLeft);
     }
-    let end = start + record.blocks.len() + 1;
-    read_commit(block_at(disk, shape.place(core, end)), shape, &mut record)?;
-    Some(record)
+    let last = block_at(disk, shape.place(core, start + record.blocks.len() + 1));
+    read_commit(last, shape, &mut record).ok_or(End::NoCommit)?;
+    Ok(record)
 }
 
 fn is_headed(block: &[u8], kind: u32, number: u32) -> bool {
     word(block, 0) == MARK && word(block, 4) == kind && word(block, 8) == number
 }
 
-fn read_descriptor(block: &[u8], shape: Shape, record: &mut Record) -> Option<()> {
+fn read_entries(block: &[u8], shape: Shape, record: &mut Record) -> Option<()> {
     let count = word(block, 12);
-    if !is_headed(block, DESCRIPTOR, record.number) || count > TAKEN as u32 {
+    if count > TAKEN as u32 {
         return None;
     }
     for i in 0..count as usize {

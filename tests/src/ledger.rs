@@ -61,6 +61,14 @@ impl Line {
         self.closed().find(|entry| !entry.is_committed())
     }
 
+    /// How the reading of its journal ends: at a descriptor whose commit is not stored yet, or where no descriptor stands.
+    pub fn end(&self) -> u8 {
+        match self.waiting() {
+            Some(entry) if entry.stored > 0 => 4,
+            _ => 1,
+        }
+    }
+
     /// Transactions of a core have consecutive numbers, so a number is a place in the line.
     fn find(&self, number: u32) -> Option<&Entry> {
         let above = number.checked_sub(self.entries.front()?.number)?;

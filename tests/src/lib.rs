@@ -7,6 +7,7 @@ pub mod checks;
 pub mod command;
 pub mod directed;
 pub mod disks;
+pub mod endings;
 pub mod few;
 pub mod foreign;
 pub mod generator;

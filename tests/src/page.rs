@@ -1,7 +1,7 @@
-// page.rs: the journal page of a disk for the paper log (paper 02, request a): a head line, then a line for each transaction that
-// recovery would read. A disk that it would refuse has one line, with the number.
+// page.rs: the journal page of a disk for the paper log (paper 02, requests a and b): a head line, a line for each transaction that
+// recovery would read, and for each core why it would read no more. A disk that it would refuse has one line, with the number.
 
-use crate::journal::{Journals, Record};
+use crate::journal::{End, Journals, Record};
 use crate::layout::{Shape, DISK};
 use std::fmt::Display;
 
@@ -19,7 +19,8 @@ pub fn page(disk: &[u8]) -> Vec<Line> {
     let valid = journals.valid(journals.everything());
     let records = journals.records.iter().enumerate();
     let lines = records.map(|(i, record)| transaction(record, valid >> i & 1 == 1));
-    std::iter::once(head(shape)).chain(lines).collect()
+    let ends = journals.ends.iter().enumerate().filter_map(|(core, end)| Some(ending(core, (*end)?)));
+    std::iter::once(head(shape)).chain(lines).chain(ends).collect()
 }
 
 /// Line `i` of a page; one past the last has no fields.
@@ -49,6 +50,10 @@ fn transaction(record: &Record, is_kept: bool) -> Line {
     let Record { core, number, stamp, blocks, names, .. } = record;
     let word = if is_kept { "kept" } else { "left" };
     set(&[(2, core), (10, number), (20, stamp), (2, &blocks.len()), (2, &names.len()), (4, &word)])
+}
+
+fn ending(core: usize, end: End) -> Line {
+    set(&[(2, &core), (2, &end.number())])
 }
 
 /// A line of fields, each set right in so many columns: a blank between two, blanks to the last column, a line feed.

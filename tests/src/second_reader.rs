@@ -1,7 +1,9 @@
-// second_reader.rs: another reader of the journals, written apart from the card's own, for the ledger and the checks.
+// second_reader.rs: another reader of the journals, written apart from the card's own, for the ledger and the checks; it can be made
+// wrong in one rule about why reading stops.
 
 use crate::layout::{Block, Name, Shape, Tail, BLOCK, LAST_NUMBER, MARK};
 use crate::ledger::Entry;
+use crate::wrong::WrongReader;
 
 type Words = [u32; 32];
 
@@ -11,11 +13,16 @@ fn words(disk: &[u8], index: usize) -> Words {
     std::array::from_fn(|i| bytes[4 * i..4 * i + 4].iter().fold(0, |sum, byte| sum * 256 + *byte as u32))
 }
 
+/// The disk block so far behind a position of a core's journal.
+fn place(shape: Shape, core: u8, start: Tail, distance: usize) -> usize {
+    let journal = shape.journal as usize;
+    1 + shape.blocks as usize + core as usize * journal + (start.position as usize + distance) % journal
+}
+
 /// All transactions that a journal holds whole from its tail on, at most `limit`.
 pub fn read_journal(disk: &[u8], shape: Shape, core: u8, tail: Tail, limit: usize) -> Vec<Entry> {
     let journal = shape.journal as usize;
-    let first = 1 + shape.blocks as usize + core as usize * journal;
-    let place = |distance: usize| first + (tail.position as usize + distance) % journal;
+    let place = |distance: usize| place(shape, core, tail, distance);
     let (mut found, mut distance) = (Vec::new(), 0);
     while found.len() < limit && distance + 2 <= journal {
         let number = tail.number + found.len() as u32;
@@ -36,13 +43,72 @@ pub fn read_journal(disk: &[u8], shape: Shape, core: u8, tail: Tail, limit: usiz
     found
 }
 
+/// Where the reading of a journal stops: the end, the number and position of the record that is not there, and the blocks left.
+#[derive(Clone, Copy, PartialEq, Debug)]
+pub struct Stop {
+    pub end: u8,
+    pub next: Tail,
+    pub left: usize,
+}
+
+/// Goes from record to record by the conditions of `end_at` alone.
+pub fn journal_stop(disk: &[u8], shape: Shape, core: u8, tail: Tail, reader: WrongReader) -> Stop {
+    let (mut next, mut left) = (tail, shape.journal as usize);
+    loop {
+        if let Some(end) = end_at(disk, shape, core, next, left, reader) {
+            return Stop { end, next, left };
+        }
+        let length = 2 + words(disk, place(shape, core, next, 0))[3] as usize;
+        let position = (next.position as usize + length) % shape.journal as usize;
+        next = Tail { number: next.number + 1, position: position as u8 };
+        left -= length;
+    }
+}
+
+/// The end where a record is looked for with so many blocks left: of all conditions the first that fits. None where a record stands
+/// whole.
+pub fn end_at(disk: &[u8], shape: Shape, core: u8, next: Tail, left: usize, reader: WrongReader) -> Option<u8> {
+    let opening = words(disk, place(shape, core, next, 0));
+    let count = opening[3] as usize;
+    let closing = words(disk, place(shape, core, next, 1 + count.min(8)));
+    let mut conditions = [
+        (1, left == 0),
+        (1, next.number > LAST_NUMBER),
+        (1, opening[..3] != [MARK, 1, next.number]),
+        (2, blocks_in_range(&opening, shape, u32::MAX).is_none()),
+        (3, left < count + 2),
+        (4, commit_names(&closing, shape, next.number).is_none()),
+    ];
+    match reader {
+        WrongReader::No => {}
+        WrongReader::FieldsFirst => conditions.swap(2, 3),
+        WrongReader::RoomFirst => conditions.swap(3, 4),
+        WrongReader::CommitFirst => conditions.swap(4, 5),
+        WrongReader::OneLeftIsNone => conditions[0].1 = left < 2,
+        WrongReader::NoneLeftUnasked => conditions[0].1 = false,
+        WrongReader::LimitLast => {
+            conditions[1].0 = 4;
+            conditions[1..].rotate_left(1);
+        }
+        WrongReader::LowByte => conditions[3].1 = blocks_in_range(&opening, shape, 0xFF).is_none(),
+    }
+    conditions.iter().find(|(_, fits)| *fits).map(|(end, _)| *end)
+}
+
 /// Words 0 to 3: mark, type 1, number, n; then n pairs of block and flag.
 fn descriptor_blocks(block: &Words, shape: Shape, number: u32) -> Option<Vec<u8>> {
-    let [mark, kind, bearer, count, pairs @ ..] = block;
-    if (*mark, *kind, *bearer) != (MARK, 1, number) || number > LAST_NUMBER || *count > 8 {
+    let is_due = block[..3] == [MARK, 1, number] && number <= LAST_NUMBER;
+    blocks_in_range(block, shape, u32::MAX).filter(|_| is_due)
+}
+
+/// The blocks of n pairs that are in range and distinct; of each block number the bits of the mask are looked at.
+fn blocks_in_range(block: &Words, shape: Shape, mask: u32) -> Option<Vec<u8>> {
+    let [_, _, _, count, pairs @ ..] = block;
+    if *count > 8 {
         return None;
     }
-    let pairs: Vec<(u32, u32)> = pairs.chunks(2).take(*count as usize).map(|pair| (pair[0], pair[1])).collect();
+    let pairs = pairs.chunks(2).take(*count as usize).map(|pair| (pair[0] & mask, pair[1]));
+    let pairs: Vec<(u32, u32)> = pairs.collect();
     let in_range = pairs.iter().all(|(block, flag)| *block < shape.blocks as u32 && *flag < 2);
     let distinct = pairs.iter().enumerate().all(|(i, (block, _))| pairs[..i].iter().all(|(other, _)| other != block));
     (in_range && distinct).then(|| pairs.iter().map(|(block, _)| *block as u8).collect())

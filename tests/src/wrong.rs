@@ -1,20 +1,21 @@
-// wrong.rs: the switches that make a card wrong in one rule.
+// wrong.rs: the switches that make a card wrong in one rule, and those of a journal reader.
 
-macro_rules! wrong_cards {
-    ($($name:ident = $words:expr),* $(,)?) => {
-        /// `No` is the right card; every other one breaks a single rule.
+macro_rules! switches {
+    ($kind:ident, $all:ident: $($name:ident = $words:expr),* $(,)?) => {
+        /// `No` is the right one; every other one breaks a single rule.
         #[derive(Clone, Copy, PartialEq, Eq, Debug)]
-        pub enum Wrong {
+        pub enum $kind {
             No,
             $($name),*
         }
 
-        /// All wrong cards, with what is wrong in plain words.
-        pub const ALL: &[(Wrong, &str)] = &[$((Wrong::$name, $words)),*];
+        /// All wrong ones, with what is wrong in plain words.
+        pub const $all: &[($kind, &str)] = &[$(($kind::$name, $words)),*];
     };
 }
 
-wrong_cards! {
+switches! {
+    Wrong, ALL:
     TailOneAbove = "tail only one above the last committed one read",
     TailKept = "tail kept where none was read",
     NumbersReused = "numbers used again after recovery (both of the above)",
@@ -61,6 +62,17 @@ wrong_cards! {
     NoWrap = "a record that does not wrap",
     No26OnOpen = "26 not tested for a WRITE that opens without a block",
     Only26Stored = "26 does not count a closed one not yet stored",
+}
+
+switches! {
+    WrongReader, READERS:
+    FieldsFirst = "2 before 1: fields out of range where no descriptor stands",
+    RoomFirst = "3 before 2",
+    CommitFirst = "4 before 3",
+    OneLeftIsNone = "end 1 for one block left",
+    NoneLeftUnasked = "'no block left' not asked for",
+    LimitLast = "end 4 for a number above the limit",
+    LowByte = "the range of blocks tested on the low byte",
 }
 
 pub fn words(wrong: Wrong) -> &'static str {

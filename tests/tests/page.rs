@@ -4,11 +4,17 @@ use card_tests::card::Card;
 use card_tests::command::from_hex;
 use card_tests::directed::{chain_disk, disk_with, highest_disk, put_record, LARGEST};
 use card_tests::disks::{disk_after, each_disk, P1_UNCUT};
+use card_tests::endings;
 use card_tests::foreign::SPOILS;
-use card_tests::layout::{put_word, Name, Shape, Tail, DISK, LAST_NUMBER, LAST_TAIL, MEMORY};
+use card_tests::layout::{
+    commit, descriptor, put_word, read_master, Block, Name, Shape, Tail, BLOCK, DISK, LAST_NUMBER, LAST_TAIL, MEMORY,
+};
 use card_tests::ledger::{Entry, Ledger};
 use card_tests::page::{line_at, page, print_page, Line};
 use card_tests::random::Random;
+use card_tests::second_reader::{journal_stop, Stop};
+use card_tests::wrong::{WrongReader, READERS};
+use std::collections::BTreeSet;
 
 const SMALL: Shape = Shape { cores: 2, blocks: 4, journal: 12 };
 
@@ -25,7 +31,10 @@ fn line(text: &str) -> Line {
     line
 }
 
-fn shows(disk: &[u8], texts: &[&str]) {
+/// The page has these lines, then one for each core with its end, which are given as digits.
+fn shows(disk: &[u8], texts: &[&str], ends: &str) {
+    let ends = ends.chars().enumerate().map(|(core, end)| format!(".{core}..{end}"));
+    let texts: Vec<String> = texts.iter().map(|text| text.to_string()).chain(ends).collect();
     let lines: Vec<Line> = texts.iter().map(|text| line(text)).collect();
     assert!(page(disk) == lines, "the page is\n{}and not\n{}", print_page(disk), texts.join("\n"));
 }
@@ -37,11 +46,17 @@ fn disk_of_two(first: u32, second: u32) -> Vec<u8> {
 
 #[test]
 fn p1_shows_both_until_the_journals_are_emptied() {
-    shows(&disk_after(&from_hex(P1_UNCUT)), &P1_PAGE);
-    shows(&disk_after(&from_hex(&format!("{P1_UNCUT} | 06"))), &P1_PAGE);
-    shows(&disk_after(&from_hex(&format!("{P1_UNCUT} | 06 | 07"))), &P1_PAGE);
-    shows(&disk_after(&from_hex(&format!("{P1_UNCUT} | 06 | 07 | 07"))), &P1_PAGE[..1]);
-    assert_eq!(print_page(&disk_after(&from_hex(P1_UNCUT))).len(), 3 * 65);
+    shows(&disk_after(&from_hex(P1_UNCUT)), &P1_PAGE, "11");
+    shows(&disk_after(&from_hex(&format!("{P1_UNCUT} | 06"))), &P1_PAGE, "11");
+    shows(&disk_after(&from_hex(&format!("{P1_UNCUT} | 06 | 07"))), &P1_PAGE, "11");
+    shows(&disk_after(&from_hex(&format!("{P1_UNCUT} | 06 | 07 | 07"))), &P1_PAGE[..1], "11");
+}
+
+#[test]
+fn the_page_ends_with_a_line_for_each_core() {
+    let right: String =
+        [&P1_PAGE[..], &[".0..1", ".1..1"]].concat().iter().map(|text| format!("{text:.<64}\n")).collect();
+    assert_eq!(print_page(&disk_after(&from_hex(P1_UNCUT))), right.replace('.', " "));
 }
 
 #[test]
@@ -49,16 +64,16 @@ fn only_what_is_committed_and_unretired_has_a_line() {
     let written = "01 01 01 04 | 02 00 0000 00 01020304 | 03 00 | 04 00 | 04 00";
     let of = |more: &str| disk_after(&from_hex(&format!("{written} {more}")));
     let committed = [".1..1..4", ".0..........1....................1..1..0.kept"];
-    shows(&of(""), &committed[..1]);
-    shows(&of("| 04 00"), &committed);
-    shows(&of("| 04 00 | 05 00"), &committed);
-    shows(&of("| 04 00 | 05 00 | 05 00"), &committed[..1]);
+    shows(&of(""), &committed[..1], "4");
+    shows(&of("| 04 00"), &committed, "1");
+    shows(&of("| 04 00 | 05 00"), &committed, "1");
+    shows(&of("| 04 00 | 05 00 | 05 00"), &committed[..1], "1");
 }
 
 #[test]
 fn what_hangs_on_an_uncommitted_one_is_left() {
     let p2 = disk_after(&from_hex(P1_UNCUT.strip_suffix("| 04 01").expect("the last store")));
-    shows(&p2, &[P1_PAGE[0], ".0..........1....................1..1..1.left"]);
+    shows(&p2, &[P1_PAGE[0], ".0..........1....................1..1..1.left"], "14");
     let (mut disk, of) = (disk_of_two(7, 3), |core, number| Name { core, number });
     put_record(&mut disk, SMALL, of(0, 7), 0, &[3], &[of(1, 2), of(0, 6), of(0, 7), of(1, 2)]);
     put_record(&mut disk, SMALL, of(0, 8), 3, &[0, 3, 1], &[of(0, 7), of(1, 3)]);
@@ -71,21 +86,21 @@ fn what_hangs_on_an_uncommitted_one_is_left() {
         ".0..........9....................3..0..0.kept",
         ".1..........3....................3..2..1.left",
     ];
-    shows(&disk, &lines);
+    shows(&disk, &lines, "11");
 }
 
 #[test]
 fn a_record_without_blocks_has_a_line() {
     let mut disk = disk_of_two(1, 1);
     put_record(&mut disk, SMALL, Name { core: 1, number: 1 }, 11, &[], &[]);
-    shows(&disk, &[P1_PAGE[0], ".1..........1....................3..0..0.kept"]);
+    shows(&disk, &[P1_PAGE[0], ".1..........1....................3..0..0.kept"], "11");
 }
 
 #[test]
 fn a_line_has_room_for_every_digit() {
     let full = (0..8).map(|core| format!(".{core}.4000000000.18446744073709551615..8.12.kept"));
     let texts: Vec<String> = std::iter::once(".8.64.24".into()).chain(full).collect();
-    shows(&highest_disk(), &texts.iter().map(String::as_str).collect::<Vec<_>>());
+    shows(&highest_disk(), &texts.iter().map(String::as_str).collect::<Vec<_>>(), "11111111");
 }
 
 #[test]
@@ -93,16 +108,40 @@ fn no_number_above_the_last_has_a_line() {
     let mut disk = disk_of_two(LAST_TAIL, LAST_NUMBER - 1);
     put_record(&mut disk, SMALL, Name { core: 0, number: LAST_TAIL }, 0, &[1], &[]);
     put_record(&mut disk, SMALL, Name { core: 1, number: LAST_NUMBER - 1 }, 11, &[1], &[]);
-    shows(&disk, &[P1_PAGE[0], ".1.3999999999....................3..1..0.kept"]);
+    shows(&disk, &[P1_PAGE[0], ".1.3999999999....................3..1..0.kept"], "11");
 }
 
+/// Twelve records of two blocks leave no block of a journal of 24.
 #[test]
 fn full_journals_show_all() {
     for (is_met, word) in [(true, "kept"), (false, "left")] {
         let page = page(&chain_disk(0, is_met));
-        assert_eq!(page.len(), 97);
-        assert!(page[1..].iter().all(|line| line[41..45] == *word.as_bytes()), "not all are {word}");
+        assert_eq!(page.len(), 105);
+        assert!(page[1..97].iter().all(|line| line[41..45] == *word.as_bytes()), "not all are {word}");
+        assert!((0..8).all(|core| page[97 + core] == line(&format!(".{core}..1"))));
     }
+}
+
+/// Each core below C has a line, whatever its end.
+#[test]
+fn each_end_has_a_line() {
+    let shape = Shape { cores: 5, blocks: 2, journal: 4 };
+    let mut disk = disk_with(shape, &[Tail { number: 9, position: 3 }; 5]);
+    let mut put = |core, position, block: &Block| {
+        let start = shape.place(core, position) * BLOCK;
+        disk[start..start + BLOCK].copy_from_slice(block);
+    };
+    put(1, 3, &descriptor(9, &[0, 0], &[false; 2]));
+    put(2, 3, &descriptor(9, &[1], &[false]));
+    put(2, 5, &commit(9, 1, &[]));
+    put(2, 6, &descriptor(10, &[], &[]));
+    put(3, 3, &descriptor(9, &[0, 1], &[true; 2]));
+    put(3, 6, &commit(8, 1, &[]));
+    put(4, 3, &descriptor(9, &[0, 1], &[true; 2]));
+    put(4, 6, &commit(9, 1, &[]));
+    let lines =
+        [".5..2..4", ".2..........9....................1..1..0.kept", ".4..........9....................1..2..0.kept"];
+    shows(&disk, &lines, "12341");
 }
 
 #[test]
@@ -110,19 +149,21 @@ fn a_disk_of_another_length_is_refused() {
     let disk = [disk_after(&from_hex(P1_UNCUT)), vec![0; 2 * DISK]].concat();
     let near = (DISK - 20..DISK + 20).filter(|length| *length != DISK);
     for length in near.chain([0, 1, 127, 128, 129, DISK / 2, 2 * DISK]) {
-        shows(&disk[..length], &[".1"]);
+        shows(&disk[..length], &[".1"], "");
     }
 }
 
 #[test]
 fn an_unfit_master_is_refused() {
-    shows(&[0; DISK], &[".8"]);
-    shows(&[0xFF; DISK], &[".8"]);
+    shows(&[0; DISK], &[".8"], "");
+    shows(&[0xFF; DISK], &[".8"], "");
     for (at, word) in SPOILS {
         let mut disk = disk_after(&from_hex(P1_UNCUT));
         put_word(&mut disk, at, word);
-        let is_looked_at = !matches!(at, 8 | 80 | 124);
-        shows(&disk, if is_looked_at { &[".8"] } else { &P1_PAGE });
+        match at {
+            8 | 80 | 124 => shows(&disk, &P1_PAGE, "11"),
+            _ => shows(&disk, &[".8"], ""),
+        }
     }
 }
 
@@ -130,7 +171,8 @@ fn an_unfit_master_is_refused() {
 fn a_line_past_the_last_has_no_fields() {
     let lines = page(&disk_after(&from_hex(P1_UNCUT)));
     assert_eq!([0, 1, 2].map(|i| line_at(&lines, i)), P1_PAGE.map(line));
-    assert_eq!([3, 4, usize::MAX].map(|i| line_at(&lines, i)), [line(""); 3]);
+    assert_eq!([3, 4].map(|i| line_at(&lines, i)), [".0..1", ".1..1"].map(line));
+    assert_eq!([5, 6, usize::MAX].map(|i| line_at(&lines, i)), [line(""); 3]);
 }
 
 /// Puts a number down so that its last digit stands in this column, counted from 1.
@@ -160,7 +202,8 @@ fn told(ledger: &Ledger, core: u8, entry: &Entry) -> Line {
     line
 }
 
-/// The page by the ledger, which reads journals and follows names with code of its own; the refusal is RECOVER's.
+/// The page by the ledger, which reads journals and follows names with code of its own; the refusal is RECOVER's, and the ends are
+/// the second reader's.
 fn told_page(disk: &[u8]) -> Vec<Line> {
     let answer = Card::down().command(&mut disk.to_vec(), &mut [0; MEMORY], &[7], 0).answer;
     if answer != 0 {
@@ -170,7 +213,16 @@ fn told_page(disk: &[u8]) -> Vec<Line> {
     let Shape { cores, blocks, journal } = ledger.shape;
     let head = numbers(&[(2, cores as u64), (5, blocks as u64), (8, journal as u64)]);
     let entries = (0..cores).flat_map(|core| ledger.lines[core as usize].committed().map(move |entry| (core, entry)));
-    std::iter::once(head).chain(entries.map(|(core, entry)| told(&ledger, core, entry))).collect()
+    let transactions = entries.map(|(core, entry)| told(&ledger, core, entry));
+    let stops = stops(disk, WrongReader::No).into_iter().enumerate();
+    let ends = stops.map(|(core, stop)| numbers(&[(2, core as u64), (5, stop.end as u64)]));
+    std::iter::once(head).chain(transactions).chain(ends).collect()
+}
+
+/// Where a reader stops in each journal of a disk with a fit master.
+fn stops(disk: &[u8], reader: WrongReader) -> Vec<Stop> {
+    let (shape, tails) = read_master(disk).expect("a fit master");
+    (0..shape.cores).map(|core| journal_stop(disk, shape, core, tails[core as usize], reader)).collect()
 }
 
 #[test]
@@ -186,5 +238,59 @@ fn every_page_is_as_the_ledger_tells_it() {
     assert!(lines > 50_000, "{lines} lines");
     for disk in [highest_disk(), chain_disk(0, true), chain_disk(1, false), disk_with(LARGEST, &[])] {
         assert_eq!(page(&disk), told_page(&disk));
+    }
+}
+
+/// How often each end was met: in all, with no block left, with one, and where the blocks left go round the journal's end; and
+/// which counts of blocks left.
+#[derive(Default)]
+struct Met {
+    ends: [[usize; 4]; 5],
+    lefts: BTreeSet<usize>,
+}
+
+impl Met {
+    fn count(&mut self, disk: &[u8]) {
+        let journal = read_master(disk).expect("a fit master").0.journal as usize;
+        for Stop { end, next, left } in stops(disk, WrongReader::No) {
+            let kinds = [true, left == 0, left == 1, next.position as usize + left > journal];
+            self.lefts.insert(left);
+            self.ends[end as usize].iter_mut().zip(kinds).for_each(|(count, is_met)| *count += is_met as usize);
+        }
+    }
+}
+
+#[test]
+fn pages_of_made_endings_are_as_the_ledger_tells_them() {
+    let (mut random, mut met) = (Random::new(33), Met::default());
+    for _ in 0..20_000 {
+        let disk = endings::disk(&mut random);
+        assert!(page(&disk) == told_page(&disk), "not as the ledger has it:\n{}", print_page(&disk));
+        met.count(&disk);
+    }
+    for (end, counts) in met.ends.iter().enumerate().skip(1) {
+        let [all, none_left, one_left, round] = counts;
+        println!("end {end}: {all}, {none_left} with no block left, {one_left} with one, {round} round the end of J");
+        let is_due = [true, end == 1, end < 4, true];
+        assert_eq!(counts.map(|count| count > 0), is_due, "end {end}: {counts:?}");
+    }
+    assert!(met.lefts.into_iter().eq(0..=24));
+}
+
+/// Where no block is left the journal's first record stands, whose number is not the expected one: that this is not asked for tells
+/// on one record alone (`ends.rs`).
+#[test]
+fn made_endings_tell_wrong_readers_apart() {
+    let (mut random, mut told) = (Random::new(34), vec![0; READERS.len()]);
+    for _ in 0..4000 {
+        let disk = endings::disk(&mut random);
+        let right = stops(&disk, WrongReader::No);
+        for (count, (reader, _)) in told.iter_mut().zip(READERS) {
+            *count += (stops(&disk, *reader) != right) as usize;
+        }
+    }
+    for (count, (reader, words)) in told.iter().zip(READERS) {
+        println!("{words}: {count} disks");
+        assert_eq!(*count > 0, *reader != WrongReader::NoneLeftUnasked, "{words}: {count} disks");
     }
 }

@@ -1,6 +1,7 @@
 // soak.rs: generated tapes on the right card with every check, and tapes of random bytes.
 
 use card_tests::checks::{Bench, Checks};
+use card_tests::endings;
 use card_tests::random::Random;
 use card_tests::wrong::Wrong;
 
@@ -11,6 +12,9 @@ fn the_right_card_passes_every_check() {
         panic!("{}: {}\ntape {}", failure.check, failure.detail, card_tests::command::hex(&failure.tape));
     }
     assert!(bench.tally.recoveries > 1000 && bench.tally.foreign_disks > 100 && bench.tally.longest_list == 12);
+    let [_, clean, _, _, torn] = bench.tally.ends;
+    println!("ends of journals on runs from FORMAT: {clean} times 1, {torn} times 4");
+    assert!(clean > 100_000 && torn > 10_000);
 }
 
 #[test]
@@ -25,4 +29,20 @@ fn tapes_of_random_bytes_pass_every_check() {
         }
         bench.run_tape(&tape).expect("all checks hold");
     }
+}
+
+/// Recovery reads the journals up to their ends, whichever these are.
+#[test]
+fn recovery_over_made_endings_passes_every_check() {
+    let mut random = Random::new(13);
+    let mut bench = Bench::new(Wrong::No, Checks::ALL, None);
+    for _ in 0..2000 {
+        bench.run_tape_over(endings::disk(&mut random), endings::RECOVERED).expect("all checks hold");
+    }
+    // before its cut each disk is recovered or not yet, and after it
+    let (recoveries, cuts) = (bench.tally.recoveries, bench.tally.cuts_in_recovery);
+    assert!(
+        recoveries + cuts == 4000 && recoveries > 2000 && cuts > 0,
+        "{recoveries} recoveries, {cuts} cuts inside one"
+    );
 }

@@ -54,6 +54,16 @@ fn the_book_alone_catches_those_that_lose_or_invent_writes() {
     }
 }
 
+/// A number used again: the descriptor of a torn record stands where the emptied journal begins.
+#[test]
+fn the_ends_alone_catch_those_that_use_a_number_again() {
+    for wrong in
+        [Wrong::TailOneAbove, Wrong::TailKept, Wrong::NumbersReused, Wrong::TailUnchanged, Wrong::NumbersFromOne]
+    {
+        assert!(is_caught(wrong, Checks::ENDS, 200_000), "not caught by the ends alone: {}", words(wrong));
+    }
+}
+
 #[test]
 fn a_card_that_tests_33_against_committed_ones_only_never_differs() {
     let mut twin = Twin::default();

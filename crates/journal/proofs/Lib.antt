@@ -2,4 +2,5 @@
 pub mod OneRecord
 pub mod Slots
 pub mod Entries
+pub mod Ending
 pub mod Reading

@@ -1,20 +1,23 @@
 -- The part of the disk that is lent is the journal's block. A descriptor, then a commit, read with their numbers, give the
--- record at a position; a miss of either, or too few blocks left, gives none.
+-- record at a position; else the first end that fits is answered.
 use Rattle.model.proofs.Base.{ℕ, _+_, _-_, _*_, _≤_, _<_, arith, _≡_, refl, sym, ap, _∙_, Bool, true, false, cond, length, take}
-use Rattle.model.proofs.Base.{drop, le-leb, lt-leb, Bytes}
+use Rattle.model.proofs.Base.{drop, not, eq-eqb, ne-eqb, lt-ltb, le-ltb, ltb-false, Bytes}
 use Rattle.model.specs.Bytes.{blockAt, part}
 use Rattle.model.specs.Shape.{clamped, journalBlock}
-use Rattle.model.specs.Layout.{isDescriptor, blockCount, isCommit, stampIn, nameCount}
-use Rattle.model.specs.Journal.{journalAt, recordAt}
+use Rattle.model.specs.Layout.{hasHead, blockCount, isCommit, stampIn, nameCount}
+use Rattle.model.specs.Journal.{journalAt}
+use Rattle.model.specs.JournalEnds.{lacksDescriptor, hasBadField, readRecord}
+use Rattle.model.specs.Limits.{maxTaken, maxNumber}
 use Rattle.model.specs.declared.Shape.{Shape}
-use Rattle.model.specs.declared.Found.the-variants.{Whole, Miss}
+use Rattle.model.specs.declared.RecordRead.the-variants.{Read, NoDescriptor, BadDescriptor, TooFewBlocks, NoCommit}
 use Rattle.model.proofs.Limits.{InRange, clamped-same}
-use Rattle.model.proofs.Journal.{journal-low, miss-descriptor, descriptor-few, commit-short}
+use Rattle.model.proofs.Lists.{or-none}
+use Rattle.model.proofs.Journal.{journal-low, commit-short}
 use Rattle.model.proofs.Records.{length-journalAt}
 use Rattle.journal.specs.declared.record.DescriptorRead.{DescriptorRead}
-use Rattle.journal.specs.declared.record.DescriptorRead.the-variants.{Blocks, NoDescriptor}
+use Rattle.journal.specs.declared.record.DescriptorRead.the-variants.{Blocks, BadField}
 use Rattle.journal.specs.declared.record.CommitRead.{CommitRead}
-use Rattle.journal.specs.declared.record.CommitRead.the-variants.{Stamped, NoCommit}
+use Rattle.journal.specs.declared.record.CommitRead.the-variants.{Stamped, Unfit}
 use Rattle.journal.specs.Record.{descriptorOf, commitOf}
 
 -- ---- the part lent
@@ -33,18 +36,35 @@ module _ (s : Shape) (c p r : ℕ) (e : r ≡ journalBlock (clamped s) c p) (l :
   part-size d n = ap length (part-is d) ∙ length-journalAt l d n c p h
 
 -- ---- a block read
--- with what the test answered: r; the counts fit a byte
-module _ (s : Shape) (k : ℕ) (b : Bytes) (r : Bool) (e : r ≡ isDescriptor s k b) where
-  pub descriptor-fits : (n : ℕ) → r ≡ true → n ≡ blockCount b → n < 256
-  descriptor-fits n h q = omega (arith, descriptor-few s k b (sym e ∙ h))
+-- no descriptor, from what the calls answered
+module _ (k left : ℕ) (b : Bytes) where
+  pub lacks-block : left ≡ 0 → true ≡ lacksDescriptor k left b
+  unfolding lacksDescriptor
+  lacks-block h = rw (eq-eqb left 0 h)
 
-  pub descriptor-is : (n : ℕ) → r ≡ true → n ≡ blockCount b → Blocks n ≡ descriptorOf s k b
-  unfolding descriptorOf
-  descriptor-is n h q = rw (← e, h, q)
+  module _ (z : left ≡ 0 → ⊥) where
+    pub lacks-number : maxNumber < k → true ≡ lacksDescriptor k left b
+    unfolding lacksDescriptor
+    lacks-number h = rw (ne-eqb left 0 z, lt-ltb maxNumber k h)
 
-  pub descriptor-none : r ≡ false → NoDescriptor ≡ descriptorOf s k b
+    pub lacks-head : k ≤ maxNumber → (r : Bool) → r ≡ hasHead 1 k b → not r ≡ lacksDescriptor k left b
+    unfolding lacksDescriptor
+    lacks-head h r e = rw (ne-eqb left 0 z, le-ltb maxNumber k h, e)
+
+-- the fields of a descriptor, with what the test answered: r; the count fits a byte
+module _ (s : Shape) (b : Bytes) (r : Bool) (e : r ≡ hasBadField s b) where
+  pub descriptor-bad : r ≡ true → BadField ≡ descriptorOf s b
   unfolding descriptorOf
-  descriptor-none h = rw (← e, h)
+  descriptor-bad h = rw (← e, h)
+
+  module _ (h : r ≡ false) (n : ℕ) (q : n ≡ blockCount b) where
+    pub descriptor-fits : n < 256
+    unfolding hasBadField
+    descriptor-fits = omega (arith, ltb-false maxTaken (blockCount b) (or-none _ _ (or-none _ _ (sym e ∙ h) .0) .0))
+
+    pub descriptor-is : Blocks n ≡ descriptorOf s b
+    unfolding descriptorOf
+    descriptor-is = rw (← e, h, q)
 
 module _ (s : Shape) (k : ℕ) (b : Bytes) (r : Bool) (e : r ≡ isCommit s k b) where
   pub commit-fits : (n : ℕ) → r ≡ true → n ≡ nameCount b → n < 256
@@ -54,51 +74,62 @@ module _ (s : Shape) (k : ℕ) (b : Bytes) (r : Bool) (e : r ≡ isCommit s k b)
   unfolding commitOf
   commit-is x n h p q = rw (← e, h, p, q)
 
-  pub commit-none : r ≡ false → NoCommit ≡ commitOf s k b
+  pub commit-none : r ≡ false → Unfit ≡ commitOf s k b
   unfolding commitOf
   commit-none h = rw (← e, h)
 
 -- ---- a record read
-blocks-known : (t : Bool) (m n : ℕ) → cond t (Blocks m) NoDescriptor ≡ Blocks n → (t ≡ true) × (m ≡ n)
-blocks-known true m n e = (refl, (cc))
-blocks-known false m n e = let z : _≡_ {A = ℕ} 0 1 = cc in absurd (omega arith)
+blocks-known : (t : Bool) (m n : ℕ) → cond t BadField (Blocks m) ≡ Blocks n → (t ≡ false) × (m ≡ n)
+blocks-known false m n e = (refl, (cc))
+blocks-known true m n e = let z : _≡_ {A = ℕ} 0 1 = cc in absurd (omega arith)
 
-none-known : (t : Bool) (m : ℕ) → cond t (Blocks m) NoDescriptor ≡ NoDescriptor → t ≡ false
-none-known true m e = let z : _≡_ {A = ℕ} 0 1 = cc in absurd (omega arith)
-none-known false m e = refl
+bad-known : (t : Bool) (m : ℕ) → cond t BadField (Blocks m) ≡ BadField → t ≡ true
+bad-known false m e = let z : _≡_ {A = ℕ} 0 1 = cc in absurd (omega arith)
+bad-known true m e = refl
 
-stamped-known : (t : Bool) (m n x y : ℕ) → cond t (Stamped m n) NoCommit ≡ Stamped x y → (t ≡ true) × (m ≡ x) × (n ≡ y)
+stamped-known : (t : Bool) (m n x y : ℕ) → cond t (Stamped m n) Unfit ≡ Stamped x y → (t ≡ true) × (m ≡ x) × (n ≡ y)
 stamped-known true m n x y e = (refl, (cc), (cc))
 stamped-known false m n x y e = let z : _≡_ {A = ℕ} 0 1 = cc in absurd (omega arith)
 
-uncommitted-known : (t : Bool) (m n : ℕ) → cond t (Stamped m n) NoCommit ≡ NoCommit → t ≡ false
-uncommitted-known true m n e = let z : _≡_ {A = ℕ} 0 1 = cc in absurd (omega arith)
-uncommitted-known false m n e = refl
+unfit-known : (t : Bool) (m n : ℕ) → cond t (Stamped m n) Unfit ≡ Unfit → t ≡ false
+unfit-known true m n e = let z : _≡_ {A = ℕ} 0 1 = cc in absurd (omega arith)
+unfit-known false m n e = refl
 
-module _ (s : Shape) (d : Bytes) (c k p left : ℕ) (b : Bytes) (f : DescriptorRead) (q : b ≡ journalAt s d c p) (e : f ≡ descriptorOf s k b) where
-  pub no-descriptor : f ≡ NoDescriptor → Miss ≡ recordAt s d c k p left
-  unfolding descriptorOf
-  no-descriptor z = sym (miss-descriptor s d c k p left (rw q at (none-known (isDescriptor s k b) (blockCount b) (sym e ∙ z))))
+-- each return is one case of `readRecord`, from what the calls answered
+module _ (s : Shape) (d : Bytes) (c k p left : ℕ) (b : Bytes) (r : Bool) (q : b ≡ journalAt s d c p) (e : r ≡ lacksDescriptor k left b) where
+  lacking : r ≡ lacksDescriptor k left (journalAt s d c p)
+  lacking = rw q at e
 
-  module _ (n : ℕ) (z : f ≡ Blocks n) where
-    known : (isDescriptor s k (journalAt s d c p) ≡ true) × (blockCount (journalAt s d c p) ≡ n)
-    unfolding descriptorOf
-    known = rw q at (blocks-known (isDescriptor s k b) (blockCount b) n (sym e ∙ z))
+  pub end-descriptor : r ≡ true → NoDescriptor ≡ readRecord s d c k p left
+  unfolding readRecord
+  end-descriptor z = rw (← lacking, z)
 
-    pub too-long : left < n + 2 → Miss ≡ recordAt s d c k p left
-    unfolding recordAt
-    too-long h = rw (known .0, known .1, lt-leb (n + 2) left h)
+  module _ (z : r ≡ false) (f : DescriptorRead) (e₁ : f ≡ descriptorOf s b) where
+    pub end-fields : f ≡ BadField → BadDescriptor ≡ readRecord s d c k p left
+    unfolding readRecord descriptorOf
+    end-fields y =
+        let u : hasBadField s (journalAt s d c p) ≡ true = rw q at (bad-known (hasBadField s b) (blockCount b) (sym e₁ ∙ y)) in
+        rw (← lacking, z, u)
 
-    module _ (b₂ : Bytes) (g : CommitRead) (h : n + 2 ≤ left) (q₂ : b₂ ≡ journalAt s d c (p + (n + 1))) (e₂ : g ≡ commitOf s k b₂) where
-      pub no-commit : g ≡ NoCommit → Miss ≡ recordAt s d c k p left
-      unfolding recordAt commitOf
-      no-commit y =
-          let u : isCommit s k (journalAt s d c (p + (n + 1))) ≡ false = rw q₂ at (uncommitted-known (isCommit s k b₂) (stampIn b₂) (nameCount b₂) (sym e₂ ∙ y)) in
-          rw (known .0, known .1, le-leb (n + 2) left h, u)
+    module _ (n : ℕ) (y : f ≡ Blocks n) where
+      known : (hasBadField s (journalAt s d c p) ≡ false) × (blockCount (journalAt s d c p) ≡ n)
+      unfolding descriptorOf
+      known = rw q at (blocks-known (hasBadField s b) (blockCount b) n (sym e₁ ∙ y))
 
-      pub whole-record : (x m : ℕ) → g ≡ Stamped x m
-          → Whole (record { core = c; number = k; position = p; count = n; stamp = x; named = m }) ≡ recordAt s d c k p left
-      unfolding recordAt commitOf
-      whole-record x m y =
-          let u = rw q₂ at (stamped-known (isCommit s k b₂) (stampIn b₂) (nameCount b₂) x m (sym e₂ ∙ y)) in
-          rw (known .0, known .1, le-leb (n + 2) left h, u .0, u .1, u .2)
+      pub end-room : left < n + 2 → TooFewBlocks ≡ readRecord s d c k p left
+      unfolding readRecord
+      end-room h = rw (← lacking, z, known .0, known .1, lt-ltb left (n + 2) h)
+
+      module _ (b₂ : Bytes) (g : CommitRead) (h : n + 2 ≤ left) (q₂ : b₂ ≡ journalAt s d c (p + (n + 1))) (e₂ : g ≡ commitOf s k b₂) where
+        pub end-commit : g ≡ Unfit → NoCommit ≡ readRecord s d c k p left
+        unfolding readRecord commitOf
+        end-commit x =
+            let u : isCommit s k (journalAt s d c (p + (n + 1))) ≡ false = rw q₂ at (unfit-known (isCommit s k b₂) (stampIn b₂) (nameCount b₂) (sym e₂ ∙ x)) in
+            rw (← lacking, z, known .0, known .1, le-ltb left (n + 2) h, u)
+
+        pub whole-record : (x m : ℕ) → g ≡ Stamped x m
+            → Read (record { core = c; number = k; position = p; count = n; stamp = x; named = m }) ≡ readRecord s d c k p left
+        unfolding readRecord commitOf
+        whole-record x m w =
+            let u = rw q₂ at (stamped-known (isCommit s k b₂) (stampIn b₂) (nameCount b₂) x m (sym e₂ ∙ w)) in
+            rw (← lacking, z, known .0, known .1, le-ltb left (n + 2) h, u .0, u .1, u .2)

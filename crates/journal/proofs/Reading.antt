@@ -7,13 +7,17 @@ use native.Mathlib.Nat.{mod-lt}
 use Rattle.model.specs.Layout.{isDescriptor, hasHead}
 use Rattle.model.specs.Limits.{maxNumber}
 use Rattle.model.specs.Journal.{recordAt, recordsFrom, journal}
+use Rattle.model.specs.JournalEnds.{readRecord}
 use Rattle.model.specs.declared.Shape.{Shape}
 use Rattle.model.specs.declared.Tail.{Tail}
 use Rattle.model.specs.declared.Committed.{Committed}
 use Rattle.model.specs.declared.Found.{Found}
 use Rattle.model.specs.declared.Found.the-variants.{Whole, Miss}
+use Rattle.model.specs.declared.RecordRead.{RecordRead}
+use Rattle.model.specs.declared.RecordRead.the-variants.{Read}
 use Rattle.model.proofs.Lists.{cases, and-left, and-right}
-use Rattle.model.proofs.Journal.{found-cases, record-known, records-hit, records-miss, records-length}
+use Rattle.model.proofs.JournalEnds.{foundBy, same-found, read-whole}
+use Rattle.model.proofs.Journal.{KnownRecord, found-cases, record-known, records-hit, records-miss, records-length}
 use Rattle.model.proofs.Limits.{InRange}
 use Rattle.journal.specs.declared.walk.Walk.{Walk}
 use Rattle.journal.specs.declared.walk.WalkStep.{WalkStep}
@@ -188,23 +192,24 @@ module _ (s : Shape) (d : Bytes) (c : ℕ) (w : Walk) where
     pub step-full : w .left < 2 → ended w ≡ stepOf s w (walkRecord s d c w)
     step-full l = nothing-read (reads-record ∙ no-room s d c (w .number) (w .at) (w .left) l)
 
-    module _ (r : Found) (e : r ≡ recordAt s d c (w .number) (w .at) (w .left)) where
-      pub step-miss : r ≡ Miss → ended w ≡ stepOf s w (walkRecord s d c w)
-      step-miss z = nothing-read (reads-record ∙ sym e ∙ z)
+    module _ (r : RecordRead) (e : r ≡ readRecord s d c (w .number) (w .at) (w .left)) where
+      pub step-end : foundBy r ≡ Miss → ended w ≡ stepOf s w (walkRecord s d c w)
+      step-end z = nothing-read (reads-record ∙ sym (same-found s d c (w .number) (w .at) (w .left)) ∙ ap foundBy (sym e) ∙ z)
 
-      pub step-hit : (x : Committed) (y : WalkStep) → r ≡ Whole x → y ≡ stepOf s w (Whole x) → y ≡ stepOf s w (walkRecord s d c w)
-      step-hit x y z q = q ∙ rw (reads-record, ← e, z)
+      pub step-hit : (x : Committed) (y : WalkStep) → r ≡ Read x → y ≡ stepOf s w (Whole x) → y ≡ stepOf s w (walkRecord s d c w)
+      step-hit x y z q = q ∙ rw (reads-record, read-whole s d c (w .number) (w .at) (w .left) x (sym e ∙ z))
 
 -- what is known of a record just read
-module _ (s : Shape) (d : Bytes) (c k p left : ℕ) (r : Found) (e : r ≡ recordAt s d c k p left) (x : Committed) (z : r ≡ Whole x) where
+module _ (s : Shape) (d : Bytes) (c k p left : ℕ) (r : RecordRead) (e : r ≡ readRecord s d c k p left) (x : Committed) (z : r ≡ Read x) where
+  hit-known : KnownRecord s d c k x × (x .position ≡ p) × (x .count + 2 ≤ left)
+  hit-known = record-known s d c k p left x (read-whole s d c k p left x (sym e ∙ z))
+
   pub hit-fits : x .count + 2 ≤ left
-  hit-fits = record-known s d c k p left x (sym e ∙ z) .2
+  hit-fits = hit-known .2
 
   pub hit-number : k ≤ maxNumber
   unfolding isDescriptor
-  hit-number =
-      let q = record-known s d c k p left x (sym e ∙ z) .0 .descriptor in
-      leb-true k maxNumber (and-right (hasHead 1 k _) _ (and-left _ _ (and-left _ _ (and-left _ _ q))))
+  hit-number = leb-true k maxNumber (and-right (hasHead 1 k _) _ (and-left _ _ (and-left _ _ (and-left _ _ (hit-known .0 .descriptor)))))
 
 pub resume-start : (s : Shape) (t : Tail) (most j : ℕ) (w : Walk) → j ≡ 0
     → _≡_ {A = Walk} (record { number = t .number; at = t .position; left = s .journal; most = most }) (resumed s t most j w)

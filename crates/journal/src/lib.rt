@@ -1,4 +1,4 @@
-// The journals read: one record, all journals as slots, the transaction in a slot.
+// The journals read: one record, all journals as slots, the end of one, the transaction in a slot.
 // No function here is a public entry of the library: each says in a `requires` what its callers ensure.
 mod entry;
 mod record;
@@ -11,6 +11,8 @@ pub use entry::is_filled;
 pub use entry::place_of;
 pub use entry::slot_of;
 pub use entry::took_block;
+pub use record::end_number;
 pub use record::journal_part;
 pub use record::read_record;
+pub use walk::journal_end;
 pub use walk::read_journals;

@@ -1,25 +1,26 @@
-// One record of a journal: a descriptor, then a commit, taken apart; a miss of either ends the journal.
+// One record of a journal: a descriptor, then a commit, taken apart; where one of them misses, the end that paper 02 gives it.
 ghost use mathlib.Core.Path.{_≡_};
 ghost use Prim.Native.Nat.{_<_};
 ghost use lib.ListN.{length};
 ghost use Rattle.model.proofs.Limits.{InRange};
-ghost use Rattle.model.specs.Journal.{journalAt, recordAt};
+ghost use Rattle.model.specs.Journal.{journalAt};
+ghost use Rattle.model.specs.JournalEnds.{lacksDescriptor, readRecord, recordAnswer};
 ghost use Rattle.model.specs.Limits.{blockSize, diskSize};
 ghost use Rattle.journal.specs.Record.{descriptorOf, commitOf};
 use model::Committed;
-use model::Found;
+use model::RecordRead;
 use model::Shape;
 
-// A block read as a descriptor: how many blocks its transaction took.
+// The fields of a descriptor read: how many blocks its transaction took.
 pub enum DescriptorRead {
     Blocks(u8),
-    NoDescriptor,
+    BadField,
 }
 
 // A block read as a commit: its stamp, and how many names it lists.
 pub enum CommitRead {
     Stamped(u64, u8),
-    NoCommit,
+    Unfit,
 }
 
 // The block at a position of core c's journal, lent. No public entry: callers give a shape within its limits and one of
@@ -33,15 +34,29 @@ pub fn journal_part<'a>(s: Shape, disk: &'a [u8], c: u8, p: usize) -> &'a [u8]
     &disk[start..end]
 }
 
-// The block as a descriptor with this number.
-fn read_descriptor(s: Shape, number: u32, block: &[u8]) -> DescriptorRead
+// No block is left, or the number is above the highest, or the block is no descriptor of it.
+fn lacks_descriptor(number: u32, left: u8, block: &[u8]) -> bool
     requires { ⌜ length (now block) ≡ blockSize ⌝ }
-    ensures { λ r. ⌜ r ≡ descriptorOf s number (now (block .entry)) ⌝ }
+    ensures { λ r. ⌜ r ≡ lacksDescriptor number left (now (block .entry)) ⌝ }
 {
-    if layout::is_descriptor(s, number, block) {
-        return DescriptorRead::Blocks(layout::block_count(block) as u8);
+    if left == 0 {
+        return true;
     }
-    DescriptorRead::NoDescriptor
+    if Shape::MAX_NUMBER < number {
+        return true;
+    }
+    !layout::has_head(block, 1, number)
+}
+
+// The fields of a descriptor.
+fn read_descriptor(s: Shape, block: &[u8]) -> DescriptorRead
+    requires { ⌜ length (now block) ≡ blockSize ⌝ }
+    ensures { λ r. ⌜ r ≡ descriptorOf s (now (block .entry)) ⌝ }
+{
+    if layout::has_bad_field(s, block) {
+        return DescriptorRead::BadField;
+    }
+    DescriptorRead::Blocks(layout::block_count(block) as u8)
 }
 
 // The block as a commit with this number.
@@ -53,31 +68,35 @@ fn read_commit(s: Shape, number: u32, block: &[u8]) -> CommitRead
         let stamp = layout::stamp_in(block);
         return CommitRead::Stamped(stamp, layout::name_count(block) as u8);
     }
-    CommitRead::NoCommit
+    CommitRead::Unfit
 }
 
-// Core c's record with this number at a position, of no more blocks than are left. No public entry.
-pub fn read_record(s: Shape, disk: &[u8], c: u8, number: u32, position: u8, left: u8) -> Found
+// Core c's record with this number at a position, of no more blocks than are left, or the first end that fits. No public
+// entry.
+pub fn read_record(s: Shape, disk: &[u8], c: u8, number: u32, position: u8, left: u8) -> RecordRead
     requires { ⌜ InRange s × (length (now disk) ≡ diskSize) × (c < s .cores) ⌝ }
-    ensures { λ r. ⌜ r ≡ recordAt s (now (disk .entry)) c number position left ⌝ }
+    ensures { λ r. ⌜ r ≡ readRecord s (now (disk .entry)) c number position left ⌝ }
 {
     let at = position as usize;
-    let DescriptorRead::Blocks(count) = read_descriptor(s, number, journal_part(s, disk, c, at))
-    else {
-        return Found::Miss;
+    let block = journal_part(s, disk, c, at);
+    if lacks_descriptor(number, left, block) {
+        return RecordRead::NoDescriptor;
+    }
+    let DescriptorRead::Blocks(count) = read_descriptor(s, block) else {
+        return RecordRead::BadDescriptor;
     };
     let n = count as usize;
     if (left as usize) < n + 2 {
-        return Found::Miss;
+        return RecordRead::TooFewBlocks;
     }
     let CommitRead::Stamped(stamp, named) = read_commit(
         s,
         number,
         journal_part(s, disk, c, at + (n + 1)),
     ) else {
-        return Found::Miss;
+        return RecordRead::NoCommit;
     };
-    Found::Whole(Committed {
+    RecordRead::Read(Committed {
         core: c,
         number,
         position,
@@ -85,4 +104,17 @@ pub fn read_record(s: Shape, disk: &[u8], c: u8, number: u32, position: u8, left
         stamp,
         named,
     })
+}
+
+// The number of an answer's end, 0 for a record.
+pub fn end_number(r: RecordRead) -> u8
+    ensures { λ n. ⌜ n ≡ (recordAnswer r) .0 ⌝ }
+{
+    match r {
+        RecordRead::Read(_) => 0,
+        RecordRead::NoDescriptor => 1,
+        RecordRead::BadDescriptor => 2,
+        RecordRead::TooFewBlocks => 3,
+        RecordRead::NoCommit => 4,
+    }
 }

@@ -1,14 +1,15 @@
-// All journals read in one loop over the slots.
+// All journals read in one loop over the slots, and the end of one.
 ghost use mathlib.Core.Path.{_≡_};
 ghost use Prim.Native.Nat.{_+_, _≤_, _<_};
 ghost use lib.ListN.{length};
 ghost use Rattle.model.proofs.Limits.{InRange};
+ghost use Rattle.model.specs.JournalEnds.{journalEnd};
 ghost use Rattle.model.specs.declared.Found.the-variants.{Whole};
 ghost use Rattle.journal.specs.Walk.{walkRecord, stepOf, resumed, Reads};
 ghost use Rattle.model.specs.Limits.{diskSize, maxNumber};
 use crate::record::read_record;
 use model::Committed;
-use model::Found;
+use model::RecordRead;
 use model::Shape;
 use model::Tail;
 
@@ -45,7 +46,8 @@ fn advance(s: Shape, w: Walk, e: Committed) -> WalkStep
     }
 }
 
-// One slot of core c. A miss leaves no blocks, so that nothing more of this journal is read.
+// One slot of core c. An end, whichever it is, leaves no blocks, so that nothing more of this journal is read. A record has two blocks
+// or more: with fewer left none is looked for.
 fn read_step(s: Shape, disk: &[u8], c: u8, w: Walk) -> WalkStep
     requires { ⌜ InRange s × (length (now disk) ≡ diskSize) ⌝ }
     ensures { λ r. ⌜ r ≡ stepOf s w (walkRecord s (now (disk .entry)) c w) ⌝ }
@@ -68,7 +70,7 @@ fn read_step(s: Shape, disk: &[u8], c: u8, w: Walk) -> WalkStep
     if w.left < 2 {
         return end;
     }
-    let Found::Whole(e) = read_record(s, disk, c, w.number, w.at, w.left) else {
+    let RecordRead::Read(e) = read_record(s, disk, c, w.number, w.at, w.left) else {
         return end;
     };
     advance(s, w, e)
@@ -113,4 +115,28 @@ pub fn read_journals(s: Shape, disk: &[u8], tails: [Tail; 8], most: [u8; 8]) -> 
         i += 1;
     }
     slots
+}
+
+// Why the reading of core c's journal from this tail ends. Unlike the slots it asks at every count of blocks left: a descriptor in the
+// last block is told apart from none. A record has two blocks or more, so the end comes before J of them are read; the reading behind the
+// loop makes the function total. No public entry.
+pub fn journal_end(s: Shape, disk: &[u8], c: u8, t: Tail) -> RecordRead
+    requires { ⌜ InRange s × (length (now disk) ≡ diskSize) × (c < s .cores) ⌝ }
+    ensures { λ r. ⌜ r ≡ journalEnd s (now (disk .entry)) c t ⌝ }
+{
+    let mut w = Walk {
+        number: t.number,
+        at: t.position,
+        left: s.journal,
+        most: s.journal,
+    };
+    while 0 < w.most {
+        let read = read_record(s, disk, c, w.number, w.at, w.left);
+        let RecordRead::Read(e) = read else {
+            return read;
+        };
+        let step = advance(s, w, e);
+        w = step.next;
+    }
+    read_record(s, disk, c, w.number, w.at, w.left)
 }

@@ -1,8 +1,8 @@
 -- The lines of a disk's page from the slots of its journals: the n-th transaction stands in the slot that has n filled ones before it,
--- and it is in the valid set where the same slot of that set is filled.
+-- and it is in the valid set where the same slot of that set is filled; past the transactions, what is left of n is the core.
 use Rattle.model.proofs.Base.{ℕ, zero, suc, _+_, _-_, _*_, _/_, _%_, _≤_, _<_, arith, add-zero, _≡_, refl, sym, ap, _∙_, Bool, true, false}
 use Rattle.model.proofs.Base.{cond, not, List, [], _∷_, _++_, map, map-append, append-assoc, length, getD, getD-at, length-map, eq-eqb, ne-eqb, eqb-false}
-use Rattle.model.proofs.Base.{not-true, lt-ltb, Bytes}
+use Rattle.model.proofs.Base.{not-true, lt-ltb, below, Bytes}
 use lib.ListN.{List·getD-eq-default}
 use Rattle.model.specs.Limits.{diskSize}
 use Rattle.model.specs.Bytes.{blockAt}
@@ -10,24 +10,26 @@ use Rattle.model.specs.Card.{newTail}
 use Rattle.model.specs.Layout.{isMaster}
 use Rattle.model.specs.Journal.{nameOf}
 use Rattle.model.specs.Valid.{isIn}
-use Rattle.model.specs.Recovery.{shapeOn, committedOn, validOn}
-use Rattle.model.specs.JournalPage.{headFields, transactionFields, refusalFields, pageRefusal, transactionLine, pageOf, lineAt}
+use Rattle.model.specs.Recovery.{shapeOn, tailOn, committedOn, validOn}
+use Rattle.model.specs.JournalEnds.{recordAnswer, journalEnd}
+use Rattle.model.specs.JournalPage.{headFields, transactionFields, endFields, refusalFields, pageRefusal, transactionLine, endOn, endLine, bodyLines, pageOf, lineAt}
 use Rattle.model.specs.JournalPage as page
 use Rattle.model.specs.declared.Shape.{Shape}
 use Rattle.model.specs.declared.Tail.{Tail}
 use Rattle.model.specs.declared.Committed.{Committed}
 use Rattle.model.specs.declared.Found.{Found}
 use Rattle.model.specs.declared.Found.the-variants.{Whole, Miss}
-use Rattle.model.proofs.Lists.{cases}
+use Rattle.model.specs.declared.RecordRead.{RecordRead}
+use Rattle.model.proofs.Lists.{cases, length-below, getD-map-below}
 use Rattle.model.proofs.Limits.{InRange}
-use Rattle.journal_page.proofs.PageLaws.{refusal-number, refusal-numbers, refused-page, page-lines, page-length, page-head}
+use Rattle.journal_page.proofs.PageLaws.{refusal-number, refusal-numbers, refused-page, page-length, page-head, page-behind, line-behind}
 use Rattle.journal.specs.Slots.{numbersOf, slotOf, isFilled, entry, foundAt, listOf, entriesTo, entries, filledFrom}
 use Rattle.journal.proofs.Slots.{number-at}
 use Rattle.journal.proofs.Entries.{slot-core, one-no, count-none, count-more}
 use Rattle.valid.specs.Sets.{tailNumber, isHere}
 use Rattle.valid.proofs.Sets.{holds-found, entries-length, in-slot}
 use Rattle.recovery.specs.Recovering.{numbersOn, Shaped, OnDisk, IsValid}
-use Rattle.recovery.proofs.JournalLaws.{all-committed, same-numbers}
+use Rattle.recovery.proofs.JournalLaws.{all-committed, same-tail, same-numbers}
 use Rattle.journal_page.specs.Fields.{refusedLine, IsNth, withNumber}
 
 -- ---- a disk that recovery would refuse
@@ -111,15 +113,15 @@ module _ (s : Shape) (d : Bytes) (set : List ℕ) where
       (r .0 ++ l, rw (z, entriesTo, r .1) (append-assoc (entriesTo s d ks set i) (e ∷ r .0) l))
 
   nth-entry : {A : Type 0} (f : Committed → A) (z : A) (ks : List ℕ) (i n : ℕ) → i < 96 → isFilled s set i ≡ true → filledFrom s set 0 i ≡ n
-      → getD (map f (entries s d ks set)) n z ≡ f (entry s d (i / 12) (getD ks (i / 12) 0 + i % 12) (slotOf s set i))
+      → (more : List A) → getD (map f (entries s d ks set) ++ more) n z ≡ f (entry s d (i / 12) (getD ks (i / 12) 0 + i % 12) (slotOf s set i))
   unfolding entries
-  nth-entry f z ks i n l h b =
+  nth-entry f z ks i n l h b more =
       let e = entry s d (i / 12) (getD ks (i / 12) 0 + i % 12) (slotOf s set i) in
       let r = later-slots ks i (95 - i) e (holds-found s d ks set i h) in
       let y : suc i + (95 - i) ≡ 96 = omega arith in
       let q : entriesTo s d ks set 96 ≡ entriesTo s d ks set i ++ (e ∷ r .0) = rw y at (r .1) in
       let l : length (map f (entriesTo s d ks set i)) ≡ n = length-map (entriesTo s d ks set i) f ∙ entries-length s d ks set i ∙ b in
-      rw (q, map-append) (getD-at (map f (entriesTo s d ks set i)) (f e) (map f (r .0)) z n l)
+      rw (q, map-append, append-assoc) (getD-at (map f (entriesTo s d ks set i)) (f e) (map f (r .0) ++ more) z n l)
 
   -- the transaction in a filled slot, with another number
   module _ (i : ℕ) (h : isFilled s set i ≡ true) where
@@ -163,25 +165,50 @@ module _ (d : Bytes) (s : Shape) (g : Shaped s d) (ts : List Tail) (set : List �
   unfolding entries
   committed-count = ap length (sym (all-committed d s g ts set r)) ∙ entries-length s d (numbersOf ts) set 96
 
-  pub lines-counted : (x : ℕ) → x ≡ pageRefusal d → x ≡ 0 → (n : ℕ) → n ≡ filledFrom s set 0 96 → 1 + n ≡ length (pageOf d)
-  lines-counted x e z n q = ap (λ (k : ℕ). 1 + k) (q ∙ sym committed-count) ∙ sym (page-length d (sym e ∙ z))
+  same-cores : s .cores ≡ (shapeOn d) .cores
+  same-cores = ap (λ (s : Shape). s .cores) (g .shape)
+
+  pub lines-counted : (x : ℕ) → x ≡ pageRefusal d → x ≡ 0 → (n : ℕ) → n ≡ filledFrom s set 0 96 → 1 + n + s .cores ≡ length (pageOf d)
+  lines-counted x e z n q = omega (arith, committed-count, same-cores, page-length d (sym e ∙ z))
+
+  -- the end of a core's journal, read from its tail
+  module _ (c : ℕ) where
+    pub end-none : s .cores ≤ c → (fs : List page.Field) → fs ≡ [] → fs ≡ getD (map (endLine d) (below (s .cores))) c []
+    end-none h fs e =
+        let l : length (map (endLine d) (below (s .cores))) ≤ c = omega (arith, length-map (below (s .cores)) (endLine d), length-below (s .cores)) in
+        e ∙ sym (List·getD-eq-default (map (endLine d) (below (s .cores))) [] l)
+
+    pub end-shown : c < s .cores → (t : Tail) → t ≡ getD ts c (newTail 0 0) → (a : RecordRead) → a ≡ journalEnd s d c t → (n : ℕ) → n ≡ (recordAnswer a) .0
+        → (fs : List page.Field) → fs ≡ endFields c n → fs ≡ getD (map (endLine d) (below (s .cores))) c []
+    unfolding endLine endOn
+    end-shown h t y a q n k fs e =
+        let read : a ≡ journalEnd (shapeOn d) d c (tailOn d c) =
+        q ∙ ap (journalEnd s d c) (y ∙ same-tail d s g ts set r c h) ∙ ap (λ (s : Shape). journalEnd s d c (tailOn d c)) (g .shape) in
+        e ∙ ap (endFields c) (k ∙ ap (λ (a : RecordRead). (recordAnswer a) .0) read) ∙ sym (getD-map-below (endLine d) (s .cores) c [] h)
 
   module _ (n i : ℕ) (w : IsNth s set n i) where
     pub nth-filled : i < 96 → isFilled s set i ≡ true
     nth-filled h = w .filled h
 
-    pub nth-none : 96 ≤ i → (fs : List page.Field) → fs ≡ [] → fs ≡ getD (map (transactionLine d) (committedOn d)) n []
-    nth-none h fs e =
-        let l : length (map (transactionLine d) (committedOn d)) ≤ n =
-        omega (arith, length-map (committedOn d) (transactionLine d), committed-count, w .past h) in
-        e ∙ sym (List·getD-eq-default (map (transactionLine d) (committedOn d)) [] l)
+    -- past the transactions a core's end
+    module _ (h : 96 ≤ i) (k : ℕ) (q : k ≡ filledFrom s set 0 96) where
+      pub nth-past-all : k ≤ n
+      nth-past-all = omega (arith, q, w .past h)
 
-    pub nth-shown : i < 96 → (v : List ℕ) → IsValid s d v → (kept : Bool) → kept ≡ isFilled s v i → (t : Tail) → t ≡ getD ts (i / 12) (newTail 0 0)
-        → (fs : List page.Field) → fs ≡ transactionFields kept (entry s d (i / 12) (t .number + i % 12) (slotOf s set i))
-        → fs ≡ getD (map (transactionLine d) (committedOn d)) n []
-    unfolding transactionLine
-    nth-shown h v valid kept q t y fs e =
+      pub nth-end : (fs : List page.Field) → fs ≡ getD (map (endLine d) (below (s .cores))) (n - k) [] → fs ≡ getD (bodyLines d) n []
+      nth-end fs e =
+          let place : length (committedOn d) + (n - k) ≡ n = omega (arith, committed-count, q, nth-past-all) in
+          e ∙ ap (λ (c : ℕ). getD (map (endLine d) (below c)) (n - k) []) same-cores ∙ sym (line-behind d (n - k))
+          ∙ ap (λ (j : ℕ). getD (bodyLines d) j []) place
+
+    pub nth-shown : (t : Tail) (kept : Bool) (fs : List page.Field)
+        → fs ≡ transactionFields kept (entry s d (i / 12) (t .number + i % 12) (slotOf s set i))
+        → (v : List ℕ) → kept ≡ isFilled s v i → IsValid s d v → t ≡ getD ts (i / 12) (newTail 0 0) → i < 96
+        → fs ≡ getD (bodyLines d) n []
+    unfolding transactionLine bodyLines
+    nth-shown t kept fs e v q valid y h =
         let ks = numbersOn d in
+        let ends = map (endLine d) (below ((shapeOn d) .cores)) in
         let same : numbersOf ts ≡ ks = same-numbers d s g ts set r in
         let c : i / 12 < 8 = omega arith in
         let k : t .number ≡ getD ks (i / 12) 0 = ap (λ (t : Tail). t .number) y ∙ sym (number-at ts (i / 12) c) ∙ ap (λ (l : List ℕ). getD l (i / 12) 0) same in
@@ -191,18 +218,12 @@ module _ (d : Bytes) (s : Shape) (g : Shaped s d) (ts : List Tail) (set : List �
         q ∙ sym (in-same-slot s d ks set v (g .range) i (w .filled h)) ∙ ap (λ (es : List Committed). isIn es (nameOf x)) (valid .valid) in
         e ∙ ap (λ (a : ℕ). transactionFields kept (entry s d (i / 12) (a + i % 12) (slotOf s set i))) k
         ∙ ap (λ (b : Bool). transactionFields b x) m
-        ∙ sym (nth-entry s d set (transactionLine d) [] ks i n h (w .filled h) (w .before h))
-        ∙ ap (λ (es : List Committed). getD (map (transactionLine d) es) n []) read
+        ∙ sym (nth-entry s d set (transactionLine d) [] ks i n h (w .filled h) (w .before h) ends)
+        ∙ ap (λ (es : List Committed). getD (map (transactionLine d) es ++ ends) n []) read
 
 module _ (d : Bytes) (x : ℕ) (e : x ≡ pageRefusal d) (z : x ≡ 0) (s : Shape) (g : Shaped s d) (i : ℕ) (fs : List page.Field) where
   pub head-at : fs ≡ headFields s → i ≡ 0 → fs ≡ lineAt d i
   head-at q h = q ∙ ap headFields (g .shape) ∙ sym (page-head d (sym e ∙ z)) ∙ ap (lineAt d) (sym h)
 
-  pub transaction-at : (i ≡ 0 → ⊥) → fs ≡ getD (map (transactionLine d) (committedOn d)) (i - 1) [] → fs ≡ lineAt d i
-  unfolding lineAt
-  transaction-at h q =
-      let y : suc (i - 1) ≡ i = omega arith in
-      let lines = headFields (shapeOn d) ∷ map (transactionLine d) (committedOn d) in
-      let behind : getD (pageOf d) i [] ≡ getD lines (suc (i - 1)) [] =
-      ap (λ (l : List (List page.Field)). getD l i []) (page-lines d (sym e ∙ z)) ∙ ap (λ (k : ℕ). getD lines k []) (sym y) in
-      q ∙ sym behind
+  pub behind-at : (i ≡ 0 → ⊥) → fs ≡ getD (bodyLines d) (i - 1) [] → fs ≡ lineAt d i
+  behind-at h q = let y : i - 1 + 1 ≡ i = omega arith in q ∙ sym (page-behind d (sym e ∙ z) (i - 1)) ∙ ap (lineAt d) y

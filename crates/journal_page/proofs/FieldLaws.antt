@@ -1,7 +1,7 @@
 -- The six fields that the code holds are those of the definition; a field of no columns is none.
 use Rattle.model.proofs.Base.{ℕ, _≡_, refl, Bool, true, false, [], _∷_, select}
 use Rattle.model.specs.Bytes.{bytes}
-use Rattle.model.specs.JournalPage.{headFields, keptOrLeft, transactionFields, refusalFields}
+use Rattle.model.specs.JournalPage.{headFields, keptOrLeft, transactionFields, endFields, refusalFields}
 use Rattle.model.specs.declared.Shape.{Shape}
 use Rattle.model.specs.declared.Committed.{Committed}
 use Rattle.journal_page.specs.declared.line.Field.{Field}
@@ -20,6 +20,11 @@ pub refusal-is : (n : ℕ) (a b c d e f : Field) → a ≡ newField 1 2 false n 
     → d ≡ noField → e ≡ noField → f ≡ noField → fieldsIn (a ∷ b ∷ c ∷ d ∷ e ∷ f ∷ []) ≡ refusalFields n
 unfolding fieldsIn select fieldIn refusalFields
 refusal-is n a b c d e f p q r x y z = rw (p, q, r, x, y, z)
+
+pub end-is : (core end : ℕ) (a b c d e f : Field) → a ≡ newField 1 2 false core → b ≡ newField 4 2 false end → c ≡ noField
+    → d ≡ noField → e ≡ noField → f ≡ noField → fieldsIn (a ∷ b ∷ c ∷ d ∷ e ∷ f ∷ []) ≡ endFields core end
+unfolding fieldsIn select fieldIn endFields
+end-is core end a b c d e f p q r x y z = rw (p, q, r, x, y, z)
 
 letters : (kept : Bool) → bytes 4 (lettersOf kept) ≡ keptOrLeft kept
 unfolding bytes keptOrLeft

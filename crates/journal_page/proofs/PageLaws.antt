@@ -1,7 +1,8 @@
--- The journal page of paper 02, request (a): the bytes of its lines column by column, which disk has a page of one line, which
--- lines the page of any other has, and which word each of them has.
+-- The journal page of paper 02, requests (a) and (b): the bytes of its lines column by column, which disk has a page of one line,
+-- which lines the page of any other has, and which word each of its transactions has.
 use mathlib.Core.Logic.{_↔_}
 use lib.ListN.{List·getD-eq-default}
+use lib.Seq.{getD-append-add}
 use Rattle.model.specs.Limits.{diskSize, memorySize}
 use Rattle.model.specs.Lists.{Each}
 use Rattle.model.specs.Bytes.{blockAt, zeroMemory}
@@ -15,7 +16,8 @@ use Rattle.model.specs.Recovery.{shapeOn, tailOn, committedOn, validOn, recover
 use Rattle.model.specs.Tape.{RECOVER}
 use Rattle.model.specs.Step.{doneBy}
 use Rattle.model.specs.JournalPage.{Field, lineSize, space, lineFeed, digitAt, numeral, covers, shownAt, byteAt, lineBytes}
-use Rattle.model.specs.JournalPage.{headFields, keptOrLeft, transactionFields, refusalFields, pageRefusal, transactionLine, pageOf, lineAt, layNumber, laid}
+use Rattle.model.specs.JournalPage.{headFields, keptOrLeft, transactionFields, endFields, refusalFields, pageRefusal, transactionLine, endLine, bodyLines, pageOf}
+use Rattle.model.specs.JournalPage.{lineAt, layNumber, laid}
 use Rattle.model.specs.declared.Phase.{Phase}
 use Rattle.model.specs.declared.Phase.the-variants.{Down}
 use Rattle.model.specs.declared.Shape.{Shape}
@@ -24,7 +26,7 @@ use Rattle.model.specs.declared.Committed.{Committed}
 use Rattle.model.proofs.Base.{ℕ, zero, suc, _+_, _≤_, _<_, arith, add-one, _≡_, refl, sym, ap, _∙_, _≢_}
 use Rattle.model.proofs.Base.{Bool, true, false, true≢false, cond, not, List, [], _∷_, _++_, map, length, getD, replicate}
 use Rattle.model.proofs.Base.{List·Memᴰ, List·Memᴰ·head, List·Memᴰ·tail, Memᴰ·cast, append-nil, flatMap, any, _⊎_, inl, inr, subst}
-use Rattle.model.proofs.Base.{length-map, eqb, eq-eqb, ne-eqb, eqb-true, eqb-false, below, Bytes}
+use Rattle.model.proofs.Base.{length-map, length-append, List·getD-append, eqb, eq-eqb, ne-eqb, eqb-true, eqb-false, below, Bytes}
 use Rattle.model.proofs.Lists.{cases, length-below, getD-map, getD-map-below, each-append, each-getD, getD-each, mem-each, any-mem, mem-any, flatMap-append, mem-flatMap, mem-below}
 use Rattle.journal_page.proofs.Numerals.{setRight, digit-last}
 use Rattle.model.proofs.Journal.{KnownRecord, records-known}
@@ -62,6 +64,11 @@ pub transaction-columns : (kept : Bool) (e : Committed) → lineBytes (transacti
 unfolding lineBytes byteAt shownAt covers numeral transactionFields keptOrLeft below
 transaction-columns true e = refl
 transaction-columns false e = refl
+
+-- the line of a journal's end by its columns: core 1-2, end 4-5
+pub end-columns : (c end : ℕ) → lineBytes (endFields c end) ≡ setRight 2 c ++ blanks 1 ++ setRight 2 end ++ blanks 59 ++ lineFeed ∷ []
+unfolding lineBytes byteAt shownAt covers numeral endFields below
+end-columns c end = refl
 
 -- the line of a refused disk by its columns: the number 1-2
 pub refusal-columns : (n : ℕ) → lineBytes (refusalFields n) ≡ setRight 2 n ++ blanks 62 ++ lineFeed ∷ []
@@ -149,25 +156,58 @@ refused-page d h = go (pageRefusal d) refl
     go zero e = absurd (h e)
     go (suc n) e = unfold pageOf in rw (e, pageOf)
 
--- any other has the head line and then a line for each transaction read
-pub page-lines : (d : Bytes) → pageRefusal d ≡ 0 → pageOf d ≡ headFields (shapeOn d) ∷ map (transactionLine d) (committedOn d)
+-- any other has the head line, then a line for each transaction read, then one for each core
+pub page-lines : (d : Bytes) → pageRefusal d ≡ 0 → pageOf d ≡ headFields (shapeOn d) ∷ bodyLines d
 unfolding pageOf
 page-lines d h = rw (h, pageOf)
 
--- as many lines as transactions read, and the head
-pub page-length : (d : Bytes) → pageRefusal d ≡ 0 → length (pageOf d) ≡ 1 + length (committedOn d)
-page-length d h = ap length (page-lines d h) ∙ omega (arith, length-map (committedOn d) (transactionLine d))
+-- behind the head: as many lines as transactions read, and C
+lines-length : (d : Bytes) → length (bodyLines d) ≡ length (committedOn d) + (shapeOn d) .cores
+unfolding bodyLines
+lines-length d =
+    let n = (shapeOn d) .cores in
+    simp length-append
+    (omega (arith, length-map (committedOn d) (transactionLine d), length-map (below n) (endLine d), length-below n))
+
+-- the i-th of them is the i-th transaction's, whatever stands for none
+line-transaction : (d : Bytes) (i : ℕ) (z : Committed) → i < length (committedOn d) → getD (bodyLines d) i [] ≡ transactionLine d (getD (committedOn d) i z)
+unfolding bodyLines
+line-transaction d i z h =
+    List·getD-append (map (transactionLine d) (committedOn d)) _ [] i (omega (arith, length-map (committedOn d) (transactionLine d)))
+    ∙ getD-map (transactionLine d) (committedOn d) i z [] h
+
+-- past the transactions those of the ends, and no more
+pub line-behind : (d : Bytes) (c : ℕ) → getD (bodyLines d) (length (committedOn d) + c) [] ≡ getD (map (endLine d) (below ((shapeOn d) .cores))) c []
+unfolding bodyLines
+line-behind d c =
+    rw (← length-map (committedOn d) (transactionLine d))
+    (getD-append-add (map (transactionLine d) (committedOn d)) (map (endLine d) (below ((shapeOn d) .cores))) c [])
+
+-- as many lines as transactions read, the head and C
+pub page-length : (d : Bytes) → pageRefusal d ≡ 0 → length (pageOf d) ≡ 1 + length (committedOn d) + (shapeOn d) .cores
+page-length d h = ap length (page-lines d h) ∙ omega (arith, lines-length d)
 
 -- line 0 is the head
 pub page-head : (d : Bytes) → pageRefusal d ≡ 0 → lineAt d 0 ≡ headFields (shapeOn d)
 unfolding lineAt
 page-head d h = rw (page-lines d h) refl
 
+-- line n + 1 is the n-th behind the head
+pub page-behind : (d : Bytes) → pageRefusal d ≡ 0 → (n : ℕ) → lineAt d (n + 1) ≡ getD (bodyLines d) n []
+unfolding lineAt
+page-behind d h n = rw (page-lines d h, add-one n) refl
+
 -- line i + 1 is that of the i-th transaction, whatever stands for none
 pub page-line : (d : Bytes) → pageRefusal d ≡ 0 → (i : ℕ) (z : Committed) → i < length (committedOn d)
     → lineAt d (i + 1) ≡ transactionLine d (getD (committedOn d) i z)
-unfolding lineAt
-page-line d h i z l = rw (page-lines d h, add-one i) (getD-map (transactionLine d) (committedOn d) i z [] l)
+page-line d h i z l = page-behind d h i ∙ line-transaction d i z l
+
+-- past them, core by core, that of its end
+pub page-end : (d : Bytes) → pageRefusal d ≡ 0 → (c : ℕ) → c < (shapeOn d) .cores → lineAt d (1 + length (committedOn d) + c) ≡ endLine d c
+page-end d h c l =
+    let n = length (committedOn d) in
+    let k : 1 + n + c ≡ n + c + 1 = omega arith in
+    ap (lineAt d) k ∙ page-behind d h (n + c) ∙ line-behind d c ∙ getD-map-below (endLine d) ((shapeOn d) .cores) c [] l
 
 -- past the last line no field
 pub line-past : (d : Bytes) (i : ℕ) → length (pageOf d) ≤ i → lineAt d i ≡ []
@@ -184,7 +224,7 @@ head-apart s n e =
 -- so no other disk has a page of that form
 pub page-refused-only : (d : Bytes) (n : ℕ) → map lineBytes (pageOf d) ≡ lineBytes (refusalFields n) ∷ [] → pageRefusal d ≢ 0
 page-refused-only d n h r =
-    let e : map lineBytes (headFields (shapeOn d) ∷ map (transactionLine d) (committedOn d)) ≡ lineBytes (refusalFields n) ∷ [] =
+    let e : map lineBytes (headFields (shapeOn d) ∷ bodyLines d) ≡ lineBytes (refusalFields n) ∷ [] =
     sym (ap (map lineBytes) (page-lines d r)) ∙ h in
     head-apart (shapeOn d) n (ap (λ (ls : List Bytes). getD ls 0 []) e)
 

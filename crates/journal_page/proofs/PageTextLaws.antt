@@ -6,6 +6,7 @@ use Rattle.model.proofs.Base.{take, drop, length-take, length-drop, length-appe
 use Rattle.model.specs.JournalPage.{lineBytes, pageOf, lineAt, laid}
 use Rattle.model.specs.JournalPage as page
 use Rattle.model.proofs.Lists.{flatMap-append}
+use Rattle.journal_page.specs.Fields.{maxLines}
 use Rattle.journal_page.proofs.PageLaws.{line-length, lay-done}
 
 -- a line laid into 65 bytes of the text
@@ -34,7 +35,7 @@ module _ (d before : Bytes) (n : ℕ) where
   page-start = record { most = omega arith; size = refl; same = refl }
 
   module _ (text : Bytes) (i : ℕ) (w : LinesLaid text i) (e : n ≡ length (pageOf d)) where
-    pub page-more : (line : Bytes) → line ≡ laid (lineAt d i) (take (65 * i + 65 - 65 * i) (drop (65 * i) text)) → i < n → n ≤ 97 → 97 * 65 ≤ length before
+    pub page-more : (line : Bytes) → line ≡ laid (lineAt d i) (take (65 * i + 65 - 65 * i) (drop (65 * i) text)) → i < n → n ≤ maxLines → maxLines * 65 ≤ length before
         → LinesLaid (take (65 * i) text ++ (line ++ drop (65 * i + 65 - 65 * i) (drop (65 * i) text))) (i + 1)
     unfolding lineAt
     page-more line q h l f =

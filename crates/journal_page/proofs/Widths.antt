@@ -1,5 +1,5 @@
--- Every number of a transaction fits the columns of its line, if the disk is one of bytes; those of the head by `shape-limits`. What fits
--- is read back: `set-right-value` of `Numerals`.
+-- Every number of a transaction fits the columns of its line, if the disk is one of bytes; so do those of an end, and those of the head by
+-- `shape-limits`. What fits is read back: `set-right-value` of `Numerals`.
 use Rattle.model.specs.Limits.{maxNumber}
 use Rattle.model.specs.Lists.{Each}
 use Rattle.model.specs.Bytes.{number, part, be4, blockAt}
@@ -7,7 +7,7 @@ use Rattle.model.specs.Shape.{journalBlock}
 use Rattle.model.specs.Layout.{hasHead, isDescriptor, stampIn}
 use Rattle.model.specs.Journal.{journalAt}
 use Rattle.model.specs.Recovery.{shapeOn, tailOn, committedOn}
-use Rattle.model.specs.JournalPage.{pageRefusal}
+use Rattle.model.specs.JournalPage.{pageRefusal, endOn}
 use Rattle.model.specs.declared.Shape.{Shape}
 use Rattle.model.specs.declared.Committed.{Committed}
 use Rattle.model.proofs.Base.{ℕ, zero, suc, _+_, _*_, _^_, _≤_, _<_, arith, _≡_, true, List, [], _∷_, List·Memᴰ, length, drop, length-take, leb-true, Bytes}
@@ -16,6 +16,7 @@ use Rattle.model.proofs.Limits.{InRange}
 use Rattle.model.proofs.Words.{IsByte}
 use Rattle.model.proofs.Records.{journals-known}
 use Rattle.model.proofs.OneStore.{master-limits}
+use Rattle.model.proofs.EndReasons.{end-known}
 use Rattle.journal_page.proofs.PageLaws.{refusal-numbers}
 
 four-low : (xs : Bytes) → Each IsByte xs → length xs ≤ 4 → number 0 xs < 4294967296
@@ -81,3 +82,8 @@ committed-fits d h a e m =
       count = omega (arith, k .few);
       named = omega (arith, k .short);
     }
+
+-- core and end fit the columns of their line
+pub end-fits : (d : Bytes) → pageRefusal d ≡ 0 → (c : ℕ) → c < (shapeOn d) .cores → (c < 10 ^ 2) × (endOn d c < 10 ^ 2)
+unfolding endOn
+end-fits d h c l = (omega (arith, l, (shape-limits d h) .few-cores), omega (arith, end-known (shapeOn d) d c (tailOn d c) .1))

@@ -14,6 +14,10 @@ use Rattle.model.specs.declared.Committed.{Committed}
 use Rattle.journal.specs.Slots.{isFilled, filledFrom}
 use Rattle.journal_page.specs.declared.line.Field.{Field}
 
+-- the lines of the longest page: the head, twelve transactions and an end of each of eight cores
+abbrev pub maxLines : ℕ
+maxLines = 105
+
 abbrev pub newField : ℕ → ℕ → Bool → ℕ → Field
 newField first width word value = record { first = first; width = width; word = word; value = value }
 

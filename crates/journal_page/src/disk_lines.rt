@@ -6,11 +6,12 @@ ghost use mathlib.Core.List.{[], map};
 ghost use lib.ListN.{length, getD};
 ghost use Rattle.model.proofs.Limits.{InRange};
 ghost use Rattle.model.specs.Limits.{diskSize};
-ghost use Rattle.model.specs.Recovery.{committedOn};
-ghost use Rattle.model.specs.JournalPage.{transactionFields, pageRefusal, transactionLine, pageOf, lineAt, layNumber, laid};
+ghost use Rattle.model.specs.Lists.{below};
+ghost use Rattle.model.specs.JournalPage.{transactionFields, pageRefusal, endLine, bodyLines, pageOf, lineAt, layNumber, laid};
 ghost use Rattle.journal.specs.Slots.{slotOf, isFilled, entry};
-ghost use Rattle.recovery.specs.Recovering.{Shaped};
-ghost use Rattle.journal_page.specs.Fields.{fieldsIn, refusedLine, IsNth};
+ghost use Rattle.recovery.specs.Recovering.{Shaped, OnDisk};
+ghost use Rattle.journal_page.specs.Fields.{maxLines, fieldsIn, refusedLine, IsNth};
+use crate::fields::end_fields;
 use crate::fields::head_fields;
 use crate::fields::no_fields;
 use crate::fields::refusal_fields;
@@ -18,15 +19,21 @@ use crate::fields::transaction_fields;
 use crate::line::Field;
 use crate::line::lay_line;
 use journal::count_slots;
+use journal::end_number;
 use journal::entry_at;
 use journal::is_filled;
+use journal::journal_end;
 use model::Found;
 use model::Shape;
 use model::Tail;
+use recovery::Journals;
 use recovery::disk_shape;
 use recovery::master_refusal;
 use recovery::read_disk;
 use recovery::valid_set;
+
+// The lines of the longest page: the head, twelve transactions and an end of each of eight cores.
+pub const MAX_LINES: usize = 105;
 
 // The number that recovery would refuse the disk with, 0 for none.
 fn page_refusal(disk: &[u8]) -> u8
@@ -38,9 +45,9 @@ fn page_refusal(disk: &[u8]) -> u8
     master_refusal(disk)
 }
 
-// How many lines the page has: 97 at most, with the head and twelve transactions of each of eight cores.
+// How many lines the page has.
 pub fn page_lines(disk: &[u8]) -> usize
-    ensures { λ r. ⌜ (r ≡ length (pageOf (now (disk .entry)))) × (r ≤ 97) ⌝ }
+    ensures { λ r. ⌜ (r ≡ length (pageOf (now (disk .entry)))) × (r ≤ maxLines) ⌝ }
 {
     if page_refusal(disk) != 0 {
         return 1;
@@ -48,7 +55,7 @@ pub fn page_lines(disk: &[u8]) -> usize
     let s = disk_shape(disk);
     let all = read_disk(s, disk);
     let committed = all.committed;
-    1 + count_slots(s, &committed, 0, 96)
+    1 + count_slots(s, &committed, 0, 96) + s.cores as usize
 }
 
 // The slot of the n-th transaction, from 0; 96 where there are not so many.
@@ -82,17 +89,33 @@ fn slot_fields(s: Shape, disk: &[u8], t: Tail, set: &[u16; 96], i: usize, kept: 
     transaction_fields(e, t.number as u64 + (i % 12) as u64, kept)
 }
 
-// The fields of the n-th transaction of the disk, from 0; none past the last.
-fn transaction_line(s: Shape, disk: &[u8], n: usize) -> [Field; 6]
+// The fields of the end of core c's journal; none for a core that the disk has not.
+fn end_line(s: Shape, disk: &[u8], all: Journals, c: usize) -> [Field; 6]
+    requires { ⌜ Shaped s (now disk) × OnDisk s (now disk) (all .tails) (all .committed) ⌝ }
+    ensures { λ r. ⌜ fieldsIn r ≡ getD (map (endLine (now (disk .entry))) (below (s .cores))) c [] ⌝ }
+{
+    if s.cores as usize <= c {
+        return no_fields();
+    }
+    let tails = all.tails;
+    let t = tails[c];
+    let read = journal_end(s, disk, c as u8, t);
+    let end = end_number(read);
+    end_fields(c as u8, end)
+}
+
+// The fields of the n-th line behind the head, from 0: the transactions, then the ends of the journals; none past the last.
+fn nth_line(s: Shape, disk: &[u8], n: usize) -> [Field; 6]
     requires { ⌜ Shaped s (now disk) ⌝ }
-    ensures { λ r. ⌜ fieldsIn r ≡ getD (map (transactionLine (now (disk .entry))) (committedOn (now (disk .entry)))) n [] ⌝ }
+    ensures { λ r. ⌜ fieldsIn r ≡ getD (bodyLines (now (disk .entry))) n [] ⌝ }
 {
     let all = read_disk(s, disk);
     let tails = all.tails;
     let committed = all.committed;
     let i = nth_slot(s, &committed, n);
     if 96 <= i {
-        return no_fields();
+        let count = count_slots(s, &committed, 0, 96);
+        return end_line(s, disk, all, n - count);
     }
     let valid = valid_set(s, disk, all);
     let kept = is_filled(s, &valid, i);
@@ -122,7 +145,7 @@ fn fields_of(disk: &[u8], i: usize) -> [Field; 6]
     if i == 0 {
         return head_fields(s);
     }
-    transaction_line(s, disk, i - 1)
+    nth_line(s, disk, i - 1)
 }
 
 // Line i of the page laid into the buffer. Any length but 65 bytes is answered with 1, and no byte is touched.

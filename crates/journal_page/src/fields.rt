@@ -1,8 +1,8 @@
-// The fields of the three kinds of lines: columns and values, and nothing more.
+// The fields of the four kinds of lines: columns and values, and nothing more.
 ghost use mathlib.Core.Path.{_≡_};
 ghost use mathlib.Core.Bool.{true, false};
 ghost use mathlib.Core.List.{[]};
-ghost use Rattle.model.specs.JournalPage.{headFields, transactionFields, refusalFields};
+ghost use Rattle.model.specs.JournalPage.{headFields, transactionFields, endFields, refusalFields};
 ghost use Rattle.journal_page.specs.Fields.{noField, newField, fieldsIn, lettersOf, withNumber};
 use crate::line::Field;
 use model::Committed;
@@ -47,6 +47,20 @@ pub fn head_fields(s: Shape) -> [Field; 6]
         numeral(1, 2, s.cores as u64),
         numeral(4, 2, s.blocks as u64),
         numeral(7, 2, s.journal as u64),
+        none(),
+        none(),
+        none(),
+    ]
+}
+
+// The end of a journal: its core, and why it stopped there.
+pub fn end_fields(c: u8, end: u8) -> [Field; 6]
+    ensures { λ r. ⌜ fieldsIn r ≡ endFields c end ⌝ }
+{
+    [
+        numeral(1, 2, c as u64),
+        numeral(4, 2, end as u64),
+        none(),
         none(),
         none(),
         none(),

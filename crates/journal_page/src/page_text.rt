@@ -4,15 +4,16 @@ ghost use mathlib.Core.Path.{_≡_};
 ghost use mathlib.Core.List.{flatMap};
 ghost use lib.ListN.{length, take};
 ghost use Rattle.model.specs.JournalPage.{lineSize, lineBytes, pageOf};
+ghost use Rattle.journal_page.specs.Fields.{maxLines};
 use crate::disk_lines::page_line;
 use crate::disk_lines::page_lines;
 use crate::line::LINE_SIZE;
 
-// Every line of the page laid into its 65 bytes of the text: how many bytes the page has. The longest page has 97 lines.
+// Every line of the page laid into its 65 bytes of the text, which has room for the longest page: how many bytes the page has.
 pub fn lay_page(disk: &[u8], text: &mut [u8]) -> usize
-    requires { ⌜ 97 * lineSize ≤ length (now text) ⌝ }
+    requires { ⌜ maxLines * lineSize ≤ length (now text) ⌝ }
     ensures { λ r. ⌜
-        (r ≡ lineSize * length (pageOf (now (disk .entry)))) × (r ≤ 97 * lineSize)
+        (r ≡ lineSize * length (pageOf (now (disk .entry)))) × (r ≤ maxLines * lineSize)
         × (take r (now (text .exit)) ≡ flatMap lineBytes (pageOf (now (disk .entry))))
         ⌝ }
 {

@@ -1,10 +1,12 @@
 -- What the readers answer is what the definitions ask: all pairs of a descriptor in range and distinct, all names of a
 -- commit listable, the stamp of its two words.
-use Rattle.model.proofs.Base.{ℕ, zero, suc, _+_, _*_, _≤_, _<_, _≡_, refl, sym, ap, ap₂, _∙_, Bool, true, false, not, _&&_, List}
-use Rattle.model.proofs.Base.{[], _∷_, _++_, map-append, eqb, eq-eqb, ne-eqb, not-true, not-false, below, all, Bytes}
+use Rattle.model.proofs.Base.{ℕ, zero, suc, _+_, _*_, _≤_, _<_, arith, _≡_, refl, sym, ap, ap₂, _∙_, Bool, true, false, not, _&&_, List}
+use Rattle.model.proofs.Base.{[], _∷_, _++_, map-append, eqb, eq-eqb, ne-eqb, lt-ltb, le-ltb, not-true, not-false, below, all, Bytes}
 use Rattle.model.specs.Bytes.{be4}
 use Rattle.model.specs.Card.{newName}
 use Rattle.model.specs.Layout.{Tag, newTag, pairAt, pairsIn, tagsIn, distinct, isTag, blockCount, isListable, namesIn, nameCount, stampIn}
+use Rattle.model.specs.Limits.{maxTaken}
+use Rattle.model.specs.JournalEnds.{hasBadField}
 use Rattle.model.specs.declared.Shape.{Shape}
 use Rattle.model.proofs.Lists.{all-append}
 use Rattle.layout.specs.Loops.{every}
@@ -50,20 +52,26 @@ distinct-every b (suc n) =
     ∙ ap₂ _&&_ (distinct-every b n) (sym (new-all b n))
     ∙ sym (every-step (isNew b) n)
 
--- a descriptor's test, from what the calls answered for its count of blocks
-module _ (s : Shape) (b : Bytes) (n : ℕ) (r : Bool) (l : n ≡ blockCount b) where
-  held-same : r ≡ every n (λ (i : ℕ). isTag s (pairAt newTag b 16 i)) → r ≡ all (isTag s) (tagsIn b (blockCount b))
-  unfolding tagsIn pairsIn
-  held-same e = e ∙ every-map (isTag s) (pairAt newTag b 16) n ∙ ap (λ (k : ℕ). all (isTag s) (tagsIn b k)) l
+-- a bad field, from what the calls answered for the descriptor's count of blocks
+module _ (s : Shape) (b : Bytes) (n : ℕ) (l : n ≡ blockCount b) where
+  pub bad-count : maxTaken < n → true ≡ hasBadField s b
+  unfolding hasBadField
+  bad-count h = rw (lt-ltb maxTaken (blockCount b) (omega arith))
 
-  pub tags-no : r ≡ every n (λ (i : ℕ). isTag s (pairAt newTag b 16 i)) → not r ≡ true → all (isTag s) (tagsIn b (blockCount b)) ≡ false
-  tags-no e h = sym (held-same e) ∙ not-true r h
+  module _ (h : n ≤ maxTaken) (r : Bool) (e : r ≡ every n (λ (i : ℕ). isTag s (pairAt newTag b 16 i))) where
+    tags-same : r ≡ all (isTag s) (tagsIn b (blockCount b))
+    unfolding tagsIn pairsIn
+    tags-same = e ∙ every-map (isTag s) (pairAt newTag b 16) n ∙ ap (λ (k : ℕ). all (isTag s) (tagsIn b k)) l
 
-  pub tags-yes : r ≡ every n (λ (i : ℕ). isTag s (pairAt newTag b 16 i)) → not r ≡ false → all (isTag s) (tagsIn b (blockCount b)) ≡ true
-  tags-yes e h = sym (held-same e) ∙ not-false r h
+    pub bad-tags : not r ≡ true → true ≡ hasBadField s b
+    unfolding hasBadField
+    bad-tags z = rw (le-ltb maxTaken (blockCount b) (omega arith), ← tags-same, not-true r z)
 
-pub new-same : (b : Bytes) (n : ℕ) (r : Bool) → r ≡ every n (isNew b) → n ≡ blockCount b → r ≡ distinct (tagsIn b (blockCount b))
-new-same b n r e l = e ∙ sym (distinct-every b n) ∙ ap (λ (k : ℕ). distinct (tagsIn b k)) l
+    pub bad-twice : not r ≡ false → (q : Bool) → q ≡ every n (isNew b) → not q ≡ hasBadField s b
+    unfolding hasBadField
+    bad-twice z q y =
+        let w : q ≡ distinct (tagsIn b (blockCount b)) = y ∙ sym (distinct-every b n) ∙ ap (λ (k : ℕ). distinct (tagsIn b k)) l in
+        rw (le-ltb maxTaken (blockCount b) (omega arith), ← tags-same, not-false r z, w)
 
 module _ (b : Bytes) (i j x y : ℕ) (e : x ≡ (pairAt newTag b 16 i) .block) (q : y ≡ (pairAt newTag b 16 j) .block) where
   pub new-no : y ≡ x → j < i → false ≡ isNew b i

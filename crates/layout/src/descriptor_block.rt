@@ -4,7 +4,8 @@ ghost use mathlib.Core.List.{map};
 ghost use Prim.Native.Nat.{ℕ, _≤_, _<_, min};
 ghost use lib.ListN.{length, getD};
 ghost use Rattle.model.specs.Lists.{below};
-ghost use Rattle.model.specs.Layout.{newTag, descriptorBlock, pairAt, isTag, isDescriptor, blockCount};
+ghost use Rattle.model.specs.Layout.{newTag, descriptorBlock, pairAt, isTag, blockCount};
+ghost use Rattle.model.specs.JournalEnds.{hasBadField};
 ghost use Rattle.model.specs.Limits.{blockSize, maxTaken};
 ghost use Rattle.layout.specs.Words.{descriptorFrom};
 ghost use Rattle.layout.specs.Loops.{every};
@@ -12,7 +13,6 @@ ghost use Rattle.layout.specs.Distinct.{isNew};
 use crate::words::MARK;
 use crate::words::at_most;
 use crate::words::get_word;
-use crate::words::has_head;
 use crate::words::pair_word;
 use crate::words::put_word;
 use crate::words::wide;
@@ -141,23 +141,17 @@ fn are_new(block: &[u8], n: usize) -> bool
     true
 }
 
-// The block is a descriptor with this number.
-pub fn is_descriptor(s: Shape, number: u32, block: &[u8]) -> bool
+// The descriptor has a field out of range, or a block twice. Where it counts too many blocks, its tags are not looked at.
+pub fn has_bad_field(s: Shape, block: &[u8]) -> bool
     requires { ⌜ length (now block) ≡ blockSize ⌝ }
-    ensures { λ r. ⌜ r ≡ isDescriptor s number (now (block .entry)) ⌝ }
+    ensures { λ r. ⌜ r ≡ hasBadField s (now (block .entry)) ⌝ }
 {
-    if !has_head(block, 1, number) {
-        return false;
-    }
-    if Shape::MAX_NUMBER < number {
-        return false;
-    }
     let n = block_count(block) as usize;
     if Shape::MAX_TAKEN < n {
-        return false;
+        return true;
     }
     if !are_tags(s, block, n) {
-        return false;
+        return true;
     }
-    are_new(block, n)
+    !are_new(block, n)
 }

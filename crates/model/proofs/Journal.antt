@@ -231,11 +231,6 @@ module _ (s : Shape) (d : Bytes) (c k p left : ℕ) where
   unfolding recordsFrom
   records-hit most e h = rw (h, recordsFrom)
 
-  -- a descriptor that is not the one expected
-  pub miss-descriptor : isDescriptor s k (journalAt s d c p) ≡ false → recordAt s d c k p left ≡ Miss
-  unfolding recordAt
-  miss-descriptor h = rw h
-
   -- a commit that is not its own: a torn record, or a stale one
   pub miss-commit : isCommit s k (journalAt s d c (p + (blockCount (journalAt s d c p) + 1))) ≡ false → recordAt s d c k p left ≡ Miss
   unfolding recordAt

@@ -8,6 +8,8 @@ pub mod Store
 pub mod Words
 pub mod Encoding
 pub mod Journal
+pub mod JournalEnds
+pub mod EndReasons
 pub mod Select
 pub mod Shrink
 pub mod Valid

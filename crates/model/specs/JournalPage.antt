@@ -1,6 +1,6 @@
--- Paper 02, request (a): 'A journal page for the service log'. A line is given by its fields, a page by its lines.
+-- Paper 02, request (a): 'A journal page for the service log', with the ends of (b). A line is given by its fields, a page by its lines.
 use Prim.Native.Nat.{ℕ, zero, suc, _+_, _-_, _/_, _%_, _^_}
-use mathlib.Core.List.{List, [], _∷_, map}
+use mathlib.Core.List.{List, [], _∷_, _++_, map}
 use mathlib.Core.Bool.{Bool, cond, not, _&&_}
 use lib.ListN.{length, getD}
 use lib.Dec.{ltb, leb, eqb}
@@ -10,7 +10,8 @@ use Rattle.model.specs.Card.{downCard}
 use Rattle.model.specs.Journal.{nameOf}
 use Rattle.model.specs.Valid.{isIn}
 use Rattle.model.specs.Command.{refusal}
-use Rattle.model.specs.Recovery.{shapeOn, committedOn, validOn, recoverConditions}
+use Rattle.model.specs.Recovery.{shapeOn, tailOn, committedOn, validOn, recoverConditions}
+use Rattle.model.specs.JournalEnds.{recordAnswer, journalEnd}
 use Rattle.model.specs.declared.Shape.{Shape}
 use Rattle.model.specs.declared.Committed.{Committed}
 
@@ -77,6 +78,10 @@ transactionFields kept e =
     numeral 1 2 (e .core) ∷ numeral 4 10 (e .number) ∷ numeral 15 20 (e .stamp) ∷
     numeral 36 2 (e .count) ∷ numeral 39 2 (e .named) ∷ word 42 (keptOrLeft kept) ∷ []
 
+-- 'one line for each core, core and end in two columns each'
+unfoldable pub endFields : ℕ → ℕ → List Field
+endFields c end = numeral 1 2 c ∷ numeral 4 2 end ∷ []
+
 -- 'one line with the refusal number, two columns'
 unfoldable pub refusalFields : ℕ → List Field
 refusalFields n = numeral 1 2 n ∷ []
@@ -90,11 +95,20 @@ pageRefusal d = refusal (recoverConditions (record { card = downCard; disk = d; 
 unfoldable pub transactionLine : Bytes → Committed → List Field
 transactionLine d e = transactionFields (isIn (validOn d) (nameOf e)) e
 
--- 'one line for each committed unretired transaction in order of core and number'
+-- why the reading of core c's journal ended, by its number
+unfoldable pub endOn : Bytes → ℕ → ℕ
+endOn d c = (recordAnswer (journalEnd (shapeOn d) d c (tailOn d c))) .0
+
+unfoldable pub endLine : Bytes → ℕ → List Field
+endLine d c = endFields c (endOn d c)
+
+-- 'one line for each committed unretired transaction in order of core and number'; 'the page ends with one line for each core'
+unfoldable pub bodyLines : Bytes → List (List Field)
+bodyLines d = map (transactionLine d) (committedOn d) ++ map (endLine d) (below ((shapeOn d) .cores))
+
+-- 'a head line', then those; of 'a disk that recovery would refuse' the one line
 unfoldable pub pageOf : Bytes → List (List Field)
-pageOf d =
-    elim (pageRefusal d)
-    [ zero ↦ headFields (shapeOn d) ∷ map (transactionLine d) (committedOn d) | suc n ↦ refusalFields (suc n) ∷ [] ]
+pageOf d = elim (pageRefusal d) [ zero ↦ headFields (shapeOn d) ∷ bodyLines d | suc n ↦ refusalFields (suc n) ∷ [] ]
 
 -- line i of the page, from 0: past the last one no field
 unfoldable pub lineAt : Bytes → ℕ → List Field

@@ -1,4 +1,4 @@
--- Paper 01 as definitions, in its order. All that a reader must believe of the card stands in these files.
+-- Paper 01 as definitions, in its order, then the requests of paper 02. All that a reader must believe of the card stands in these files.
 pub mod Limits
 pub mod Lists
 pub mod Bytes
@@ -19,4 +19,5 @@ pub mod Reading
 pub mod Step
 pub mod Printing
 pub mod Cases
+pub mod JournalEnds
 pub mod JournalPage

@@ -100,6 +100,16 @@ pub enum Found {
     Miss,
 }
 
+// What the reader of one record answers: the record, or the first of paper 02's four ends that fits: no descriptor of the expected
+// number, a field of it out of range or a block twice, too few blocks left for data and commit, no commit.
+pub enum RecordRead {
+    Read(Committed),
+    NoDescriptor,
+    BadDescriptor,
+    TooFewBlocks,
+    NoCommit,
+}
+
 impl Shape {
     pub const MIN_CORES: u32 = 1;
 

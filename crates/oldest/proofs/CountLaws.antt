@@ -3,13 +3,17 @@
 use Rattle.model.proofs.Base.{ℕ, _+_, _-_, _≤_, _<_, min, arith, _≡_, sym, ap, _∙_, Bool, true, false, cond, List, getD, set}
 use Rattle.model.proofs.Base.{getD-take, ne-eqb, Bytes}
 use Rattle.model.specs.Card.{shapeOf, tailOf, coreOf, committedCount}
-use Rattle.model.specs.Journal.{journal, recordAt}
+use Rattle.model.specs.Journal.{journal}
+use Rattle.model.specs.JournalEnds.{readRecord}
 use Rattle.model.specs.declared.Shape.{Shape}
 use Rattle.model.specs.declared.Tail.{Tail}
 use Rattle.model.specs.declared.Card.{Card}
-use Rattle.model.specs.declared.Found.{Found}
-use Rattle.model.specs.declared.Found.the-variants.{Miss}
+use Rattle.model.specs.declared.Committed.{Committed}
+use Rattle.model.specs.declared.Found.the-variants.{Whole, Miss}
+use Rattle.model.specs.declared.RecordRead.{RecordRead}
+use Rattle.model.specs.declared.RecordRead.the-variants.{Read}
 use Rattle.model.proofs.Lists.{getD-map-below}
+use Rattle.model.proofs.JournalEnds.{foundBy, same-found}
 use Rattle.layout.proofs.Loops.{Filled, filled-more}
 use Rattle.journal.specs.Slots.{tailFor}
 use Rattle.journal.specs.Walk.{Reads}
@@ -84,7 +88,15 @@ module _ (x : Card) (d : Bytes) (c : ℕ) (most : List ℕ) (e : Counts x most) 
   unfolding oldestAt
   none-counted n = rw (count-at, n)
 
-  pub oldest-read : (getD most c 0 ≡ 0 → ⊥) → (s : Shape) → s ≡ shapeOf x → (t : Tail) → t ≡ tailOf x c
-      → (f : Found) → f ≡ recordAt s d c (t .number) (t .position) (s .journal) → f ≡ oldestAt x d c
-  unfolding oldestAt
-  oldest-read n s p t q f z = z ∙ rw (p, q, count-at, ne-eqb (getD most c 0) 0 n)
+  module _ (n : getD most c 0 ≡ 0 → ⊥) (s : Shape) (p : s ≡ shapeOf x) (t : Tail) (q : t ≡ tailOf x c) (r : RecordRead)
+      (z : r ≡ readRecord s d c (t .number) (t .position) (s .journal)) where
+    oldest-found : foundBy r ≡ oldestAt x d c
+    unfolding oldestAt
+    oldest-found = ap foundBy z ∙ same-found s d c (t .number) (t .position) (s .journal) ∙ rw (p, q, count-at, ne-eqb (getD most c 0) 0 n)
+
+    pub oldest-none : foundBy r ≡ Miss → Miss ≡ oldestAt x d c
+    oldest-none h = sym h ∙ oldest-found
+
+    pub oldest-read : (e : Committed) → r ≡ Read e → Whole e ≡ oldestAt x d c
+    unfolding foundBy
+    oldest-read e h = sym (ap foundBy h) ∙ oldest-found

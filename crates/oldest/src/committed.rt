@@ -13,6 +13,7 @@ use cells::number_in;
 use cells::shape_of;
 use cells::tail_at;
 use model::Found;
+use model::RecordRead;
 
 fn at_most_12(n: u32) -> u8
     ensures { λ r. ⌜ r ≡ min n 12 ⌝ }
@@ -56,7 +57,7 @@ pub fn counts(w: &[u64]) -> [u8; 8]
     most
 }
 
-// Core c's oldest committed transaction.
+// Core c's oldest committed transaction. Why there is none is not asked: on a card that is up its own count decides.
 pub fn oldest_of(w: &[u64], c: u8, most: [u8; 8], disk: &[u8]) -> Found
     requires { ⌜ (length (now w) ≡ 512) × (length (now disk) ≡ diskSize)
         × (c < (shapeOf (cardIn (now w))) .cores) × Counts (cardIn (now w)) most ⌝ }
@@ -67,5 +68,9 @@ pub fn oldest_of(w: &[u64], c: u8, most: [u8; 8], disk: &[u8]) -> Found
     }
     let s = shape_of(w);
     let t = tail_at(w, c);
-    journal::read_record(s, disk, c, t.number, t.position, s.journal)
+    let RecordRead::Read(e) = journal::read_record(s, disk, c, t.number, t.position, s.journal)
+    else {
+        return Found::Miss;
+    };
+    Found::Whole(e)
 }

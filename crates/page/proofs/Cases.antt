@@ -9,7 +9,7 @@ use mathlib.Core.Bool.{Bool, true, false}
 use mathlib.Core.List.{List, [], _∷_, _++_, map}
 use lib.ListN.{length, take, getD, replicate}
 use Rattle.model.specs.Lists.{below}
-use Rattle.model.specs.Bytes.{Bytes, store, zeroDisk}
+use Rattle.model.specs.Bytes.{Bytes, store, padded, zeroDisk}
 use Rattle.model.specs.Shape.{newShape, journalBlock}
 use Rattle.model.specs.Card.{newTail, newName}
 use Rattle.model.specs.Layout.{newTag, masterBlock, descriptorBlock, commitBlock}
@@ -17,8 +17,9 @@ use Rattle.model.specs.Printing.{blankWorld}
 use Rattle.model.specs.Tape.{run, worldAfter}
 use Rattle.model.specs.Step.{stepAt}
 use Rattle.model.specs.Cases.{Case, cases}
+use Rattle.model.specs.Recovery.{shapeOn, committedOn}
 use Rattle.model.specs.JournalPage.{Field, digitAt, numeral, word, covers, shownAt, byteAt, lineBytes, headFields, keptOrLeft, transactionFields}
-use Rattle.model.specs.JournalPage.{refusalFields, pageRefusal, transactionLine, pageOf, layNumber, laid}
+use Rattle.model.specs.JournalPage.{endFields, refusalFields, pageRefusal, transactionLine, endOn, endLine, bodyLines, pageOf, layNumber, laid}
 use Rattle.model.specs.declared.Shape.{Shape}
 use Rattle.model.specs.declared.Committed.{Committed}
 use Rattle.model.proofs.Computes.{computes}
@@ -43,6 +44,10 @@ diskAfter t = (worldAfter blankWorld (run stepAt t blankWorld)) .disk
 unfoldable pub diskP1 : Bytes
 diskP1 = diskAfter (take 38 (getD (map (λ (c : Case). c .tape) cases) 0 []))
 
+-- the same without the last STORE: core 1's commit is not there
+unfoldable pub diskTorn : Bytes
+diskTorn = diskAfter (take 36 (getD (map (λ (c : Case). c .tape) cases) 0 []))
+
 -- P2 just before its CUT, with a third core that commits: core 1 is uncommitted, so core 0, which names it, is left
 unfoldable pub diskP2 : Bytes
 diskP2 =
@@ -62,12 +67,27 @@ diskHighest =
     (store (store zeroDisk 0 (masterBlock roundShape (λ (c : ℕ). newTail 3999999999 9))) (journalBlock roundShape 0 20)
     (commitBlock 4000000000 (2 ^ 64 - 1) (map (λ (i : ℕ). newName 0 (i + 1)) (below 12))))
 
+-- made block by block, as the program's `stdin`: cores 0 and 1 are tied by block 3 and committed, core 2 is tied by block 2 to core 3, whose
+-- commit is not there. Then core 1 has a descriptor with block 259, core 2 one of eight blocks where nine are left.
+abbrev fourCores : Shape
+fourCores = newShape 4 8 12
+
+unfoldable pub diskFourEnds : Bytes
+diskFourEnds =
+    storesAt fourCores 0 0 (descriptorBlock 1 (newTag 3 0 ∷ []) ∷ padded (textBytes "ABCDEFGH") ∷ commitBlock 1 1 (newName 1 1 ∷ []) ∷ [])
+    (storesAt fourCores 1 0 (descriptorBlock 1 [] ∷ commitBlock 1 2 (newName 0 1 ∷ []) ∷ descriptorBlock 2 (newTag 259 0 ∷ []) ∷ [])
+    (storesAt fourCores 2 0
+    (descriptorBlock 1 (newTag 2 0 ∷ []) ∷ padded (textBytes "IJKLMNOP") ∷ commitBlock 1 3 (newName 3 1 ∷ []) ∷
+    descriptorBlock 2 (map (λ (b : ℕ). newTag b 0) (below 8)) ∷ [])
+    (storesAt fourCores 3 0 (descriptorBlock 1 (newTag 5 0 ∷ []) ∷ padded (textBytes "QRST") ∷ [])
+    (store zeroDisk 0 (masterBlock fourCores (λ (c : ℕ). newTail 1 0))))))
+
 -- formatted, and nothing more
 unfoldable pub diskFormatted : Bytes
 diskFormatted = store zeroDisk 0 (masterBlock (newShape 1 1 4) (λ (c : ℕ). newTail 1 0))
 
 unfoldable pub pageComputes : Unit {0}
-unfolding computes digitAt numeral covers shownAt byteAt lineBytes headFields keptOrLeft transactionFields refusalFields pageRefusal transactionLine pageOf layNumber laid textBytes line pageBytes diskAfter diskP1 diskP2 diskHighest diskFormatted storesAt
+unfolding computes digitAt numeral covers shownAt byteAt lineBytes headFields keptOrLeft transactionFields endFields refusalFields pageRefusal transactionLine endOn endLine bodyLines pageOf layNumber laid textBytes line pageBytes diskAfter diskP1 diskTorn diskP2 diskHighest diskFourEnds diskFormatted storesAt
 pageComputes = tt
 
 -- ---- pages
@@ -75,14 +95,28 @@ pub page-P1 : pageBytes diskP1
     ≡ line " 2  4 12"
     ∷ line " 0          1                    1  1  1 kept"
     ∷ line " 1          1                    2  0  1 kept"
+    ∷ line " 0  1"
+    ∷ line " 1  1"
     ∷ []
 unfolding pageComputes
 page-P1 = refl
+
+pub page-torn : pageBytes diskTorn
+    ≡ line " 2  4 12"
+    ∷ line " 0          1                    1  1  1 left"
+    ∷ line " 0  1"
+    ∷ line " 1  4"
+    ∷ []
+unfolding pageComputes
+page-torn = refl
 
 pub page-P2 : pageBytes diskP2
     ≡ line " 3  4 12"
     ∷ line " 0          1                    1  1  1 left"
     ∷ line " 2          1                    3  1  0 kept"
+    ∷ line " 0  1"
+    ∷ line " 1  4"
+    ∷ line " 2  1"
     ∷ []
 unfolding pageComputes
 page-P2 = refl
@@ -91,9 +125,24 @@ pub page-highest : pageBytes diskHighest
     ≡ line " 1 10 12"
     ∷ line " 0 3999999999                    1  0  0 kept"
     ∷ line " 0 4000000000 18446744073709551615  8 12 kept"
+    ∷ line " 0  1"
     ∷ []
 unfolding pageComputes
 page-highest = refl
+
+-- the four ends, and the text of the program's `stdout`
+pub page-four-ends : pageBytes diskFourEnds
+    ≡ line " 4  8 12"
+    ∷ line " 0          1                    1  1  1 kept"
+    ∷ line " 1          1                    2  0  1 kept"
+    ∷ line " 2          1                    3  1  1 left"
+    ∷ line " 0  1"
+    ∷ line " 1  2"
+    ∷ line " 2  3"
+    ∷ line " 3  4"
+    ∷ []
+unfolding pageComputes
+page-four-ends = refl
 
 -- an unfit master: 8; a disk of another length: 1, its master fit or not
 pub page-unfit : pageBytes zeroDisk ≡ line " 8" ∷ []
@@ -106,7 +155,7 @@ page-none = refl
 
 -- one byte too few, the right length, one too many
 pub page-lengths : map pageBytes (take 32895 diskFormatted ∷ diskFormatted ∷ (diskFormatted ++ 0 ∷ []) ∷ [])
-    ≡ (line " 1" ∷ []) ∷ (line " 1  1  4" ∷ []) ∷ (line " 1" ∷ []) ∷ []
+    ≡ (line " 1" ∷ []) ∷ (line " 1  1  4" ∷ line " 0  1" ∷ []) ∷ (line " 1" ∷ []) ∷ []
 unfolding pageComputes
 page-lengths = refl
 
@@ -169,3 +218,16 @@ zeros-differ e = let h : _≡_ {A = ℕ} 0x30 0x20 = ap (λ (b : Bytes). getD b 
 pub words-differ : (e : Committed) → lineBytes (transactionFields true e) ≢ lineBytes (transactionFields false e)
 unfolding pageComputes
 words-differ e q = let h : _≡_ {A = ℕ} 0x6B 0x6C = ap (λ (b : Bytes). getD b 41 0) q in omega arith
+
+-- an end line with its two fields exchanged: core 1 of P2 ends 4
+pub end-fields-differ : lineBytes (endFields 4 1) ≢ lineBytes (endFields 1 4)
+unfolding pageComputes
+end-fields-differ e = let h : _≡_ {A = ℕ} 0x34 0x31 = ap (λ (b : Bytes). getD b 1 0) e in omega arith
+
+-- a page without the last core's line: P1 has two transactions and two cores
+unfoldable pub lastCoreMissing : Bytes → List (List Field)
+lastCoreMissing d = map (transactionLine d) (committedOn d) ++ map (endLine d) (below ((shapeOn d) .cores - 1))
+
+pub last-core-differs : lastCoreMissing diskP1 ≢ bodyLines diskP1
+unfolding pageComputes lastCoreMissing
+last-core-differs e = let h : _≡_ {A = ℕ} 3 4 = ap length e in omega arith

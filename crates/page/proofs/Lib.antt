@@ -1,2 +1,3 @@
--- Pages that are computed.
+-- Pages and ends of journals that are computed.
 pub mod Cases
+pub mod EndCases

@@ -4,7 +4,9 @@
 ghost use Prim.Native.Nat.{_*_, _≤_};
 ghost use lib.ListN.{length};
 ghost use Rattle.model.specs.JournalPage.{lineSize};
+ghost use Rattle.journal_page.specs.Fields.{maxLines};
 use journal_page::LINE_SIZE;
+use journal_page::MAX_LINES;
 use model::Shape;
 
 // How many bytes were read, and whether a read failed.
@@ -37,7 +39,7 @@ fn read_on(bytes: &mut [u8]) -> Got
 
 // The page of a disk laid into the text and written: whether it all was.
 fn print_page(disk: &[u8], text: &mut [u8]) -> bool
-    requires { ⌜ 97 * lineSize ≤ length (now text) ⌝ }
+    requires { ⌜ maxLines * lineSize ≤ length (now text) ⌝ }
 {
     let used = journal_page::lay_page(disk, text);
     io::write_all(1, &text[..used])
@@ -46,7 +48,7 @@ fn print_page(disk: &[u8], text: &mut [u8]) -> bool
 fn main() {
     let mut bytes = [0u8; Shape::DISK_SIZE + 1];
     // room for the longest page
-    let mut text = [0u8; 97 * LINE_SIZE];
+    let mut text = [0u8; MAX_LINES * LINE_SIZE];
     let got = read_on(&mut bytes);
     if got.failed {
         io::write_all(2, b"page: standard input cannot be read\n");

@@ -102,6 +102,9 @@ module _ (d : Bytes) (s : Shape) (g : Shaped s d) (ts : List Tail) (set : List �
   pub all-committed : entries s d (numbersOf ts) set ≡ committedOn d
   all-committed = committed-read d s (g .shape) (g .range) ts (master-tails-read d s ts set r) set (r .slots)
 
+  pub same-tail : (c : ℕ) → c < s .cores → getD ts c (newTail 0 0) ≡ tailOn d c
+  same-tail = disk-tail d s (g .shape) (g .range) ts (master-tails-read d s ts set r)
+
   pub same-numbers : numbersOf ts ≡ numbersOn d
   unfolding numbersOn
   same-numbers = ap numbersOf (r .tails)

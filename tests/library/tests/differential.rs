@@ -4,6 +4,7 @@ use card_library::cells::CELLS;
 use card_library::session::Session;
 use card_library::watcher::Library;
 use card_tests::checks::{Bench, Checks};
+use card_tests::endings;
 use card_tests::layout::{DISK, MEMORY};
 use card_tests::random::Random;
 use card_tests::wrong::{Wrong, ALL};
@@ -19,6 +20,15 @@ fn the_library_does_what_the_model_does() {
     let first = std::thread::spawn(|| differs(Wrong::No, 1_000_000, 21));
     assert_eq!(differs(Wrong::No, 1_000_000, 22), None);
     assert_eq!(first.join().expect("it ends"), None);
+}
+
+#[test]
+fn the_library_recovers_made_endings_as_the_model_does() {
+    let (mut random, mut library) = (Random::new(23), Library::default());
+    let mut bench = Bench::new(Wrong::No, Checks::NONE, Some(&mut library));
+    for _ in 0..2000 {
+        bench.run_tape_over(endings::disk(&mut random), endings::RECOVERED).expect("the same");
+    }
 }
 
 #[test]

@@ -1,20 +1,28 @@
-// journal_page.rs: the library's page of a disk is the model's, line by line, on disks of runs, foreign and damaged ones and slices of
-// a wrong length. Only a buffer of 65 bytes is touched.
+// journal_page.rs: the library's page of a disk is the model's, line by line, on disks of runs, foreign and damaged ones, journals made
+// to end in each way, and slices of a wrong length. Only a buffer of 65 bytes is touched.
 
 use card_library::page::{lay_line, line_count};
 use card_tests::command::from_hex;
 use card_tests::directed::{chain_disk, highest_disk};
 use card_tests::disks::{disk_after, each_disk, P1_UNCUT};
+use card_tests::endings;
 use card_tests::foreign::{self, SPOILS};
 use card_tests::layout::{put_word, read_master, BLOCK, DISK, HOMES};
 use card_tests::page::{line_at, page, Line};
 use card_tests::random::Random;
 
-/// Tells a kind by the fields of a line and how many lines its page has.
+/// Tells a kind by the fields of a line and how many transactions its page has.
 type IsMet = fn(&[&str], usize) -> bool;
 
+/// The first kinds: the end of a core.
+const ENDS: usize = 4;
+
 /// What is to be met.
-const KINDS: [(&str, IsMet); 16] = [
+const KINDS: [(&str, IsMet); 20] = [
+    ("end 1", |line, _| line.len() == 2 && line[1] == "1"),
+    ("end 2", |line, _| line.len() == 2 && line[1] == "2"),
+    ("end 3", |line, _| line.len() == 2 && line[1] == "3"),
+    ("end 4", |line, _| line.len() == 2 && line[1] == "4"),
     ("kept", |line, _| line.last() == Some(&"kept")),
     ("left", |line, _| line.last() == Some(&"left")),
     ("the last core", |line, _| line.len() == 6 && line[0] == "7"),
@@ -27,10 +35,10 @@ const KINDS: [(&str, IsMet); 16] = [
     ("eight blocks", |line, _| line.len() == 6 && line[3] == "8"),
     ("no name", |line, _| line.len() == 6 && line[4] == "0"),
     ("twelve names", |line, _| line.len() == 6 && line[4] == "12"),
-    ("a head alone", |line, lines| line.len() == 3 && lines == 1),
-    ("a head over many lines", |line, lines| line.len() == 3 && lines > 20),
-    ("refused with 1", |line, lines| line == ["1"] && lines == 1),
-    ("refused with 8", |line, lines| line == ["8"] && lines == 1),
+    ("no transaction", |line, transactions| line.len() == 3 && transactions == 0),
+    ("many transactions", |line, transactions| line.len() == 3 && transactions > 20),
+    ("refused with 1", |line, _| line == ["1"]),
+    ("refused with 8", |line, _| line == ["8"]),
 ];
 
 /// How often each kind was met, and how many pages and lines there were.
@@ -45,11 +53,11 @@ impl Met {
     fn count(&mut self, page: &[Line]) {
         self.pages += 1;
         self.lines += page.len();
-        for line in page {
-            let text = std::str::from_utf8(line).expect("text");
-            let fields: Vec<&str> = text.split_whitespace().collect();
+        let lines: Vec<Vec<&str>> = page.iter().map(fields).collect();
+        let transactions = lines.iter().filter(|line| line.len() == 6).count();
+        for line in &lines {
             for (count, (_, is_met)) in self.kinds.iter_mut().zip(KINDS) {
-                *count += is_met(&fields, page.len()) as usize;
+                *count += is_met(line, transactions) as usize;
             }
         }
     }
@@ -59,6 +67,10 @@ impl Met {
             assert!(*count >= least, "met {count} times: {words}");
         }
     }
+}
+
+fn fields(line: &Line) -> Vec<&str> {
+    std::str::from_utf8(line).expect("text").split_whitespace().collect()
 }
 
 /// The model's page of a disk, held against every line that the library lays, two past the last, and the farthest.
@@ -92,7 +104,7 @@ fn p1_disk() -> Vec<u8> {
     disk_after(&from_hex(P1_UNCUT))
 }
 
-/// Every disk of so many generated commands, and copies of some: foreign, damaged, cut short.
+/// Every disk of so many generated commands, and beside some of them others: foreign, with made endings, damaged, cut short.
 fn compare_pages(commands: u64, seed: u64) -> Met {
     let (mut random, mut met, mut altered) = (Random::new(seed), Met::default(), 0);
     each_disk(commands, seed, |disk| {
@@ -100,6 +112,7 @@ fn compare_pages(commands: u64, seed: u64) -> Met {
         met.count(&right);
         if random.chance(100) {
             met.count(&compared(&foreign::disk(&mut random, disk)));
+            met.count(&compared(&endings::disk(&mut random)));
         }
         if random.chance(300) {
             let other = compared(&damaged(&mut random, disk));
@@ -121,6 +134,18 @@ fn the_page_is_the_models() {
 }
 
 #[test]
+fn the_ends_are_the_models() {
+    let (mut random, mut met) = (Random::new(53), Met::default());
+    for _ in 0..4000 {
+        met.count(&compared(&endings::disk(&mut random)));
+    }
+    for (count, (words, _)) in met.kinds.iter().zip(KINDS).take(ENDS) {
+        println!("{words}: {count} journals");
+        assert!(*count > 0, "never met: {words}");
+    }
+}
+
+#[test]
 #[ignore = "takes some minutes"]
 fn the_page_is_the_models_on_many_disks() {
     let (mut pages, mut lines) = (0, 0);
@@ -133,8 +158,8 @@ fn the_page_is_the_models_on_many_disks() {
 
 #[test]
 fn full_journals_are_shown() {
-    assert_eq!(compared(&highest_disk()).len(), 9);
-    for (blocks, is_met, lines) in [(0, false, 97), (0, true, 97), (1, false, 65), (1, true, 65), (8, true, 17)] {
+    assert_eq!(compared(&highest_disk()).len(), 17);
+    for (blocks, is_met, lines) in [(0, false, 105), (0, true, 105), (1, false, 73), (1, true, 73), (8, true, 25)] {
         assert_eq!(compared(&chain_disk(blocks, is_met)).len(), lines);
     }
 }

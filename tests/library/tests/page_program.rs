@@ -5,8 +5,9 @@ use card_library::program::{begin, ended, printed, program, ROOT};
 use card_tests::command::from_hex;
 use card_tests::directed::{chain_disk, highest_disk};
 use card_tests::disks::{disk_after, each_disk, P1_UNCUT};
-use card_tests::foreign;
-use card_tests::layout::{BLOCK, DISK};
+use card_tests::endings;
+use card_tests::foreign::{self, put};
+use card_tests::layout::{descriptor, put_word, Shape, BLOCK, DISK};
 use card_tests::page::print_page;
 use card_tests::random::Random;
 use std::fs::File;
@@ -15,7 +16,7 @@ use std::process::Stdio;
 use std::sync::mpsc::channel;
 use std::time::Duration;
 
-/// The made ones, then some that generated tapes leave, and as many foreign ones.
+/// The made ones, then some that generated tapes leave, and as many foreign ones and ones with made endings.
 fn disks() -> Vec<Vec<u8>> {
     let p1 = disk_after(&from_hex(P1_UNCUT));
     let mut disks = vec![p1, highest_disk(), chain_disk(0, true), chain_disk(1, false), vec![0; DISK]];
@@ -23,24 +24,39 @@ fn disks() -> Vec<Vec<u8>> {
     each_disk(30_000, 61, |disk| {
         seen += 1;
         if seen % 200 == 0 {
-            disks.extend([disk.to_vec(), foreign::disk(&mut random, disk)]);
+            disks.extend([disk.to_vec(), foreign::disk(&mut random, disk), endings::disk(&mut random)]);
         }
     });
     disks
 }
 
-/// Two tied transactions as in P1, and a third whose partner is not committed.
+/// Two tied transactions as in P1, a third whose partner is not committed, and that partner torn.
 const GATE_TAPE: &str =
-    "01 03 04 0C | 02 00 0003 00 41424344 | 02 01 0003 04 45464748 | 03 00 | 04 00 | 04 00 | 04 00 | 03 01 | 04 01 | 04 01 \
-    | 02 02 0002 00 494A4B4C | 02 00 0002 04 4D4E4F50 | 03 02 | 04 02 | 04 02 | 04 02";
+    "01 04 08 0C | 02 00 0003 00 41424344 | 02 01 0003 04 45464748 | 03 00 | 04 00 | 04 00 | 04 00 | 03 01 | 04 01 | 04 01 \
+    | 02 02 0002 00 494A4B4C | 02 03 0002 04 4D4E4F50 | 02 03 0005 00 51525354 | 03 02 | 04 02 | 04 02 | 04 02 \
+    | 03 03 | 04 03 | 04 03";
 
-/// The gate runs the program on this file, and compares what it prints with the other.
+/// What the tape leaves, and behind the record of core 1 a descriptor of a block that is none, behind that of core 2 one with more
+/// blocks than are left: no tape stores these two.
+fn gate_disk() -> Vec<u8> {
+    let (mut disk, shape) = (disk_after(&from_hex(GATE_TAPE)), Shape { cores: 4, blocks: 8, journal: 12 });
+    let mut wide = descriptor(2, &[3], &[false]);
+    put_word(&mut wide, 16, 259);
+    put(&mut disk, shape.place(1, 2), &wide);
+    put(&mut disk, shape.place(2, 3), &descriptor(2, &[0, 1, 2, 3, 4, 5, 6, 7], &[false; 8]));
+    disk
+}
+
+/// The gate runs the program on this file, and compares what it prints with the other. Core by core the journals end 1, 2, 3, 4.
 #[test]
-fn the_gates_disk_and_page_are_those_of_a_tape() {
+fn the_gates_disk_and_page_are_those_made_here() {
     let file = |name: &str| std::fs::read(format!("{ROOT}/crates/page/{name}")).expect("it is there");
-    let disk = disk_after(&from_hex(GATE_TAPE));
+    let disk = gate_disk();
     assert!(file("stdin") == disk);
-    assert_eq!(String::from_utf8(file("stdout")).expect("text"), print_page(&disk));
+    let text = print_page(&disk);
+    assert_eq!(String::from_utf8(file("stdout")).expect("text"), text);
+    let ends: Vec<&str> = text.lines().skip(4).map(str::trim_end).collect();
+    assert_eq!(ends, [" 0  1", " 1  2", " 2  3", " 3  4"]);
 }
 
 #[test]
@@ -53,8 +69,10 @@ fn the_page_printed_is_the_models() {
     }
     let with = |word: &str| pages.iter().filter(|page| page.contains(word)).count();
     let refused = pages.iter().filter(|page| page.trim() == "8").count();
-    let counts = [pages.len(), with("kept"), with("left"), refused];
-    assert!(counts[0] >= 60 && counts[1..].iter().all(|count| *count >= 5), "{counts:?}");
+    let lines = || pages.iter().flat_map(|page| page.lines());
+    let ends = [1, 2, 3, 4].map(|end| lines().filter(|line| line[2..].trim_end() == format!("  {end}")).count());
+    let counts = [[pages.len(), with("kept"), with("left"), refused], ends].concat();
+    assert!(counts[0] >= 90 && counts[1..].iter().all(|count| *count >= 5), "{counts:?}");
 }
 
 #[test]

@@ -9,8 +9,13 @@ use card_tests::page::print_page;
 const SCRIPT: Script = Script { name: "page", folder: env!("CARGO_TARGET_TMPDIR") };
 
 /// With the fill cut off.
-const P1_PAGE: [&str; 3] =
-    [" 2  4 12", " 0          1                    1  1  1 kept", " 1          1                    2  0  1 kept"];
+const P1_PAGE: [&str; 5] = [
+    " 2  4 12",
+    " 0          1                    1  1  1 kept",
+    " 1          1                    2  0  1 kept",
+    " 0  1",
+    " 1  1",
+];
 
 fn p1_disk() -> Vec<u8> {
     disk_after(&from_hex(P1_UNCUT))

@@ -26,6 +26,9 @@ fn report(tally: &Tally, seconds: f64) {
     println!("{} recoveries, {} cuts inside one", tally.recoveries, tally.cuts_in_recovery);
     println!("{} foreign disks", tally.foreign_disks);
     println!("longest list {}, most records at once {}", tally.longest_list, tally.most_records);
+    for (end, count) in tally.ends.iter().enumerate().filter(|(_, count)| **count > 0) {
+        println!("end {end} on runs from FORMAT: {count}");
+    }
     for (answer, count) in tally.answers.iter().enumerate().filter(|(_, count)| **count > 0) {
         println!("answer {answer:>2}: {count}");
     }

@@ -48,7 +48,7 @@ struct Gauge {
     /// The same of reading a block, and of running one command as a tape.
     reading: usize,
     tape: usize,
-    /// And of the journal page: its count of lines, and its last line.
+    /// And of the journal page: its count of lines, and some of them.
     page: usize,
 }
 
@@ -71,11 +71,12 @@ impl Gauge {
         next
     }
 
+    /// The first line after the head, which is a transaction's where there is one, one in the middle, and the last, a core's end.
     fn lay_page(&mut self) {
         let (disk, mut lines, mut line) = (&self.stage.disk, 0, [0; 65]);
         let counted = used(|| lines = page::line_count(disk));
-        let laid = used(|| _ = page::lay_line(disk, lines - 1, &mut line));
-        self.page = self.page.max(counted).max(laid);
+        let laid = [1, lines / 2, lines - 1].map(|i| used(|| _ = page::lay_line(disk, i, &mut line)));
+        self.page = laid.into_iter().fold(self.page.max(counted), usize::max);
     }
 
     fn run_as_tape(&mut self, rest: &[u8]) {

@@ -1,6 +1,6 @@
 -- `journal_page::disk_lines::fields_of` meets its contract.
 use borrow.Author.Needs.{needs}
-use Rattle.journal_page.proofs.DiskLineLaws.{refused-at, is-long, is-fit, head-at, transaction-at}
+use Rattle.journal_page.proofs.DiskLineLaws.{refused-at, is-long, is-fit, head-at, behind-at}
 use Rattle.journal_page.proofs.disk_lines.fields_of.Statement.{statement}
 use Rattle.journal_page.proofs.disk_lines.fields_of.Tie as tie
 
@@ -9,4 +9,4 @@ fields-of-spec =
     tie.close
     (tie.spec (λ c κs. search needs) (λ c κs. search needs) (λ c. search (needs, refused-at))
     (λ c κs. search (needs, is-long, is-fit)) (λ c κs. search needs) (λ c. search (needs, head-at)) (λ c. search needs)
-    (λ c κs. search needs) (λ c. search (needs, transaction-at)))
+    (λ c κs. search needs) (λ c. search (needs, behind-at)))

@@ -8,4 +8,5 @@ pub page-lines-spec : {M : Type 1} → statement M
 page-lines-spec =
     tie.close
     (tie.spec (λ c κs. search needs) (λ c. (search (needs, one-lines), search needs)) (λ c κs. search (needs, is-long, is-fit))
-    (λ c κs. search needs) (λ c κs. search needs) (λ c. search needs) (λ c. (search (needs, lines-counted), search needs)))
+    (λ c κs. search needs) (λ c κs. search needs) (λ c. search needs) (λ c. search needs) (λ c. search needs)
+    (λ c. (search (needs, lines-counted), search needs)))
