@@ -1,17 +1,16 @@
 -- CHECKPOINT answers 31 where no transaction is committed; of the oldest it is refused with 32 or 33, or carried out, and then
 -- meets its contract.
 use Rattle.model.proofs.Base.{ℕ, suc, _+_, _-_, _%_, _≤_, _<_, min, arith, _≡_, refl, sym, ap, subst, _∙_, Bool, false, cond, not}
-use Rattle.model.proofs.Base.{List, [], _∷_, length, eqb, ne-eqb, eqb-true, eqb-false, leb-true, Bytes}
+use Rattle.model.proofs.Base.{List, [], _∷_, length, eqb, ne-eqb, eqb-true, eqb-false, Bytes}
 use Rattle.model.specs.Card.{shapeOf, tailOf, committedCount}
-use Rattle.model.specs.Layout.{hasHead, isDescriptor}
 use Rattle.model.specs.Journal.{recordsFrom, journal, nameOf}
 use Rattle.model.specs.Valid.{isIn}
 use Rattle.model.specs.Command.{World, Outcome, refusal, unless}
 use Rattle.model.specs.Checkpoint.{validNow, committedOf, oldest, sharesLower, checkpointConditions, checkpointed, checkpoint}
 use Rattle.model.specs.Limits.{maxNumber}
-use Rattle.model.proofs.Lists.{cases, and-left, and-right}
+use Rattle.model.proofs.Lists.{cases}
 use Rattle.model.proofs.Command.{unless-same}
-use Rattle.model.proofs.Journal.{records-miss, records-hit}
+use Rattle.model.proofs.Journal.{records-miss, records-hit, descriptor-number}
 use Rattle.cells.specs.Answer.{newAnswer, firstOf, Meets, Stores}
 use Rattle.cells.specs.Cells.{cardIn, world, worldIn}
 use Rattle.cells.proofs.RefusalLaws.{first-hit, first-pass, refusal-joined, refusal-next}
@@ -38,12 +37,7 @@ module _ (x : Card) (d : Bytes) (c : ℕ) where
     counted-one = whole-known (eqb (countAt x c) 0) (atTail x d c) e h .0
 
     low-number : e .number ≤ maxNumber
-    unfolding isDescriptor
-    low-number =
-        let k = tail-known x d c e h in
-        let l : (tailOf x c) .number ≤ maxNumber =
-        leb-true ((tailOf x c) .number) maxNumber (and-right (hasHead 1 ((tailOf x c) .number) _) _ (and-left _ _ (and-left _ _ (and-left _ _ (k .descriptor))))) in
-        omega (arith, k .number)
+    low-number = let k = tail-known x d c e h in omega (arith, k .number, descriptor-number _ _ _ (k .descriptor))
 
     -- those after it
     abbrev after : List Committed

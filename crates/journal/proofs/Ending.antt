@@ -15,7 +15,7 @@ use Rattle.model.specs.declared.Found.the-variants.{Whole, Miss}
 use Rattle.model.specs.declared.RecordRead.{RecordRead}
 use Rattle.model.specs.declared.RecordRead.the-variants.{Read, NoDescriptor, BadDescriptor, TooFewBlocks, NoCommit}
 use Rattle.model.proofs.RecordRead.{the-type}
-use Rattle.model.proofs.JournalEnds.{foundBy, same-found, read-whole, end-here, end-on}
+use Rattle.model.proofs.JournalEnds.{foundBy, found-as, read-whole, end-here, end-on}
 use Rattle.journal.specs.declared.walk.Walk.{Walk}
 use Rattle.journal.specs.declared.walk.WalkStep.{WalkStep}
 use Rattle.journal.specs.Walk.{stepOf, start}
@@ -48,7 +48,7 @@ module _ (s : Shape) (d : Bytes) (c : ℕ) (t : Tail) where
   module _ (w : Walk) (a : SameEnd s d c (start s t (s .journal)) w) (r : RecordRead) (e : r ≡ readRecord s d c (w .number) (w .at) (w .left)) where
     pub ends-here : foundBy r ≡ Miss → r ≡ journalEnd s d c t
     unfolding SameEnd journalEnd start
-    ends-here h = e ∙ sym (end-here s d c (w .number) (w .at) (w .left) (w .most) (sym (same-found s d c (w .number) (w .at) (w .left)) ∙ ap foundBy (sym e) ∙ h)) ∙ a
+    ends-here h = e ∙ sym (end-here s d c (w .number) (w .at) (w .left) (w .most) (sym (found-as s d c (w .number) (w .at) (w .left) r e) ∙ h)) ∙ a
 
     pub ends-last : w .most ≤ 0 → r ≡ journalEnd s d c t
     unfolding SameEnd journalEnd start endFrom

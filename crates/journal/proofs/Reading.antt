@@ -4,7 +4,6 @@ use Rattle.model.proofs.Base.{ℕ, suc, _+_, _-_, _*_, _/_, _%_, _≤_, _<_, ar
 use Rattle.model.proofs.Base.{List, [], _∷_, _++_, append-assoc, append-nil, length, getD, set, length-set, getD-set-same, ltb}
 use Rattle.model.proofs.Base.{leb, eq-eqb, ne-eqb, lt-ltb, le-ltb, ltb-true, le-leb, lt-leb, leb-true, leb-false, Bytes}
 use native.Mathlib.Nat.{mod-lt}
-use Rattle.model.specs.Layout.{isDescriptor, hasHead}
 use Rattle.model.specs.Limits.{maxNumber}
 use Rattle.model.specs.Journal.{recordAt, recordsFrom, journal}
 use Rattle.model.specs.JournalEnds.{readRecord}
@@ -16,8 +15,8 @@ use Rattle.model.specs.declared.Found.the-variants.{Whole, Miss}
 use Rattle.model.specs.declared.RecordRead.{RecordRead}
 use Rattle.model.specs.declared.RecordRead.the-variants.{Read}
 use Rattle.model.proofs.Lists.{cases, and-left, and-right}
-use Rattle.model.proofs.JournalEnds.{foundBy, same-found, read-whole}
-use Rattle.model.proofs.Journal.{KnownRecord, found-cases, record-known, records-hit, records-miss, records-length}
+use Rattle.model.proofs.JournalEnds.{foundBy, found-as, read-whole}
+use Rattle.model.proofs.Journal.{KnownRecord, descriptor-number, record-known, no-room, records-hit, records-miss, records-length}
 use Rattle.model.proofs.Limits.{InRange}
 use Rattle.journal.specs.declared.walk.Walk.{Walk}
 use Rattle.journal.specs.declared.walk.WalkStep.{WalkStep}
@@ -169,10 +168,6 @@ module _ (s : Shape) (d : Bytes) (ts : List Tail) (most : List ℕ) where
   reading-all l out w i v h c g = v .done c (omega (arith, l .few-cores)) g
 
 -- ---- one step of the code
-no-room : (s : Shape) (d : Bytes) (c k p left : ℕ) → left < 2 → recordAt s d c k p left ≡ Miss
-no-room s d c k p left h =
-    found-cases (recordAt s d c k p left) (λ m. m) (λ e w. absurd (omega (arith, record-known s d c k p left e w .2)))
-
 module _ (s : Shape) (d : Bytes) (c : ℕ) (w : Walk) where
   nothing-read : walkRecord s d c w ≡ Miss → ended w ≡ stepOf s w (walkRecord s d c w)
   unfolding stepOf
@@ -194,7 +189,7 @@ module _ (s : Shape) (d : Bytes) (c : ℕ) (w : Walk) where
 
     module _ (r : RecordRead) (e : r ≡ readRecord s d c (w .number) (w .at) (w .left)) where
       pub step-end : foundBy r ≡ Miss → ended w ≡ stepOf s w (walkRecord s d c w)
-      step-end z = nothing-read (reads-record ∙ sym (same-found s d c (w .number) (w .at) (w .left)) ∙ ap foundBy (sym e) ∙ z)
+      step-end z = nothing-read (reads-record ∙ sym (found-as s d c (w .number) (w .at) (w .left) r e) ∙ z)
 
       pub step-hit : (x : Committed) (y : WalkStep) → r ≡ Read x → y ≡ stepOf s w (Whole x) → y ≡ stepOf s w (walkRecord s d c w)
       step-hit x y z q = q ∙ rw (reads-record, read-whole s d c (w .number) (w .at) (w .left) x (sym e ∙ z))
@@ -208,8 +203,7 @@ module _ (s : Shape) (d : Bytes) (c k p left : ℕ) (r : RecordRead) (e : r ≡ 
   hit-fits = hit-known .2
 
   pub hit-number : k ≤ maxNumber
-  unfolding isDescriptor
-  hit-number = leb-true k maxNumber (and-right (hasHead 1 k _) _ (and-left _ _ (and-left _ _ (and-left _ _ (hit-known .0 .descriptor)))))
+  hit-number = descriptor-number s k _ (hit-known .0 .descriptor)
 
 pub resume-start : (s : Shape) (t : Tail) (most j : ℕ) (w : Walk) → j ≡ 0
     → _≡_ {A = Walk} (record { number = t .number; at = t .position; left = s .journal; most = most }) (resumed s t most j w)

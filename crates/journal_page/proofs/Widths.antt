@@ -1,19 +1,19 @@
 -- Every number of a transaction fits the columns of its line, if the disk is one of bytes; so do those of an end, and those of the head by
 -- `shape-limits`. What fits is read back: `set-right-value` of `Numerals`.
-use Rattle.model.specs.Limits.{maxNumber}
 use Rattle.model.specs.Lists.{Each}
 use Rattle.model.specs.Bytes.{number, part, be4, blockAt}
 use Rattle.model.specs.Shape.{journalBlock}
-use Rattle.model.specs.Layout.{hasHead, isDescriptor, stampIn}
+use Rattle.model.specs.Layout.{stampIn}
 use Rattle.model.specs.Journal.{journalAt}
 use Rattle.model.specs.Recovery.{shapeOn, tailOn, committedOn}
 use Rattle.model.specs.JournalPage.{pageRefusal, endOn}
 use Rattle.model.specs.declared.Shape.{Shape}
 use Rattle.model.specs.declared.Committed.{Committed}
-use Rattle.model.proofs.Base.{ℕ, zero, suc, _+_, _*_, _^_, _≤_, _<_, arith, _≡_, true, List, [], _∷_, List·Memᴰ, length, drop, length-take, leb-true, Bytes}
-use Rattle.model.proofs.Lists.{and-left, and-right, each-take}
+use Rattle.model.proofs.Base.{ℕ, zero, suc, _+_, _*_, _^_, _≤_, _<_, arith, _≡_, List, [], _∷_, List·Memᴰ, length, drop, length-take, Bytes}
+use Rattle.model.proofs.Lists.{each-take}
 use Rattle.model.proofs.Limits.{InRange}
 use Rattle.model.proofs.Words.{IsByte}
+use Rattle.model.proofs.Journal.{descriptor-number}
 use Rattle.model.proofs.Records.{journals-known}
 use Rattle.model.proofs.OneStore.{master-limits}
 use Rattle.model.proofs.EndReasons.{end-known}
@@ -48,11 +48,6 @@ stamp-low b a = omega (arith, be4-low b 12 a, be4-low b 16 a)
 each-journalAt : (s : Shape) (d : Bytes) (c p : ℕ) → Each IsByte d → Each IsByte (journalAt s d c p)
 unfolding journalAt blockAt
 each-journalAt s d c p a = each-part (128 * journalBlock s c p) 128 d a
-
--- the number of a descriptor that fits is at most 4,000,000,000
-pub descriptor-number : (s : Shape) (k : ℕ) (b : Bytes) → isDescriptor s k b ≡ true → k ≤ maxNumber
-unfolding isDescriptor
-descriptor-number s k b h = leb-true k maxNumber (and-right (hasHead 1 k b) _ (and-left _ _ (and-left _ _ (and-left _ _ h))))
 
 -- the numbers of a transaction fit the columns of its line
 pub record Fits (e : Committed) : Type 0 where

@@ -15,7 +15,7 @@ use Rattle.model.specs.declared.Found.the-variants.{Miss}
 use Rattle.model.specs.declared.RecordRead.{RecordRead}
 use Rattle.model.specs.declared.RecordRead.the-variants.{Read, NoDescriptor, BadDescriptor, TooFewBlocks, NoCommit}
 use Rattle.model.proofs.Lists.{cases, and-both, and-left, and-right, or-left, or-right, or-cases, or-none, all-mem, mem-all, getD-mem, mem-getD, length-below, getD-map-below}
-use Rattle.model.proofs.Journal.{records-miss, records-hit, record-known, found-cases}
+use Rattle.model.proofs.Journal.{records-miss, records-hit, record-known, no-room, found-cases}
 use Rattle.model.proofs.JournalEnds.{foundBy, same-found, whole-read, end-here, end-on}
 use lib.ListN.{length-map}
 
@@ -40,25 +40,26 @@ pub record CommitFits (s : Shape) (k : ℕ) (b : Bytes) : Type 0 where
   pub numbers : (i : ℕ) → i < nameCount b → 1 ≤ (pairAt newName b 24 i) .number
 
 -- ---- a list of pairs, and distinct blocks
-module _ {A : Type 0} (make : ℕ → ℕ → A) (b : Bytes) (at n : ℕ) (q : A → Bool) where
-  length-pairs : length (pairsIn make b at n) ≡ n
+module _ {A : Type 0} (make : ℕ → ℕ → A) (b : Bytes) (at n : ℕ) where
+  count-read : length (pairsIn make b at n) ≡ n
   unfolding pairsIn
-  length-pairs = length-map (below n) (pairAt make b at) ∙ length-below n
+  count-read = length-map (below n) (pairAt make b at) ∙ length-below n
 
-  pairs-each : all q (pairsIn make b at n) ≡ true → (i : ℕ) → i < n → q (pairAt make b at i) ≡ true
+  pair-read : (i : ℕ) → i < n → getD (pairsIn make b at n) i (make 0 0) ≡ pairAt make b at i
   unfolding pairsIn
-  pairs-each h i l =
-      ap q (sym (getD-map-below (pairAt make b at) n i (make 0 0) l))
-      ∙ all-mem q (pairsIn make b at n) h (getD-mem (pairsIn make b at n) i (make 0 0) (omega (arith, length-pairs)))
+  pair-read i l = getD-map-below (pairAt make b at) n i (make 0 0) l
 
-  each-pairs : ((i : ℕ) → i < n → q (pairAt make b at i) ≡ true) → all q (pairsIn make b at n) ≡ true
-  unfolding pairsIn
-  each-pairs h =
+  all-each : (q : A → Bool) → all q (pairsIn make b at n) ≡ true → (i : ℕ) → i < n → q (pairAt make b at i) ≡ true
+  all-each q h i l =
+      ap q (sym (pair-read i l)) ∙ all-mem q (pairsIn make b at n) h (getD-mem (pairsIn make b at n) i (make 0 0) (omega (arith, count-read)))
+
+  each-all : (q : A → Bool) → ((i : ℕ) → i < n → q (pairAt make b at i) ≡ true) → all q (pairsIn make b at n) ≡ true
+  each-all q h =
       mem-all q (pairsIn make b at n)
       (λ x m.
       let g = mem-getD m (make 0 0) in
-      let l : g .0 < n = omega (arith, g .1, length-pairs) in
-      ap q (sym (g .2) ∙ getD-map-below (pairAt make b at) n (g .0) (make 0 0) l) ∙ h (g .0) l)
+      let l : g .0 < n = omega (arith, g .1, count-read) in
+      ap q (sym (g .2) ∙ pair-read (g .0) l) ∙ h (g .0) l)
 
 -- no two of the first are the same
 abbrev Unlike : List Tag → Type 0
@@ -102,38 +103,38 @@ module _ (k left : ℕ) (b : Bytes) where
   lacks-asks (inr (inl x)) = or-left _ (or-right (eqb left 0) (lt-ltb maxNumber k x))
   lacks-asks (inr (inr y)) = or-right (eqb left 0 || ltb maxNumber k) (ap not y)
 
-module _ (s : Shape) (b : Bytes) where
-  block-at : (i : ℕ) → i < blockCount b → (getD (tagsIn b (blockCount b)) i (newTag 0 0)) .block ≡ (pairAt newTag b 16 i) .block
-  unfolding tagsIn pairsIn
-  block-at i l = ap (λ (h : Tag). h .block) (getD-map-below (pairAt newTag b 16) (blockCount b) i (newTag 0 0) l)
+block-read : (b : Bytes) (n i : ℕ) → i < n → (getD (tagsIn b n) i (newTag 0 0)) .block ≡ (pairAt newTag b 16 i) .block
+unfolding tagsIn
+block-read b n i l = ap (λ (h : Tag). h .block) (pair-read newTag b 16 n i l)
 
+module _ (s : Shape) (b : Bytes) where
   fields-say : hasBadField s b ≡ false → FieldsFit s b
   unfolding hasBadField tagsIn isTag
   fields-say h =
       let n = blockCount b in
       let g = or-none _ _ h in
       let f = or-none _ _ (g .0) in
-      let tags = pairs-each newTag b 16 n (isTag s) (not-false _ (f .1)) in
+      let tags = all-each newTag b 16 n (isTag s) (not-false _ (f .1)) in
       let two = distinct-unlike (tagsIn b n) (not-false _ (g .1)) in
       record {
         few = ltb-false maxTaken n (f .0);
         blocks = λ i l. ltb-true _ _ (and-left _ _ (tags i l));
         flags = λ i l. leb-true _ _ (and-right (ltb ((pairAt newTag b 16 i) .block) (s .blocks)) _ (tags i l));
         once = λ i j l m z.
-            two i j l (omega (arith, length-pairs newTag b 16 n (isTag s)))
-            (block-at i (omega arith) ∙ z ∙ sym (block-at j m));
+            two i j l (omega (arith, count-read newTag b 16 n))
+            (block-read b n i (omega arith) ∙ z ∙ sym (block-read b n j m));
       }
 
   fields-ask : FieldsFit s b → hasBadField s b ≡ false
   unfolding hasBadField tagsIn isTag
   fields-ask f =
       let n = blockCount b in
-      let tags : all (isTag s) (tagsIn b n) ≡ true = each-pairs newTag b 16 n (isTag s) (λ i l. and-both (lt-ltb _ _ (f .blocks i l)) (le-leb _ _ (f .flags i l))) in
+      let tags : all (isTag s) (tagsIn b n) ≡ true = each-all newTag b 16 n (isTag s) (λ i l. and-both (lt-ltb _ _ (f .blocks i l)) (le-leb _ _ (f .flags i l))) in
       let two : distinct (tagsIn b n) ≡ true =
       unlike-distinct (tagsIn b n)
       (λ i j l m z.
-      let q : j < n = omega (arith, length-pairs newTag b 16 n (isTag s)) in
-      f .once i j l q (sym (block-at i (omega arith)) ∙ z ∙ block-at j q)) in
+      let q : j < n = omega (arith, count-read newTag b 16 n) in
+      f .once i j l q (sym (block-read b n i (omega arith)) ∙ z ∙ block-read b n j q)) in
       rw (le-ltb maxTaken n (f .few), tags, two)
 
 module _ (s : Shape) (k : ℕ) (b : Bytes) where
@@ -144,7 +145,7 @@ module _ (s : Shape) (k : ℕ) (b : Bytes) where
       let heads = hasHead 2 k b && leb 1 (stampIn b) in
       let g = and-left (heads && leb n maxNames) (all (isListable s) (namesIn b n)) h in
       let f = and-left heads (leb n maxNames) g in
-      let names = pairs-each newName b 24 n (isListable s) (and-right (heads && leb n maxNames) (all (isListable s) (namesIn b n)) h) in
+      let names = all-each newName b 24 n (isListable s) (and-right (heads && leb n maxNames) (all (isListable s) (namesIn b n)) h) in
       record {
         head = and-left (hasHead 2 k b) (leb 1 (stampIn b)) f;
         stamp = leb-true _ _ (and-right (hasHead 2 k b) (leb 1 (stampIn b)) f);
@@ -157,7 +158,7 @@ module _ (s : Shape) (k : ℕ) (b : Bytes) where
   unfolding isCommit namesIn isListable
   commit-asks f =
       and-both (and-both (and-both (f .head) (le-leb _ _ (f .stamp))) (le-leb _ _ (f .few)))
-      (each-pairs newName b 24 (nameCount b) (isListable s) (λ i l. and-both (lt-ltb _ _ (f .cores i l)) (le-leb _ _ (f .numbers i l))))
+      (each-all newName b 24 (nameCount b) (isListable s) (λ i l. and-both (lt-ltb _ _ (f .cores i l)) (le-leb _ _ (f .numbers i l))))
 
 -- ---- each answer and its reason
 module _ (s : Shape) (d : Bytes) (c k p left : ℕ) where
@@ -250,7 +251,7 @@ module _ (s : Shape) (d : Bytes) (c : ℕ) where
   reads-to : (most k p left : ℕ) → left ≤ 2 * most + 1 → ReadTo s d c k p left (recordsFrom most s d c k p left) (endFrom most s d c k p left)
   unfolding ReadTo
   reads-to zero k p left h =
-      let miss : recordAt s d c k p left ≡ Miss = found-cases (recordAt s d c k p left) (λ m. m) (λ e w. absurd (omega (arith, record-known s d c k p left e w .2))) in
+      let miss = no-room s d c k p left (omega arith) in
       rw (records-miss s d c k p left 0 miss, end-here s d c k p left 0 miss) (ended k p left miss)
   reads-to (suc most) k p left h =
       found-cases (recordAt s d c k p left)

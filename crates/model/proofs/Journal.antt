@@ -253,6 +253,11 @@ pub descriptor-few : (s : Shape) (k : ℕ) (b : Bytes) → isDescriptor s k b �
 unfolding isDescriptor
 descriptor-few s k b h = leb-true (blockCount b) 8 (and-right (hasHead 1 k b && leb k maxNumber) _ (and-left _ _ (and-left _ _ h)))
 
+-- its number is at most 4,000,000,000
+pub descriptor-number : (s : Shape) (k : ℕ) (b : Bytes) → isDescriptor s k b ≡ true → k ≤ maxNumber
+unfolding isDescriptor
+descriptor-number s k b h = leb-true k maxNumber (and-right (hasHead 1 k b) _ (and-left _ _ (and-left _ _ (and-left _ _ h))))
+
 pub commit-short : (s : Shape) (k : ℕ) (b : Bytes) → isCommit s k b ≡ true → nameCount b ≤ 12
 unfolding isCommit
 commit-short s k b h = leb-true (nameCount b) 12 (and-right (hasHead 2 k b && leb 1 (stampIn b)) _ (and-left _ _ h))
@@ -297,6 +302,10 @@ module _ (s : Shape) (d : Bytes) (c : ℕ) where
       let q : Whole e ≡ Miss = sym h ∙ w in
       let z : _≡_ {A = ℕ} 0 1 = cc in
       absurd (omega arith))
+
+  -- a record has two blocks or more
+  pub no-room : (k p left : ℕ) → left < 2 → recordAt s d c k p left ≡ Miss
+  no-room k p left h = found-cases (recordAt s d c k p left) (λ m. m) (λ e w. absurd (omega (arith, record-known k p left e w .2)))
 
   -- every record read is a whole one, their numbers follow one another, and they stand at positions below J
   pub records-known : (most k p left i : ℕ) (z : Committed) → i < length (recordsFrom most s d c k p left)

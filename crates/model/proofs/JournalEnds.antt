@@ -83,6 +83,10 @@ same-found s d c k p left =
     (λ z. let y : left ≡ 0 = eqb-true left 0 z in lt-ltb left (n + 2) (omega arith)))
 
 module _ (s : Shape) (d : Bytes) (c k p left : ℕ) where
+  -- of an answer that a call gave
+  pub found-as : (r : RecordRead) → r ≡ readRecord s d c k p left → foundBy r ≡ recordAt s d c k p left
+  found-as r e = ap foundBy e ∙ same-found s d c k p left
+
   pub read-whole : (e : Committed) → readRecord s d c k p left ≡ Read e → recordAt s d c k p left ≡ Whole e
   unfolding foundBy
   read-whole e h = sym (same-found s d c k p left) ∙ ap foundBy h

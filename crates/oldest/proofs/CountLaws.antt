@@ -13,7 +13,7 @@ use Rattle.model.specs.declared.Found.the-variants.{Whole, Miss}
 use Rattle.model.specs.declared.RecordRead.{RecordRead}
 use Rattle.model.specs.declared.RecordRead.the-variants.{Read}
 use Rattle.model.proofs.Lists.{getD-map-below}
-use Rattle.model.proofs.JournalEnds.{foundBy, same-found}
+use Rattle.model.proofs.JournalEnds.{foundBy, found-as}
 use Rattle.layout.proofs.Loops.{Filled, filled-more}
 use Rattle.journal.specs.Slots.{tailFor}
 use Rattle.journal.specs.Walk.{Reads}
@@ -92,7 +92,7 @@ module _ (x : Card) (d : Bytes) (c : ℕ) (most : List ℕ) (e : Counts x most) 
       (z : r ≡ readRecord s d c (t .number) (t .position) (s .journal)) where
     oldest-found : foundBy r ≡ oldestAt x d c
     unfolding oldestAt
-    oldest-found = ap foundBy z ∙ same-found s d c (t .number) (t .position) (s .journal) ∙ rw (p, q, count-at, ne-eqb (getD most c 0) 0 n)
+    oldest-found = found-as s d c (t .number) (t .position) (s .journal) r z ∙ rw (p, q, count-at, ne-eqb (getD most c 0) 0 n)
 
     pub oldest-none : foundBy r ≡ Miss → Miss ≡ oldestAt x d c
     oldest-none h = sym h ∙ oldest-found
