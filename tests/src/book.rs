@@ -2,6 +2,7 @@
 
 use crate::command::Command;
 use crate::layout::{BLOCK, CORES, HOMES};
+use crate::order::Order;
 use std::collections::VecDeque;
 
 /// A transaction of the book; its place in `entries` is its identity.
@@ -9,6 +10,8 @@ use std::collections::VecDeque;
 struct Entry {
     took: Vec<u8>,
     names: Vec<usize>,
+    /// The one before it on its core since the last cut.
+    before: Option<usize>,
     stores: usize,
     home_stores: usize,
     committed: bool,
@@ -16,6 +19,8 @@ struct Entry {
 
 #[derive(Default)]
 struct BookCore {
+    /// The last one opened since the last cut.
+    last: Option<usize>,
     running: Option<usize>,
     closed: Option<usize>,
     committed: VecDeque<usize>,
@@ -28,6 +33,7 @@ struct NotedWrite {
 }
 
 pub struct Book {
+    order: Order,
     entries: Vec<Entry>,
     cores: [BookCore; CORES],
     holders: [Option<usize>; HOMES],
@@ -38,13 +44,18 @@ pub struct Book {
 
 impl Default for Book {
     fn default() -> Self {
-        Book::new(0)
+        Book::under(Order::default())
     }
 }
 
 impl Book {
-    fn new(blocks: u8) -> Book {
+    pub fn under(order: Order) -> Book {
+        Book::new(order, 0)
+    }
+
+    fn new(order: Order, blocks: u8) -> Book {
         Book {
+            order,
             entries: Vec::new(),
             cores: Default::default(),
             holders: [None; HOMES],
@@ -63,7 +74,7 @@ impl Book {
             return;
         }
         match command {
-            Command::Format { blocks, .. } => *self = Book::new(blocks),
+            Command::Format { blocks, .. } => *self = Book::new(self.order, blocks),
             Command::Write { core, block, offset, data } => self.write(core, block as usize, offset, data),
             Command::Close { core } => self.close(core),
             Command::Store { core } => self.store(core),
@@ -96,10 +107,11 @@ impl Book {
 
     /// The core's running transaction, opened if there is none.
     fn running_of(&mut self, core: u8) -> usize {
-        let fresh = self.entries.len();
-        let running = *self.cores[core as usize].running.get_or_insert(fresh);
+        let (core, fresh) = (&mut self.cores[core as usize], self.entries.len());
+        let running = *core.running.get_or_insert(fresh);
         if running == fresh {
-            self.entries.push(Entry::default());
+            self.entries.push(Entry { before: core.last, ..Entry::default() });
+            core.last = Some(fresh);
         }
         running
     }
@@ -150,27 +162,39 @@ impl Book {
     }
 
     fn cut(&mut self) {
-        let kept = self.kept();
+        let kept = self.kept(self.order);
         for write in self.writes.iter().filter(|write| kept[write.entry]) {
             self.area[write.at..write.at + 4].copy_from_slice(&write.data);
         }
         let area = std::mem::take(&mut self.area);
-        *self = Book { area, ..Book::new(0) };
+        *self = Book { area, ..Book::new(self.order, 0) };
+    }
+
+    /// Of each core the transactions since the last cut, in the order opened: whether a cut would keep them under a rule.
+    pub fn runs(&self, order: Order) -> [Vec<bool>; CORES] {
+        let kept = self.kept(order);
+        self.cores.each_ref().map(|core| {
+            let backwards = std::iter::successors(core.last, |entry| self.entries[*entry].before);
+            let mut run: Vec<bool> = backwards.map(|entry| kept[entry]).collect();
+            run.reverse();
+            run
+        })
     }
 
     /// The largest set of committed ones in which each has all that it depends on there:
     /// whoever depends on one that is not committed is lost, and all others stay.
-    fn kept(&self) -> Vec<bool> {
-        let mut named_by = vec![Vec::new(); self.entries.len()];
+    fn kept(&self, order: Order) -> Vec<bool> {
+        let mut needed_by = vec![Vec::new(); self.entries.len()];
         for (i, entry) in self.entries.iter().enumerate() {
-            entry.names.iter().for_each(|name| named_by[*name].push(i));
+            let before = entry.before.filter(|_| order == Order::InSequence);
+            entry.names.iter().chain(&before).for_each(|needed| needed_by[*needed].push(i));
         }
         let mut kept = vec![true; self.entries.len()];
         let mut lost: Vec<usize> = (0..self.entries.len()).filter(|i| !self.entries[*i].committed).collect();
         while let Some(entry) = lost.pop() {
             if kept[entry] {
                 kept[entry] = false;
-                lost.extend(&named_by[entry]);
+                lost.extend(&needed_by[entry]);
             }
         }
         kept

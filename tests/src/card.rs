@@ -4,6 +4,7 @@ use crate::command::{self, Command};
 use crate::few::Few;
 use crate::journal::Journals;
 use crate::layout::{master, Block, Name, Shape, Tail, Tails, BLOCK, CORES, DISK, HOMES, MEMORY, NAMES, TAKEN};
+use crate::order::Order;
 use crate::wrong::Wrong;
 
 #[derive(Clone, Copy, PartialEq, Eq, Debug)]
@@ -49,6 +50,7 @@ pub struct Card {
     pub closes: u64,
     /// While down: the lowest block that recovery has not passed yet.
     pub place: u8,
+    pub order: Order,
     pub wrong: Wrong,
     /// What only a wrong card remembers.
     pub aside: u64,
@@ -72,15 +74,15 @@ pub type Done = Result<u8, u8>;
 
 impl Card {
     pub fn blank() -> Card {
-        Card::with(Phase::Blank, Wrong::No)
+        Card::with(Phase::Blank, Order::default(), Wrong::No)
     }
 
     /// A card that begins down over a disk written elsewhere.
     pub fn down() -> Card {
-        Card::with(Phase::Down, Wrong::No)
+        Card::with(Phase::Down, Order::default(), Wrong::No)
     }
 
-    pub fn with(phase: Phase, wrong: Wrong) -> Card {
+    pub fn with(phase: Phase, order: Order, wrong: Wrong) -> Card {
         Card {
             phase,
             shape: Shape::default(),
@@ -88,6 +90,7 @@ impl Card {
             holders: [None; HOMES],
             closes: 0,
             place: 0,
+            order,
             wrong,
             aside: 0,
         }
@@ -155,7 +158,7 @@ impl Card {
     /// The state of a card that has just come up: empty journals, no holder, no close counted.
     pub(crate) fn come_up(&mut self, shape: Shape, tails: &Tails) {
         let closes = self.closes;
-        *self = Card { shape, aside: self.aside, ..Card::with(Phase::Up, self.wrong) };
+        *self = Card { shape, aside: self.aside, ..Card::with(Phase::Up, self.order, self.wrong) };
         for (core, tail) in self.cores.iter_mut().zip(tails) {
             *core = Core { tail: *tail, next: tail.number, ..Core::default() };
         }
@@ -169,7 +172,7 @@ impl Card {
             lent.memory.fill(0);
         }
         let (place, closes, aside) = (self.place, self.closes, self.aside);
-        *self = Card::with(Phase::Down, self.wrong);
+        *self = Card::with(Phase::Down, self.order, self.wrong);
         match self.wrong {
             Wrong::CutKeepsPlace => self.place = place,
             Wrong::StampsGoOn => self.closes = closes,

@@ -7,6 +7,7 @@ use crate::foreign;
 use crate::generator::Generator;
 use crate::layout::{block_at, read_master, Shape, Tail, BLOCK, DISK, HOMES, MEMORY};
 use crate::ledger::{Entry, Ledger, Line, Stored};
+use crate::order::Rules;
 use crate::random::Random;
 use crate::second_reader::{journal_stop, read_journal, Stop};
 use crate::wrong::{Wrong, WrongReader};
@@ -81,6 +82,7 @@ pub struct Tally {
 
 pub struct Bench<'w> {
     checks: Checks,
+    rules: Rules,
     wrong: Wrong,
     card: Card,
     disk: Vec<u8>,
@@ -115,6 +117,10 @@ fn require(holds: bool, check: &'static str, detail: impl FnOnce() -> String) ->
 
 impl<'w> Bench<'w> {
     pub fn new(wrong: Wrong, checks: Checks, watcher: Option<&'w mut dyn Watcher>) -> Bench<'w> {
+        Bench::under(Rules::default(), wrong, checks, watcher)
+    }
+
+    pub fn under(rules: Rules, wrong: Wrong, checks: Checks, watcher: Option<&'w mut dyn Watcher>) -> Bench<'w> {
         let answers = [0; 42];
         let tally = Tally {
             commands: 0,
@@ -129,14 +135,15 @@ impl<'w> Bench<'w> {
         };
         Bench {
             checks,
+            rules,
             wrong,
-            card: Card::with(Phase::Blank, wrong),
+            card: Card::with(Phase::Blank, rules.card, wrong),
             disk: vec![0; DISK],
             memory: vec![0; MEMORY],
             seen_disk: vec![0; DISK],
             seen_memory: vec![0; MEMORY],
-            book: Book::default(),
-            ledger: Ledger::blank(&[0; MEMORY]),
+            book: Book::under(rules.books),
+            ledger: Ledger::blank(&[0; MEMORY], rules.books),
             is_foreign: false,
             foreign_share: 300,
             recovers: 0,
@@ -236,9 +243,9 @@ impl<'w> Bench<'w> {
     fn start_blank(&mut self) {
         self.random.fill(&mut self.disk);
         self.random.fill(&mut self.memory);
-        self.card = Card::with(Phase::Blank, self.wrong);
-        self.book = Book::default();
-        self.ledger = Ledger::blank(&self.memory);
+        self.card = Card::with(Phase::Blank, self.rules.card, self.wrong);
+        self.book = Book::under(self.rules.books);
+        self.ledger = Ledger::blank(&self.memory, self.rules.books);
         self.is_foreign = false;
         self.started();
     }
@@ -252,8 +259,8 @@ impl<'w> Bench<'w> {
     fn start_over(&mut self, disk: Vec<u8>) {
         self.disk = disk;
         self.random.fill(&mut self.memory);
-        self.card = Card::with(Phase::Down, self.wrong);
-        self.ledger = Ledger::over(&self.disk, &self.memory);
+        self.card = Card::with(Phase::Down, self.rules.card, self.wrong);
+        self.ledger = Ledger::over(&self.disk, &self.memory, self.rules.books);
         self.is_foreign = true;
         self.tally.foreign_disks += 1;
         self.started();
@@ -411,7 +418,7 @@ impl<'w> Bench<'w> {
         }
         if self.is_foreign && command == Command::Cut {
             // Stale records of a foreign disk may be read again, so the ledger starts anew from the disk.
-            self.ledger = Ledger::over(&self.disk, &self.memory);
+            self.ledger = Ledger::over(&self.disk, &self.memory, self.rules.books);
         }
         Ok(())
     }

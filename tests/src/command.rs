@@ -72,8 +72,9 @@ pub fn hex(tape: &[u8]) -> String {
     tape.iter().map(|byte| format!("{byte:02x}")).collect()
 }
 
-/// Bytes from hex digits; blanks and bars, as the paper's tapes have them, are passed over.
+/// Bytes from hex digits; blanks and bars, as the paper's tapes have them, are passed over, and comments from '#' to the line's end.
 pub fn from_hex(text: &str) -> Vec<u8> {
-    let digits: Vec<u8> = text.chars().filter_map(|c| c.to_digit(16)).map(|d| d as u8).collect();
+    let lines = text.lines().filter_map(|line| line.split('#').next());
+    let digits: Vec<u8> = lines.flat_map(str::chars).filter_map(|c| c.to_digit(16)).map(|d| d as u8).collect();
     digits.chunks_exact(2).map(|pair| pair[0] * 16 + pair[1]).collect()
 }

@@ -76,7 +76,7 @@ fn write(core: u8, block: usize) -> Command {
 }
 
 /// CLOSE and all stores of a transaction of so many blocks.
-fn commit_of(core: u8, blocks: usize) -> Vec<Command> {
+pub fn commit_of(core: u8, blocks: usize) -> Vec<Command> {
     let stores = vec![Command::Store { core }; blocks + 2];
     [vec![Command::Close { core }], stores].concat()
 }

@@ -5,6 +5,7 @@ use crate::layout::{
     block_at, read_master, unescaped, word, Block, Name, Shape, Tails, COMMIT, CORES, DESCRIPTOR, LAST_NUMBER, MARK,
     NAMES, TAKEN,
 };
+use crate::order::Order;
 
 /// One committed transaction as its journal tells it.
 #[derive(Clone, Copy, PartialEq, Eq, Debug, Default)]
@@ -113,18 +114,25 @@ impl Journals {
         (above as usize) < read && set >> (self.first_of(name.core) + above as usize) & 1 == 1
     }
 
-    /// The largest set in which each name is met: strike those with an unmet name until none goes.
-    pub fn valid(&self, set: Set) -> Set {
+    /// One round: those of a set go of which something that they require is not met in it, a name or the one before.
+    pub fn struck(&self, set: Set, order: Order) -> Set {
         let mut left = set;
         for (i, record) in self.records.iter().enumerate() {
-            if record.names.iter().any(|name| !self.is_met(*name, set)) {
+            let mut required = record.names.iter().copied().chain(order.before(record.name()));
+            if required.any(|name| !self.is_met(name, set)) {
                 left &= !(1 << i);
             }
         }
+        left
+    }
+
+    /// The largest set within this one in which all that is required is met: strike until none goes.
+    pub fn valid(&self, set: Set, order: Order) -> Set {
+        let left = self.struck(set, order);
         if left == set {
             set
         } else {
-            self.valid(left)
+            self.valid(left, order)
         }
     }
 

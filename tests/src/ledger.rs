@@ -6,6 +6,7 @@ use crate::layout::{
     begins_with_mark, block_at, commit, copy_of, descriptor, escaped, master, read_master, Block, Name, Shape, Tail,
     Tails, BLOCK, CORES, HOMES, LAST_NUMBER, LAST_TAIL, MEMORY, NAMES, TAKEN, ZERO,
 };
+use crate::order::Order;
 use crate::second_reader::read_journal;
 use std::collections::VecDeque;
 
@@ -85,6 +86,7 @@ impl Line {
 pub type Stored = Option<(usize, Block)>;
 
 pub struct Ledger {
+    pub order: Order,
     pub phase: Phase,
     pub shape: Shape,
     pub lines: [Line; CORES],
@@ -99,8 +101,9 @@ pub struct Ledger {
 }
 
 impl Ledger {
-    pub fn blank(memory: &[u8]) -> Ledger {
+    pub fn blank(memory: &[u8], order: Order) -> Ledger {
         Ledger {
+            order,
             phase: Phase::Blank,
             shape: Shape::default(),
             lines: Default::default(),
@@ -114,8 +117,8 @@ impl Ledger {
     }
 
     /// The ledger of a card that is down over a disk written elsewhere: here alone it learns from the disk.
-    pub fn over(disk: &[u8], memory: &[u8]) -> Ledger {
-        let mut ledger = Ledger { phase: Phase::Down, ..Ledger::blank(memory) };
+    pub fn over(disk: &[u8], memory: &[u8], order: Order) -> Ledger {
+        let mut ledger = Ledger { phase: Phase::Down, ..Ledger::blank(memory, order) };
         let Some((shape, tails)) = read_master(disk) else { return ledger };
         ledger.shape = shape;
         for block in 0..shape.blocks {
@@ -236,7 +239,7 @@ impl Ledger {
     }
 
     /// Valid: committed, and so is all that it depends on and that is not below its core's tail.
-    /// Followed name by name from the one asked about, not by shrinking a set.
+    /// Followed one by one from the one asked about, not by shrinking a set.
     pub fn is_valid(&self, name: Name) -> bool {
         let mut seen = vec![name];
         let mut next = 0;
@@ -247,9 +250,10 @@ impl Ledger {
                 continue;
             }
             let Some(entry) = line.find(name.number).filter(|entry| entry.is_committed()) else { return false };
-            for named in &entry.names {
-                if !seen.contains(named) {
-                    seen.push(*named);
+            let before = (self.order == Order::InSequence).then_some(Name { number: name.number - 1, ..name });
+            for needed in entry.names.iter().copied().chain(before) {
+                if !seen.contains(&needed) {
+                    seen.push(needed);
                 }
             }
         }
@@ -286,7 +290,7 @@ impl Ledger {
 
     fn format(&mut self, cores: u8, blocks: u8, journal: u8) {
         let Some(shape) = Shape::new(cores as u32, blocks as u32, journal as u32) else { return };
-        *self = Ledger { phase: Phase::Up, shape, ..Ledger::blank(&[0; MEMORY]) };
+        *self = Ledger { phase: Phase::Up, shape, ..Ledger::blank(&[0; MEMORY], self.order) };
         for line in &mut self.lines[..cores as usize] {
             line.tail = Tail { number: 1, position: 0 };
             line.next = 1;

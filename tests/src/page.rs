@@ -3,6 +3,7 @@
 
 use crate::journal::{End, Journals, Record};
 use crate::layout::{Shape, DISK};
+use crate::order::Order;
 use std::fmt::Display;
 
 /// What a line of the log holds; the line feed comes after it.
@@ -12,11 +13,16 @@ pub type Line = [u8; COLUMNS + 1];
 
 /// All lines of a disk's page.
 pub fn page(disk: &[u8]) -> Vec<Line> {
+    page_under(Order::default(), disk)
+}
+
+/// The same with the valid set read by either rule.
+pub fn page_under(order: Order, disk: &[u8]) -> Vec<Line> {
     let (shape, journals) = match read(disk) {
         Ok(read) => read,
         Err(refusal) => return vec![set(&[(2, &refusal)])],
     };
-    let valid = journals.valid(journals.everything());
+    let valid = journals.valid(journals.everything(), order);
     let records = journals.records.iter().enumerate();
     let lines = records.map(|(i, record)| transaction(record, valid >> i & 1 == 1));
     let ends = journals.ends.iter().enumerate().filter_map(|(core, end)| Some(ending(core, (*end)?)));

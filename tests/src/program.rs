@@ -1,9 +1,11 @@
 // program.rs: what the tape program prints: a line for each command, then the home blocks that are not all zero. What programs
 // with a flaw of their own over the right card would print, and tapes for the program.
 
-use crate::card::Card;
+use crate::card::{Card, Phase};
 use crate::generator::Generator;
 use crate::layout::{block_at, read_master, Shape, DISK, MEMORY};
+use crate::order::Order;
+use crate::wrong::Wrong;
 use std::fmt::Write;
 
 /// How much the program reads and writes at a time.
@@ -38,12 +40,20 @@ pub const FLAWS: &[(Flaw, &str)] = &[
 ];
 
 pub fn print_tape(tape: &[u8]) -> String {
-    print_with(tape, Flaw::No)
+    print_under(Order::default(), tape)
+}
+
+/// The same by a card under either rule.
+pub fn print_under(order: Order, tape: &[u8]) -> String {
+    print_by(Card::with(Phase::Blank, order, Wrong::No), tape, Flaw::No)
 }
 
 pub fn print_with(tape: &[u8], flaw: Flaw) -> String {
+    print_by(Card::blank(), tape, flaw)
+}
+
+fn print_by(mut card: Card, tape: &[u8], flaw: Flaw) -> String {
     let (mut disk, mut memory) = (vec![0; DISK], vec![0; MEMORY]);
-    let mut card = Card::blank();
     let tape = if flaw == Flaw::FirstPiece { &tape[..tape.len().min(PIECE)] } else { tape };
     let (mut offset, mut commands, mut stores, mut text) = (0, 0, 0u64, String::new());
     while offset < tape.len() {

@@ -1,8 +1,9 @@
 // recovery.rs: the card's CHECKPOINT and RECOVER: images going home and tails moving on.
 
-use crate::card::{Card, Done, Lent};
+use crate::card::{Card, Done, Lent, Phase};
 use crate::journal::{Journals, Record, Set};
 use crate::layout::{copy_of, master, Block, Shape, Tail, Tails, LAST_TAIL, ZERO};
+use crate::order::Order;
 use crate::wrong::Wrong;
 
 impl Card {
@@ -63,8 +64,19 @@ impl Card {
         let all = journals.everything();
         match self.wrong {
             Wrong::AllCommittedValid => all,
-            Wrong::ValidityOneDeep => one_name_deep(journals),
-            _ => journals.valid(all),
+            Wrong::ValidityOneDeep => journals.struck(all, self.order),
+            Wrong::SequenceOneRound => journals.struck(journals.valid(all, Order::Unordered), self.order),
+            Wrong::SequenceBelowTail => journals.valid(not_first(journals), self.order),
+            _ => journals.valid(all, self.order_now()),
+        }
+    }
+
+    /// CHECKPOINT reads the valid set while the card is up, RECOVER while it is down.
+    fn order_now(&self) -> Order {
+        match (self.wrong, self.phase) {
+            (Wrong::SequenceInRecoveryAlone, Phase::Up) => Order::Unordered,
+            (Wrong::SequenceInRunningAlone, Phase::Down) => Order::Unordered,
+            _ => self.order,
         }
     }
 
@@ -175,14 +187,9 @@ impl Card {
     }
 }
 
-/// The wrong validity: only the names listed are looked at, against all committed ones.
-fn one_name_deep(journals: &Journals) -> Set {
-    let all = journals.everything();
-    let mut set = all;
-    for (i, record) in journals.records.iter().enumerate() {
-        if record.names.iter().any(|name| !journals.is_met(*name, all)) {
-            set &= !(1 << i);
-        }
-    }
-    set
+/// The wrong beginning: the first of a core that has others before it below the tail is struck, as if they were missing.
+fn not_first(journals: &Journals) -> Set {
+    let is_first = |i: usize| journals.records[i].number == journals.tails[journals.records[i].core as usize].number;
+    let firsts = (0..journals.records.len()).filter(|i| is_first(*i) && journals.records[*i].number > 1);
+    firsts.fold(journals.everything(), |set, i| set & !(1 << i))
 }

@@ -2,9 +2,11 @@
 
 use crate::checks::{Bench, Checks, Failure};
 use crate::command::{self, Command};
+use crate::order::Rules;
 use crate::wrong::Wrong;
 
 pub struct Shrinker {
+    pub rules: Rules,
     pub wrong: Wrong,
     pub checks: Checks,
 }
@@ -12,7 +14,7 @@ pub struct Shrinker {
 impl Shrinker {
     /// The failure of a tape on a blank wrong card, if it fails.
     pub fn failure(&self, commands: &[Command]) -> Option<Failure> {
-        Bench::new(self.wrong, self.checks, None).run_tape(&tape_of(commands)).err()
+        Bench::under(self.rules, self.wrong, self.checks, None).run_tape(&tape_of(commands)).err()
     }
 
     /// A short tape out of generated ones of several seeds; none if no tape from a blank card fails.
@@ -22,7 +24,7 @@ impl Shrinker {
     }
 
     fn found(&self, commands: u64, seed: u64) -> Option<Vec<u8>> {
-        let mut bench = Bench::new(self.wrong, self.checks, None);
+        let mut bench = Bench::under(self.rules, self.wrong, self.checks, None);
         bench.set_foreign_share(0);
         bench.soak(commands, seed).err().map(|failure| failure.tape)
     }

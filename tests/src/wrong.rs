@@ -62,6 +62,10 @@ switches! {
     NoWrap = "a record that does not wrap",
     No26OnOpen = "26 not tested for a WRITE that opens without a block",
     Only26Stored = "26 does not count a closed one not yet stored",
+    SequenceInRecoveryAlone = "the one before asked for in recovery alone",
+    SequenceInRunningAlone = "the one before asked for in running alone",
+    SequenceOneRound = "the one before asked for in one round alone",
+    SequenceBelowTail = "the one before asked for below the tail too",
 }
 
 switches! {
@@ -73,6 +77,15 @@ switches! {
     NoneLeftUnasked = "'no block left' not asked for",
     LimitLast = "end 4 for a number above the limit",
     LowByte = "the range of blocks tested on the low byte",
+}
+
+/// Wrong in what request (c) of paper 02 asks for. They are tried under the new rule; their tapes stand in `sequence.rs`.
+pub const SEQUENCE: [Wrong; 4] =
+    [Wrong::SequenceInRecoveryAlone, Wrong::SequenceInRunningAlone, Wrong::SequenceOneRound, Wrong::SequenceBelowTail];
+
+/// Those that generated tapes catch. They hardly meet what the sequence changes, and the equivalent card is never caught.
+pub fn caught_by_generated() -> impl Iterator<Item = &'static (Wrong, &'static str)> {
+    ALL.iter().filter(|(wrong, _)| *wrong != Wrong::Only33Committed && !SEQUENCE.contains(wrong))
 }
 
 pub fn words(wrong: Wrong) -> &'static str {

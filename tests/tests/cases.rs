@@ -1,8 +1,10 @@
-// cases.rs: the nine cases of the paper, as the tape program prints them, and the ways in which a tape ends.
+// cases.rs: the nine cases of the paper, as the tape program prints them, the same under both rules of what a transaction depends on;
+// and the ways in which a tape ends.
 
 use card_tests::command::from_hex;
-use card_tests::disks::{disk_after, P1_UNCUT};
-use card_tests::program::print_tape;
+use card_tests::disks::{disk_under, P1_UNCUT};
+use card_tests::order::ORDERS;
+use card_tests::program::print_under;
 
 fn first() -> String {
     format!("{P1_UNCUT} | 06 | 07 | 07")
@@ -26,8 +28,10 @@ const FIRST_LINES: [&str; 10] = [
 const ONE_COMMITTED: [&str; 6] = ["0 1 0 0", "4 2 0 0", "13 3 0 0", "15 4 0 1", "17 4 0 2", "19 4 0 3"];
 
 fn prints(tape: &str, lines: &[&str]) {
-    let printed = print_tape(&from_hex(tape));
-    assert_eq!(printed.lines().collect::<Vec<_>>(), lines, "tape {tape}");
+    for order in ORDERS {
+        let printed = print_under(order, &from_hex(tape));
+        assert_eq!(printed.lines().collect::<Vec<_>>(), lines, "tape {tape} under {order:?}");
+    }
 }
 
 #[test]
@@ -80,9 +84,10 @@ fn p6_the_number_after_a_cut() {
         "block 0 1111111100000000",
     ];
     prints(tape, &[&ONE_COMMITTED[..], &end].concat());
-    let disk = disk_after(&from_hex(tape));
-    assert_eq!(disk[24..32], [0, 0, 0, 3, 0, 0, 0, 0], "tail number and position in the master");
-    assert_eq!(disk[3 * 128 + 8..3 * 128 + 12], [0, 0, 0, 3], "number of the descriptor at position 0");
+    for disk in ORDERS.map(|order| disk_under(order, &from_hex(tape))) {
+        assert_eq!(disk[24..32], [0, 0, 0, 3, 0, 0, 0, 0], "tail number and position in the master");
+        assert_eq!(disk[3 * 128 + 8..3 * 128 + 12], [0, 0, 0, 3], "number of the descriptor at position 0");
+    }
 }
 
 #[test]
@@ -121,7 +126,12 @@ fn p8_the_mark_comes_back_whole() {
 
 #[test]
 fn p9_an_empty_tape() {
-    assert_eq!(print_tape(&[]), "");
+    prints("", &[]);
+}
+
+#[test]
+fn a_comment_is_no_part_of_a_tape() {
+    assert_eq!(from_hex("# P1\n01 02 | 040C # 5\n06"), [1, 2, 4, 12, 6]);
 }
 
 #[test]
@@ -141,8 +151,8 @@ fn a_card_that_is_down_still_prints_its_blocks() {
 
 #[test]
 fn the_bytes_of_the_first_case() {
-    let disk = disk_after(&from_hex(P1_UNCUT));
-    assert_eq!(from_hex(&first()).len(), 41);
+    let [old, disk] = ORDERS.map(|order| disk_under(order, &from_hex(P1_UNCUT)));
+    assert!(old == disk && from_hex(&first()).len() == 41);
     let block = |index: usize, digits: &str| {
         let mut bytes = from_hex(digits);
         bytes.resize(128, 0);

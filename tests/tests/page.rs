@@ -1,4 +1,5 @@
-// page.rs: the journal page of made disks, column by column, and of generated and foreign ones against the ledger's reading.
+// page.rs: the journal page of made disks, column by column, and of generated and foreign ones against the ledger's reading, under both
+// rules of what a transaction depends on.
 
 use card_tests::card::Card;
 use card_tests::command::from_hex;
@@ -10,7 +11,8 @@ use card_tests::layout::{
     commit, descriptor, put_word, read_master, Block, Name, Shape, Tail, BLOCK, DISK, LAST_NUMBER, LAST_TAIL, MEMORY,
 };
 use card_tests::ledger::{Entry, Ledger};
-use card_tests::page::{line_at, page, print_page, Line};
+use card_tests::order::{Order, ORDERS};
+use card_tests::page::{line_at, page, page_under, print_page, Line};
 use card_tests::random::Random;
 use card_tests::second_reader::{journal_stop, Stop};
 use card_tests::wrong::{WrongReader, READERS};
@@ -31,12 +33,21 @@ fn line(text: &str) -> Line {
     line
 }
 
-/// The page has these lines, then one for each core with its end, which are given as digits.
+fn text(page: &[Line]) -> String {
+    String::from_utf8(page.concat()).expect("text")
+}
+
+/// Under both rules the page has these lines, then one for each core with its end, which are given as digits.
 fn shows(disk: &[u8], texts: &[&str], ends: &str) {
+    ORDERS.iter().for_each(|order| shows_under(*order, disk, texts, ends));
+}
+
+fn shows_under(order: Order, disk: &[u8], texts: &[&str], ends: &str) {
     let ends = ends.chars().enumerate().map(|(core, end)| format!(".{core}..{end}"));
     let texts: Vec<String> = texts.iter().map(|text| text.to_string()).chain(ends).collect();
     let lines: Vec<Line> = texts.iter().map(|text| line(text)).collect();
-    assert!(page(disk) == lines, "the page is\n{}and not\n{}", print_page(disk), texts.join("\n"));
+    let page = page_under(order, disk);
+    assert!(page == lines, "the page is\n{}and not\n{}", text(&page), texts.join("\n"));
 }
 
 /// A disk of two cores whose tails have these numbers.
@@ -79,14 +90,16 @@ fn what_hangs_on_an_uncommitted_one_is_left() {
     put_record(&mut disk, SMALL, of(0, 8), 3, &[0, 3, 1], &[of(0, 7), of(1, 3)]);
     put_record(&mut disk, SMALL, of(0, 9), 8, &[], &[]);
     put_record(&mut disk, SMALL, of(1, 3), 11, &[2, 1], &[of(1, 4)]);
-    let lines = [
+    let mut lines = [
         ".2..4.12",
         ".0..........7....................3..1..4.kept",
         ".0..........8....................3..3..2.left",
         ".0..........9....................3..0..0.kept",
         ".1..........3....................3..2..1.left",
     ];
-    shows(&disk, &lines, "11");
+    shows_under(Order::Unordered, &disk, &lines, "11");
+    lines[3] = ".0..........9....................3..0..0.left";
+    shows_under(Order::InSequence, &disk, &lines, "11");
 }
 
 #[test]
@@ -204,12 +217,12 @@ fn told(ledger: &Ledger, core: u8, entry: &Entry) -> Line {
 
 /// The page by the ledger, which reads journals and follows names with code of its own; the refusal is RECOVER's, and the ends are
 /// the second reader's.
-fn told_page(disk: &[u8]) -> Vec<Line> {
+fn told_page(order: Order, disk: &[u8]) -> Vec<Line> {
     let answer = Card::down().command(&mut disk.to_vec(), &mut [0; MEMORY], &[7], 0).answer;
     if answer != 0 {
         return vec![numbers(&[(2, answer as u64)])];
     }
-    let ledger = Ledger::over(disk, &[]);
+    let ledger = Ledger::over(disk, &[], order);
     let Shape { cores, blocks, journal } = ledger.shape;
     let head = numbers(&[(2, cores as u64), (5, blocks as u64), (8, journal as u64)]);
     let entries = (0..cores).flat_map(|core| ledger.lines[core as usize].committed().map(move |entry| (core, entry)));
@@ -217,6 +230,17 @@ fn told_page(disk: &[u8]) -> Vec<Line> {
     let stops = stops(disk, WrongReader::No).into_iter().enumerate();
     let ends = stops.map(|(core, stop)| numbers(&[(2, core as u64), (5, stop.end as u64)]));
     std::iter::once(head).chain(transactions).chain(ends).collect()
+}
+
+/// The page under both rules is as the ledger has it; its lines, as many under each.
+fn is_told(disk: &[u8]) -> usize {
+    let [lines, _] = ORDERS.map(|order| {
+        let page = page_under(order, disk);
+        let is_same = page == told_page(order, disk);
+        assert!(is_same, "not as the ledger has it under {order:?}:\n{}", text(&page));
+        page.len()
+    });
+    lines
 }
 
 /// Where a reader stops in each journal of a disk with a fit master.
@@ -229,15 +253,12 @@ fn stops(disk: &[u8], reader: WrongReader) -> Vec<Stop> {
 fn every_page_is_as_the_ledger_tells_it() {
     let (mut random, mut lines) = (Random::new(31), 0);
     each_disk(60_000, 31, |disk| {
-        let right = told_page(disk);
-        assert!(page(disk) == right, "not as the ledger has it:\n{}", print_page(disk));
-        lines += right.len();
-        let short = random.below(DISK);
-        assert_eq!(page(&disk[..short]), told_page(&disk[..short]));
+        lines += is_told(disk);
+        is_told(&disk[..random.below(DISK)]);
     });
     assert!(lines > 50_000, "{lines} lines");
     for disk in [highest_disk(), chain_disk(0, true), chain_disk(1, false), disk_with(LARGEST, &[])] {
-        assert_eq!(page(&disk), told_page(&disk));
+        is_told(&disk);
     }
 }
 
@@ -265,7 +286,7 @@ fn pages_of_made_endings_are_as_the_ledger_tells_them() {
     let (mut random, mut met) = (Random::new(33), Met::default());
     for _ in 0..20_000 {
         let disk = endings::disk(&mut random);
-        assert!(page(&disk) == told_page(&disk), "not as the ledger has it:\n{}", print_page(&disk));
+        is_told(&disk);
         met.count(&disk);
     }
     for (end, counts) in met.ends.iter().enumerate().skip(1) {
@@ -277,8 +298,8 @@ fn pages_of_made_endings_are_as_the_ledger_tells_them() {
     assert!(met.lefts.into_iter().eq(0..=24));
 }
 
-/// Where no block is left the journal's first record stands, whose number is not the expected one: that this is not asked for tells
-/// on one record alone (`ends.rs`).
+/// Where no block is left the journal's first record stands, whose number is not the expected one: that this is not asked for makes
+/// a difference on one record alone (`ends.rs`).
 #[test]
 fn made_endings_tell_wrong_readers_apart() {
     let (mut random, mut told) = (Random::new(34), vec![0; READERS.len()]);

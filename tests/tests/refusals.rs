@@ -1,9 +1,10 @@
 // refusals.rs: every number of the paper's list is answered, on a short run made for it and in generated ones.
 
-use card_tests::card::{Card, Outcome};
+use card_tests::card::{Card, Outcome, Phase};
 use card_tests::checks::{Bench, Checks};
 use card_tests::command::from_hex;
 use card_tests::layout::{master, Shape, Tail, Tails, DISK, LAST_NUMBER, LAST_TAIL, MEMORY};
+use card_tests::order::{Order, Rules, ORDERS};
 use card_tests::wrong::Wrong;
 
 struct Run {
@@ -14,7 +15,12 @@ struct Run {
 
 impl Run {
     fn blank() -> Run {
-        Run { card: Card::blank(), disk: vec![0x5A; DISK], memory: vec![0x5A; MEMORY] }
+        Run::under(Order::default())
+    }
+
+    fn under(order: Order) -> Run {
+        let card = Card::with(Phase::Blank, order, Wrong::No);
+        Run { card, disk: vec![0x5A; DISK], memory: vec![0x5A; MEMORY] }
     }
 
     fn down_over(master: &[u8]) -> Run {
@@ -49,9 +55,11 @@ fn commit(core: u8, blocks: usize) -> String {
     format!("03 {core:02x} ") + &format!("04 {core:02x} ").repeat(blocks + 2)
 }
 
-/// The last answer of a tape on a blank card.
+/// The last answer of a tape on a blank card, the same under both rules.
 fn last(tape: &str) -> u8 {
-    *Run::blank().answers(tape).last().unwrap()
+    let [old, new] = ORDERS.map(|order| *Run::under(order).answers(tape).last().unwrap());
+    assert_eq!(old, new);
+    new
 }
 
 #[test]
@@ -178,8 +186,10 @@ fn refusals_28_to_33() {
 
 #[test]
 fn generated_runs_meet_every_number() {
-    let mut bench = Bench::new(Wrong::No, Checks::ALL, None);
-    bench.soak(300_000, 3).expect("all checks hold");
-    let unmet: Vec<usize> = (0..=8).chain(20..=33).filter(|answer| bench.tally.answers[*answer] == 0).collect();
-    assert_eq!(unmet, [0; 0], "numbers never answered");
+    for order in ORDERS {
+        let mut bench = Bench::under(Rules::throughout(order), Wrong::No, Checks::ALL, None);
+        bench.soak(300_000, 3).expect("all checks hold");
+        let unmet: Vec<usize> = (0..=8).chain(20..=33).filter(|answer| bench.tally.answers[*answer] == 0).collect();
+        assert_eq!(unmet, [0; 0], "numbers never answered under {order:?}");
+    }
 }

@@ -1,16 +1,18 @@
-// wrong_cards.rs: every wrong card is caught by the book or the ledger, and the equivalent one is not.
+// wrong_cards.rs: under both rules every wrong card is caught by the book or the ledger, and the equivalent one is not. Those of
+// request (c) have tapes of their own in `sequence.rs`.
 
 use card_tests::checks::{Bench, Checks};
+use card_tests::order::{Rules, ORDERS};
 use card_tests::twin::Twin;
-use card_tests::wrong::{words, Wrong, ALL};
+use card_tests::wrong::{caught_by_generated, words, Wrong};
 
 fn is_caught(wrong: Wrong, checks: Checks, commands: u64) -> bool {
-    Bench::new(wrong, checks, None).soak(commands, 1).is_err()
+    ORDERS.iter().all(|order| Bench::under(Rules::throughout(*order), wrong, checks, None).soak(commands, 1).is_err())
 }
 
 #[test]
 fn every_wrong_card_is_caught() {
-    for (wrong, words) in ALL.iter().filter(|(wrong, _)| *wrong != Wrong::Only33Committed) {
+    for (wrong, words) in caught_by_generated() {
         assert!(is_caught(*wrong, Checks::ALL, 400_000), "not caught: {words}");
     }
 }
@@ -66,14 +68,18 @@ fn the_ends_alone_catch_those_that_use_a_number_again() {
 
 #[test]
 fn a_card_that_tests_33_against_committed_ones_only_never_differs() {
-    let mut twin = Twin::default();
-    let mut bench = Bench::new(Wrong::Only33Committed, Checks::ALL, Some(&mut twin));
-    bench.soak(300_000, 5).expect("an equivalent card");
+    for order in ORDERS {
+        let mut twin = Twin::under(order);
+        let mut bench = Bench::under(Rules::throughout(order), Wrong::Only33Committed, Checks::ALL, Some(&mut twin));
+        bench.soak(300_000, 5).expect("an equivalent card");
+    }
 }
 
 #[test]
 fn the_right_card_does_not_differ_from_itself() {
-    let mut twin = Twin::default();
-    let mut bench = Bench::new(Wrong::No, Checks::NONE, Some(&mut twin));
-    bench.soak(50_000, 9).expect("the same card");
+    for order in ORDERS {
+        let mut twin = Twin::under(order);
+        let mut bench = Bench::under(Rules::throughout(order), Wrong::No, Checks::NONE, Some(&mut twin));
+        bench.soak(50_000, 9).expect("the same card");
+    }
 }

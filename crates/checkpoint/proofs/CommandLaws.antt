@@ -4,7 +4,7 @@ use Rattle.model.proofs.Base.{ℕ, suc, _+_, _-_, _%_, _≤_, _<_, min, arith, 
 use Rattle.model.proofs.Base.{List, [], _∷_, length, eqb, ne-eqb, eqb-true, eqb-false, Bytes}
 use Rattle.model.specs.Card.{shapeOf, tailOf, committedCount}
 use Rattle.model.specs.Journal.{recordsFrom, journal, nameOf}
-use Rattle.model.specs.Valid.{isIn}
+use Rattle.model.specs.Valid.{in-sequence, isIn}
 use Rattle.model.specs.Command.{World, Outcome, refusal, unless}
 use Rattle.model.specs.Checkpoint.{validNow, committedOf, oldest, sharesLower, checkpointConditions, checkpointed, checkpoint}
 use Rattle.model.specs.Limits.{maxNumber}
@@ -92,38 +92,38 @@ pub oldest-found : (x : Card) (c : ℕ) (d m : Bytes) → Entered x c d m → (f
 oldest-found x c d m p f q e z most o = record { long = p .disk; core = p .core; are-counts = o; first = sym q ∙ z }
 
 stages : (c : ℕ) (w : World)
-    → refusal (checkpointConditions c w)
+    → refusal (checkpointConditions in-sequence c w)
     ≡ firstOf (refusal (entry c w)) (firstOf (cond (eqb (length (committedOf w c)) 0) 31 0) (refusal (oldestConditions (oldest (committedOf w c)) w)))
 unfolding checkpointConditions oldestConditions
 stages c w =
     let es = committedOf w c in
-    let rest : List (Bool × ℕ) = (not (isIn (validNow w) (nameOf (oldest es))), 32) ∷ (sharesLower w (oldest es), 33) ∷ [] in
+    let rest : List (Bool × ℕ) = (not (isIn (validNow in-sequence w) (nameOf (oldest es))), 32) ∷ (sharesLower w (oldest es), 33) ∷ [] in
     refusal-joined (entry c w) ((eqb (length es) 0, 31) ∷ rest) (omega arith, (omega arith, (omega arith, (omega arith, tt))))
     ∙ ap (firstOf (refusal (entry c w))) (refusal-next (eqb (length es) 0) 31 rest (omega arith))
 
 module _ (v : List ℕ) (c : ℕ) (d m : Bytes) (n : ℕ) (e : n ≡ refusal (entry c (worldIn v d m))) where
-  pub first-refused : length v ≡ 512 → (n ≡ 0 → ⊥) → Meets (checkpoint c (worldIn v d m)) v v d m (newAnswer n 0)
+  pub first-refused : length v ≡ 512 → (n ≡ 0 → ⊥) → Meets (checkpoint in-sequence c (worldIn v d m)) v v d m (newAnswer n 0)
   unfolding checkpoint
   first-refused size h =
-      meets-refused (checkpointConditions c (worldIn v d m)) v d m (checkpointed c (worldIn v d m)) size n (first-hit n _ _ e h ∙ sym (stages c (worldIn v d m))) h
+      meets-refused (checkpointConditions in-sequence c (worldIn v d m)) v d m (checkpointed c (worldIn v d m)) size n (first-hit n _ _ e h ∙ sym (stages c (worldIn v d m))) h
 
   module _ (h : n ≡ 0) where
     pub first-passed : Entered (cardIn v) c d m
     first-passed = entered (cardIn v) c d m [] tt (sym e ∙ h)
 
     module _ (f : Found) (q : f ≡ oldestAt (cardIn v) d c) where
-      pub none-committed : length v ≡ 512 → f ≡ Miss → Meets (checkpoint c (worldIn v d m)) v v d m (newAnswer 31 0)
+      pub none-committed : length v ≡ 512 → f ≡ Miss → Meets (checkpoint in-sequence c (worldIn v d m)) v v d m (newAnswer 31 0)
       unfolding checkpoint
       none-committed size z =
           let k : _≡_ {A = ℕ} 31 (cond (eqb (length (committedOf (worldIn v d m) c)) 0) 31 0) = rw (no-oldest (cardIn v) d c (sym q ∙ z) m) in
-          meets-refused (checkpointConditions c (worldIn v d m)) v d m (checkpointed c (worldIn v d m)) size 31
+          meets-refused (checkpointConditions in-sequence c (worldIn v d m)) v d m (checkpointed c (worldIn v d m)) size 31
           (first-pass n 31 _ _ e h (first-hit 31 (cond (eqb (length (committedOf (worldIn v d m) c)) 0) 31 0) _ k (omega arith)) ∙ sym (stages c (worldIn v d m))) (omega arith)
 
       module _ (t : Committed) (z : f ≡ Whole t) where
         first-whole : oldestAt (cardIn v) d c ≡ Whole t
         first-whole = sym q ∙ z
 
-        last-stages : refusal (checkpointConditions c (worldIn v d m)) ≡ refusal (oldestConditions t (worldIn v d m))
+        last-stages : refusal (checkpointConditions in-sequence c (worldIn v d m)) ≡ refusal (oldestConditions t (worldIn v d m))
         last-stages =
             let u : _≡_ {A = ℕ} 0 (cond (eqb (length (committedOf (worldIn v d m) c)) 0) 31 0) = rw (is-committed (cardIn v) d c t first-whole m) in
             let a : refusal (oldestConditions t (worldIn v d m)) ≡ refusal (oldestConditions (oldest (committedOf (worldIn v d m) c)) (worldIn v d m)) =
@@ -134,11 +134,11 @@ module _ (v : List ℕ) (c : ℕ) (d m : Bytes) (n : ℕ) (e : n ≡ refusal (en
         unfolding checkpointed nextStore
         store-same = sym (ap (λ (y : Committed). nextStore c y (worldIn v d m)) (is-oldest (cardIn v) d c t first-whole m))
 
-        same-outcome : oldestOutcome c t (worldIn v d m) ≡ checkpoint c (worldIn v d m)
+        same-outcome : oldestOutcome c t (worldIn v d m) ≡ checkpoint in-sequence c (worldIn v d m)
         unfolding checkpoint oldestOutcome
         same-outcome =
-            sym (unless-same (checkpointConditions c (worldIn v d m)) (oldestConditions t (worldIn v d m)) (worldIn v d m) (nextStore c t (worldIn v d m)) last-stages)
-            ∙ ap (unless (checkpointConditions c (worldIn v d m)) (worldIn v d m)) store-same
+            sym (unless-same (checkpointConditions in-sequence c (worldIn v d m)) (oldestConditions t (worldIn v d m)) (worldIn v d m) (nextStore c t (worldIn v d m)) last-stages)
+            ∙ ap (unless (checkpointConditions in-sequence c (worldIn v d m)) (worldIn v d m)) store-same
 
-        pub oldest-settled : (w : List ℕ) (d₂ : Bytes) (r : Answer) → ((m : Bytes) → Meets (oldestOutcome c t (worldIn v d m)) v w d₂ m r) → Meets (checkpoint c (worldIn v d m)) v w d₂ m r
+        pub oldest-settled : (w : List ℕ) (d₂ : Bytes) (r : Answer) → ((m : Bytes) → Meets (oldestOutcome c t (worldIn v d m)) v w d₂ m r) → Meets (checkpoint in-sequence c (worldIn v d m)) v w d₂ m r
         oldest-settled w d₂ r o = subst (λ (k : Outcome World). Meets k v w d₂ m r) same-outcome (o m)

@@ -6,6 +6,7 @@ mod stores; // a checkpoint's next store
 ghost use mathlib.Core.Path.{_≡_};
 ghost use lib.ListN.{length};
 ghost use Rattle.model.specs.Bytes.{Bytes};
+ghost use Rattle.model.specs.Valid.{in-sequence};
 ghost use Rattle.model.specs.Checkpoint.{checkpoint};
 ghost use Rattle.cells.specs.Answer.{Meets};
 ghost use Rattle.cells.specs.Cells.{worldIn, cardIn};
@@ -44,7 +45,7 @@ fn checkpoint_oldest(w: &mut [u64], c: u8, most: [u8; 8], e: Committed, disk: &m
 // CHECKPOINT.
 pub fn checkpoint(w: &mut [u64], c: u8, disk: &mut [u8], memory: &[u8]) -> Answer
     requires { ⌜ length (now w) ≡ 512 ⌝ }
-    ensures { λ r. ⌜ Meets (checkpoint c (worldIn (now (w .entry)) (now (disk .entry)) (now (memory .entry))))
+    ensures { λ r. ⌜ Meets (checkpoint in-sequence c (worldIn (now (w .entry)) (now (disk .entry)) (now (memory .entry))))
         (now (w .entry)) (now (w .exit)) (now (disk .exit)) (now (memory .entry)) r ⌝ }
 {
     let n = entry_refusal(w, c, disk, memory);

@@ -19,6 +19,7 @@ use Rattle.cells.proofs.ExactLaws.{fits-exact, exact-fits}
 use Rattle.command.specs.Counting.{counted, Performs}
 use Rattle.command.specs.Counted.{countedIn}
 use Rattle.model.specs.Tape.{readAt}
+use Rattle.model.specs.Valid.{in-sequence}
 use Rattle.model.specs.Step.{stepAt}
 use Rattle.model.specs.declared.Card.{Card}
 use Rattle.cells.specs.declared.Answer.{Answer}
@@ -55,7 +56,7 @@ module _ (w : List ℕ) (n : ℕ) (a : Answer) where
 none-stored : (t : Bytes) (at : ℕ) (w : World) → ((stepAt t at w) .answer ≡ 0 → ⊥) → (stepAt t at w) .stores ≡ 0
 none-stored t at w h =
     let p : 0 < (stepAt t at w) .answer = omega (arith, h) in
-    ap (λ (o : Outcome World). o .stores) (decided-refused (command-decided t at w) (read-answer (readAt t at) w) p .1)
+    ap (λ (o : Outcome World). o .stores) (decided-refused (command-decided in-sequence t at w) (read-answer in-sequence (readAt t at) w) p .1)
 
 module _ (t : Bytes) (at : ℕ) (v : List ℕ) (l : length v ≡ 512) (d₀ m₀ : Bytes) (n : ℕ) (e : n ≡ storesIn v) (u : List ℕ) (d m : Bytes) (a : Answer)
     (f : Meets (stepAt t at (worldIn v d₀ m₀)) v u d m a) (w : List ℕ) (q : w ≡ countedIn u n a) where

@@ -14,10 +14,11 @@ use Rattle.model.specs.Command.{World, refusal, wrongLength, Outcome}
 use Rattle.model.specs.Format.{format}
 use Rattle.model.specs.Write.{write}
 use Rattle.model.specs.Commit.{close, storeNext}
+use Rattle.model.specs.Valid.{in-sequence}
 use Rattle.model.specs.Checkpoint.{checkpoint}
 use Rattle.model.specs.Recovery.{cut, recover}
 use Rattle.model.specs.Tape.{operandLengths, operandLength, commandByte, operandsAt, isUnknown, nextOffset, CHECKPOINT, CLOSE, CUT, Command, FORMAT, RECOVER, Read, STORE, WRITE, decoded, isEarly, obeyed, readAt, whole}
-use Rattle.model.specs.Step.{step, conditionsOf, doneBy, stepAt}
+use Rattle.model.specs.Step.{stepBy, step, conditionsOf, doneBy, stepAt}
 use Rattle.model.proofs.Command.{tapeConditions, refusal-clear, unless-done, tape-unless}
 use Rattle.cells.specs.Answer.{newAnswer, Meets}
 use Rattle.cells.specs.Cells.{world, worldIn}
@@ -75,31 +76,31 @@ module _ (k : ℕ) (a : Bytes) (v : List ℕ) (d₀ m₀ : Bytes) (w : List ℕ)
 
   module _ (c : ℕ) (e : c ≡ getD a 0 0) where
     pub step-format : k ≡ 1 → (x : ℕ) → x ≡ getD a 1 0 → (y : ℕ) → y ≡ getD a 2 0 → Meets (format c x y (worldIn v d₀ m₀)) v w d m r → Done
-    unfolding decoded step conditionsOf doneBy format
+    unfolding decoded stepBy conditionsOf doneBy format
     step-format h x p y q f = of-decoded (FORMAT c x y) (rw (h, e, p, q) refl) f
 
     pub step-write : k ≡ 2 → Meets (write (getD a 0 0) (number 0 (part 1 2 a)) (getD a 3 0) (part 4 4 a) (worldIn v d₀ m₀)) v w d m r → Done
-    unfolding decoded step conditionsOf doneBy write
+    unfolding decoded stepBy conditionsOf doneBy write
     step-write h f = of-decoded (WRITE (getD a 0 0) (number 0 (part 1 2 a)) (getD a 3 0) (part 4 4 a)) (rw h refl) f
 
     pub step-close : k ≡ 3 → Meets (close c (worldIn v d₀ m₀)) v w d m r → Done
-    unfolding decoded step conditionsOf doneBy close
+    unfolding decoded stepBy conditionsOf doneBy close
     step-close h f = of-decoded (CLOSE c) (rw (h, e) refl) f
 
     pub step-store : k ≡ 4 → Meets (storeNext c (worldIn v d₀ m₀)) v w d m r → Done
-    unfolding decoded step conditionsOf doneBy storeNext
+    unfolding decoded stepBy conditionsOf doneBy storeNext
     step-store h f = of-decoded (STORE c) (rw (h, e) refl) f
 
-    pub step-checkpoint : k ≡ 5 → Meets (checkpoint c (worldIn v d₀ m₀)) v w d m r → Done
-    unfolding decoded step conditionsOf doneBy checkpoint
+    pub step-checkpoint : k ≡ 5 → Meets (checkpoint in-sequence c (worldIn v d₀ m₀)) v w d m r → Done
+    unfolding decoded stepBy conditionsOf doneBy checkpoint
     step-checkpoint h f = of-decoded (CHECKPOINT c) (rw (h, e) refl) f
 
     pub step-cut : k ≡ 6 → Meets (cut (worldIn v d₀ m₀)) v w d m r → Done
-    unfolding decoded step conditionsOf doneBy cut
+    unfolding decoded stepBy conditionsOf doneBy cut
     step-cut h f = of-decoded CUT (rw h refl) f
 
-    pub step-recover : (k ≡ 1 → ⊥) → (k ≡ 2 → ⊥) → (k ≡ 3 → ⊥) → (k ≡ 4 → ⊥) → (k ≡ 5 → ⊥) → (k ≡ 6 → ⊥) → Meets (recover (worldIn v d₀ m₀)) v w d m r → Done
-    unfolding decoded step conditionsOf doneBy recover
+    pub step-recover : (k ≡ 1 → ⊥) → (k ≡ 2 → ⊥) → (k ≡ 3 → ⊥) → (k ≡ 4 → ⊥) → (k ≡ 5 → ⊥) → (k ≡ 6 → ⊥) → Meets (recover in-sequence (worldIn v d₀ m₀)) v w d m r → Done
+    unfolding decoded stepBy conditionsOf doneBy recover
     step-recover h₁ h₂ h₃ h₄ h₅ h₆ f =
         cases (eqb k 7)
         (λ s. of-decoded RECOVER (rw (eqb-true k 7 s) refl) f)
@@ -121,7 +122,7 @@ pub record WholeCommand (t : Bytes) (at k next : ℕ) : Type 0 where
 module _ (t : Bytes) (at : ℕ) (v : List ℕ) (d m : Bytes) (n : ℕ) (e : (y : Card) → n ≡ refusal (tapeConditions t at (world y d m))) where
   pub at-refused : length v ≡ 512 → (n ≡ 0 → ⊥) → Meets (stepAt t at (worldIn v d m)) v v d m (newAnswer n 0)
   at-refused l h =
-      subst (λ (o : Outcome World). Meets o v v d m (newAnswer n 0)) (sym (tape-unless t at (worldIn v d m)))
+      subst (λ (o : Outcome World). Meets o v v d m (newAnswer n 0)) (sym (tape-unless in-sequence t at (worldIn v d m)))
       (meets-refused (tapeConditions t at (worldIn v d m)) v d m _ l n (e _) h)
 
   module _ (h : n ≡ 0) (k : ℕ) (b : k ≡ getD t at 0) (next : ℕ) (f : next ≡ nextOffset t at) where
@@ -156,5 +157,5 @@ module _ (t : Bytes) (at : ℕ) (v : List ℕ) (d m : Bytes) (n : ℕ) (e : (y :
         let z : next - (at + 1) ≡ operandLength k = omega (arith, next-same) in
         let f : decoded k (take (next - (at + 1)) (drop (at + 1) t)) ≡ some (read .0) = rw z (rw byte-same at (whole-at t at (read .0) (read .1) .decodes)) in
         let o : stepAt t at (worldIn v d m) ≡ obeyed step (readAt t at) (worldIn v d m) =
-        tape-unless t at (worldIn v d m) ∙ unless-done (tapeConditions t at (worldIn v d m)) (worldIn v d m) _ (sym (e _) ∙ h) in
+        tape-unless in-sequence t at (worldIn v d m) ∙ unless-done (tapeConditions t at (worldIn v d m)) (worldIn v d m) _ (sym (e _) ∙ h) in
         meets-same _ _ v w d′ m′ r (q (read .0) f) (sym (o ∙ ap (λ (x : Read). obeyed step x (worldIn v d m)) (read .1)))

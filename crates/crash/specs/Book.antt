@@ -10,6 +10,7 @@ use Rattle.model.specs.Lists.{all, any, select}
 use Rattle.model.specs.Bytes.{Bytes, replaced}
 use Rattle.model.specs.Card.{newName, sameName}
 use Rattle.model.specs.Shrink.{shrink}
+use Rattle.model.specs.Valid.{Order, required}
 use Rattle.model.specs.declared.Name.{Name}
 
 -- how far a transaction has come: a closed one with the stores counted, a committed one with the checkpoints counted
@@ -70,10 +71,17 @@ pub record Write : Type 0 where
   pub offset : ℕ
   pub bytes : Bytes
 
--- the transactions opened and what is known of each; the writes, the newest first; for each core the numbers of its
--- oldest unretired transaction, of its first uncommitted one, and of its running one, or of the next to open where there
--- is none: a core's transactions close, commit and retire in the order of their numbers
+-- what a book begins with, and no command changes while it lasts: the rule of what depends on what, and each core's first number
+-- since the card came up
+pub record Beginning : Type 0 where
+  pub order : Order
+  pub first : ℕ → ℕ
+
+-- the transactions opened and what is known of each; the writes, the newest first; for each core the numbers of its oldest
+-- unretired transaction, of its first uncommitted one, and of its running one, or of the next to open where there is none: a
+-- core's transactions close, commit and retire in the order of their numbers
 pub record Book : Type 0 where
+  pub begun : Beginning
   pub opened : List Name
   pub entry : Name → Entry
   pub writes : List Write
@@ -82,9 +90,10 @@ pub record Book : Type 0 where
   pub next : ℕ → ℕ
 
 -- 'it has no transaction and no write'; the numbers of each core begin as given
-unfoldable pub emptyBook : (ℕ → ℕ) → Book
-emptyBook first =
+unfoldable pub emptyBook : Order → (ℕ → ℕ) → Book
+emptyBook o first =
     record {
+      begun = record { order = o; first = first };
       opened = [];
       entry = λ (t : Name). record { blocks = []; names = []; stage = absent };
       writes = [];
@@ -124,6 +133,7 @@ hasCommitted k c = ltb (k .oldest c) (k .uncommitted c)
 unfoldable pub begin : Name → Book → Book
 begin t k =
     record {
+      begun = k .begun;
       opened = t ∷ k .opened;
       entry = change t (staged running) (k .entry);
       writes = k .writes;
@@ -166,6 +176,7 @@ unfoldable pub note : Name → ℕ → ℕ → Bytes → Book → Book
 note t b o v k =
     let m = meets k t (bookHolder k b (k .writes)) in
     record {
+      begun = k .begun;
       opened = k .opened;
       entry = ruled m t b (k .entry);
       writes = record { writer = t; holder = holderAfter m t; block = b; offset = o; bytes = v } ∷ k .writes;
@@ -183,6 +194,7 @@ writeBook c b o v k =
 unfoldable pub closeBook : ℕ → Book → Book
 closeBook c k =
     record {
+      begun = k .begun;
       opened = k .opened;
       entry = change (newName c (k .next c)) (staged (closed 0)) (k .entry);
       writes = k .writes;
@@ -199,6 +211,7 @@ storeBook c k =
     let n = suc (stageCount (e .stage)) in
     let last = leb (length (e .blocks) + 2) n in
     record {
+      begun = k .begun;
       opened = k .opened;
       entry = change t (staged (cond last (committed 0) (closed n))) (k .entry);
       writes = k .writes;
@@ -216,6 +229,7 @@ checkpointBook c k =
     let n = suc (stageCount (e .stage)) in
     let last = leb (length (e .blocks) + 1) n in
     record {
+      begun = k .begun;
       opened = k .opened;
       entry = change t (staged (cond last retired (committed n))) (k .entry);
       writes = k .writes;
@@ -229,13 +243,19 @@ checkpointBook c k =
 unfoldable pub committedIn : Book → List Name
 committedIn k = select (λ (t : Name). isCommitted ((k .entry t) .stage)) (k .opened)
 
--- each name of its list is in the set
-unfoldable pub namesWithin : Book → List Name → Name → Bool
-namesWithin k ts t = all (λ (n : Name). any (sameName n) ts) ((k .entry t) .names)
+-- what it depends on: 'those its list names' and, paper 02, (c), 'the one before it on its core since the card came up', of which the
+-- first has none; a retired one stays in the book
+unfoldable pub requiredIn : Book → Name → List Name
+requiredIn k t = let ns = (k .entry t) .names in cond (ltb (k .begun .first (t .core)) (t .number)) (required (k .begun .order) t ns) ns
 
--- 'Kept is the largest set of the book's committed transactions in which each has all that it depends on there'
+-- each of them is in the set
+unfoldable pub requiredWithin : Book → List Name → Name → Bool
+requiredWithin k ts t = all (λ (n : Name). any (sameName n) ts) (requiredIn k t)
+
+-- 'Kept is the largest set of the book's committed transactions in which each has all that it depends on there'; 'read with this added
+-- dependence'
 unfoldable pub kept : Book → List Name
-kept k = shrink (namesWithin k) (committedIn k)
+kept k = shrink (requiredWithin k) (committedIn k)
 
 -- 'the writes of the kept transactions, in the order issued'
 unfoldable pub keptWrites : Book → List Write

@@ -2,7 +2,7 @@
 -- ours and refuted of others. They fix answers, stores with their bytes and count, memory, journals, the course of recovery,
 -- what reading gives, and the home area. Of the card's state they fix whether it is blank, up or down, and that a refusal
 -- changes nothing; all of it is fixed, one command at a time, by `DecidesEach`.
-use Prim.Native.Nat.{ℕ, _*_, _<_}
+use Prim.Native.Nat.{ℕ, _*_, _<_, _≤_}
 use mathlib.Core.Path.{_≡_}
 use mathlib.Core.Logic.{_≢_}
 use mathlib.Core.List.{List, [], _∷_, map, List·Memᴰ}
@@ -12,8 +12,9 @@ use lib.Dec.{ltb}
 use Rattle.model.specs.Limits.{blockSize, diskSize, memorySize}
 use Rattle.model.specs.Lists.{below, all}
 use Rattle.model.specs.Bytes.{Bytes, part}
+use Rattle.model.specs.Valid.{Order}
 use Rattle.model.specs.Shape.{inRange}
-use Rattle.model.specs.Card.{isBlank, blankCard, downCard}
+use Rattle.model.specs.Card.{newName, isBlank, blankCard, downCard}
 use Rattle.model.specs.Journal.{journal, nameOf, blocksOf, namesOf, imageOf}
 use Rattle.model.specs.Shrink.{Within, DependsOn}
 use Rattle.model.specs.Command.{Outcome, refusal, refusedWith, World}
@@ -24,7 +25,7 @@ use Rattle.model.specs.Reading.{Reader, readNumber}
 use Rattle.model.specs.declared.Committed.{Committed}
 use Rattle.model.specs.declared.Shape.{Shape}
 use Rattle.model.specs.declared.Name.{Name}
-use Rattle.crash.specs.Book.{Book, committedIn, kept}
+use Rattle.crash.specs.Book.{Book, requiredIn, committedIn, kept}
 use Rattle.crash.specs.Service.{Service, emptyService, fed, bookArea}
 use Rattle.crash.specs.Ledger.{Ledger, Stored, freshLedger, blankLedger, cutLedger, entered, storedSince, answerOf, diskAfter, memoryAfter, storeCount, readRefusals, readNow}
 
@@ -57,13 +58,13 @@ pub record StartFits (s : Start) : Type 0 where
   pub memory : IsBytes ((startWorld s) .memory)
 
 -- the service book and the ledger there; a card down over a formatted disk is as after a cut
-unfoldable pub startService : Start → Service
-startService (from-blank d m) = emptyService 0
-startService (from-down s m) = emptyService (s .blocks)
+unfoldable pub startService : Order → Start → Service
+startService o (from-blank d m) = emptyService o 0
+startService o (from-down s m) = emptyService o (s .blocks)
 
-unfoldable pub startLedger : Start → Ledger
-startLedger (from-blank d m) = blankLedger
-startLedger (from-down s m) = cutLedger (freshLedger s [] (λ (c : ℕ). 1))
+unfoldable pub startLedger : Order → Start → Ledger
+startLedger o (from-blank d m) = blankLedger o
+startLedger o (from-down s m) = cutLedger (freshLedger o s [] (λ (c : ℕ). 1))
 
 -- ---- demand 3
 -- 'every RECOVER that is carried out and leaves the card up (reading met 22 before it and no longer does)'
@@ -86,9 +87,9 @@ AreaKept v [] = Unit {0}
 AreaKept v (p ∷ ps) =
     (ComesUp p → homeArea (v .blocks) (p .outcome .world) ≡ bookArea (fedPoint p v)) × AreaKept (fedPoint p v) ps
 
--- Demand 3.
-abbrev pub Claim : TapeStep World → Type 0
-Claim f = OnRuns StartFits startWorld f (λ (s : Start) (ps : List (Point World)). AreaKept (startService s) ps)
+-- Demand 3. 'What a cut brings back is claimed for tapes run under one of the two rules throughout.'
+abbrev pub Claim : Order → TapeStep World → Type 0
+Claim o f = OnRuns StartFits startWorld f (λ (s : Start) (ps : List (Point World)). AreaKept (startService o s) ps)
 
 -- ---- the ledger: demands 1 and 2, and the course of recovery
 unfoldable pub enteredPoint : Point World → Ledger → Ledger
@@ -130,8 +131,8 @@ LedgerKept l w [] = Between l w
 LedgerKept l w (p ∷ ps) = PointKept l w p × LedgerKept (enteredPoint p l) (p .outcome .world) ps
 
 -- Demands 1 and 2, and recovery.
-abbrev pub Demands : TapeStep World → Type 0
-Demands f = OnRuns StartFits startWorld f (λ (s : Start) (ps : List (Point World)). LedgerKept (startLedger s) (startWorld s) ps)
+abbrev pub Demands : Order → TapeStep World → Type 0
+Demands o f = OnRuns StartFits startWorld f (λ (s : Start) (ps : List (Point World)). LedgerKept (startLedger o s) (startWorld s) ps)
 
 -- ---- reading: 'The library also reads a block of a card that is up.'
 -- of every block the number and the bytes are the ledger's
@@ -143,18 +144,28 @@ abbrev pub ReadingsKept : Reader → Ledger → World → List (Point World) →
 ReadingsKept r l w [] = ReadsNow r l w
 ReadingsKept r l w (p ∷ ps) = ReadsNow r l w × ReadingsKept r (enteredPoint p l) (p .outcome .world) ps
 
-abbrev pub Readings : Reader → TapeStep World → Type 0
-Readings r f = OnRuns StartFits startWorld f (λ (s : Start) (ps : List (Point World)). ReadingsKept r (startLedger s) (startWorld s) ps)
+abbrev pub Readings : Order → Reader → TapeStep World → Type 0
+Readings o r f = OnRuns StartFits startWorld f (λ (s : Start) (ps : List (Point World)). ReadingsKept r (startLedger o s) (startWorld s) ps)
 
 -- ---- 'Kept is the largest set .. in which each has all that it depends on there: every other such set lies in it.'
-abbrev pub Lists : Book → Name → Name → Type 0
-Lists k t u = List·Memᴰ u ((k .entry t) .names)
+abbrev pub Requires : Book → Name → Name → Type 0
+Requires k t u = List·Memᴰ u (requiredIn k t)
 
 -- a set of the book's committed transactions in which each has all that it depends on
 pub record HasAll (k : Book) (ts : List Name) : Type 0 where
   pub committed-ones : Within ts (committedIn k)
-  pub dependencies : (t u : Name) → List·Memᴰ t ts → DependsOn (Lists k) t u → List·Memᴰ u ts
+  pub dependencies : (t u : Name) → List·Memᴰ t ts → DependsOn (Requires k) t u → List·Memᴰ u ts
 
 pub record LargestKept (k : Book) : Type 0 where
   pub is-one : HasAll k (kept k)
   pub has-others : (ts : List Name) → HasAll k ts → Within ts (kept k)
+
+-- ---- paper 02, (c): 'what is kept is a beginning of each core's run'
+-- with a transaction every earlier one of its core, from these numbers on
+abbrev pub BeginsWith : (ℕ → ℕ) → Book → Type 0
+BeginsWith first k = (c n m : ℕ) → first c ≤ n → n ≤ m → List·Memᴰ (newName c m) (kept k) → List·Memᴰ (newName c n) (kept k)
+
+-- of the service book, whose numbers begin with 1, at every point of a run
+abbrev pub KeptBegins : Service → List (Point World) → Type 0
+KeptBegins v [] = BeginsWith (λ (c : ℕ). 1) (v .book)
+KeptBegins v (p ∷ ps) = BeginsWith (λ (c : ℕ). 1) (v .book) × KeptBegins (fedPoint p v) ps

@@ -15,10 +15,11 @@ use Rattle.model.specs.Checkpoint.{share}
 use Rattle.model.specs.Layout.{masterBlock, Tag, newTag, descriptorBlock, commitBlock, flagOf, escaped}
 use Rattle.model.specs.Recovery.{tailOn}
 use Rattle.model.specs.Shrink.{shrink}
-use Rattle.crash.specs.Book.{Book, Write, isClosed, isCommitted, isRetired, stageCount, emptyBook, hasRunning, hasClosed, hasCommitted, bookHolder, Meeting, no-holder, own, running-holder, closed-holder, meets, writeBook, closeBook, keptWrites, image, blank}
+use Rattle.crash.specs.Book.{Book, Write, isClosed, isCommitted, isRetired, stageCount, emptyBook, requiredIn, hasRunning, hasClosed, hasCommitted, bookHolder, Meeting, no-holder, own, running-holder, closed-holder, meets, writeBook, closeBook, keptWrites, image, blank}
 use Rattle.crash.specs.Service.{noted}
 use Rattle.model.specs.Tape.{CHECKPOINT, CLOSE, CUT, Command, FORMAT, RECOVER, Read, STORE, WRITE, early, unknown, whole}
 use Rattle.model.specs.Commit.{copyBlock}
+use Rattle.model.specs.Valid.{Order}
 use Rattle.model.specs.Command.{refusal}
 use Rattle.model.specs.declared.Tail.{Tail}
 use Rattle.model.specs.declared.Name.{Name}
@@ -41,12 +42,12 @@ pub record Ledger : Type 0 where
   pub left : List ℕ
 
 -- a card that has come up
-unfoldable pub freshLedger : Shape → List Write → (ℕ → ℕ) → Ledger
-freshLedger s saved first =
+unfoldable pub freshLedger : Order → Shape → List Write → (ℕ → ℕ) → Ledger
+freshLedger o s saved first =
     record {
       shape = s;
       saved = saved;
-      book = emptyBook first;
+      book = emptyBook o first;
       closes = 0;
       stamp = λ (t : Name). 0;
       images = λ (t : Name). [];
@@ -55,12 +56,12 @@ freshLedger s saved first =
     }
 
 -- before the opening FORMAT
-unfoldable pub blankLedger : Ledger
-blankLedger =
+unfoldable pub blankLedger : Order → Ledger
+blankLedger o =
     record {
       shape = record { cores = 0; blocks = 0; journal = 0 };
       saved = [];
-      book = emptyBook (λ (c : ℕ). 1);
+      book = emptyBook o (λ (c : ℕ). 1);
       closes = 0;
       stamp = λ (t : Name). 0;
       images = λ (t : Name). [];
@@ -104,9 +105,9 @@ closeLedger c l =
 unfoldable pub unretired : Book → List Name
 unretired k = select (λ (t : Name). isCommitted ((k .entry t) .stage) && not (isRetired ((k .entry t) .stage))) (k .opened)
 
--- 'each name listed is in the set or lies below its core's tail number'
+-- 'each name listed is in the set or lies below its core's tail number', and so the one before
 unfoldable pub metIn : Book → List Name → Name → Bool
-metIn k ts t = all (λ (n : Name). ltb (n .number) (k .oldest (n .core)) || any (sameName n) ts) ((k .entry t) .names)
+metIn k ts t = all (λ (n : Name). ltb (n .number) (k .oldest (n .core)) || any (sameName n) ts) (requiredIn k t)
 
 unfoldable pub validIn : Book → List Name
 validIn k = shrink (metIn k) (unretired k)
@@ -139,12 +140,12 @@ firstNumber l c = min (l .book .uncommitted c + 1) (suc maxNumber)
 
 -- RECOVER: a home store of the lowest block left; then the master store
 unfoldable pub recoverLedger : List ℕ → Ledger → Ledger
-recoverLedger [] l = freshLedger (l .shape) (keptWrites (l .book) ++ l .saved) (firstNumber l)
+recoverLedger [] l = freshLedger (l .book .begun .order) (l .shape) (keptWrites (l .book) ++ l .saved) (firstNumber l)
 recoverLedger (b ∷ bs) l = downWith bs l
 
 -- a command carried out
 unfoldable pub carriedOut : Command → Ledger → Ledger
-carriedOut (FORMAT c b j) l = freshLedger (newShape c b j) [] (λ (i : ℕ). 1)
+carriedOut (FORMAT c b j) l = freshLedger (l .book .begun .order) (newShape c b j) [] (λ (i : ℕ). 1)
 carriedOut (WRITE c b o v) l = withBook l (noted (WRITE c b o v) (l .book))
 carriedOut (CLOSE c) l = cond (hasRunning (l .book) c) (closeLedger c l) l
 carriedOut (STORE c) l = withBook l (noted (STORE c) (l .book))

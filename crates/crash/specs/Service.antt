@@ -2,10 +2,9 @@
 use Prim.Native.Nat.{ℕ, zero, suc}
 use mathlib.Core.List.{List, [], _++_, flatMap}
 use mathlib.Core.Bool.{cond}
-use lib.ListN.{getD}
-use lib.Dec.{eqb}
 use Rattle.model.specs.Lists.{below}
 use Rattle.model.specs.Bytes.{Bytes}
+use Rattle.model.specs.Valid.{Order}
 use Rattle.crash.specs.Book.{Book, Write, emptyBook, hasRunning, hasClosed, hasCommitted, writeBook, closeBook, storeBook, checkpointBook, keptWrites, image, blank}
 use Rattle.model.specs.Tape.{CHECKPOINT, CLOSE, CUT, Command, FORMAT, RECOVER, STORE, WRITE}
 
@@ -16,8 +15,8 @@ pub record Service : Type 0 where
   pub book : Book
 
 -- its transactions are numbered from 1 since the last cut: it cannot know the card's numbers
-unfoldable pub emptyService : ℕ → Service
-emptyService n = record { blocks = n; saved = []; book = emptyBook (λ (c : ℕ). 1) }
+unfoldable pub emptyService : Order → ℕ → Service
+emptyService o n = record { blocks = n; saved = []; book = emptyBook o (λ (c : ℕ). 1) }
 
 -- what a command does in a book: the transactions, holders and names; one for a transaction that is not there does nothing
 unfoldable pub noted : Command → Book → Book
@@ -35,11 +34,11 @@ withNoted k v = record { blocks = v .blocks; saved = v .saved; book = noted k (v
 -- 'CUT adds the writes of the kept transactions, in the order issued, to the kept writes, then strikes out every
 -- transaction, holder and name.'
 unfoldable pub cutService : Service → Service
-cutService v = record { blocks = v .blocks; saved = keptWrites (v .book) ++ v .saved; book = emptyBook (λ (c : ℕ). 1) }
+cutService v = record { blocks = v .blocks; saved = keptWrites (v .book) ++ v .saved; book = emptyBook (v .book .begun .order) (λ (c : ℕ). 1) }
 
 -- a command carried out; 'RECOVER does nothing.'
 unfoldable pub served : Command → Service → Service
-served (FORMAT c b j) v = emptyService b
+served (FORMAT c b j) v = emptyService (v .book .begun .order) b
 served (WRITE c b o d) v = withNoted (WRITE c b o d) v
 served (CLOSE c) v = withNoted (CLOSE c) v
 served (STORE c) v = withNoted (STORE c) v

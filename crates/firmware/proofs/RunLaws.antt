@@ -18,6 +18,7 @@ use Rattle.model.specs.Format.{formatted}
 use Rattle.model.specs.Write.{written}
 use Rattle.model.specs.Commit.{closed, stored}
 use Rattle.model.specs.Checkpoint.{committedOf, oldest, storedHome, storedMaster, checkpointed}
+use Rattle.model.specs.Valid.{in-sequence}
 use Rattle.model.specs.Recovery.{blocksLeft, recoverStep, recovered}
 use Rattle.model.proofs.Command.{command-decided}
 use Rattle.model.specs.Lists.{all}
@@ -26,6 +27,7 @@ use Rattle.model.proofs.Lists.{cases, and-left, and-right, mem-all, mem-getD}
 use Rattle.model.proofs.Store.{length-blockAt}
 use Rattle.model.proofs.Tape.{Runs, at-end, one-more, next-past, next-within, run-runs}
 use Rattle.crash.specs.Claims.{IsBytes, AreaKept, LedgerKept, ReadingsKept, Start, StartFits, Stated, startLedger, startService, startWorld}
+use Rattle.crash.proofs.Books.Sequence.{kept-begins}
 use Rattle.crash.proofs.Runs.Theorem.{claim, demands, readings}
 use Rattle.crash.proofs.Books.Largest.{largest-kept}
 use Rattle.cells.specs.Cells.{storesIn, Exact, world, worldIn}
@@ -76,7 +78,7 @@ module _ (t : Bytes) where
   ended (one-more k e r) l = absurd (omega arith)
 
 -- ---- no run reaches the largest count: a command stores one block at most, and takes one byte of the tape at least
-recoverStep-stores : (bs : List ℕ) (w : World) → (recoverStep bs w) .stores ≤ 1
+recoverStep-stores : (bs : List ℕ) (w : World) → (recoverStep in-sequence bs w) .stores ≤ 1
 unfolding recoverStep
 recoverStep-stores [] w = omega arith
 recoverStep-stores (b ∷ bs) w = omega arith
@@ -87,7 +89,7 @@ checkpointed-stores c w =
     let e = oldest (committedOf w c) in
     cases (ltb ((coreOf (w .card) c) .homed) (e .count)) (λ h. rw h (omega arith)) (λ h. rw h (omega arith))
 
-done-stores : (k : Command) (w : World) → (doneBy k w) .stores ≤ 1
+done-stores : (k : Command) (w : World) → (doneBy in-sequence k w) .stores ≤ 1
 unfolding doneBy formatted written closed stored recovered
 done-stores (FORMAT c b j) w = omega arith
 done-stores (WRITE c b o v) w = omega arith
@@ -95,9 +97,9 @@ done-stores (CLOSE c) w = omega arith
 done-stores (STORE c) w = omega arith
 done-stores (CHECKPOINT c) w = checkpointed-stores c w
 done-stores CUT w = omega arith
-done-stores RECOVER w = recoverStep-stores (blocksLeft w) w
+done-stores RECOVER w = recoverStep-stores (blocksLeft in-sequence w) w
 
-read-stores : (r : Read) (w : World) → (doneOn r w) .stores ≤ 1
+read-stores : (r : Read) (w : World) → (doneOn in-sequence r w) .stores ≤ 1
 unfolding doneOn
 read-stores (whole k) w = done-stores k w
 read-stores unknown w = omega arith
@@ -108,7 +110,7 @@ decided-stores (refused n p f e) h = rw e (omega arith)
 decided-stores (carried-out c e) h = rw e h
 
 few-stores : (t : Bytes) (at : ℕ) (w : World) → (stepAt t at w) .stores ≤ 1
-few-stores t at w = decided-stores (command-decided t at w) (read-stores (readAt t at) w)
+few-stores t at w = decided-stores (command-decided in-sequence t at w) (read-stores (readAt t at) w)
 
 bounded : (t : Bytes) {at n : ℕ} {w : World} {ps : List (Point World)} → Runs stepAt t at n w ps → at ≤ length t → storesAfter n ps + at ≤ n + length t
 unfolding storesAfter
@@ -201,10 +203,11 @@ module _ (t : Bytes) (w : World) (tape-bytes : IsBytes t) (disk-bytes : IsBytes 
   pub demands-met : DemandsMet t w
   demands-met =
       record {
-        claim = from-start (λ (s : Start) (w : World) (ps : List (Point World)). AreaKept (startService s) ps) claim;
-        demands = from-start (λ (s : Start) (w : World) (ps : List (Point World)). LedgerKept (startLedger s) w ps) demands;
-        readings = from-start (λ (s : Start) (w : World) (ps : List (Point World)). ReadingsKept blockReader (startLedger s) w ps) readings;
+        claim = from-start (λ (s : Start) (w : World) (ps : List (Point World)). AreaKept (startService in-sequence s) ps) (claim in-sequence);
+        demands = from-start (λ (s : Start) (w : World) (ps : List (Point World)). LedgerKept (startLedger in-sequence s) w ps) (demands in-sequence);
+        readings = from-start (λ (s : Start) (w : World) (ps : List (Point World)). ReadingsKept blockReader (startLedger in-sequence s) w ps) (readings in-sequence);
         largest = largest-kept;
+        begins = λ s. kept-begins s (run stepAt t w);
       }
 
 -- ---- reading into a buffer

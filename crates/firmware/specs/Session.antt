@@ -11,9 +11,9 @@ use Rattle.model.specs.Bytes.{Bytes}
 use Rattle.model.specs.Command.{World}
 use Rattle.model.specs.Reading.{readBlock, blockReader}
 use Rattle.model.specs.Tape.{Point, commandByte, nextOffset, run, worldAfter}
+use Rattle.model.specs.Valid.{in-sequence}
 use Rattle.model.specs.Step.{stepAt}
-use Rattle.model.specs.declared.Shape.{Shape}
-use Rattle.crash.specs.Claims.{AreaKept, LedgerKept, LargestKept, ReadingsKept, Start, Stated, startLedger, startService, startWorld}
+use Rattle.crash.specs.Claims.{AreaKept, KeptBegins, LedgerKept, LargestKept, ReadingsKept, Start, Stated, startLedger, startService, startWorld}
 use Rattle.crash.specs.Book.{Book}
 use Rattle.cells.specs.Cells.{storesIn, Exact, worldIn}
 use Rattle.reading.specs.Part.{partOf}
@@ -48,12 +48,14 @@ unfoldable pub partIn : ℕ → World → Part
 partIn b w = let p = partOf b w in record { number = p .number; slice = p .slice; from = p .from; length = p .length }
 
 -- The demands, of the run of a tape from a world that is one of the starts: a blank card over slices of their lengths, or a card
--- that is down over a disk as FORMAT leaves it. Kept is the largest such set of every book.
+-- that is down over a disk as FORMAT leaves it. Kept is the largest such set of every book, and at every point a
+-- beginning of each core's run.
 pub record DemandsMet (t : Bytes) (w : World) : Type 0 where
-  pub claim : (s : Start) → Stated s → w ≡ startWorld s → AreaKept (startService s) (run stepAt t w)
-  pub demands : (s : Start) → Stated s → w ≡ startWorld s → LedgerKept (startLedger s) w (run stepAt t w)
-  pub readings : (s : Start) → Stated s → w ≡ startWorld s → ReadingsKept blockReader (startLedger s) w (run stepAt t w)
+  pub claim : (s : Start) → Stated s → w ≡ startWorld s → AreaKept (startService in-sequence s) (run stepAt t w)
+  pub demands : (s : Start) → Stated s → w ≡ startWorld s → LedgerKept (startLedger in-sequence s) w (run stepAt t w)
+  pub readings : (s : Start) → Stated s → w ≡ startWorld s → ReadingsKept blockReader (startLedger in-sequence s) w (run stepAt t w)
   pub largest : (k : Book) → LargestKept k
+  pub begins : (s : Start) → KeptBegins (startService in-sequence s) (run stepAt t w)
 
 -- The command at an offset of a tape t, over the cells v, the disk d and memory m, left u, e and k: what it performs, its byte, and
 -- the offset of the next one.

@@ -9,10 +9,10 @@ use Rattle.model.specs.Bytes.{blockAt, zeroMemory}
 use Rattle.model.specs.Card.{isBlank, isUp, sameName, freshCard, emptyCard, downCard}
 use Rattle.model.specs.Layout.{isMaster}
 use Rattle.model.specs.Journal.{nameOf, journal, journals}
-use Rattle.model.specs.Valid.{isIn}
+use Rattle.model.specs.Valid.{Order, in-sequence, isIn}
 use Rattle.model.specs.Checkpoint.{oldest}
 use Rattle.model.specs.Command.{World, refusal, wrongLength}
-use Rattle.model.specs.Recovery.{shapeOn, tailOn, committedOn, validOn, recoverConditions, recovered, recover}
+use Rattle.model.specs.Recovery.{shapeOn, tailOn, committedOn, validOnBy, validOn, recoverConditions, recovered, recover}
 use Rattle.model.specs.Tape.{RECOVER}
 use Rattle.model.specs.Step.{doneBy}
 use Rattle.model.specs.JournalPage.{Field, lineSize, space, lineFeed, digitAt, numeral, covers, shownAt, byteAt, lineBytes}
@@ -113,9 +113,9 @@ pub refusal-memory : (w : World) → w .card .phase ≡ Down → length (w .memo
 refusal-memory w q h = refusal-down w q h ∙ sym (refusal-number (w .disk))
 
 -- and what RECOVER answers there, 0 where it is carried out
-pub recover-answer : (w : World) → w .card .phase ≡ Down → length (w .memory) ≡ memorySize → (recover w) .answer ≡ pageRefusal (w .disk)
+pub recover-answer : (o : Order) (w : World) → w .card .phase ≡ Down → length (w .memory) ≡ memorySize → (recover o w) .answer ≡ pageRefusal (w .disk)
 unfolding recover doneBy
-recover-answer w q h = unless-answer (recoverConditions w) w (recovered w) (done-answer RECOVER w) ∙ refusal-memory w q h
+recover-answer o w q h = unless-answer (recoverConditions w) w (recovered o w) (done-answer o RECOVER w) ∙ refusal-memory w q h
 
 -- 1 exactly where the disk has another length, 8 exactly where the length is right and the master unfit, 0 otherwise
 pub refusal-numbers : (d : Bytes)
@@ -322,7 +322,7 @@ kept-valid d e m = (there, λ v. mem-any (λ (u : Committed). sameName (nameOf e
     there : any (λ (u : Committed). sameName (nameOf e) (nameOf u)) (validOn d) ≡ true → List·Memᴰ e (validOn d)
     there h =
         let r = any-mem (λ (u : Committed). sameName (nameOf e) (nameOf u)) (validOn d) h in
-        let within : List·Memᴰ (r .0) (committedOn d) = unfold validOn in valid-within (shapeOn d) d (tailOn d) (committedOn d) (r .0) (r .1) in
+        let within : List·Memᴰ (r .0) (committedOn d) = unfold validOnBy in valid-within in-sequence (shapeOn d) d (tailOn d) (committedOn d) (r .0) (r .1) in
         Memᴰ·cast (committed-distinct d e (r .0) m within (sameName-true (nameOf e) (nameOf (r .0)) (r .2))) (r .1)
 
 -- the line of one in the valid set, and of one that is not

@@ -9,7 +9,7 @@ use lib.ListN.{length}
 use Rattle.model.specs.Bytes.{Bytes}
 use Rattle.model.specs.Command.{wrongLength}
 use Rattle.model.specs.Tape.{Command, Read, whole, unknown, early, isUnknown, isEarly, readAt, offsetPast, nextOffset}
-use Rattle.model.specs.Step.{step, stepAt}
+use Rattle.model.specs.Step.{step, stepAtBy, stepAt}
 use Rattle.model.specs.Printing.{Line}
 use Rattle.model.proofs.Tape.{next-within, next-whole, whole-at}
 use Rattle.cells.specs.Cells.{storesIn, worldIn}
@@ -73,7 +73,7 @@ module _ (t s : Bytes) (at : ℕ) (v : List ℕ) (d m : Bytes) (u : List ℕ) (e
 
   pub turned : (g : Bool) → g ≡ isWhole (readAt s 0) → (n : ℕ) → n ≡ storesIn u → (a : ℕ) → a ≡ advanced at (r .next) → ownBytes t at ≡ ownBytes s 0
       → Turned t at v d m u e k (record { offset = at; byte = r .byte; answer = r .number; stores = n; next = a; taken = r .next; more = g })
-  unfolding advanced stepAt
+  unfolding advanced stepAtBy
   turned g x n y a z q =
       let w = worldIn v d m in
       let c : stepAt t at w ≡ stepAt s 0 w = same-command t at s 0 q wrongLength step w in

@@ -7,6 +7,7 @@ use lib.ListN.{length, getD, set, replicate, length-set, length-map, length-repl
 use lib.Dec.{ltb, leb}
 use Rattle.model.specs.Lists.{below, Each}
 use Rattle.model.specs.Card.{newTail, noHolder, noTransaction, lists, taken, withBlock, withName, freshCore, withRunning, freshCard, emptyCard, downCard, coreOf, holderOf, withCore}
+use Rattle.model.specs.Valid.{Order}
 use Rattle.model.specs.Command.{World, Outcome}
 use Rattle.model.specs.Format.{formatted}
 use Rattle.model.specs.Write.{writer, writerName, ruleFor, takesBlock, namesHolder, isNamedBack, writerAfter, writtenCard, written}
@@ -156,17 +157,18 @@ checkpointed-arrays c w a =
     (retired-arrays (w .card) a c e)
 
 -- ---- RECOVER
-recoverStep-arrays : (bs : List ℕ) (w : World) → Arrays (w .card) → Arrays ((recoverStep bs w) .world .card)
-unfolding recoverStep broughtUp
-recoverStep-arrays [] w a = fresh-arrays Up (shapeOn (w .disk)) (map (emptiedTail (w .disk)) (below 8)) (length-map (below 8) (emptiedTail (w .disk)) ∙ length-below 8)
-recoverStep-arrays (b ∷ bs) w a = record { tails = a .tails; cores = a .cores; holders = a .holders; each = a .each }
+module _ (o : Order) where
+  recoverStep-arrays : (bs : List ℕ) (w : World) → Arrays (w .card) → Arrays ((recoverStep o bs w) .world .card)
+  unfolding recoverStep broughtUp
+  recoverStep-arrays [] w a = fresh-arrays Up (shapeOn (w .disk)) (map (emptiedTail (w .disk)) (below 8)) (length-map (below 8) (emptiedTail (w .disk)) ∙ length-below 8)
+  recoverStep-arrays (b ∷ bs) w a = record { tails = a .tails; cores = a .cores; holders = a .holders; each = a .each }
 
-pub done-arrays : (k : Command) (w : World) → Arrays (w .card) → Arrays ((doneBy k w) .world .card)
-unfolding doneBy formatted written closed stored recovered downCard
-done-arrays (FORMAT c b j) w f = fresh-arrays Up (newShape c b j) (replicate 8 (newTail 1 0)) (length-replicate 8 (newTail 1 0))
-done-arrays (WRITE c b o v) w f = written-arrays (w .card) f c b
-done-arrays (CLOSE c) w f = closed-arrays (w .card) f c
-done-arrays (STORE c) w f = core-kept (w .card) f c (coreStored (coreOf (w .card) c)) (stored-fits (coreOf (w .card) c) (core-fits (w .card) f c))
-done-arrays (CHECKPOINT c) w f = checkpointed-arrays c w f
-done-arrays CUT w f = empty-arrays Down
-done-arrays RECOVER w f = recoverStep-arrays (blocksLeft w) w f
+  pub done-arrays : (k : Command) (w : World) → Arrays (w .card) → Arrays ((doneBy o k w) .world .card)
+  unfolding doneBy formatted written closed stored recovered downCard
+  done-arrays (FORMAT c b j) w f = fresh-arrays Up (newShape c b j) (replicate 8 (newTail 1 0)) (length-replicate 8 (newTail 1 0))
+  done-arrays (WRITE c b i v) w f = written-arrays (w .card) f c b
+  done-arrays (CLOSE c) w f = closed-arrays (w .card) f c
+  done-arrays (STORE c) w f = core-kept (w .card) f c (coreStored (coreOf (w .card) c)) (stored-fits (coreOf (w .card) c) (core-fits (w .card) f c))
+  done-arrays (CHECKPOINT c) w f = checkpointed-arrays c w f
+  done-arrays CUT w f = empty-arrays Down
+  done-arrays RECOVER w f = recoverStep-arrays (blocksLeft o w) w f

@@ -4,17 +4,18 @@ use Prim.Native.Nat.{ℕ}
 use mathlib.Core.Path.{_≡_, refl}
 use mathlib.Core.List.{List, [], _∷_, map}
 use Rattle.model.specs.Bytes.{Bytes}
+use Rattle.model.specs.Valid.{in-sequence}
 use Rattle.model.specs.Cases.{Case, outcomeOf, cases}
 use Rattle.model.specs.Printing.{Line}
 use Rattle.model.proofs.Computes.{computes}
 
-pub nine-cases : map (λ (c : Case). outcomeOf (c .tape)) cases ≡ cases
+pub nine-cases : map (λ (c : Case). outcomeOf in-sequence (c .tape)) cases ≡ cases
 unfolding computes
 nine-cases = refl
 
 -- the answers of a tape's commands
 abbrev answers : Bytes → List ℕ
-answers t = map (λ (l : Line). l .answer) ((outcomeOf t) .prints .lines)
+answers t = map (λ (l : Line). l .answer) ((outcomeOf in-sequence t) .prints .lines)
 
 -- On a blank card 20 before 5; then 4; FORMAT; 21 before 4; 5 before 6 before 7; 7 before 26 (J = 4, two blocks taken);
 -- 28 before 29; 23; 22 before 5.

@@ -3,22 +3,23 @@
 use Prim.Native.Nat.{ℕ, zero, suc, _<_}
 use native.Mathlib.Omega.{arith}
 use mathlib.Core.Path.{_≡_, refl, sym, ap, _∙_}
-use mathlib.Core.Bool.{Bool, true, false, cond, not, _&&_}
+use mathlib.Core.Bool.{Bool, true, false, cond}
 use mathlib.Core.List.{List, [], _∷_, _++_, map, List·Memᴰ, List·Memᴰ·head, List·Memᴰ·tail}
-use lib.Dec.{ltb, eqb}
+use lib.Dec.{ltb}
 use borrow.Author.Tests.{ltb-true}
 use Rattle.model.specs.Lists.{all, Each}
 use Rattle.model.specs.Bytes.{Bytes}
 use Rattle.model.specs.Card.{coreOf}
 use Rattle.model.specs.Command.{Outcome, refusal, First, here, there, Clear, refusedWith, unless, Decided, refused, carried-out, World, wrongLength}
 use Rattle.model.specs.Tape.{Command, FORMAT, WRITE, CLOSE, STORE, CHECKPOINT, CUT, RECOVER, Read, whole, unknown, early, readAt, obeyed, commandAt, isEarly, isUnknown}
+use Rattle.model.specs.Valid.{Order}
 use Rattle.model.specs.Format.{formatConditions, formatted}
 use Rattle.model.specs.Write.{writeConditions, written}
 use Rattle.model.specs.Commit.{closeConditions, closed, storeConditions, stored}
 use Rattle.model.specs.Checkpoint.{committedOf, oldest, checkpointConditions, storedHome, storedMaster, checkpointed}
 use Rattle.model.specs.Recovery.{cutConditions, recoverConditions, blocksLeft, recoverStep, recovered}
 use Rattle.model.specs.Reading.{readConditions}
-use Rattle.model.specs.Step.{conditionsOf, doneBy, step, stepAt, conditionsOn, doneOn, DecidesEach}
+use Rattle.model.specs.Step.{conditionsOf, doneBy, stepBy, stepAtBy, conditionsOn, doneOn, DecidesEach}
 use Rattle.model.proofs.Lists.{cases, all-mem, mem-each}
 
 -- ---- refusal
@@ -139,22 +140,6 @@ readNumbers (whole k) = refusalNumbers k
 readNumbers unknown = 1 ∷ 2 ∷ []
 readNumbers early = 1 ∷ 3 ∷ []
 
-pub conditions-numbers : (k : Command) (w : World) → map (λ (t : Bool × ℕ). t .1) (conditionsOf k w) ≡ refusalNumbers k
-unfolding conditionsOf refusalNumbers formatConditions writeConditions closeConditions storeConditions checkpointConditions cutConditions recoverConditions
-conditions-numbers (FORMAT c b j) w = refl
-conditions-numbers (WRITE c b o v) w = refl
-conditions-numbers (CLOSE c) w = refl
-conditions-numbers (STORE c) w = refl
-conditions-numbers (CHECKPOINT c) w = refl
-conditions-numbers CUT w = refl
-conditions-numbers RECOVER w = refl
-
-pub read-numbers : (r : Read) (w : World) → map (λ (t : Bool × ℕ). t .1) (conditionsOn r w) ≡ readNumbers r
-unfolding conditionsOn readNumbers
-read-numbers (whole k) w = conditions-numbers k w
-read-numbers unknown w = refl
-read-numbers early w = refl
-
 numbers-positive : (r : Read) → all (ltb 0) (readNumbers r) ≡ true
 unfolding readNumbers refusalNumbers all
 numbers-positive (whole (FORMAT c b j)) = refl
@@ -167,105 +152,123 @@ numbers-positive (whole RECOVER) = refl
 numbers-positive unknown = refl
 numbers-positive early = refl
 
-read-numbered : (r : Read) (w : World) → Numbered (conditionsOn r w)
-read-numbered r w = rw (read-numbers r w) (positive (readNumbers r) (numbers-positive r))
-
 checkpointed-answer : (c : ℕ) (w : World) → (checkpointed c w) .answer ≡ 0
 unfolding checkpointed storedHome storedMaster
 checkpointed-answer c w =
     let e = oldest (committedOf w c) in
     cases (ltb ((coreOf (w .card) c) .homed) (e .count)) (λ h. rw h) (λ h. rw h)
 
-recoverStep-answer : (bs : List ℕ) (w : World) → (recoverStep bs w) .answer ≡ 0
+recoverStep-answer : (o : Order) (bs : List ℕ) (w : World) → (recoverStep o bs w) .answer ≡ 0
 unfolding recoverStep
-recoverStep-answer [] w = refl
-recoverStep-answer (b ∷ bs) w = refl
+recoverStep-answer o [] w = refl
+recoverStep-answer o (b ∷ bs) w = refl
 
-pub done-answer : (k : Command) (w : World) → (doneBy k w) .answer ≡ 0
-unfolding doneBy formatted written closed stored recovered
-done-answer (FORMAT c b j) w = refl
-done-answer (WRITE c b o v) w = refl
-done-answer (CLOSE c) w = refl
-done-answer (STORE c) w = refl
-done-answer (CHECKPOINT c) w = checkpointed-answer c w
-done-answer CUT w = refl
-done-answer RECOVER w = recoverStep-answer (blocksLeft w) w
+module _ (o : Order) where
+  pub conditions-numbers : (k : Command) (w : World) → map (λ (t : Bool × ℕ). t .1) (conditionsOf o k w) ≡ refusalNumbers k
+  unfolding conditionsOf refusalNumbers formatConditions writeConditions closeConditions storeConditions checkpointConditions cutConditions recoverConditions
+  conditions-numbers (FORMAT c b j) w = refl
+  conditions-numbers (WRITE c b i v) w = refl
+  conditions-numbers (CLOSE c) w = refl
+  conditions-numbers (STORE c) w = refl
+  conditions-numbers (CHECKPOINT c) w = refl
+  conditions-numbers CUT w = refl
+  conditions-numbers RECOVER w = refl
 
-pub read-answer : (r : Read) (w : World) → (doneOn r w) .answer ≡ 0
-unfolding doneOn
-read-answer (whole k) w = done-answer k w
-read-answer unknown w = refl
-read-answer early w = refl
+  pub read-numbers : (r : Read) (w : World) → map (λ (t : Bool × ℕ). t .1) (conditionsOn o r w) ≡ readNumbers r
+  unfolding conditionsOn readNumbers
+  read-numbers (whole k) w = conditions-numbers k w
+  read-numbers unknown w = refl
+  read-numbers early w = refl
 
-module _ (k : Command) (w : World) where
-  pub step-answer : (step k w) .answer ≡ refusal (conditionsOf k w)
-  unfolding step
-  step-answer = unless-answer (conditionsOf k w) w (doneBy k w) (done-answer k w)
+  read-numbered : (r : Read) (w : World) → Numbered (conditionsOn o r w)
+  read-numbered r w = rw (read-numbers r w) (positive (readNumbers r) (numbers-positive r))
 
-  pub step-decided : Decided (conditionsOf k w) w (doneBy k w) (step k w)
-  unfolding step conditionsOn
-  step-decided = unless-decided (conditionsOf k w) w (doneBy k w) (read-numbered (whole k) w)
+  pub done-answer : (k : Command) (w : World) → (doneBy o k w) .answer ≡ 0
+  unfolding doneBy formatted written closed stored recovered
+  done-answer (FORMAT c b j) w = refl
+  done-answer (WRITE c b i v) w = refl
+  done-answer (CLOSE c) w = refl
+  done-answer (STORE c) w = refl
+  done-answer (CHECKPOINT c) w = checkpointed-answer c w
+  done-answer CUT w = refl
+  done-answer RECOVER w = recoverStep-answer o (blocksLeft o w) w
 
-  -- a refused one answers the first of the paper's numbers whose condition holds, leaves the world as it was and stores nothing
-  pub step-refused : 0 < (step k w) .answer
-      → First ((step k w) .answer) (conditionsOf k w) × List·Memᴰ ((step k w) .answer) (refusalNumbers k) × (step k w ≡ refusedWith ((step k w) .answer) w)
-  step-refused h =
-      let r = decided-refused step-decided (done-answer k w) h in
-      (r .0, rw (conditions-numbers k w) at (first-number (r .0)), r .1)
+  pub read-answer : (r : Read) (w : World) → (doneOn o r w) .answer ≡ 0
+  unfolding doneOn
+  read-answer (whole k) w = done-answer k w
+  read-answer unknown w = refl
+  read-answer early w = refl
 
-  -- one that answers 0 meets no condition and is carried out
-  pub step-done : (step k w) .answer ≡ 0 → Clear (conditionsOf k w) × (step k w ≡ doneBy k w)
-  step-done = decided-done step-decided
+  module _ (k : Command) (w : World) where
+    pub step-answer : (stepBy o k w) .answer ≡ refusal (conditionsOf o k w)
+    unfolding stepBy
+    step-answer = unless-answer (conditionsOf o k w) w (doneBy o k w) (done-answer k w)
+
+    pub step-decided : Decided (conditionsOf o k w) w (doneBy o k w) (stepBy o k w)
+    unfolding stepBy conditionsOn
+    step-decided = unless-decided (conditionsOf o k w) w (doneBy o k w) (read-numbered (whole k) w)
+
+    -- a refused one answers the first of the paper's numbers whose condition holds, leaves the world as it was and stores nothing
+    pub step-refused : 0 < (stepBy o k w) .answer
+        → First ((stepBy o k w) .answer) (conditionsOf o k w) × List·Memᴰ ((stepBy o k w) .answer) (refusalNumbers k) × (stepBy o k w ≡ refusedWith ((stepBy o k w) .answer) w)
+    step-refused h =
+        let r = decided-refused step-decided (done-answer k w) h in
+        (r .0, rw (conditions-numbers k w) at (first-number (r .0)), r .1)
+
+    -- one that answers 0 meets no condition and is carried out
+    pub step-done : (stepBy o k w) .answer ≡ 0 → Clear (conditionsOf o k w) × (stepBy o k w ≡ doneBy o k w)
+    step-done = decided-done step-decided
 
 -- ---- a command of the tape: 1, 2 and 3 come before its own conditions
--- every command asks for 1 first, so that the tape has asked for it before changes nothing
-length-first : (k : Command) (w : World) → (ts : List (Bool × ℕ)) × (conditionsOf k w ≡ (wrongLength w, 1) ∷ ts)
-unfolding conditionsOf formatConditions writeConditions closeConditions storeConditions checkpointConditions cutConditions recoverConditions
-length-first (FORMAT c b j) w = (_, refl)
-length-first (WRITE c b o v) w = (_, refl)
-length-first (CLOSE c) w = (_, refl)
-length-first (STORE c) w = (_, refl)
-length-first (CHECKPOINT c) w = (_, refl)
-length-first CUT w = (_, refl)
-length-first RECOVER w = (_, refl)
-
 asked-twice : (p : Bool) (n : ℕ) (ts : List (Bool × ℕ)) → refusal ((p, n) ∷ (p, n) ∷ ts) ≡ refusal ((p, n) ∷ ts)
 unfolding refusal
 asked-twice true n ts = refl
 asked-twice false n ts = refl
 
-obeyed-unless : (r : Read) (w : World) → unless ((wrongLength w, 1) ∷ []) w (obeyed step r w) ≡ unless (conditionsOn r w) w (doneOn r w)
-unfolding obeyed conditionsOn doneOn step unless refusal
-obeyed-unless (whole k) w =
-    let f = length-first k w in
-    unless-joined ((wrongLength w, 1) ∷ []) (conditionsOf k w) w (doneBy k w) (omega arith, tt)
-    ∙ unless-same ((wrongLength w, 1) ∷ conditionsOf k w) (conditionsOf k w) w (doneBy k w) (rw (f .1) (asked-twice (wrongLength w) 1 (f .0)))
-obeyed-unless unknown w = unless-joined ((wrongLength w, 1) ∷ []) ((true, 2) ∷ []) w (refusedWith 0 w) (omega arith, tt)
-obeyed-unless early w = unless-joined ((wrongLength w, 1) ∷ []) ((true, 3) ∷ []) w (refusedWith 0 w) (omega arith, tt)
-
-pub command-unless : (t : Bytes) (at : ℕ) (w : World) → stepAt t at w ≡ unless (conditionsOn (readAt t at) w) w (doneOn (readAt t at) w)
-unfolding stepAt commandAt
-command-unless t at w = obeyed-unless (readAt t at) w
-
 -- 1, 2 and 3 by themselves
 abbrev pub tapeConditions : Bytes → ℕ → World → List (Bool × ℕ)
 tapeConditions t at w = (wrongLength w, 1) ∷ (isUnknown (readAt t at), 2) ∷ (isEarly (readAt t at), 3) ∷ []
 
-read-unless : (r : Read) (w : World)
-    → unless ((wrongLength w, 1) ∷ []) w (obeyed step r w) ≡ unless ((wrongLength w, 1) ∷ (isUnknown r, 2) ∷ (isEarly r, 3) ∷ []) w (obeyed step r w)
-unfolding obeyed unless refusal
-read-unless (whole k) w = unless-joined ((wrongLength w, 1) ∷ []) ((false, 2) ∷ (false, 3) ∷ []) w (step k w) (omega arith, tt)
-read-unless unknown w = unless-joined ((wrongLength w, 1) ∷ []) ((true, 2) ∷ (false, 3) ∷ []) w (refusedWith 2 w) (omega arith, tt)
-read-unless early w = unless-joined ((wrongLength w, 1) ∷ []) ((false, 2) ∷ (true, 3) ∷ []) w (refusedWith 3 w) (omega arith, tt)
+module _ (o : Order) where
+  -- every command asks for 1 first, so that the tape has asked for it before changes nothing
+  length-first : (k : Command) (w : World) → (ts : List (Bool × ℕ)) × (conditionsOf o k w ≡ (wrongLength w, 1) ∷ ts)
+  unfolding conditionsOf formatConditions writeConditions closeConditions storeConditions checkpointConditions cutConditions recoverConditions
+  length-first (FORMAT c b j) w = (_, refl)
+  length-first (WRITE c b i v) w = (_, refl)
+  length-first (CLOSE c) w = (_, refl)
+  length-first (STORE c) w = (_, refl)
+  length-first (CHECKPOINT c) w = (_, refl)
+  length-first CUT w = (_, refl)
+  length-first RECOVER w = (_, refl)
 
-pub tape-unless : (t : Bytes) (at : ℕ) (w : World) → stepAt t at w ≡ unless (tapeConditions t at w) w (obeyed step (readAt t at) w)
-unfolding stepAt commandAt
-tape-unless t at w = read-unless (readAt t at) w
+  obeyed-unless : (r : Read) (w : World) → unless ((wrongLength w, 1) ∷ []) w (obeyed (stepBy o) r w) ≡ unless (conditionsOn o r w) w (doneOn o r w)
+  unfolding obeyed conditionsOn doneOn stepBy unless refusal
+  obeyed-unless (whole k) w =
+      let f = length-first k w in
+      unless-joined ((wrongLength w, 1) ∷ []) (conditionsOf o k w) w (doneBy o k w) (omega arith, tt)
+      ∙ unless-same ((wrongLength w, 1) ∷ conditionsOf o k w) (conditionsOf o k w) w (doneBy o k w) (rw (f .1) (asked-twice (wrongLength w) 1 (f .0)))
+  obeyed-unless unknown w = unless-joined ((wrongLength w, 1) ∷ []) ((true, 2) ∷ []) w (refusedWith 0 w) (omega arith, tt)
+  obeyed-unless early w = unless-joined ((wrongLength w, 1) ∷ []) ((true, 3) ∷ []) w (refusedWith 0 w) (omega arith, tt)
 
--- Demand 1 for one command: the card decides each by its conditions.
-pub command-decided : DecidesEach stepAt
-command-decided t at w =
-    rw (command-unless t at w) (unless-decided (conditionsOn (readAt t at) w) w (doneOn (readAt t at) w) (read-numbered (readAt t at) w))
+  pub command-unless : (t : Bytes) (at : ℕ) (w : World) → stepAtBy o t at w ≡ unless (conditionsOn o (readAt t at) w) w (doneOn o (readAt t at) w)
+  unfolding stepAtBy commandAt
+  command-unless t at w = obeyed-unless (readAt t at) w
+
+  read-unless : (r : Read) (w : World)
+      → unless ((wrongLength w, 1) ∷ []) w (obeyed (stepBy o) r w) ≡ unless ((wrongLength w, 1) ∷ (isUnknown r, 2) ∷ (isEarly r, 3) ∷ []) w (obeyed (stepBy o) r w)
+  unfolding obeyed unless refusal
+  read-unless (whole k) w = unless-joined ((wrongLength w, 1) ∷ []) ((false, 2) ∷ (false, 3) ∷ []) w (stepBy o k w) (omega arith, tt)
+  read-unless unknown w = unless-joined ((wrongLength w, 1) ∷ []) ((true, 2) ∷ (false, 3) ∷ []) w (refusedWith 2 w) (omega arith, tt)
+  read-unless early w = unless-joined ((wrongLength w, 1) ∷ []) ((false, 2) ∷ (true, 3) ∷ []) w (refusedWith 3 w) (omega arith, tt)
+
+  pub tape-unless : (t : Bytes) (at : ℕ) (w : World) → stepAtBy o t at w ≡ unless (tapeConditions t at w) w (obeyed (stepBy o) (readAt t at) w)
+  unfolding stepAtBy commandAt
+  tape-unless t at w = read-unless (readAt t at) w
+
+  -- Demand 1 for one command: the card decides each by its conditions.
+  pub command-decided : DecidesEach o (stepAtBy o)
+  command-decided t at w =
+      rw (command-unless t at w) (unless-decided (conditionsOn o (readAt t at) w) w (doneOn o (readAt t at) w) (read-numbered o (readAt t at) w))
 
 -- reading a block has 1, 20, 22, 6
 pub block-numbers : (b : ℕ) (w : World) → map (λ (t : Bool × ℕ). t .1) (readConditions b w) ≡ 1 ∷ 20 ∷ 22 ∷ 6 ∷ []

@@ -7,20 +7,20 @@ use Rattle.model.specs.Card.{sameName, taken, listed, lists, withName, r
 use Rattle.model.specs.Layout.{hasHead, pairWords, pairAt, pairsIn, masterWords, masterBlock, shapeIn, tailIn, isTail, isMaster, descriptorWords, descriptorBlock, blockCount, tagsIn, distinct, isTag, isDescriptor, commitWords, commitBlock, stampIn, nameCount, namesIn, isListable, isCommit, flagOf, escaped, unescaped}
 use Rattle.model.specs.Journal.{journalAt, recordAt, recordsFrom, journal, journals, tagsOf, blocksOf, namesOf, took, imageOf}
 use Rattle.model.specs.Shrink.{strike, shrinkIn, shrink}
-use Rattle.model.specs.Valid.{isIn, isMet, namesMet, validSet, blocksHeld, later, newest}
+use Rattle.model.specs.Valid.{isIn, isMet, required, requiredOf, namesMet, validSet, blocksHeld, later, newest}
 use Rattle.model.specs.Command.{refusal, unless, wrongLength, noCore, noBlock}
 use Rattle.model.specs.Format.{formatConditions, formatted, format}
 use Rattle.model.specs.Write.{writer, writerName, isRunningIn, ruleFor, writerAfter, passesNames, listsFull, closedBlocks, journalFull, writeConditions, writtenCard, writtenMemory, written, write}
 use Rattle.model.specs.Commit.{copyBlock, copied, closeConditions, closedCard, closed, close, copyTags, nextStored, nextPosition, coreStored, storeConditions, stored, storeNext}
 use Rattle.model.specs.Checkpoint.{committedNow, validNow, committedOf, oldest, share, sharesLower, checkpointConditions, storedHome, released, retiredCard, storedMaster, checkpointed, checkpoint}
-use Rattle.model.specs.Recovery.{cutConditions, cut, shapeOn, tailOn, committedOn, validOn, recoverConditions, blocksLeft, placeOf, imageFound, newestImage, emptiedTail, broughtUp, recoverStep, recovered, recover}
+use Rattle.model.specs.Recovery.{cutConditions, cut, shapeOn, tailOn, committedOn, validOnBy, recoverConditions, blocksLeft, placeOf, imageFound, newestImage, emptiedTail, broughtUp, recoverStep, recovered, recover}
 use Rattle.model.specs.Reading.{readConditions, readNumber, readBlock}
 use Rattle.model.specs.Tape.{operandLengths, operandLength, decoded, commandByte, operandsAt, wholeOrEarly, readAt, offsetPast, nextOffset, obeyed, commandAt, runFrom, run, worldAfter, heard}
-use Rattle.model.specs.Step.{conditionsOf, doneBy, step, stepAt, conditionsOn, doneOn}
+use Rattle.model.specs.Step.{conditionsOf, doneBy, stepBy, stepAtBy, conditionsOn, doneOn}
 use Rattle.model.specs.Printing.{homeCount, isZero, homeLines, printed, blankWorld}
 use Rattle.model.specs.Cases.{outcomeOf, cases}
 use Rattle.model.specs.JournalEnds.{lacksDescriptor, hasBadField, readRecord, recordAnswer, endFrom, journalEnd}
 
 unfoldable pub computes : Unit {0}
-unfolding flatMap below all any select bytes number part be4 replaced blockAt store padded words block zeroDisk zeroMemory between inRange checked journalBlock nearest clamped sameName taken listed lists withName recordSize freshCard emptyCard blankCard downCard shapeOf tailOf coreOf holderOf committedCount hasHead pairWords pairAt pairsIn masterWords masterBlock shapeIn tailIn isTail isMaster descriptorWords descriptorBlock blockCount tagsIn distinct isTag isDescriptor commitWords commitBlock stampIn nameCount namesIn isListable isCommit flagOf escaped unescaped journalAt recordAt recordsFrom journal journals tagsOf blocksOf namesOf took imageOf strike shrinkIn shrink isIn isMet namesMet validSet blocksHeld later newest refusal unless wrongLength noCore noBlock formatConditions formatted format writer writerName isRunningIn ruleFor writerAfter passesNames listsFull closedBlocks journalFull writeConditions writtenCard writtenMemory written write copyBlock copied closeConditions closedCard closed close copyTags nextStored nextPosition coreStored storeConditions stored storeNext committedNow validNow committedOf oldest share sharesLower checkpointConditions storedHome released retiredCard storedMaster checkpointed checkpoint cutConditions cut shapeOn tailOn committedOn validOn recoverConditions blocksLeft placeOf imageFound newestImage emptiedTail broughtUp recoverStep recovered recover readConditions readNumber readBlock operandLengths operandLength decoded commandByte operandsAt wholeOrEarly readAt offsetPast nextOffset obeyed commandAt runFrom run worldAfter heard conditionsOf doneBy step stepAt conditionsOn doneOn homeCount isZero homeLines printed blankWorld outcomeOf cases lacksDescriptor hasBadField readRecord recordAnswer endFrom journalEnd
+unfolding flatMap below all any select bytes number part be4 replaced blockAt store padded words block zeroDisk zeroMemory between inRange checked journalBlock nearest clamped sameName taken listed lists withName recordSize freshCard emptyCard blankCard downCard shapeOf tailOf coreOf holderOf committedCount hasHead pairWords pairAt pairsIn masterWords masterBlock shapeIn tailIn isTail isMaster descriptorWords descriptorBlock blockCount tagsIn distinct isTag isDescriptor commitWords commitBlock stampIn nameCount namesIn isListable isCommit flagOf escaped unescaped journalAt recordAt recordsFrom journal journals tagsOf blocksOf namesOf took imageOf strike shrinkIn shrink isIn isMet required requiredOf namesMet validSet blocksHeld later newest refusal unless wrongLength noCore noBlock formatConditions formatted format writer writerName isRunningIn ruleFor writerAfter passesNames listsFull closedBlocks journalFull writeConditions writtenCard writtenMemory written write copyBlock copied closeConditions closedCard closed close copyTags nextStored nextPosition coreStored storeConditions stored storeNext committedNow validNow committedOf oldest share sharesLower checkpointConditions storedHome released retiredCard storedMaster checkpointed checkpoint cutConditions cut shapeOn tailOn committedOn validOnBy recoverConditions blocksLeft placeOf imageFound newestImage emptiedTail broughtUp recoverStep recovered recover readConditions readNumber readBlock operandLengths operandLength decoded commandByte operandsAt wholeOrEarly readAt offsetPast nextOffset obeyed commandAt runFrom run worldAfter heard conditionsOf doneBy stepBy stepAtBy conditionsOn doneOn homeCount isZero homeLines printed blankWorld outcomeOf cases lacksDescriptor hasBadField readRecord recordAnswer endFrom journalEnd
 computes = tt

@@ -12,7 +12,9 @@ pub mod JournalEnds
 pub mod EndReasons
 pub mod Select
 pub mod Shrink
+pub mod Required
 pub mod Valid
+pub mod Sequence
 pub mod Command
 pub mod Tape
 pub mod Encoded

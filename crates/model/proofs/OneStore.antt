@@ -2,10 +2,10 @@
 -- B, or a position of the journal of a core below C. What is stored is a block, for slices and arrays of their lengths.
 use Prim.Native.Nat.{ℕ, _-_, _≤_, _<_}
 use native.Mathlib.Omega.{arith}
-use mathlib.Core.Path.{_≡_, refl, sym, _∙_}
+use mathlib.Core.Path.{_≡_, refl, _∙_}
 use mathlib.Core.Bool.{Bool, true, false, true≢false, _&&_}
 use mathlib.Core.List.{List, [], _∷_, List·Memᴰ, List·Memᴰ·head}
-use lib.ListN.{length, getD, length-map, length-take}
+use lib.ListN.{length, length-map, length-take}
 use lib.Dec.{ltb, leb, eqb}
 use borrow.Author.Tests.{ltb-true, leb-true, leb-false, eqb-true, not-false}
 use Rattle.model.specs.Bytes.{Bytes, be4, blockAt, store}
@@ -13,14 +13,14 @@ use Rattle.model.specs.Shape.{inRange, homeBlock, journalBlock, newShape
 use Rattle.model.specs.Card.{taken, listed, shapeOf, tailOf, coreOf, committedCount}
 use Rattle.model.specs.Layout.{mark, isMaster, shapeIn}
 use Rattle.model.specs.Journal.{imageOf}
-use Rattle.model.specs.Valid.{blocksHeld}
+use Rattle.model.specs.Valid.{Order, blocksHeld}
 use Rattle.model.specs.Command.{World, Outcome, wrongLength, noCore, Clear, refusedWith, Decided, refused, carried-out}
 use Rattle.model.specs.Format.{formatConditions, formatted, format}
 use Rattle.model.specs.Write.{written}
 use Rattle.model.specs.Commit.{closed, copyBlock, copyTags, closedNumber, storeConditions, stored, nextStored, nextPosition}
 use Rattle.model.specs.Checkpoint.{committedOf, oldest, checkpointConditions, storedHome, storedMaster, retiredCard, checkpointed}
-use Rattle.model.specs.Recovery.{shapeOn, tailOn, committedOn, validOn, recoverConditions, blocksLeft, imageFound, newestImage, emptiedTail, recoverStep, recovered}
-use Rattle.model.specs.Step.{step, conditionsOf, doneBy}
+use Rattle.model.specs.Recovery.{shapeOn, tailOn, committedOn, validOnBy, recoverConditions, blocksLeft, imageFound, newestImage, emptiedTail, recoverStep, recovered}
+use Rattle.model.specs.Step.{stepBy, conditionsOf, doneBy}
 use Rattle.model.proofs.Limits.{InRange, clamped-range, range-test}
 use Rattle.model.specs.Lists.{Each}
 use Rattle.model.proofs.Lists.{cases, and-left, and-right, mem-below, length-below, mem-each}
@@ -112,9 +112,9 @@ module _ (c : ℕ) (w : World) where
       one-stored (position h (nextPosition (w .card) c)) (nextStored c (coreOf (w .card) c) (w .memory))
       (length-nextStored c (coreOf (w .card) c) (w .memory) (core-fits (w .card) a c) (omega arith) (right-lengths w (cl .0) .1)) refl refl
 
-  checkpoint-store : Clear (checkpointConditions c w) → OneStore (shapeOf (w .card)) (w .disk) (checkpointed c w)
+  checkpoint-store : (o : Order) → Clear (checkpointConditions o c w) → OneStore (shapeOf (w .card)) (w .disk) (checkpointed c w)
   unfolding checkpointConditions checkpointed storedHome storedMaster noCore
-  checkpoint-store cl =
+  checkpoint-store o cl =
       let e = oldest (committedOf w c) in
       let i = (coreOf (w .card) c) .homed in
       let s = shapeOf (w .card) in
@@ -131,43 +131,44 @@ module _ (c : ℕ) (w : World) where
 
 -- ---- RECOVER
 module _ (d : Bytes) (l : InRange (shapeOn d)) (n : length d ≡ 32896) where
-  valid-cores : Each (λ (e : Committed). e .core < (shapeOn d) .cores) (validOn d)
-  unfolding validOn committedOn
-  valid-cores =
-      mem-each (λ (e : Committed). e .core < (shapeOn d) .cores) (validOn d)
-      (λ e m. journals-known (shapeOn d) d (tailOn d) _ e (valid-within (shapeOn d) d (tailOn d) (committedOn d) e m) .0)
-
   length-imageFound : (b : ℕ) (f : Found) → b < (shapeOn d) .blocks → IfFound (λ (e : Committed). e .core < (shapeOn d) .cores) f → length (imageFound d b f) ≡ 128
   unfolding imageFound
   length-imageFound b Miss h p = length-blockAt 257 d n (homeBlock b) (omega (arith, l .few-blocks))
   length-imageFound b (Whole e) h p = length-imageOf l d n e _ p
 
-  pub length-newestImage : (b : ℕ) → b < (shapeOn d) .blocks → length (newestImage d b) ≡ 128
+module _ (o : Order) (d : Bytes) (l : InRange (shapeOn d)) (n : length d ≡ 32896) where
+  valid-cores : Each (λ (e : Committed). e .core < (shapeOn d) .cores) (validOnBy o d)
+  unfolding validOnBy committedOn
+  valid-cores =
+      mem-each (λ (e : Committed). e .core < (shapeOn d) .cores) (validOnBy o d)
+      (λ e m. journals-known (shapeOn d) d (tailOn d) _ e (valid-within o (shapeOn d) d (tailOn d) (committedOn d) e m) .0)
+
+  pub length-newestImage : (b : ℕ) → b < (shapeOn d) .blocks → length (newestImage o d b) ≡ 128
   unfolding newestImage
-  length-newestImage b h = length-imageFound b _ h (newest-holds _ (shapeOn d) d b (validOn d) Miss tt valid-cores)
+  length-newestImage b h = length-imageFound d l n b _ h (newest-holds _ (shapeOn d) d b (validOnBy o d) Miss tt valid-cores)
+
+recover-limits : (w : World) → Clear (recoverConditions w) → InRange (shapeOn (w .disk))
+unfolding recoverConditions shapeOn
+recover-limits w cl = master-limits (blockAt (w .disk) 0) (not-false (isMaster (blockAt (w .disk) 0)) (cl .1 .1 .1 .0))
 
 -- the blocks left to recovery are below B
-pub left-below : (w : World) {b : ℕ} → List·Memᴰ b (blocksLeft w) → b < (shapeOn (w .disk)) .blocks
+pub left-below : (o : Order) (w : World) {b : ℕ} → List·Memᴰ b (blocksLeft o w) → b < (shapeOn (w .disk)) .blocks
 unfolding blocksLeft blocksHeld
-left-below w {b} m = mem-below _ (select-mem _ _ b (select-mem _ _ b m .0) .0)
+left-below o w {b} m = mem-below _ (select-mem _ _ b (select-mem _ _ b m .0) .0)
 
-module _ (w : World) where
+module _ (o : Order) (w : World) where
   recoverStep-store : InRange (shapeOn (w .disk)) → length (w .disk) ≡ 32896 → (bs : List ℕ) → ((b : ℕ) → List·Memᴰ b bs → b < (shapeOn (w .disk)) .blocks)
-      → OneStore (shapeOn (w .disk)) (w .disk) (recoverStep bs w)
+      → OneStore (shapeOn (w .disk)) (w .disk) (recoverStep o bs w)
   unfolding recoverStep
   recoverStep-store l n [] f = one-stored master _ (length-master l (emptiedTail (w .disk))) refl refl
   recoverStep-store l n (b ∷ bs) f =
       let h = f b (List·Memᴰ·head refl) in
-      one-stored (home h) (newestImage (w .disk) b) (length-newestImage (w .disk) l n b h) refl refl
+      one-stored (home h) (newestImage o (w .disk) b) (length-newestImage o (w .disk) l n b h) refl refl
 
-  recover-limits : Clear (recoverConditions w) → InRange (shapeOn (w .disk))
-  unfolding recoverConditions shapeOn
-  recover-limits cl = master-limits (blockAt (w .disk) 0) (not-false (isMaster (blockAt (w .disk) 0)) (cl .1 .1 .1 .0))
-
-  recover-store : Clear (recoverConditions w) → OneStore (shapeOn (w .disk)) (w .disk) (recovered w)
+  recover-store : Clear (recoverConditions w) → OneStore (shapeOn (w .disk)) (w .disk) (recovered o w)
   unfolding recovered
   recover-store cl =
-      recoverStep-store (recover-limits cl) (right-lengths w (unfold recoverConditions in cl .0) .0) (blocksLeft w) (λ b m. left-below w m)
+      recoverStep-store (recover-limits w cl) (right-lengths w (unfold recoverConditions in cl .0) .0) (blocksLeft o w) (λ b m. left-below o w m)
 
 -- ---- every command but FORMAT
 abbrev pub isFormat : Command → Bool
@@ -189,26 +190,6 @@ storedShape (CHECKPOINT c) w = shapeOf (w .card)
 storedShape CUT w = shapeOf (w .card)
 storedShape RECOVER w = shapeOn (w .disk)
 
-pub done-store : (k : Command) (w : World) → Arrays (w .card) → isFormat k ≡ false → Clear (conditionsOf k w) → OneStore (storedShape k w) (w .disk) (doneBy k w)
-unfolding conditionsOf doneBy storedShape written closed
-done-store (FORMAT c b j) w f h cl = absurd (true≢false h)
-done-store (WRITE c b o v) w f h cl = none-stored refl refl
-done-store (CLOSE c) w f h cl = none-stored refl refl
-done-store (STORE c) w f h cl = store-store c w f cl
-done-store (CHECKPOINT c) w f h cl = checkpoint-store c w cl
-done-store CUT w f h cl = none-stored refl refl
-done-store RECOVER w f h cl = recover-store w cl
-
-pub stored-limits : (k : Command) (w : World) → Clear (conditionsOf k w) → InRange (storedShape k w)
-unfolding conditionsOf storedShape
-stored-limits (FORMAT c b j) w cl = shape-limits (w .card)
-stored-limits (WRITE c b o v) w cl = shape-limits (w .card)
-stored-limits (CLOSE c) w cl = shape-limits (w .card)
-stored-limits (STORE c) w cl = shape-limits (w .card)
-stored-limits (CHECKPOINT c) w cl = shape-limits (w .card)
-stored-limits CUT w cl = shape-limits (w .card)
-stored-limits RECOVER w cl = recover-limits w cl
-
 one-refused : (s : Shape) (w : World) (n : ℕ) → OneStore s (w .disk) (refusedWith n w)
 one-refused s w n = none-stored refl refl
 
@@ -216,9 +197,30 @@ decided-store : {ts : List (Bool × ℕ)} {w : World} {done o : Outcome World} (
 decided-store {w = w} s (refused n p f e) h = rw e (one-refused s w n)
 decided-store s (carried-out c e) h = rw e (h c)
 
--- a command, refused or carried out, stores one block at most
-pub step-store : (k : Command) (w : World) → Arrays (w .card) → isFormat k ≡ false → OneStore (storedShape k w) (w .disk) (step k w)
-step-store k w f h = decided-store (storedShape k w) (step-decided k w) (done-store k w f h)
+module _ (o : Order) where
+  pub done-store : (k : Command) (w : World) → Arrays (w .card) → isFormat k ≡ false → Clear (conditionsOf o k w) → OneStore (storedShape k w) (w .disk) (doneBy o k w)
+  unfolding conditionsOf doneBy storedShape written closed
+  done-store (FORMAT c b j) w f h cl = absurd (true≢false h)
+  done-store (WRITE c b i v) w f h cl = none-stored refl refl
+  done-store (CLOSE c) w f h cl = none-stored refl refl
+  done-store (STORE c) w f h cl = store-store c w f cl
+  done-store (CHECKPOINT c) w f h cl = checkpoint-store c w o cl
+  done-store CUT w f h cl = none-stored refl refl
+  done-store RECOVER w f h cl = recover-store o w cl
+
+  pub stored-limits : (k : Command) (w : World) → Clear (conditionsOf o k w) → InRange (storedShape k w)
+  unfolding conditionsOf storedShape
+  stored-limits (FORMAT c b j) w cl = shape-limits (w .card)
+  stored-limits (WRITE c b i v) w cl = shape-limits (w .card)
+  stored-limits (CLOSE c) w cl = shape-limits (w .card)
+  stored-limits (STORE c) w cl = shape-limits (w .card)
+  stored-limits (CHECKPOINT c) w cl = shape-limits (w .card)
+  stored-limits CUT w cl = shape-limits (w .card)
+  stored-limits RECOVER w cl = recover-limits w cl
+
+  -- a command, refused or carried out, stores one block at most
+  pub step-store : (k : Command) (w : World) → Arrays (w .card) → isFormat k ≡ false → OneStore (storedShape k w) (w .disk) (stepBy o k w)
+  step-store k w f h = decided-store (storedShape k w) (step-decided o k w) (done-store k w f h)
 
 -- FORMAT carried out
 pub format-done : (c b j : ℕ) (w : World) → Clear (formatConditions c b j w) → format c b j w ≡ formatted (newShape c b j)

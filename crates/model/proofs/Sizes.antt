@@ -4,15 +4,16 @@ use Prim.Native.Nat.{ℕ, suc, _+_, _*_, _≤_, _<_, _%_}
 use native.Mathlib.Omega.{arith}
 use native.Mathlib.Nat.{mod-lt}
 use mathlib.Core.Path.{_≡_, refl, sym, ap, _∙_, subst}
-use mathlib.Core.Bool.{Bool, true, false, cond}
+use mathlib.Core.Bool.{Bool, false, cond}
 use mathlib.Core.List.{List, [], _∷_}
-use lib.ListN.{length, getD, replicate, length-take, length-drop, length-replicate}
-use lib.Dec.{ltb, eqb}
-use borrow.Author.Tests.{ltb-false, leb-false, eqb-true}
+use lib.ListN.{length, replicate, length-replicate}
+use lib.Dec.{ltb}
+use borrow.Author.Tests.{ltb-false, leb-false}
 use Rattle.model.specs.Bytes.{Bytes, blockAt, store, zeroDisk, zeroMemory}
 use Rattle.model.specs.Shape.{homeBlock, newShape}
 use Rattle.model.specs.Card.{taken, shapeOf, coreOf, blankCard}
 use Rattle.model.specs.Command.{World, Outcome, noCore, noBlock, Clear, Decided, refused, carried-out}
+use Rattle.model.specs.Valid.{Order}
 use Rattle.model.specs.Format.{formatted}
 use Rattle.model.specs.Write.{writeConditions, loadsImage, ruleFor, writtenMemory, written}
 use Rattle.model.specs.Commit.{copyBlock, copied, closeConditions, closed, stored}
@@ -27,7 +28,7 @@ use Rattle.model.proofs.Command.{of-cond, command-decided}
 use Rattle.model.proofs.Tape.{Runs, at-end, one-more, OfData, length-data, whole-data}
 use Rattle.model.proofs.Arrays.{Arrays, core-fits, empty-arrays, done-arrays}
 use Rattle.model.proofs.OneStore.{shape-limits, right-lengths, few-taken, OneStore, none-stored, one-stored, storePlace-low, format-limits, done-store, isFormat, stored-limits}
-use Rattle.model.specs.Step.{conditionsOf, conditionsOn, doneBy, doneOn, stepAt}
+use Rattle.model.specs.Step.{conditionsOf, conditionsOn, doneBy, doneOn, stepAtBy}
 use Rattle.model.specs.declared.Shape.{Shape}
 use Rattle.model.specs.declared.Phase.the-variants.{Blank}
 
@@ -79,60 +80,61 @@ pub checkpointed-memory : (c : ℕ) (w : World) → (checkpointed c w) .world .m
 unfolding checkpointed storedHome storedMaster
 checkpointed-memory c w = of-cond (λ (o : Outcome World). o .world .memory ≡ w .memory) (ltb ((coreOf (w .card) c) .homed) ((oldest (committedOf w c)) .count)) refl refl
 
-pub recoverStep-memory : (bs : List ℕ) (w : World) → (recoverStep bs w) .world .memory ≡ w .memory
+pub recoverStep-memory : (o : Order) (bs : List ℕ) (w : World) → (recoverStep o bs w) .world .memory ≡ w .memory
 unfolding recoverStep
-recoverStep-memory [] w = refl
-recoverStep-memory (b ∷ bs) w = refl
+recoverStep-memory o [] w = refl
+recoverStep-memory o (b ∷ bs) w = refl
 
 pub length-zeroMemory : length zeroMemory ≡ 16384
 unfolding zeroMemory
 length-zeroMemory = length-replicate {A = ℕ} 16384 0
 
--- ---- every command
-done-memory : (k : Command) (w : World) → OfData (λ (v : Bytes). length v ≡ 4) k → SizedWorld w → Clear (conditionsOf k w) → length ((doneBy k w) .world .memory) ≡ 16384
-unfolding conditionsOf doneBy formatted stored recovered
-done-memory (FORMAT c b j) w four z cl = length-zeroMemory
-done-memory (WRITE c b o v) w four z cl = length-written c b o v w four cl
-done-memory (CLOSE c) w four z cl = length-closed c w (z .arrays) cl
-done-memory (STORE c) w four z cl = z .memory
-done-memory (CHECKPOINT c) w four z cl = rw (checkpointed-memory c w) (z .memory)
-done-memory CUT w four z cl = length-zeroMemory
-done-memory RECOVER w four z cl = rw (recoverStep-memory (blocksLeft w) w) (z .memory)
-
-stored-disk : (k : Command) (w : World) → SizedWorld w → isFormat k ≡ false → Clear (conditionsOf k w) → length ((doneBy k w) .world .disk) ≡ 32896
-stored-disk k w z h cl = one-length (stored-limits k w cl) (z .disk) (done-store k w (z .arrays) h cl)
-
-done-disk : (k : Command) (w : World) → SizedWorld w → Clear (conditionsOf k w) → length ((doneBy k w) .world .disk) ≡ 32896
-done-disk (FORMAT c b j) w z cl = unfold doneBy in formatted-disk (newShape c b j) (format-limits c b j w (unfold conditionsOf in cl))
-done-disk (WRITE c b o v) w z cl = stored-disk (WRITE c b o v) w z refl cl
-done-disk (CLOSE c) w z cl = stored-disk (CLOSE c) w z refl cl
-done-disk (STORE c) w z cl = stored-disk (STORE c) w z refl cl
-done-disk (CHECKPOINT c) w z cl = stored-disk (CHECKPOINT c) w z refl cl
-done-disk CUT w z cl = stored-disk CUT w z refl cl
-done-disk RECOVER w z cl = stored-disk RECOVER w z refl cl
-
-pub done-sized : (k : Command) (w : World) → OfData (λ (v : Bytes). length v ≡ 4) k → SizedWorld w → Clear (conditionsOf k w) → SizedWorld ((doneBy k w) .world)
-done-sized k w four z cl = record { disk = done-disk k w z cl; memory = done-memory k w four z cl; arrays = done-arrays k w (z .arrays) }
-
 decided-sized : {ts : List (Bool × ℕ)} {w : World} {done o : Outcome World} → Decided ts w done o → SizedWorld w → (Clear ts → SizedWorld (done .world)) → SizedWorld (o .world)
 decided-sized {w = w} (refused n p f e) z h = subst (λ (o : Outcome World). SizedWorld (o .world)) (sym e) z
 decided-sized (carried-out c e) z h = subst (λ (o : Outcome World). SizedWorld (o .world)) (sym e) (h c)
 
-read-sized : (r : Read) (w : World) → ((k : Command) → r ≡ whole k → OfData (λ (v : Bytes). length v ≡ 4) k) → SizedWorld w → Clear (conditionsOn r w) → SizedWorld ((doneOn r w) .world)
-unfolding conditionsOn doneOn
-read-sized (whole k) w four z cl = done-sized k w (four k refl) z cl
-read-sized unknown w four z cl = z
-read-sized early w four z cl = z
+-- ---- every command
+module _ (o : Order) where
+  done-memory : (k : Command) (w : World) → OfData (λ (v : Bytes). length v ≡ 4) k → SizedWorld w → Clear (conditionsOf o k w) → length ((doneBy o k w) .world .memory) ≡ 16384
+  unfolding conditionsOf doneBy formatted stored recovered
+  done-memory (FORMAT c b j) w four z cl = length-zeroMemory
+  done-memory (WRITE c b i v) w four z cl = length-written c b i v w four cl
+  done-memory (CLOSE c) w four z cl = length-closed c w (z .arrays) cl
+  done-memory (STORE c) w four z cl = z .memory
+  done-memory (CHECKPOINT c) w four z cl = rw (checkpointed-memory c w) (z .memory)
+  done-memory CUT w four z cl = length-zeroMemory
+  done-memory RECOVER w four z cl = rw (recoverStep-memory o (blocksLeft o w) w) (z .memory)
 
-pub command-sized : (t : Bytes) (at : ℕ) (w : World) → SizedWorld w → SizedWorld ((stepAt t at w) .world)
-command-sized t at w z = decided-sized (command-decided t at w) z (read-sized (readAt t at) w (λ k e. whole-data t at (λ (v : Bytes). length v ≡ 4) k e (length-data t at k e)) z)
+  stored-disk : (k : Command) (w : World) → SizedWorld w → isFormat k ≡ false → Clear (conditionsOf o k w) → length ((doneBy o k w) .world .disk) ≡ 32896
+  stored-disk k w z h cl = one-length (stored-limits o k w cl) (z .disk) (done-store o k w (z .arrays) h cl)
 
--- ---- a whole tape
-pub run-sized : (t : Bytes) {at n : ℕ} {w : World} {ps : List (Point World)} → Runs stepAt t at n w ps → SizedWorld w → Each (λ (p : Point World). SizedWorld (p .before) × SizedWorld (p .outcome .world)) ps
-run-sized t (at-end h) z = tt
-run-sized t (one-more {at} {w = w} {p = p} h e r) z =
-    let y : SizedWorld (p .outcome .world) = subst (λ (p : Point World). SizedWorld (p .outcome .world)) (sym e) (command-sized t at w z) in
-    ((subst (λ (p : Point World). SizedWorld (p .before)) (sym e) z, y), run-sized t r y)
+  done-disk : (k : Command) (w : World) → SizedWorld w → Clear (conditionsOf o k w) → length ((doneBy o k w) .world .disk) ≡ 32896
+  done-disk (FORMAT c b j) w z cl = unfold doneBy in formatted-disk (newShape c b j) (format-limits c b j w (unfold conditionsOf in cl))
+  done-disk (WRITE c b i v) w z cl = stored-disk (WRITE c b i v) w z refl cl
+  done-disk (CLOSE c) w z cl = stored-disk (CLOSE c) w z refl cl
+  done-disk (STORE c) w z cl = stored-disk (STORE c) w z refl cl
+  done-disk (CHECKPOINT c) w z cl = stored-disk (CHECKPOINT c) w z refl cl
+  done-disk CUT w z cl = stored-disk CUT w z refl cl
+  done-disk RECOVER w z cl = stored-disk RECOVER w z refl cl
+
+  pub done-sized : (k : Command) (w : World) → OfData (λ (v : Bytes). length v ≡ 4) k → SizedWorld w → Clear (conditionsOf o k w) → SizedWorld ((doneBy o k w) .world)
+  done-sized k w four z cl = record { disk = done-disk k w z cl; memory = done-memory k w four z cl; arrays = done-arrays o k w (z .arrays) }
+
+  read-sized : (r : Read) (w : World) → ((k : Command) → r ≡ whole k → OfData (λ (v : Bytes). length v ≡ 4) k) → SizedWorld w → Clear (conditionsOn o r w) → SizedWorld ((doneOn o r w) .world)
+  unfolding conditionsOn doneOn
+  read-sized (whole k) w four z cl = done-sized k w (four k refl) z cl
+  read-sized unknown w four z cl = z
+  read-sized early w four z cl = z
+
+  pub command-sized : (t : Bytes) (at : ℕ) (w : World) → SizedWorld w → SizedWorld ((stepAtBy o t at w) .world)
+  command-sized t at w z = decided-sized (command-decided o t at w) z (read-sized (readAt t at) w (λ k e. whole-data t at (λ (v : Bytes). length v ≡ 4) k e (length-data t at k e)) z)
+
+  -- ---- a whole tape
+  pub run-sized : (t : Bytes) {at n : ℕ} {w : World} {ps : List (Point World)} → Runs (stepAtBy o) t at n w ps → SizedWorld w → Each (λ (p : Point World). SizedWorld (p .before) × SizedWorld (p .outcome .world)) ps
+  run-sized t (at-end h) z = tt
+  run-sized t (one-more {at} {w = w} {p = p} h e r) z =
+      let y : SizedWorld (p .outcome .world) = subst (λ (p : Point World). SizedWorld (p .outcome .world)) (sym e) (command-sized t at w z) in
+      ((subst (λ (p : Point World). SizedWorld (p .before)) (sym e) z, y), run-sized t r y)
 
 -- 'The tape starts on a blank card, over slices of the stated lengths and any content.'
 pub blank-sized : (d m : Bytes) → length d ≡ 32896 → length m ≡ 16384 → SizedWorld (record { card = blankCard; disk = d; memory = m })

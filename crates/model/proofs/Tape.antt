@@ -10,14 +10,15 @@ use mathlib.Core.Option.{Option, none, some, Option·some-injective}
 use mathlib.Core.Bool.{Bool, true, false, true≢false, not, _&&_}
 use mathlib.Core.List.{List, [], _∷_, List·Memᴰ}
 use lib.ListN.{length, length-take, length-drop, List·getD-eq-default}
-use lib.Dec.{ltb, leb, eqb}
-use borrow.Author.Tests.{ltb-true, ltb-false, lt-ltb, le-ltb, lt-leb, le-leb, leb-true, leb-false, ne-eqb, eqb-false, not-true}
+use lib.Dec.{ltb, eqb}
+use borrow.Author.Tests.{ltb-true, ltb-false, lt-ltb, le-ltb, lt-leb, le-leb, ne-eqb, eqb-false, not-true}
 use Rattle.model.specs.Lists.{all, Each}
 use Rattle.model.specs.Bytes.{Bytes, part}
 use Rattle.model.specs.Shape.{between}
+use Rattle.model.specs.Valid.{Order}
 use Rattle.model.specs.Command.{World}
-use Rattle.model.specs.Tape.{Command, FORMAT, WRITE, CLOSE, STORE, CHECKPOINT, CUT, RECOVER, operandLengths, operandLength, decoded, Read, whole, unknown, early, isUnknown, isEarly, commandByte, operandsAt, wholeOrEarly, readAt, offsetPast, nextOffset, TapeStep, Point, runFrom, run}
-use Rattle.model.specs.Step.{stepAt}
+use Rattle.model.specs.Tape.{Command, FORMAT, WRITE, CLOSE, STORE, CHECKPOINT, CUT, RECOVER, operandLengths, operandLength, decoded, Read, whole, unknown, early, isUnknown, isEarly, commandByte, operandsAt, wholeOrEarly, readAt, offsetPast, nextOffset, TapeStep, Point, runFrom, run, heard}
+use Rattle.model.specs.Step.{stepAtBy}
 use Rattle.model.proofs.Lists.{cases, all-mem, and-left, and-right}
 use Rattle.model.proofs.Command.{refusalNumbers, readNumbers, read-numbers, read-answer, command-decided, decided-refused, first-number}
 
@@ -297,23 +298,31 @@ numbers-own (CHECKPOINT c) = refl
 numbers-own CUT = refl
 numbers-own RECOVER = refl
 
-answer-ends : (t : Bytes) (at : ℕ) (w : World) (n : ℕ) → (stepAt t at w) .answer ≡ n → (n ≡ 2) ⊎ (n ≡ 3) → length t ≤ nextOffset t at
-unfolding nextOffset offsetPast readNumbers
-answer-ends t at w n h two = go (readAt t at) refl
-  where
-    p : 0 < n
-    p = elim two [ inl e ↦ omega arith | inr e ↦ omega arith ]
+-- what a service book or ledger hears keeps what each command with its answer keeps
+pub heard-keeps : {S : Type 0} (f : Command → ℕ → S → S) (P : S → Type 0) → ((k : Command) (n : ℕ) (s : S) → P s → P (f k n s)) → (r : Read) (n : ℕ) (s : S) → P s → P (heard f r n s)
+unfolding heard
+heard-keeps f P h (whole k) n s p = h k n s p
+heard-keeps f P h unknown n s p = p
+heard-keeps f P h early n s p = p
 
-    among : List·Memᴰ n (readNumbers (readAt t at))
-    among =
-        rw (h, read-numbers (readAt t at) w) at (first-number ((decided-refused (command-decided t at w) (read-answer (readAt t at) w) (rw h p)) .0))
+module _ (o : Order) where
+  answer-ends : (t : Bytes) (at : ℕ) (w : World) (n : ℕ) → (stepAtBy o t at w) .answer ≡ n → (n ≡ 2) ⊎ (n ≡ 3) → length t ≤ nextOffset t at
+  unfolding nextOffset offsetPast readNumbers
+  answer-ends t at w n h two = go (readAt t at) refl
+    where
+      p : 0 < n
+      p = elim two [ inl e ↦ omega arith | inr e ↦ omega arith ]
 
-    go : (r : Read) → readAt t at ≡ r → length t ≤ offsetPast r t at
-    go (whole k) e = absurd (neither n (all-mem _ (refusalNumbers k) (numbers-own k) (rw e at among)) two)
-    go unknown e = le-max-right at (length t)
-    go early e = le-max-right at (length t)
+      among : List·Memᴰ n (readNumbers (readAt t at))
+      among =
+          rw (h, read-numbers o (readAt t at) w) at (first-number ((decided-refused (command-decided o t at w) (read-answer o (readAt t at) w) (rw h p)) .0))
 
-pub tape-ends : (t : Bytes) {at n : ℕ} {w : World} {p : Point World} {ps : List (Point World)} → Runs stepAt t at n w (p ∷ ps)
-    → (p .outcome .answer ≡ 2) ⊎ (p .outcome .answer ≡ 3) → ps ≡ []
-tape-ends t (one-more {at} {w = w} {p = p} h e r) two =
-    runs-ended stepAt t r (answer-ends t at w (p .outcome .answer) (ap (λ (p : Point World). p .outcome .answer) (sym e)) two)
+      go : (r : Read) → readAt t at ≡ r → length t ≤ offsetPast r t at
+      go (whole k) e = absurd (neither n (all-mem _ (refusalNumbers k) (numbers-own k) (rw e at among)) two)
+      go unknown e = le-max-right at (length t)
+      go early e = le-max-right at (length t)
+
+  pub tape-ends : (t : Bytes) {at n : ℕ} {w : World} {p : Point World} {ps : List (Point World)} → Runs (stepAtBy o) t at n w (p ∷ ps)
+      → (p .outcome .answer ≡ 2) ⊎ (p .outcome .answer ≡ 3) → ps ≡ []
+  tape-ends t (one-more {at} {w = w} {p = p} h e r) two =
+      runs-ended (stepAtBy o) t r (answer-ends t at w (p .outcome .answer) (ap (λ (p : Point World). p .outcome .answer) (sym e)) two)

@@ -1,4 +1,4 @@
--- The valid set is the largest set of the transactions read in which each name listed is in the set or below its core's
+-- The valid set is the largest set of the transactions read in which each name required is in the set or below its core's
 -- tail number, and each of it has all that it depends on among those read. Both are the laws of shrinking.
 use mathlib.Core.Path.{_≡_, refl}
 use mathlib.Core.Logic.{_⊎_}
@@ -10,9 +10,9 @@ use lib.Dec.{eqb, ltb}
 use borrow.Author.Tests.{eqb-true, eq-eqb, le-ltb}
 use Rattle.model.specs.Bytes.{Bytes}
 use Rattle.model.specs.Card.{newName, sameName}
-use Rattle.model.specs.Journal.{nameOf, namesOf, journals}
+use Rattle.model.specs.Journal.{nameOf, journals}
 use Rattle.model.specs.Shrink.{AllStay, Within, DependsOn}
-use Rattle.model.specs.Valid.{isIn, isMet, namesMet, validSet}
+use Rattle.model.specs.Valid.{Order, isIn, isMet, requiredOf, namesMet, validSet}
 use Rattle.model.specs.declared.Shape.{Shape}
 use Rattle.model.specs.declared.Tail.{Tail}
 use Rattle.model.specs.declared.Name.{Name}
@@ -37,39 +37,39 @@ sameName-refl n = and-both (eq-eqb (n .core) (n .core) refl) (eq-eqb (n .number)
 abbrev pub belowTail : (ℕ → Tail) → Name → Bool
 belowTail tailAt n = ltb (n .number) ((tailAt (n .core)) .number)
 
-module _ (s : Shape) (d : Bytes) (tailAt : ℕ → Tail) where
-  pub namesMet-monotone : Monotone (namesMet s d tailAt)
+-- none of those read is below its core's tail number
+pub journals-unretired : (s : Shape) (d : Bytes) (tailAt : ℕ → Tail) (most : ℕ → ℕ) (u : Committed) → List·Memᴰ u (journals s d tailAt most) → belowTail tailAt (nameOf u) ≡ false
+journals-unretired s d tailAt most u m =
+    let r = journals-known s d tailAt most u m .1 in
+    le-ltb (u .number) ((tailAt (u .core)) .number) (omega (arith, r .1 .number))
+
+module _ (o : Order) (s : Shape) (d : Bytes) (tailAt : ℕ → Tail) where
+  pub namesMet-monotone : Monotone (namesMet o s d tailAt)
   unfolding namesMet isMet isIn
-  namesMet-monotone = named-monotone (namesOf s d) nameOf sameName sameName-true sameName-refl (belowTail tailAt)
+  namesMet-monotone = named-monotone (requiredOf o s d) nameOf sameName sameName-true sameName-refl (belowTail tailAt)
 
-  pub valid-closed : (es : List Committed) → AllStay (namesMet s d tailAt) (validSet s d tailAt es)
+  pub valid-closed : (es : List Committed) → AllStay (namesMet o s d tailAt) (validSet o s d tailAt es)
   unfolding validSet
-  valid-closed = shrink-closed (namesMet s d tailAt)
+  valid-closed = shrink-closed (namesMet o s d tailAt)
 
-  pub valid-within : (es : List Committed) → Within (validSet s d tailAt es) es
+  pub valid-within : (es : List Committed) → Within (validSet o s d tailAt es) es
   unfolding validSet
-  valid-within = shrink-within (namesMet s d tailAt)
+  valid-within = shrink-within (namesMet o s d tailAt)
 
-  pub valid-largest : (es ss : List Committed) → Within ss es → AllStay (namesMet s d tailAt) ss → Within ss (validSet s d tailAt es)
+  pub valid-largest : (es ss : List Committed) → Within ss es → AllStay (namesMet o s d tailAt) ss → Within ss (validSet o s d tailAt es)
   unfolding validSet
-  valid-largest = shrink-largest (namesMet s d tailAt) namesMet-monotone
+  valid-largest = shrink-largest (namesMet o s d tailAt) namesMet-monotone
 
-  -- 'each name listed is in the set or lies below its core's tail number'
-  pub valid-names : (es : List Committed) (t : Committed) → List·Memᴰ t (validSet s d tailAt es) → (n : Name) → List·Memᴰ n (namesOf s d t)
-      → (belowTail tailAt n ≡ true) ⊎ Named nameOf (validSet s d tailAt es) n
+  -- 'each name listed is in the set or lies below its core's tail number', and so each required
+  pub valid-names : (es : List Committed) (t : Committed) → List·Memᴰ t (validSet o s d tailAt es) → (n : Name) → List·Memᴰ n (requiredOf o s d t)
+      → (belowTail tailAt n ≡ true) ⊎ Named nameOf (validSet o s d tailAt es) n
   unfolding validSet namesMet isMet isIn
-  valid-names = shrunk-names (namesOf s d) nameOf sameName sameName-true sameName-refl (belowTail tailAt)
-
-  -- none of those read is below its core's tail number
-  pub journals-unretired : (most : ℕ → ℕ) (u : Committed) → List·Memᴰ u (journals s d tailAt most) → belowTail tailAt (nameOf u) ≡ false
-  journals-unretired most u m =
-      let r = journals-known s d tailAt most u m .1 in
-      le-ltb (u .number) ((tailAt (u .core)) .number) (omega (arith, r .1 .number))
+  valid-names = shrunk-names (requiredOf o s d) nameOf sameName sameName-true sameName-refl (belowTail tailAt)
 
   -- each valid one has all that it depends on among those read
-  pub valid-depends : (most : ℕ → ℕ) (t u : Committed) → List·Memᴰ t (validSet s d tailAt (journals s d tailAt most))
-      → DependsOn (ListsIn (namesOf s d) nameOf (journals s d tailAt most)) t u → List·Memᴰ u (validSet s d tailAt (journals s d tailAt most))
+  pub valid-depends : (most : ℕ → ℕ) (t u : Committed) → List·Memᴰ t (validSet o s d tailAt (journals s d tailAt most))
+      → DependsOn (ListsIn (requiredOf o s d) nameOf (journals s d tailAt most)) t u → List·Memᴰ u (validSet o s d tailAt (journals s d tailAt most))
   unfolding validSet namesMet isMet isIn
   valid-depends most =
-      shrunk-depends (namesOf s d) nameOf sameName sameName-true sameName-refl (belowTail tailAt) (journals s d tailAt most) (journals-distinct s d tailAt most)
-      (journals-unretired most)
+      shrunk-depends (requiredOf o s d) nameOf sameName sameName-true sameName-refl (belowTail tailAt) (journals s d tailAt most) (journals-distinct s d tailAt most)
+      (journals-unretired s d tailAt most)

@@ -4,7 +4,8 @@ use mathlib.Core.List.{List, [], _∷_}
 use Rattle.model.specs.Bytes.{Bytes}
 use Rattle.model.specs.Card.{coreOf}
 use Rattle.model.specs.Tape.{run, worldAfter}
-use Rattle.model.specs.Step.{stepAt}
+use Rattle.model.specs.Valid.{Order}
+use Rattle.model.specs.Step.{stepAtBy}
 use Rattle.model.specs.Printing.{Line, Page, printed, blankWorld}
 
 pub record Case : Type 0 where
@@ -18,9 +19,11 @@ line offset byte answer stores = record { offset = offset; byte = byte; answer =
 abbrev pub case : Bytes → List Line → List (ℕ × Bytes) → ℕ → Case
 case tape lines homes next = record { tape = tape; prints = record { lines = lines; homes = homes }; next = next }
 
--- what the definitions make of a tape
-unfoldable pub outcomeOf : Bytes → Case
-outcomeOf t = record { tape = t; prints = printed stepAt t blankWorld; next = (coreOf ((worldAfter blankWorld (run stepAt t blankWorld)) .card) 0) .next }
+-- what the definitions make of a tape, under each rule
+unfoldable pub outcomeOf : Order → Bytes → Case
+outcomeOf o t =
+    let f = stepAtBy o in
+    record { tape = t; prints = printed f t blankWorld; next = (coreOf ((worldAfter blankWorld (run f t blankWorld)) .card) 0) .next }
 
 unfoldable pub cases : List Case
 cases =

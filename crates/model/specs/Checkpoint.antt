@@ -10,7 +10,7 @@ use Rattle.model.specs.Shape.{homeBlock}
 use Rattle.model.specs.Card.{newTail, sameName, noHolder, taken, shapeOf, tailOf, coreOf, committedCount, withLists, withCore}
 use Rattle.model.specs.Layout.{masterBlock}
 use Rattle.model.specs.Journal.{journal, journals, nameOf, blocksOf, imageOf}
-use Rattle.model.specs.Valid.{isIn, validSet}
+use Rattle.model.specs.Valid.{Order, isIn, validSet}
 use Rattle.model.specs.Command.{World, Outcome, storing, unless, notUp, noCore}
 use Rattle.model.specs.declared.Shape.{Shape}
 use Rattle.model.specs.declared.Tail.{Tail}
@@ -25,8 +25,8 @@ use Rattle.model.specs.declared.Committed.{Committed}
 unfoldable pub committedNow : World → List Committed
 committedNow w = journals (shapeOf (w .card)) (w .disk) (tailOf (w .card)) (committedCount (w .card))
 
-unfoldable pub validNow : World → List Committed
-validNow w = validSet (shapeOf (w .card)) (w .disk) (tailOf (w .card)) (committedNow w)
+unfoldable pub validNow : Order → World → List Committed
+validNow o w = validSet o (shapeOf (w .card)) (w .disk) (tailOf (w .card)) (committedNow w)
 
 -- the core's committed unretired transactions; the oldest comes first
 unfoldable pub committedOf : World → ℕ → List Committed
@@ -50,13 +50,13 @@ sharesLower w e =
     any (λ (f : Committed). ltb (f .stamp) (e .stamp) && share bs (blocksOf s (w .disk) f)) (committedNow w)
     || any (λ (c : ℕ). lowerClosed ((coreOf (w .card) c) .closed)) (below (s .cores))
 
-unfoldable pub checkpointConditions : ℕ → World → List (Bool × ℕ)
-checkpointConditions c w =
+unfoldable pub checkpointConditions : Order → ℕ → World → List (Bool × ℕ)
+checkpointConditions o c w =
     let e = oldest (committedOf w c) in
     notUp w
     ((noCore w c, 5)
     ∷ (eqb (length (committedOf w c)) 0, 31)
-    ∷ (not (isIn (validNow w) (nameOf e)), 32)
+    ∷ (not (isIn (validNow o w) (nameOf e)), 32)
     ∷ (sharesLower w e, 33)
     ∷ [])
 
@@ -109,5 +109,5 @@ checkpointed c w =
     let e = oldest (committedOf w c) in
     cond (ltb ((coreOf (w .card) c) .homed) (e .count)) (storedHome c e w) (storedMaster c e w)
 
-unfoldable pub checkpoint : ℕ → World → Outcome World
-checkpoint c w = unless (checkpointConditions c w) w (checkpointed c w)
+unfoldable pub checkpoint : Order → ℕ → World → Outcome World
+checkpoint o c w = unless (checkpointConditions o c w) w (checkpointed c w)

@@ -11,7 +11,7 @@ use Rattle.model.specs.Shape.{homeBlock}
 use Rattle.model.specs.Card.{isBlank, isUp, newTail, freshCard, downCard}
 use Rattle.model.specs.Layout.{masterBlock, isMaster, shapeIn, tailIn}
 use Rattle.model.specs.Journal.{journal, journals, blocksOf, imageOf}
-use Rattle.model.specs.Valid.{validSet, blocksHeld, newest}
+use Rattle.model.specs.Valid.{Order, in-sequence, validSet, blocksHeld, newest}
 use Rattle.model.specs.Command.{World, Outcome, unstored, storing, unless, wrongLength}
 use Rattle.model.specs.declared.Phase.the-variants.{Up}
 use Rattle.model.specs.declared.Shape.{Shape}
@@ -39,8 +39,12 @@ tailOn d c = tailIn (blockAt d 0) c
 unfoldable pub committedOn : Bytes → List Committed
 committedOn d = let s = shapeOn d in journals s d (tailOn d) (λ (c : ℕ). s .journal)
 
-unfoldable pub validOn : Bytes → List Committed
-validOn d = validSet (shapeOn d) d (tailOn d) (committedOn d)
+unfoldable pub validOnBy : Order → Bytes → List Committed
+validOnBy o d = validSet o (shapeOn d) d (tailOn d) (committedOn d)
+
+-- with request (c) in force
+abbrev pub validOn : Bytes → List Committed
+validOn d = validOnBy in-sequence d
 
 -- ---- RECOVER
 unfoldable pub recoverConditions : World → List (Bool × ℕ)
@@ -48,8 +52,8 @@ recoverConditions w =
     (wrongLength w, 1) ∷ (isBlank (w .card .phase), 20) ∷ (isUp (w .card .phase), 23) ∷ (not (isMaster (blockAt (w .disk) 0)), 8) ∷ []
 
 -- 'from the lowest block to the highest': the blocks held in the valid set that recovery has not passed
-unfoldable pub blocksLeft : World → List ℕ
-blocksLeft w = select (leb (w .card .recovered)) (blocksHeld (shapeOn (w .disk)) (w .disk) (validOn (w .disk)))
+unfoldable pub blocksLeft : Order → World → List ℕ
+blocksLeft o w = select (leb (w .card .recovered)) (blocksHeld (shapeOn (w .disk)) (w .disk) (validOnBy o (w .disk)))
 
 -- the place of block b among those given; as many as all where it is not there
 unfoldable pub placeOf : ℕ → List ℕ → ℕ
@@ -61,8 +65,8 @@ unfoldable pub imageFound : Bytes → ℕ → Found → Bytes
 imageFound d b Miss = blockAt d (homeBlock b)
 imageFound d b (Whole e) = imageOf (shapeOn d) d e (placeOf b (blocksOf (shapeOn d) d e))
 
-unfoldable pub newestImage : Bytes → ℕ → Bytes
-newestImage d b = imageFound d b (newest (shapeOn d) d b Miss (validOn d))
+unfoldable pub newestImage : Order → Bytes → ℕ → Bytes
+newestImage o d b = imageFound d b (newest (shapeOn d) d b Miss (validOnBy o d))
 
 abbrev pub recoveredTo : Card → ℕ → Card
 recoveredTo x b =
@@ -84,12 +88,12 @@ unfoldable pub broughtUp : Bytes → Card
 broughtUp d = freshCard Up (shapeOn d) (map (emptiedTail d) (below maxCores))
 
 -- a home store of the lowest block left, or the master store
-unfoldable pub recoverStep : List ℕ → World → Outcome World
-recoverStep [] w = storing w (broughtUp (w .disk)) 0 (masterBlock (shapeOn (w .disk)) (emptiedTail (w .disk)))
-recoverStep (b ∷ bs) w = storing w (recoveredTo (w .card) (b + 1)) (homeBlock b) (newestImage (w .disk) b)
+unfoldable pub recoverStep : Order → List ℕ → World → Outcome World
+recoverStep o [] w = storing w (broughtUp (w .disk)) 0 (masterBlock (shapeOn (w .disk)) (emptiedTail (w .disk)))
+recoverStep o (b ∷ bs) w = storing w (recoveredTo (w .card) (b + 1)) (homeBlock b) (newestImage o (w .disk) b)
 
-unfoldable pub recovered : World → Outcome World
-recovered w = recoverStep (blocksLeft w) w
+unfoldable pub recovered : Order → World → Outcome World
+recovered o w = recoverStep o (blocksLeft o w) w
 
-unfoldable pub recover : World → Outcome World
-recover w = unless (recoverConditions w) w (recovered w)
+unfoldable pub recover : Order → World → Outcome World
+recover o w = unless (recoverConditions w) w (recovered o w)

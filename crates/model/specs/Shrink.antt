@@ -28,7 +28,7 @@ module _ {A : Type 0} where
   unfoldable pub shrink : (List A → A → Bool) → List A → List A
   shrink stays es = shrinkIn (length es) stays es
 
-  -- 'A transaction depends on those its list names and on all that these depend on.'
+  -- 'A transaction depends on those its list names and on all that these depend on.'; by paper 02, (c), also on the one before it
   pub data DependsOn (Lists : A → A → Type 0) : A → A → Type 0 where
     lists-it : {t u : A} → Lists t u → DependsOn Lists t u
     through : {t u v : A} → Lists t u → DependsOn Lists u v → DependsOn Lists t v

@@ -1,11 +1,11 @@
 -- The valid set, and the newest image of a block in it.
-use Prim.Native.Nat.{ℕ}
+use Prim.Native.Nat.{ℕ, _-_}
 use mathlib.Core.List.{List, [], _∷_, flatMap}
 use mathlib.Core.Bool.{Bool, cond, _||_}
 use lib.Dec.{ltb, leb, eqb}
 use Rattle.model.specs.Lists.{below, all, any, select}
 use Rattle.model.specs.Bytes.{Bytes}
-use Rattle.model.specs.Card.{sameName}
+use Rattle.model.specs.Card.{newName, sameName}
 use Rattle.model.specs.Journal.{nameOf, namesOf, blocksOf, took}
 use Rattle.model.specs.Shrink.{shrink}
 use Rattle.model.specs.declared.Shape.{Shape}
@@ -15,20 +15,42 @@ use Rattle.model.specs.declared.Committed.{Committed}
 use Rattle.model.specs.declared.Found.{Found}
 use Rattle.model.specs.declared.Found.the-variants.{Whole, Miss}
 
+-- ---- what a transaction requires: one of two rules
+-- 'A transaction depends on those its list names', 'No order is implied between transactions of one core'; or paper 02, (c): 'every
+-- transaction also depends on the one before it on its core since the card came up'
+pub data Order : Type 0 where
+  unordered : Order
+  in-sequence : Order
+
+-- 'the one before it on its core'; that of the first 'since the card came up' lies below the tail number, and so it is met
+abbrev pub predecessor : Name → Name
+predecessor n = newName (n .core) (n .number - 1)
+
+-- of the transaction of this name, which lists the names given
+unfoldable pub required : Order → Name → List Name → List Name
+required unordered n ns = ns
+required in-sequence n ns = predecessor n ∷ ns
+
+-- of one that was read
+unfoldable pub requiredOf : Order → Shape → Bytes → Committed → List Name
+requiredOf o s d e = required o (nameOf e) (namesOf s d e)
+
+-- ---- the valid set
 -- the transaction of this name is in the set
 unfoldable pub isIn : List Committed → Name → Bool
 isIn es n = any (λ (e : Committed). sameName n (nameOf e)) es
 
--- 'each name listed is in the set or lies below its core's tail number'
+-- 'each name listed is in the set or lies below its core's tail number', and so the one before
 unfoldable pub isMet : (ℕ → Tail) → List Committed → Name → Bool
 isMet tailAt es n = ltb (n .number) ((tailAt (n .core)) .number) || isIn es n
 
-unfoldable pub namesMet : Shape → Bytes → (ℕ → Tail) → List Committed → Committed → Bool
-namesMet s d tailAt es e = all (isMet tailAt es) (namesOf s d e)
+unfoldable pub namesMet : Order → Shape → Bytes → (ℕ → Tail) → List Committed → Committed → Bool
+namesMet o s d tailAt es e = all (isMet tailAt es) (requiredOf o s d e)
 
--- 'The valid set is the largest set of committed, unretired transactions in which each name listed is ..'
-unfoldable pub validSet : Shape → Bytes → (ℕ → Tail) → List Committed → List Committed
-validSet s d tailAt es = shrink (namesMet s d tailAt) es
+-- 'The valid set is the largest set of committed, unretired transactions in which each name listed is ..'; 'The kept set and the valid
+-- set are read with this added dependence'
+unfoldable pub validSet : Order → Shape → Bytes → (ℕ → Tail) → List Committed → List Committed
+validSet o s d tailAt es = shrink (namesMet o s d tailAt) es
 
 -- the home blocks that a set holds, from the lowest to the highest
 unfoldable pub blocksHeld : Shape → Bytes → List Committed → List ℕ

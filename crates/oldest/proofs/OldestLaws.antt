@@ -4,7 +4,7 @@ use Rattle.model.proofs.Base.{ℕ, _-_, _*_, _<_, min, arith, decLt, add-zero, 
 use Rattle.model.proofs.Base.{cond, not, _||_, List, [], length, getD, eqb, lt-ltb, not-true, not-false, below, any, Bytes}
 use Rattle.model.specs.Card.{shapeOf, tailOf, coreOf, committedCount}
 use Rattle.model.specs.Journal.{recordAt, journal, nameOf}
-use Rattle.model.specs.Valid.{isIn, validSet}
+use Rattle.model.specs.Valid.{in-sequence, isIn, validSet}
 use Rattle.model.specs.Command.{refusal}
 use Rattle.model.specs.Checkpoint.{committedNow, validNow, sharesLower}
 use Rattle.model.specs.declared.Shape.{Shape}
@@ -88,10 +88,10 @@ module _ (x : Card) (d m : Bytes) (slots : List ℕ) (r : Reads (shapeOf x) d (x
   shares-committed e = slots-share (shape-limits x) d (x .tails) (counts x) slots r (tailOf x) (committedCount x) (card-tail x) (card-bound x d) e
 
   module _ (valid : List ℕ) (v : entries (shapeOf x) d (numbersOf (x .tails)) valid
-      ≡ validSet (shapeOf x) d (numbered (numbersOf (x .tails))) (entries (shapeOf x) d (numbersOf (x .tails)) slots)) where
-    valid-committed : entries (shapeOf x) d (numbersOf (x .tails)) valid ≡ validNow (world x d m)
+      ≡ validSet in-sequence (shapeOf x) d (numbered (numbersOf (x .tails))) (entries (shapeOf x) d (numbersOf (x .tails)) slots)) where
+    valid-committed : entries (shapeOf x) d (numbersOf (x .tails)) valid ≡ validNow in-sequence (world x d m)
     unfolding validNow committedNow
-    valid-committed = slots-valid (shape-limits x) d (x .tails) (counts x) slots r (tailOf x) (committedCount x) (card-tail x) (card-bound x d) valid v
+    valid-committed = slots-valid (shape-limits x) d (x .tails) (counts x) slots r (tailOf x) (committedCount x) (card-tail x) (card-bound x d) in-sequence valid v
 
 -- ---- the valid set
 number-same : (x : Card) (c : ℕ) → c < 8 → tailNumber (numbersOf (x .tails)) c ≡ (tailOf x c) .number
@@ -124,12 +124,12 @@ lower-parts x d m e slots r =
 
 -- ---- the number from the journals
 module _ (x : Card) (d : Bytes) (c : ℕ) (most : List ℕ) (e : Committed) (h : IsOldest x d c most e) (s : Shape) (p : s ≡ shapeOf x) (ts : List Tail) (y : ts ≡ x .tails)
-    (slots : List ℕ) (r : Reads s d ts most slots) (valid : List ℕ) (v : entries s d (numbersOf ts) valid ≡ validSet s d (numbered (numbersOf ts)) (entries s d (numbersOf ts) slots))
+    (slots : List ℕ) (r : Reads s d ts most slots) (valid : List ℕ) (v : entries s d (numbersOf ts) valid ≡ validSet in-sequence s d (numbered (numbersOf ts)) (entries s d (numbersOf ts) slots))
     (b : Bool) (q : b ≡ isFilled s valid (12 * c)) where
   all-read : Reads (shapeOf x) d (x .tails) (counts x) slots
   all-read = reads-card x d s p ts y most slots (h .are-counts) r
 
-  told : (m : Bytes) → b ≡ isIn (validNow (world x d m)) (nameOf e)
+  told : (m : Bytes) → b ≡ isIn (validNow in-sequence (world x d m)) (nameOf e)
   told m =
       sym
       (ap (λ (es : List Committed). isIn es (nameOf e)) (sym (valid-committed x d m slots all-read valid (rw (p, y) at v)))

@@ -10,7 +10,7 @@ use Rattle.model.specs.Lists.{below, any}
 use Rattle.model.specs.Bytes.{Bytes}
 use Rattle.model.specs.Card.{taken, shapeOf, tailOf, coreOf, committedCount}
 use Rattle.model.specs.Journal.{recordAt, nameOf, blocksOf}
-use Rattle.model.specs.Valid.{isIn}
+use Rattle.model.specs.Valid.{in-sequence, isIn}
 use Rattle.model.specs.Checkpoint.{share, validNow, sharesLower}
 use Rattle.model.specs.Command.{World}
 use Rattle.model.specs.declared.Shape.{Shape}
@@ -71,4 +71,4 @@ lowerShares x s d slots e = any (sharesBelow s d e) (entries s d [] slots) || so
 -- ---- refused
 -- what refuses the checkpoint of core c's oldest transaction
 unfoldable pub oldestConditions : Committed → World → List (Bool × ℕ)
-oldestConditions e w = (not (isIn (validNow w) (nameOf e)), 32) ∷ (sharesLower w e, 33) ∷ []
+oldestConditions e w = (not (isIn (validNow in-sequence w) (nameOf e)), 32) ∷ (sharesLower w e, 33) ∷ []

@@ -6,8 +6,8 @@ use Rattle.model.specs.Bytes.{part, blockAt}
 use Rattle.model.specs.Card.{newTail}
 use Rattle.model.specs.Layout.{shapeIn, tailIn, unescaped}
 use Rattle.model.specs.Journal.{journal}
-use Rattle.model.specs.Valid.{validSet, newest}
-use Rattle.model.specs.Recovery.{shapeOn, tailOn, committedOn, validOn, blocksLeft, newestImage, tailPast, emptiedTail}
+use Rattle.model.specs.Valid.{in-sequence, validSet, newest}
+use Rattle.model.specs.Recovery.{shapeOn, tailOn, committedOn, validOnBy, validOn, blocksLeft, newestImage, tailPast, emptiedTail}
 use Rattle.model.specs.Limits.{maxNumber}
 use Rattle.model.specs.declared.Card.{Card}
 use Rattle.model.specs.declared.Tail.{Tail}
@@ -80,11 +80,11 @@ module _ (d : Bytes) (s : Shape) (z : s ≡ shapeOn d) (l : InRange s) (ts : Lis
     committed-read = rw (← z) (slots-read l d ts (replicate 8 (s .journal)) set r (tailOn d) (λ (c : ℕ). s .journal) disk-tail whole-read)
 
     -- and of them the valid set
-    valid-read : (v : List ℕ) → entries s d (numbersOf ts) v ≡ validSet s d (numbered (numbersOf ts)) (entries s d (numbersOf ts) set) → entries s d (numbersOn d) v ≡ validOn d
-    unfolding numbersOn validOn committedOn blockAt part
+    valid-read : (v : List ℕ) → entries s d (numbersOf ts) v ≡ validSet in-sequence s d (numbered (numbersOf ts)) (entries s d (numbersOf ts) set) → entries s d (numbersOn d) v ≡ validOn d
+    unfolding numbersOn validOnBy committedOn blockAt part
     valid-read v q =
         let k : numbersOf ts ≡ numbersOf (map (tailOrNone (take 128 d)) (below 8)) = ap numbersOf e in
-        rw (← k, ← z) (slots-valid l d ts (replicate 8 (s .journal)) set r (tailOn d) (λ (c : ℕ). s .journal) disk-tail whole-read v q)
+        rw (← k, ← z) (slots-valid l d ts (replicate 8 (s .journal)) set r (tailOn d) (λ (c : ℕ). s .journal) disk-tail whole-read in-sequence v q)
 
 pub all-read : (s : Shape) (d : Bytes) (ts : List Tail) → ts ≡ map (tailOrNone (take 128 d)) (below 8)
     → (set : List ℕ) → Reads s d ts (replicate 8 (s .journal)) set → OnDisk s d ts set
@@ -109,19 +109,19 @@ module _ (d : Bytes) (s : Shape) (g : Shaped s d) (ts : List Tail) (set : List �
   unfolding numbersOn
   same-numbers = ap numbersOf (r .tails)
 
-  pub all-valid : (v : List ℕ) → entries s d (numbersOf ts) v ≡ validSet s d (numbered (numbersOf ts)) (entries s d (numbersOf ts) set) → IsValid s d v
+  pub all-valid : (v : List ℕ) → entries s d (numbersOf ts) v ≡ validSet in-sequence s d (numbered (numbersOf ts)) (entries s d (numbersOf ts) set) → IsValid s d v
   all-valid v q = record { valid = valid-read d s (g .shape) (g .range) ts (master-tails-read d s ts set r) set (r .slots) v q }
 
 -- ---- images
 module _ (d : Bytes) (s : Shape) (g : Shaped s d) (set : List ℕ) (v : IsValid s d set) where
   pub newest-bytes : (b : ℕ) (at : Image) → at ≡ foundImage s d b (newest s d b Miss (entries s d [] set))
-      → (i : Bytes) → i ≡ blockAt d (at .block) → (r : Bytes) → r ≡ unescaped (at .flag) i → r ≡ newestImage d b
+      → (i : Bytes) → i ≡ blockAt d (at .block) → (r : Bytes) → r ≡ unescaped (at .flag) i → r ≡ newestImage in-sequence d b
   unfolding newestImage
   newest-bytes b at q i p r h =
       let f : at ≡ foundImage (shapeOn d) d b (newest (shapeOn d) d b Miss (validOn d)) = q ∙ image-numbers s d set [] (numbersOn d) b ∙ rw (v .valid, g .shape) in
       h ∙ rw (p, f) (found-bytes d b (newest (shapeOn d) d b Miss (validOn d)))
 
   -- the lowest block that the valid set holds from a place on
-  pub left-first : (x : Card) (m : Bytes) (b : ℕ) → b ≡ heldFrom s d (entries s d [] set) (x .recovered) → b ≡ firstOr (s .blocks) (blocksLeft (world x d m))
+  pub left-first : (x : Card) (m : Bytes) (b : ℕ) → b ≡ heldFrom s d (entries s d [] set) (x .recovered) → b ≡ firstOr (s .blocks) (blocksLeft in-sequence (world x d m))
   unfolding heldFrom blocksLeft
   left-first x m b q = q ∙ held-numbers s d set [] (numbersOn d) (x .recovered) ∙ rw (v .valid, g .shape)

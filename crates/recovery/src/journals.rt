@@ -3,6 +3,7 @@ ghost use mathlib.Core.Path.{_≡_};
 ghost use mathlib.Core.List.{map};
 ghost use Prim.Native.Nat.{_≤_, _<_};
 ghost use Rattle.model.specs.Lists.{below};
+ghost use Rattle.model.specs.Valid.{in-sequence};
 ghost use Rattle.model.specs.Recovery.{tailPast, newestImage};
 ghost use Rattle.recovery.specs.Recovering.{tailAfter, Shaped, OnDisk, IsValid};
 use model::Shape;
@@ -86,7 +87,7 @@ pub fn valid_set(s: Shape, disk: &[u8], all: Journals) -> [u16; 96]
 // The newest image of block b in the valid set.
 pub fn newest_block(s: Shape, disk: &[u8], valid: &[u16; 96], b: u8) -> [u8; Shape::BLOCK_SIZE]
     requires { ⌜ Shaped s (now disk) × IsValid s (now disk) (now valid) ⌝ }
-    ensures { λ r. ⌜ r ≡ newestImage (now (disk .entry)) b ⌝ }
+    ensures { λ r. ⌜ r ≡ newestImage in-sequence (now (disk .entry)) b ⌝ }
 {
     let at = valid::newest_image(s, disk, valid, b);
     let image = layout::load_block(disk, at.block);

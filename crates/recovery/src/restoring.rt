@@ -8,6 +8,7 @@ ghost use lib.ListN.{length};
 ghost use Rattle.model.specs.Bytes.{blockAt};
 ghost use Rattle.model.specs.Layout.{isMaster};
 ghost use Rattle.model.specs.Command.{refusal};
+ghost use Rattle.model.specs.Valid.{in-sequence};
 ghost use Rattle.model.specs.Recovery.{recoverConditions, recoverStep, recovered, recover};
 ghost use Rattle.model.specs.Limits.{diskSize};
 ghost use Rattle.cells.specs.Answer.{Meets, Stores};
@@ -44,7 +45,7 @@ fn recover_refusal(w: &[u64], disk: &[u8], memory: &[u8]) -> u8
 // The last store of recovery: one master with all journals empty. The card is up.
 fn bring_up(w: &mut [u64], s: Shape, all: Journals, disk: &mut [u8])
     requires { ⌜ (length (now w) ≡ 512) × Shaped s (now disk) × OnDisk s (now disk) (all .tails) (all .committed) ⌝ }
-    ensures { λ _. ⌜ Stores (recoverStep []) (now (w .entry)) (now (w .exit)) (now (disk .entry)) (now (disk .exit)) ⌝ }
+    ensures { λ _. ⌜ Stores (recoverStep in-sequence []) (now (w .entry)) (now (w .exit)) (now (disk .entry)) (now (disk .exit)) ⌝ }
 {
     let before = all.tails;
     let committed = all.committed;
@@ -57,7 +58,7 @@ fn bring_up(w: &mut [u64], s: Shape, all: Journals, disk: &mut [u8])
 fn restore_block(w: &mut [u64], s: Shape, disk: &mut [u8], valid: &[u16; 96], b: u8)
     requires { ⌜ (length (now w) ≡ 512) × Shaped s (now disk) × IsValid s (now disk) (now valid) × (b < s .blocks) ⌝ }
     ensures { λ _. ⌜
-        ((bs : List ℕ) → Stores (recoverStep (b ∷ bs)) (now (w .entry)) (now (w .exit)) (now (disk .entry)) (now (disk .exit)))
+        ((bs : List ℕ) → Stores (recoverStep in-sequence (b ∷ bs)) (now (w .entry)) (now (w .exit)) (now (disk .entry)) (now (disk .exit)))
         ⌝ }
 {
     let image = newest_block(s, disk, valid, b);
@@ -68,7 +69,7 @@ fn restore_block(w: &mut [u64], s: Shape, disk: &mut [u8], valid: &[u16; 96], b:
 // The next store of recovery over a disk whose first block is a master.
 fn recovered(w: &mut [u64], disk: &mut [u8])
     requires { ⌜ (length (now w) ≡ 512) × (length (now disk) ≡ diskSize) × (isMaster (blockAt (now disk) 0) ≡ true) ⌝ }
-    ensures { λ _. ⌜ Stores recovered (now (w .entry)) (now (w .exit)) (now (disk .entry)) (now (disk .exit)) ⌝ }
+    ensures { λ _. ⌜ Stores (recovered in-sequence) (now (w .entry)) (now (w .exit)) (now (disk .entry)) (now (disk .exit)) ⌝ }
 {
     let s = disk_shape(disk);
     let all = read_disk(s, disk);
@@ -86,7 +87,7 @@ fn recovered(w: &mut [u64], disk: &mut [u8])
 pub fn recover(w: &mut [u64], disk: &mut [u8], memory: &[u8]) -> Answer
     requires { ⌜ length (now w) ≡ 512 ⌝ }
     ensures { λ r. ⌜
-        Meets (recover (worldIn (now (w .entry)) (now (disk .entry)) (now (memory .entry))))
+        Meets (recover in-sequence (worldIn (now (w .entry)) (now (disk .entry)) (now (memory .entry))))
         (now (w .entry)) (now (w .exit)) (now (disk .exit)) (now (memory .entry)) r
         ⌝ }
 {

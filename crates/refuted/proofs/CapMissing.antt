@@ -10,6 +10,7 @@ use mathlib.Core.List.{List, [], _∷_}
 use lib.ListN.{length, getD, drop, length-drop, length-map}
 use lib.Seq.{getD-drop, drop-drop}
 use borrow.Author.Tests.{lt-leb, le-ltb}
+use Rattle.model.specs.Valid.{in-sequence}
 use Rattle.model.specs.Lists.{all, below}
 use Rattle.model.specs.Bytes.{Bytes, part, store, zeroMemory}
 use Rattle.model.specs.Card.{newTail, isBlank, isUp}
@@ -109,7 +110,7 @@ abbrev small : Shape
 small = record { cores = 1; blocks = 1; journal = 4 }
 
 abbrev downBy : (ℕ → ℕ) → Ledger
-downBy first = cutLedger (freshLedger small [] first)
+downBy first = cutLedger (freshLedger in-sequence small [] first)
 
 abbrev raised : (ℕ → ℕ) → ℕ → ℕ
 raised first c = min (first c + 1) (suc maxNumber)
@@ -134,7 +135,7 @@ recover-answer : (first : ℕ → ℕ) → refusal (refusalsOf RECOVER (downBy f
 unfolding tests
 recover-answer first = refl
 
-recover-enters : (first : ℕ → ℕ) → carriedOut RECOVER (downBy first) ≡ freshLedger small [] (raised first)
+recover-enters : (first : ℕ → ℕ) → carriedOut RECOVER (downBy first) ≡ freshLedger in-sequence small [] (raised first)
 unfolding tests
 recover-enters first = refl
 
@@ -142,11 +143,11 @@ recover-stores : (first : ℕ → ℕ) (d : Bytes) → diskAfter RECOVER (downBy
 unfolding tests
 recover-stores first d = refl
 
-cut-answer : (first : ℕ → ℕ) → refusal (refusalsOf CUT (freshLedger small [] first)) ≡ 0
+cut-answer : (first : ℕ → ℕ) → refusal (refusalsOf CUT (freshLedger in-sequence small [] first)) ≡ 0
 unfolding tests
 cut-answer first = refl
 
-cut-enters : (first : ℕ → ℕ) → carriedOut CUT (freshLedger small [] first) ≡ downBy first
+cut-enters : (first : ℕ → ℕ) → carriedOut CUT (freshLedger in-sequence small [] first) ≡ downBy first
 unfolding tests
 cut-enters first = refl
 
@@ -190,7 +191,7 @@ module _ (first : ℕ → ℕ) (top : first 0 ≡ suc maxNumber) (w : World) (o 
 
   module _ (k : o .world .disk ≡ diskAfter RECOVER (downBy first) (w .disk)) (up : isUp (o .world .card .phase) ≡ true) (phase : w .card .phase ≡ Down)
       (r : JournalsRead (downBy first) (w .disk)) where
-    by-left : (bs : List ℕ) → o ≡ recoverStepBy newestImage (tailBy unbounded) bs w → ⊥
+    by-left : (bs : List ℕ) → o ≡ recoverStepBy (newestImage in-sequence) (tailBy unbounded) bs w → ⊥
     by-left [] e =
         differ (w .disk)
         (ap (store (w .disk) 0) (sym (stored-instead r)) ∙ sym (ap (λ (o : Outcome World). o .world .disk) e) ∙ k ∙ recover-stores first (w .disk)
@@ -214,17 +215,17 @@ module _ (t : Bytes) where
       let r : readAt t at ≡ whole RECOVER = read-is card RECOVER 7 is-seven bare-seven t at (6 ∷ []) left in
       let o = card t at w in
       let phase : w .card .phase ≡ Down = x .kept .between .phase in
-      let after : Between (freshLedger small [] (raised first)) (o .world) =
+      let after : Between (freshLedger in-sequence small [] (raised first)) (o .world) =
       subst (λ (l : Ledger). Between l (o .world)) (recover-enters first) (between-first _ _ (x .rest) (x .ledger)) in
       let reached : o ≡ capMissing RECOVER w = done-of ((wrongLength w, 1) ∷ []) w (obeyed capMissing (readAt t at) w) (x .answer) ∙ ap (λ (r : Read). obeyed capMissing r w) r in
-      let last : o ≡ recoverStepBy newestImage (tailBy unbounded) (blocksLeft w) w =
+      let last : o ≡ recoverStepBy (newestImage in-sequence) (tailBy unbounded) (blocksLeft in-sequence w) w =
       reached ∙ done-of (recoverConditions w) w _ (sym (ap (λ (o : Outcome World). o .answer) reached) ∙ x .answer) in
       by-left first (omega arith) w o
       (x .kept .done RECOVER r (x .answer) .disk)
       (ap isUp (after .phase))
       phase
       (x .kept .between .journals (ap isBlank phase))
-      (blocksLeft w) last
+      (blocksLeft in-sequence w) last
 
   refuted-more : (k : ℕ) → Refuted k → Refuted (suc k)
   unfolding rounds
@@ -233,7 +234,7 @@ module _ (t : Bytes) where
       let x = done-then card RECOVER 7 is-seven bare-seven t at (6 ∷ ks) left n w (downBy first) ps runs kept (recover-answer first) in
       let left₁ = left-next card RECOVER 7 is-seven bare-seven t at (6 ∷ ks) left in
       let p = pointAt card t at n w in
-      let y = done-then card CUT 6 is-six bare-six t (at + 1) ks left₁ (p .stores) (p .outcome .world) (freshLedger small [] (raised first)) (x .rest) (x .runs)
+      let y = done-then card CUT 6 is-six bare-six t (at + 1) ks left₁ (p .stores) (p .outcome .world) (freshLedger in-sequence small [] (raised first)) (x .rest) (x .runs)
       (subst (λ (l : Ledger). LedgerKept l (p .outcome .world) (x .rest)) (recover-enters first) (x .ledger)) (cut-answer (raised first)) in
       let q = pointAt card t (at + 1) (p .stores) (p .outcome .world) in
       ih (at + 1 + 1) (q .stores) (raised first) (q .outcome .world) (y .rest) (omega arith)
@@ -251,7 +252,7 @@ small-fits : StartFits emptySmall
 unfolding tests
 small-fits = record { stated = (refl, refl); disk = refl; memory = refl }
 
-pub cap-missing : Demands (onTape capMissing) → ⊥
+pub cap-missing : Demands in-sequence (onTape capMissing) → ⊥
 unfolding startLedger
 cap-missing h =
     let t = rounds (suc maxNumber) in

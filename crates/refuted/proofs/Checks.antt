@@ -9,10 +9,11 @@ use lib.Dec.{eqb, ltb}
 use borrow.Author.Tests.{eqb-true, eqb-false, eq-eqb, not-true}
 use Rattle.model.specs.Lists.{all, below}
 use Rattle.model.specs.Bytes.{Bytes, zeroDisk, zeroMemory}
+use Rattle.model.specs.Valid.{Order}
 use Rattle.model.specs.Command.{Outcome, refusal, Decided, refused, carried-out, World}
 use Rattle.model.specs.Reading.{readNumber, Reader, blockReader}
 use Rattle.model.specs.Tape.{Command, FORMAT, WRITE, CLOSE, STORE, CHECKPOINT, CUT, RECOVER, Read, whole, unknown, early, readAt, TapeStep, Point, run}
-use Rattle.model.specs.Step.{stepAt, conditionsOn, DecidesEach}
+use Rattle.model.specs.Step.{stepAtBy, conditionsOn, DecidesEach}
 use Rattle.model.specs.Printing.{blankWorld}
 use Rattle.model.specs.declared.Shape.{Shape}
 use Rattle.model.proofs.Lists.{and-both, and-left, and-right, mem-all}
@@ -226,16 +227,16 @@ reads-hold read l w [] h = reads-follow read l w h
 reads-hold read l w (p ∷ ps) h = and-both (reads-follow read l w (h .0)) (reads-hold read _ _ ps (h .1))
 
 -- ---- demand 1 for one command
-unfoldable pub decidesTest : TapeStep World → Bytes → World → Bool
-decidesTest f t w = eqb ((f t 0 w) .answer) (refusal (conditionsOn (readAt t 0) w))
+unfoldable pub decidesTest : Order → TapeStep World → Bytes → World → Bool
+decidesTest o f t w = eqb ((f t 0 w) .answer) (refusal (conditionsOn o (readAt t 0) w))
 
 decided-answer : {ts : List (Bool × ℕ)} {w : World} {done o : Outcome World} → Decided ts w done o → done .answer ≡ 0 → o .answer ≡ refusal ts
 decided-answer (refused n p f e) z = ap (λ (o : Outcome World). o .answer) e ∙ sym (first-refusal f)
 decided-answer {ts} (carried-out c e) z = ap (λ (o : Outcome World). o .answer) e ∙ z ∙ sym (clear-refusal ts c)
 
-pub decides : (f : TapeStep World) → DecidesEach f → (t : Bytes) (w : World) → decidesTest f t w ≡ true
+pub decides : (o : Order) (f : TapeStep World) → DecidesEach o f → (t : Bytes) (w : World) → decidesTest o f t w ≡ true
 unfolding decidesTest
-decides f h t w = eq-eqb _ _ (decided-answer (h t 0 w) (read-answer (readAt t 0) w))
+decides o f h t w = eq-eqb _ _ (decided-answer (h t 0 w) (read-answer o (readAt t 0) w))
 
 -- ---- a run that fails a test
 abbrev blankStart : Start
@@ -250,16 +251,16 @@ blank-fits =
       memory = zero-bytes 16384;
     }
 
-module _ (f : TapeStep World) (t : Bytes) where
-  pub claim-holds : Claim f → IsBytes t → areaHolds (emptyService 0) (run f t blankWorld) ≡ true
+module _ (o : Order) (f : TapeStep World) (t : Bytes) where
+  pub claim-holds : Claim o f → IsBytes t → areaHolds (emptyService o 0) (run f t blankWorld) ≡ true
   unfolding blankWorld startWorld startService
   claim-holds k h = area-holds _ _ (k t h blankStart blank-fits)
 
-  pub demands-hold : Demands f → (c : Check) → IsBytes t → holds (c .test) blankLedger blankWorld (run f t blankWorld) ≡ true
+  pub demands-hold : Demands o f → (c : Check) → IsBytes t → holds (c .test) (blankLedger o) blankWorld (run f t blankWorld) ≡ true
   unfolding blankWorld startWorld startLedger
   demands-hold k c h = kept-holds c _ _ _ (k t h blankStart blank-fits)
 
-  pub readings-hold : (read : Reader) → Readings read f → IsBytes t → readsHold read blankLedger blankWorld (run f t blankWorld) ≡ true
+  pub readings-hold : (read : Reader) → Readings o read f → IsBytes t → readsHold read (blankLedger o) blankWorld (run f t blankWorld) ≡ true
   unfolding blankWorld startWorld startLedger
   readings-hold read k h = reads-hold read _ _ _ (k t h blankStart blank-fits)
 
@@ -273,25 +274,25 @@ Fails t passed = (areBytes t && not passed) ≡ true
 failed : (t : Bytes) (passed : Bool) → Fails t passed → (IsBytes t → passed ≡ true) → ⊥
 failed t passed h k = clash (k (and-left (areBytes t) _ h)) (not-true _ (and-right (areBytes t) _ h))
 
-pub refutes-claim : (f : TapeStep World) (t : Bytes) → Fails t (areaHolds (emptyService 0) (run f t blankWorld)) → Claim f → ⊥
-refutes-claim f t h k = failed t _ h (claim-holds f t k)
+pub refutes-claim : (o : Order) (f : TapeStep World) (t : Bytes) → Fails t (areaHolds (emptyService o 0) (run f t blankWorld)) → Claim o f → ⊥
+refutes-claim o f t h k = failed t _ h (claim-holds o f t k)
 
-pub refutes-demands : (f : TapeStep World) (c : Check) (t : Bytes) → Fails t (holds (c .test) blankLedger blankWorld (run f t blankWorld)) → Demands f → ⊥
-refutes-demands f c t h k = failed t _ h (demands-hold f t k c)
+pub refutes-demands : (o : Order) (f : TapeStep World) (c : Check) (t : Bytes) → Fails t (holds (c .test) (blankLedger o) blankWorld (run f t blankWorld)) → Demands o f → ⊥
+refutes-demands o f c t h k = failed t _ h (demands-hold o f t k c)
 
-pub refutes-readings : (read : Reader) (f : TapeStep World) (t : Bytes)
-    → Fails t (readsHold read blankLedger blankWorld (run f t blankWorld)) → Readings read f → ⊥
-refutes-readings read f t h k = failed t _ h (readings-hold f t read k)
+pub refutes-readings : (o : Order) (read : Reader) (f : TapeStep World) (t : Bytes)
+    → Fails t (readsHold read (blankLedger o) blankWorld (run f t blankWorld)) → Readings o read f → ⊥
+refutes-readings o read f t h k = failed t _ h (readings-hold o f t read k)
 
--- ---- the model's card passes every test on every tape
-pub passes-area : (t : Bytes) → IsBytes t → areaHolds (emptyService 0) (run stepAt t blankWorld) ≡ true
-passes-area t = claim-holds stepAt t claim
+-- ---- the model's card passes every test of its rule on every tape
+pub passes-area : (o : Order) (t : Bytes) → IsBytes t → areaHolds (emptyService o 0) (run (stepAtBy o) t blankWorld) ≡ true
+passes-area o t = claim-holds o (stepAtBy o) t (claim o)
 
-pub passes-check : (c : Check) (t : Bytes) → IsBytes t → holds (c .test) blankLedger blankWorld (run stepAt t blankWorld) ≡ true
-passes-check c t = demands-hold stepAt t demands c
+pub passes-check : (o : Order) (c : Check) (t : Bytes) → IsBytes t → holds (c .test) (blankLedger o) blankWorld (run (stepAtBy o) t blankWorld) ≡ true
+passes-check o c t = demands-hold o (stepAtBy o) t (demands o) c
 
-pub passes-readings : (t : Bytes) → IsBytes t → readsHold blockReader blankLedger blankWorld (run stepAt t blankWorld) ≡ true
-passes-readings t = readings-hold stepAt t blockReader readings
+pub passes-readings : (o : Order) (t : Bytes) → IsBytes t → readsHold blockReader (blankLedger o) blankWorld (run (stepAtBy o) t blankWorld) ≡ true
+passes-readings o t = readings-hold o (stepAtBy o) t blockReader (readings o)
 
-pub passes-decides : (t : Bytes) (w : World) → decidesTest stepAt t w ≡ true
-passes-decides = decides stepAt command-decided
+pub passes-decides : (o : Order) (t : Bytes) (w : World) → decidesTest o (stepAtBy o) t w ≡ true
+passes-decides o = decides o (stepAtBy o) (command-decided o)

@@ -16,11 +16,11 @@ use Rattle.model.specs.Lists.{any, below}
 use Rattle.model.specs.Bytes.{Bytes}
 use Rattle.model.specs.Card.{newName, isBlank, isDown, shapeOf}
 use Rattle.model.specs.Journal.{nameOf}
-use Rattle.model.specs.Valid.{isIn}
+use Rattle.model.specs.Valid.{Order, in-sequence, isIn}
 use Rattle.model.specs.Command.{World, Outcome, unless, noCore}
 use Rattle.model.specs.Checkpoint.{validNow, committedOf, oldest, share, sharesLower, checkpointConditions, checkpointed}
 use Rattle.model.specs.Tape.{Command, Read, whole, unknown, early, Step, Point, readAt, obeyed, runFrom, run, commandByte, commandAt, nextOffset}
-use Rattle.model.specs.Step.{conditionsOf, doneBy, step, stepAt}
+use Rattle.model.specs.Step.{conditionsOf, doneBy, step, stepBy, stepAt, stepAtBy}
 use Rattle.model.specs.Reading.{blockReader}
 use Rattle.model.specs.declared.Shape.{Shape}
 use Rattle.model.specs.declared.Name.{Name}
@@ -38,7 +38,8 @@ use Rattle.crash.proofs.Blocks.Invariant.{Inv, historyOf, homed, status, opened
 use Rattle.crash.proofs.Disk.ReadMaster.{shape-up}
 use Rattle.crash.proofs.Disk.ReadCheckpoint.{Lower, lowerClosed, closed-lower, oldest-is, oldest-name, none-committed, oldest-valid}
 use Rattle.crash.proofs.Commands.CardAnswers.{SameConditions, none-left, then, same-refusal}
-use Rattle.crash.proofs.Runs.RunClaims.{PointKeeps, point-keeps}
+use Rattle.crash.proofs.Runs.RunClaims.{PointKeeps, point-keeps, start-order}
+use Rattle.crash.proofs.Books.BookOrder.{heard-order}
 use Rattle.crash.proofs.Runs.UpSteps.{RelatedUp, retired-below}
 use Rattle.crash.proofs.Runs.Theorem.{blank-phase, Related, related-blank, related-up, related-down, related-simulation, claim, demands, readings, starts}
 use Rattle.crash.proofs.Disk.Relation.{first-waiting}
@@ -125,9 +126,9 @@ module _ {l : Ledger} {w : World} (u : RelatedUp l w) (c : ℕ) (in-range : c < 
   same-33 = sym (or-false (sharesCommitted w (oldest (committedOf w c))) _ none-closed)
 
 -- ---- one command in a world of a run
-module _ {l : Ledger} {w : World} (here : Related l w) (c : ℕ) where
+module _ {l : Ledger} {w : World} (rule : l .book .begun .order ≡ in-sequence) (here : Related l w) (c : ℕ) where
   last-same : (a : Related l w) → isBlank (w .card .phase) ≡ false → isDown (w .card .phase) ≡ false → noCore w c ≡ false
-      → eqb (length (committedOf w c)) 0 ≡ false → not (isIn (validNow w) (nameOf (oldest (committedOf w c)))) ≡ false
+      → eqb (length (committedOf w c)) 0 ≡ false → not (isIn (validNow in-sequence w) (nameOf (oldest (committedOf w c)))) ≡ false
       → sharesCommitted w (oldest (committedOf w c)) ≡ sharesLower w (oldest (committedOf w c))
   unfolding noCore
   last-same (related-blank b) up low core some valid = clash (ap isBlank (blank-phase b)) up
@@ -135,9 +136,10 @@ module _ {l : Ledger} {w : World} (here : Related l w) (c : ℕ) where
   last-same (related-up u) up low core some valid =
       let in-range : c < l .shape .cores = leb-false _ c (subst (λ (s : Shape). leb (s .cores) c ≡ false) (shape-up (u .up)) core) in
       let more : l .book .oldest c < l .book .uncommitted c = ltb-true _ _ (not-false _ (sym (none-committed (u .up) c in-range) ∙ some)) in
-      same-33 u c in-range more (sym (oldest-valid (u .up) c in-range more) ∙ not-false _ valid)
+      same-33 u c in-range more
+      (sym (oldest-valid (u .up) c in-range more) ∙ ap (λ (o : Order). isIn (validNow o w) (nameOf (oldest (committedOf w c)))) rule ∙ not-false _ valid)
 
-  same-conditions : SameConditions (committedConditions c w) (checkpointConditions c w)
+  same-conditions : SameConditions (committedConditions c w) (checkpointConditions in-sequence c w)
   unfolding checkpointConditions
   same-conditions =
       then refl (λ size.
@@ -148,55 +150,55 @@ module _ {l : Ledger} {w : World} (here : Related l w) (c : ℕ) where
       then refl (λ valid.
       then (last-same here up low core some valid) (λ _. none-left)))))))
 
-pub same-step : (l : Ledger) (w : World) → Related l w → (k : Command) → onlyCommitted33 k w ≡ step k w
-unfolding step conditionsOf doneBy
-same-step l w here =
-    other-checkpoint w (λ (c : ℕ) (w : World). unless (committedConditions c w) w (checkpointed c w))
-    (λ c. unless-same (committedConditions c w) (checkpointConditions c w) w (checkpointed c w) (same-refusal (same-conditions here c)))
+pub same-step : (l : Ledger) (w : World) → l .book .begun .order ≡ in-sequence → Related l w → (k : Command) → onlyCommitted33 k w ≡ step k w
+unfolding stepBy conditionsOf doneBy
+same-step l w rule here =
+    other-checkpoint w step (λ k. refl) (λ (c : ℕ) (w : World). unless (committedConditions c w) w (checkpointed c w))
+    (λ c. unless-same (committedConditions c w) (checkpointConditions in-sequence c w) w (checkpointed c w) (same-refusal (same-conditions rule here c)))
 
 -- ---- along a tape
 -- a card that does as the model's in every world of a run
-module _ (f : Step World) (same : (l : Ledger) (w : World) → Related l w → (k : Command) → f k w ≡ step k w) (t : Bytes) (bytes : IsBytes t) where
-  obeyed-same : (l : Ledger) (w : World) → Related l w → (r : Read) → obeyed step r w ≡ obeyed f r w
+module _ (f : Step World) (same : (l : Ledger) (w : World) → l .book .begun .order ≡ in-sequence → Related l w → (k : Command) → f k w ≡ step k w) (t : Bytes) (bytes : IsBytes t) where
+  obeyed-same : (l : Ledger) (w : World) → l .book .begun .order ≡ in-sequence → Related l w → (r : Read) → obeyed step r w ≡ obeyed f r w
   unfolding obeyed
-  obeyed-same l w here (whole k) = sym (same l w here k)
-  obeyed-same l w here unknown = refl
-  obeyed-same l w here early = refl
+  obeyed-same l w rule here (whole k) = sym (same l w rule here k)
+  obeyed-same l w rule here unknown = refl
+  obeyed-same l w rule here early = refl
 
-  command-same : (at : ℕ) (l : Ledger) (w : World) → Related l w → stepAt t at w ≡ onTape f t at w
-  unfolding stepAt commandAt
-  command-same at l w here = ap (unless _ w) (obeyed-same l w here (readAt t at))
+  command-same : (at : ℕ) (l : Ledger) (w : World) → l .book .begun .order ≡ in-sequence → Related l w → stepAt t at w ≡ onTape f t at w
+  unfolding stepAtBy commandAt
+  command-same at l w rule here = ap (unless _ w) (obeyed-same l w rule here (readAt t at))
 
-  same-from : (most at n : ℕ) (l : Ledger) (w : World) → Related l w → runFrom most stepAt t at n w ≡ runFrom most (onTape f) t at n w
+  same-from : (most at n : ℕ) (l : Ledger) (w : World) → l .book .begun .order ≡ in-sequence → Related l w → runFrom most stepAt t at n w ≡ runFrom most (onTape f) t at n w
   unfolding runFrom
-  same-from zero at n l w here = refl
-  same-from (suc most) at n l w here =
+  same-from zero at n l w rule here = refl
+  same-from (suc most) at n l w rule here =
       cases (ltb at (length t))
       (λ h.
       let o = stepAt t at w in
-      let g : PointKeeps Related l w (readAt t at) o = point-keeps Related related-simulation t bytes at l w here in
+      let g : PointKeeps Related l w (readAt t at) o = point-keeps Related related-simulation in-sequence t bytes at l w rule here in
       let rest : runFrom most stepAt t (nextOffset t at) (n + o .stores) (o .world) ≡ runFrom most (onTape f) t (nextOffset t at) (n + o .stores) (o .world) =
-      same-from most (nextOffset t at) (n + o .stores) _ (o .world) (g .next) in
+      same-from most (nextOffset t at) (n + o .stores) _ (o .world) (heard-order (readAt t at) (o .answer) l ∙ rule) (g .next) in
       rw (h, runFrom)
       (ap (λ (ps : List (Point World)). pointAt stepAt t at n w ∷ ps) rest
       ∙ ap (λ (o : Outcome World). record { offset = at; byte = commandByte t at; read = readAt t at; before = w; outcome = o; stores = n + o .stores } ∷ runFrom most (onTape f) t (nextOffset t at) (n + o .stores) (o .world))
-      (command-same at l w here)))
+      (command-same at l w rule here)))
       (λ h. rw (h, runFrom) refl)
 
-  run-same : (l : Ledger) (w : World) → Related l w → run stepAt t w ≡ run (onTape f) t w
+  run-same : (l : Ledger) (w : World) → l .book .begun .order ≡ in-sequence → Related l w → run stepAt t w ≡ run (onTape f) t w
   unfolding run
-  run-same l w here = same-from (length t) 0 0 l w here
+  run-same l w rule here = same-from (length t) 0 0 l w rule here
 
 -- The runs are the same, from every start.
 pub same-runs : (t : Bytes) → IsBytes t → (s : Start) → StartFits s → run stepAt t (startWorld s) ≡ run (onTape onlyCommitted33) t (startWorld s)
-same-runs t b s h = run-same onlyCommitted33 same-step t b (startLedger s) (startWorld s) (starts s h)
+same-runs t b s h = run-same onlyCommitted33 same-step t b (startLedger in-sequence s) (startWorld s) (start-order in-sequence s) (starts in-sequence s h)
 
 -- so no demand tells it from the model's card
-pub claim-33 : Claim (onTape onlyCommitted33)
-claim-33 t b s h = subst (AreaKept (startService s)) (same-runs t b s h) (claim t b s h)
+pub claim-33 : Claim in-sequence (onTape onlyCommitted33)
+claim-33 t b s h = subst (AreaKept (startService in-sequence s)) (same-runs t b s h) (claim in-sequence t b s h)
 
-pub demands-33 : Demands (onTape onlyCommitted33)
-demands-33 t b s h = subst (LedgerKept (startLedger s) (startWorld s)) (same-runs t b s h) (demands t b s h)
+pub demands-33 : Demands in-sequence (onTape onlyCommitted33)
+demands-33 t b s h = subst (LedgerKept (startLedger in-sequence s) (startWorld s)) (same-runs t b s h) (demands in-sequence t b s h)
 
-pub readings-33 : Readings blockReader (onTape onlyCommitted33)
-readings-33 t b s h = subst (ReadingsKept blockReader (startLedger s) (startWorld s)) (same-runs t b s h) (readings t b s h)
+pub readings-33 : Readings in-sequence blockReader (onTape onlyCommitted33)
+readings-33 t b s h = subst (ReadingsKept blockReader (startLedger in-sequence s) (startWorld s)) (same-runs t b s h) (readings in-sequence t b s h)

@@ -5,5 +5,6 @@ pub mod Tapes
 pub mod PaperCards
 pub mod Refusals
 pub mod OtherCards
+pub mod OrderCards
 pub mod CapMissing
 pub mod Committed33

@@ -7,13 +7,15 @@ use Rattle.model.specs.Shape.{journalBlock}
 use Rattle.model.specs.Card.{shapeOf}
 use Rattle.model.specs.Command.{World, Outcome, unless}
 use Rattle.model.specs.Commit.{nextStored, nextPosition, stored}
-use Rattle.model.specs.Recovery.{validOn, recoverConditions, blocksLeft, newestImage, emptiedTail, broughtUp, recoverStep, recovered}
+use Rattle.model.specs.Valid.{Order, in-sequence, validSet}
+use Rattle.model.specs.Checkpoint.{validNow, checkpointConditions}
+use Rattle.model.specs.Recovery.{validOn, validOnBy, recoverConditions, blocksLeft, newestImage, emptiedTail, broughtUp, recoverStep, recovered}
 use Rattle.model.specs.Tape.{Command, FORMAT, WRITE, CLOSE, STORE, CHECKPOINT, CUT, RECOVER, Step, readAt}
-use Rattle.model.specs.Step.{conditionsOf, doneBy, step, stepAt, conditionsOn, doneOn}
+use Rattle.model.specs.Step.{conditionsOf, doneBy, step, stepBy, stepAt, stepAtBy, conditionsOn, doneOn}
 use Rattle.model.specs.Limits.{maxNumber}
 use Rattle.model.specs.declared.Card.{Card}
 use Rattle.model.proofs.Command.{command-unless}
-use Rattle.refuted.specs.Parts.{onTape, otherStore, otherCheckpoint, otherRecover, storeBy, recoverStepBy, recoverBy, recoverSet, recoverTail}
+use Rattle.refuted.specs.Parts.{onTape, otherStore, otherCheckpoint, otherRecover, storeBy, recoverStepBy, recoverBy, recoverSet, recoverTail, byOrders, validBy}
 
 -- a card that does as the model's in a world, and in every world
 abbrev pub SameIn : World → Step World → Type 0
@@ -23,9 +25,9 @@ abbrev pub IsModel : Step World → Type 0
 IsModel f = (w : World) → SameIn w f
 
 -- as a tape meets it, it is the model's too
-pub tape-model : onTape step ≡ stepAt
-unfolding stepAt
-tape-model = refl
+pub tape-model : (o : Order) → onTape (stepBy o) ≡ stepAtBy o
+unfolding stepAtBy
+tape-model o = refl
 
 -- ---- another command that does as the model's
 module _ (w : World) where
@@ -38,14 +40,14 @@ module _ (w : World) where
   other-store g h CUT = refl
   other-store g h RECOVER = refl
 
-  pub other-checkpoint : (g : ℕ → World → Outcome World) → ((c : ℕ) → g c w ≡ step (CHECKPOINT c) w) → SameIn w (otherCheckpoint step g)
-  other-checkpoint g h (FORMAT c b j) = refl
-  other-checkpoint g h (WRITE c b o v) = refl
-  other-checkpoint g h (CLOSE c) = refl
-  other-checkpoint g h (STORE c) = refl
-  other-checkpoint g h (CHECKPOINT c) = h c
-  other-checkpoint g h CUT = refl
-  other-checkpoint g h RECOVER = refl
+  pub other-checkpoint : (f : Step World) → SameIn w f → (g : ℕ → World → Outcome World) → ((c : ℕ) → g c w ≡ step (CHECKPOINT c) w) → SameIn w (otherCheckpoint f g)
+  other-checkpoint f same g h (FORMAT c b j) = same (FORMAT c b j)
+  other-checkpoint f same g h (WRITE c b o v) = same (WRITE c b o v)
+  other-checkpoint f same g h (CLOSE c) = same (CLOSE c)
+  other-checkpoint f same g h (STORE c) = same (STORE c)
+  other-checkpoint f same g h (CHECKPOINT c) = h c
+  other-checkpoint f same g h CUT = same CUT
+  other-checkpoint f same g h RECOVER = same RECOVER
 
   other-recover : (g : World → Outcome World) → g w ≡ step RECOVER w → SameIn w (otherRecover step g)
   other-recover g h (FORMAT c b j) = refl
@@ -58,26 +60,26 @@ module _ (w : World) where
 
 -- ---- the parts
 -- `ignoring` changes one of these conditions
-pub by-conditions : IsModel (λ (k : Command) (w : World). unless (conditionsOf k w) w (doneBy k w))
-unfolding step
+pub by-conditions : IsModel (λ (k : Command) (w : World). unless (conditionsOf in-sequence k w) w (doneBy in-sequence k w))
+unfolding stepBy
 by-conditions w k = refl
 
 -- .. and `ignoringAt` one of these
-pub by-tape-conditions : (t : Bytes) (at : ℕ) (w : World) → unless (conditionsOn (readAt t at) w) w (doneOn (readAt t at) w) ≡ stepAt t at w
-by-tape-conditions t at w = sym (command-unless t at w)
+pub by-tape-conditions : (t : Bytes) (at : ℕ) (w : World) → unless (conditionsOn in-sequence (readAt t at) w) w (doneOn in-sequence (readAt t at) w) ≡ stepAt t at w
+by-tape-conditions t at w = sym (command-unless in-sequence t at w)
 
 pub store-by : IsModel (storeBy (λ (x : Card) (c : ℕ). journalBlock (shapeOf x) c (nextPosition x c)) nextStored)
-unfolding step conditionsOf doneBy stored
+unfolding stepBy conditionsOf doneBy stored
 store-by w = other-store w _ (λ c. refl)
 
-same-step : (bs : List ℕ) (w : World) → recoverStepBy newestImage emptiedTail bs w ≡ recoverStep bs w
+same-step : (bs : List ℕ) (w : World) → recoverStepBy (newestImage in-sequence) emptiedTail bs w ≡ recoverStep in-sequence bs w
 unfolding recoverStep broughtUp
 same-step [] w = refl
 same-step (b ∷ bs) w = refl
 
-pub recover-by : IsModel (recoverBy blocksLeft newestImage emptiedTail)
-unfolding step conditionsOf doneBy recovered
-recover-by w = other-recover w _ (ap (unless (recoverConditions w) w) (same-step (blocksLeft w) w))
+pub recover-by : IsModel (recoverBy (blocksLeft in-sequence) (newestImage in-sequence) emptiedTail)
+unfolding stepBy conditionsOf doneBy recovered
+recover-by w = other-recover w _ (ap (unless (recoverConditions w) w) (same-step (blocksLeft in-sequence w) w))
 
 pub recover-set : IsModel (recoverSet validOn)
 unfolding blocksLeft newestImage
@@ -86,3 +88,18 @@ recover-set = recover-by
 pub recover-tail : IsModel (recoverTail (λ (t n : ℕ). min (t + (n + 1)) (suc maxNumber)))
 unfolding emptiedTail
 recover-tail = recover-by
+
+-- one rule in both is the card of the rule
+pub by-orders : (o : Order) (k : Command) (w : World) → byOrders o o k w ≡ stepBy o k w
+by-orders o (FORMAT c b j) w = refl
+by-orders o (WRITE c b i v) w = refl
+by-orders o (CLOSE c) w = refl
+by-orders o (STORE c) w = refl
+by-orders o (CHECKPOINT c) w = refl
+by-orders o CUT w = refl
+by-orders o RECOVER w = refl
+
+-- the valid set of CHECKPOINT and RECOVER
+pub valid-by : IsModel (validBy (validSet in-sequence))
+unfolding stepBy conditionsOf doneBy checkpointConditions validNow validOnBy
+valid-by w = other-checkpoint w _ (recover-set w) _ (λ c. refl)

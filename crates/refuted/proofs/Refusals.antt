@@ -5,6 +5,7 @@ use mathlib.Core.Path.{_≡_, refl}
 use mathlib.Core.Bool.{Bool, true, not, _&&_}
 use mathlib.Core.List.{List, [], _∷_, _++_, flatMap, List·Memᴰ}
 use borrow.Author.Tests.{not-true}
+use Rattle.model.specs.Valid.{in-sequence}
 use Rattle.model.specs.Lists.{below, all}
 use Rattle.model.specs.Bytes.{Bytes, zeroDisk, zeroMemory}
 use Rattle.model.specs.Shape.{newShape}
@@ -23,7 +24,7 @@ use Rattle.refuted.proofs.Checks.{answerTest, answerCheck, holds, decid
 use Rattle.refuted.proofs.Tapes.{tests, format, write, close, stores, checkpoints, cut, recovers, thirteenth}
 
 unfoldable failsAnswers : Step World → Bytes → Bool
-failsAnswers f t = areBytes t && not (holds answerTest blankLedger blankWorld (run (onTape f) t blankWorld))
+failsAnswers f t = areBytes t && not (holds answerTest (blankLedger in-sequence) blankWorld (run (onTape f) t blankWorld))
 
 -- ---- under its condition: of each number a tape whose last command meets it
 abbrev pub conditionTapes : List (ℕ × Bytes)
@@ -51,9 +52,9 @@ conditions-fail : all (λ (e : ℕ × Bytes). failsAnswers (ignoring (e .0)) (e 
 unfolding tests failsAnswers
 conditions-fail = refl
 
-pub each-condition : (e : ℕ × Bytes) → List·Memᴰ e conditionTapes → Demands (onTape (ignoring (e .0))) → ⊥
+pub each-condition : (e : ℕ × Bytes) → List·Memᴰ e conditionTapes → Demands in-sequence (onTape (ignoring (e .0))) → ⊥
 unfolding failsAnswers
-each-condition e m = refutes-demands (onTape (ignoring (e .0))) answerCheck (e .1) (all-mem _ conditionTapes conditions-fail m)
+each-condition e m = refutes-demands in-sequence (onTape (ignoring (e .0))) answerCheck (e .1) (all-mem _ conditionTapes conditions-fail m)
 
 -- 1 and 8 need other slices than runs start from, 2 and 3 are the tape's, and 27 needs numbers as `CapMissing` does: of each one
 -- command that meets it, with its world
@@ -67,15 +68,15 @@ oneCommand =
     ∷ []
 
 unfoldable failsOne : TapeStep World → Bytes → World → Bool
-failsOne f t w = not (decidesTest f t w)
+failsOne f t w = not (decidesTest in-sequence f t w)
 
 commands-fail : all (λ (e : ℕ × Bytes × World). failsOne (ignoringAt (e .0)) (e .1) (e .2)) oneCommand ≡ true
 unfolding tests failsOne
 commands-fail = refl
 
-pub each-decided : (e : ℕ × Bytes × World) → List·Memᴰ e oneCommand → DecidesEach (ignoringAt (e .0)) → ⊥
+pub each-decided : (e : ℕ × Bytes × World) → List·Memᴰ e oneCommand → DecidesEach in-sequence (ignoringAt (e .0)) → ⊥
 unfolding failsOne
-each-decided e m h = clash (decides (ignoringAt (e .0)) h (e .1) (e .2)) (not-true _ (all-mem _ oneCommand commands-fail m))
+each-decided e m h = clash (decides in-sequence (ignoringAt (e .0)) h (e .1) (e .2)) (not-true _ (all-mem _ oneCommand commands-fail m))
 
 -- ---- under no other: 'that shuts out a card that refuses every WRITE'. Each command with a number that it may answer.
 abbrev pub alwaysRefused : List (ℕ × ℕ)
@@ -89,6 +90,6 @@ always-fail : all (λ (e : ℕ × ℕ). failsAnswers (refusing (e .0) (e .1)) al
 unfolding tests failsAnswers
 always-fail = refl
 
-pub each-command : (e : ℕ × ℕ) → List·Memᴰ e alwaysRefused → Demands (onTape (refusing (e .0) (e .1))) → ⊥
+pub each-command : (e : ℕ × ℕ) → List·Memᴰ e alwaysRefused → Demands in-sequence (onTape (refusing (e .0) (e .1))) → ⊥
 unfolding failsAnswers
-each-command e m = refutes-demands (onTape (refusing (e .0) (e .1))) answerCheck allDone (all-mem _ alwaysRefused always-fail m)
+each-command e m = refutes-demands in-sequence (onTape (refusing (e .0) (e .1))) answerCheck allDone (all-mem _ alwaysRefused always-fail m)

@@ -45,6 +45,13 @@ recovers n = replicate n 7
 abbrev pub lostWriter : Bytes
 lostWriter = format 3 1 4 ++ write 0 0 0 1 ++ write 1 0 4 2 ++ close 0 ++ stores 0 3 ++ write 2 0 8 3 ++ close 2 ++ stores 2 3 ++ cut ++ recovers 2
 
+-- (1,1) names (2,1), which is lost; (1,2) and (0,1) name each other, and all three are committed. In sequence (0,1) depends on (1,2), this on
+-- (1,1), and so on (2,1).
+abbrev pub linked : Bytes
+linked =
+    format 3 3 6 ++ write 1 2 0 1 ++ write 2 2 4 2 ++ close 1 ++ stores 1 3 ++ write 1 1 0 3 ++ write 0 0 0 4 ++ write 0 1 4 5 ++
+    close 0 ++ stores 0 3 ++ close 1 ++ stores 1 3 ++ checkpoints 0 1 ++ cut ++ recovers 2
+
 -- one transaction is committed and kept
 abbrev pub oneKept : Bytes
 oneKept = format 1 1 4 ++ write 0 0 0 1 ++ close 0 ++ stores 0 3 ++ cut ++ recovers 2

@@ -2,24 +2,26 @@
 -- (`proofs/Parts.antt`).
 use Prim.Native.Nat.{ℕ, _+_}
 use mathlib.Core.List.{List, [], _∷_, map}
-use mathlib.Core.Bool.{Bool, false, cond}
+use mathlib.Core.Bool.{Bool, false, cond, not}
 use lib.ListN.{length}
 use lib.Dec.{eqb, ltb, leb}
 use Rattle.model.specs.Lists.{below, select}
 use Rattle.model.specs.Bytes.{Bytes}
 use Rattle.model.specs.Shape.{homeBlock}
-use Rattle.model.specs.Card.{newTail, freshCard, coreOf, withCore, withRunning}
+use Rattle.model.specs.Card.{newTail, freshCard, shapeOf, tailOf, coreOf, withCore, withRunning}
 use Rattle.model.specs.Layout.{masterBlock}
-use Rattle.model.specs.Journal.{journal}
-use Rattle.model.specs.Valid.{blocksHeld, newest}
+use Rattle.model.specs.Journal.{journal, nameOf}
+use Rattle.model.specs.Valid.{Order, in-sequence, isIn, blocksHeld, newest}
 use Rattle.model.specs.Command.{World, Outcome, wrongLength, storing, refusedWith, unless}
 use Rattle.model.specs.Write.{writeConditions, written}
 use Rattle.model.specs.Commit.{coreStored, storeConditions}
-use Rattle.model.specs.Recovery.{shapeOn, tailOn, recoverConditions, blocksLeft, imageFound, newestImage, recoveredTo, emptiedTail}
+use Rattle.model.specs.Checkpoint.{committedNow, committedOf, oldest, checkpointConditions, checkpointed}
+use Rattle.model.specs.Recovery.{shapeOn, tailOn, committedOn, recoverConditions, blocksLeft, imageFound, newestImage, recoveredTo, emptiedTail}
 use Rattle.model.specs.Tape.{Command, FORMAT, WRITE, CLOSE, STORE, CHECKPOINT, CUT, RECOVER, Step, TapeStep, readAt, commandAt}
-use Rattle.model.specs.Step.{conditionsOf, doneBy, step, conditionsOn, doneOn}
+use Rattle.model.specs.Step.{conditionsOf, doneBy, step, stepBy, conditionsOn, doneOn}
 use Rattle.model.specs.declared.Phase.the-variants.{Up}
 use Rattle.model.specs.declared.Found.the-variants.{Miss}
+use Rattle.model.specs.declared.Shape.{Shape}
 use Rattle.model.specs.declared.Tail.{Tail}
 use Rattle.model.specs.declared.Transaction.{Transaction}
 use Rattle.model.specs.declared.Core.{Core}
@@ -110,11 +112,11 @@ writeAsking n test = otherWrite step (λ c b o v w. unless (withCondition n (tes
 
 -- the condition of number n is not asked
 abbrev pub ignoring : ℕ → Step World
-ignoring n k w = unless (withCondition n false (conditionsOf k w)) w (doneBy k w)
+ignoring n k w = unless (withCondition n false (conditionsOf in-sequence k w)) w (doneBy in-sequence k w)
 
 -- .. with 1, 2 and 3 among them, which are the tape's
 abbrev pub ignoringAt : ℕ → TapeStep World
-ignoringAt n t at w = unless (withCondition n false (conditionsOn (readAt t at) w)) w (doneOn (readAt t at) w)
+ignoringAt n t at w = unless (withCondition n false (conditionsOn in-sequence (readAt t at) w)) w (doneOn in-sequence (readAt t at) w)
 
 -- ---- outcomes and cards changed
 -- where a command is carried out, the card that it leaves is changed once more
@@ -174,4 +176,16 @@ tailBy next d c =
     cond (ltb c (s .cores)) (newTail (next (t .number) (length (journal s d c t (s .journal)))) 0) (newTail 0 0)
 
 abbrev pub recoverTail : (ℕ → ℕ → ℕ) → Step World
-recoverTail next = recoverBy blocksLeft newestImage (tailBy next)
+recoverTail next = recoverBy (blocksLeft in-sequence) (newestImage in-sequence) (tailBy next)
+
+-- ---- paper 02, (c): one rule in running, one in recovery
+abbrev pub byOrders : Order → Order → Step World
+byOrders running recovery = otherRecover (stepBy running) (stepBy recovery RECOVER)
+
+-- CHECKPOINT and RECOVER by another valid set, of shape, disk, tails and the transactions read
+abbrev pub validBy : (Shape → Bytes → (ℕ → Tail) → List Committed → List Committed) → Step World
+validBy set =
+    otherCheckpoint (recoverSet (λ (d : Bytes). set (shapeOn d) d (tailOn d) (committedOn d)))
+    (λ c w.
+    let valid = set (shapeOf (w .card)) (w .disk) (tailOf (w .card)) (committedNow w) in
+    unless (withCondition 32 (not (isIn valid (nameOf (oldest (committedOf w c))))) (checkpointConditions in-sequence c w)) w (checkpointed c w))

@@ -12,7 +12,7 @@ use Rattle.model.specs.Card.{taken, listed, lists, stamped, withBlock, newHolde
 use Rattle.model.specs.Layout.{masterBlock, newTag, descriptorBlock, commitBlock}
 use Rattle.model.specs.Journal.{journalAt, nameOf, blocksOf}
 use Rattle.model.specs.Shrink.{strike}
-use Rattle.model.specs.Valid.{isIn, namesMet, blocksHeld, newest}
+use Rattle.model.specs.Valid.{in-sequence, isIn, namesMet, blocksHeld, newest}
 use Rattle.model.specs.Command.{World, Outcome, storing, unless, notUp, noCore}
 use Rattle.model.specs.Write.{writer, writerName, ruleFor, takesBlock, namesHolder, isNamedBack, writerAfter, passesNames, journalFull}
 use Rattle.model.specs.Commit.{copyBlock, closedNumber, nextStored, nextPosition}
@@ -56,7 +56,7 @@ abbrev unstamped : Committed → Committed
 unstamped e = record { core = e .core; number = e .number; position = e .position; count = e .count; stamp = 0; named = e .named }
 
 abbrev pub newestByOrder : Step World
-newestByOrder = recoverBy blocksLeft (λ (d : Bytes) (b : ℕ). imageFound d b (newest (shapeOn d) d b Miss (map unstamped (validOn d)))) emptiedTail
+newestByOrder = recoverBy (blocksLeft in-sequence) (λ (d : Bytes) (b : ℕ). imageFound d b (newest (shapeOn d) d b Miss (map unstamped (validOn d)))) emptiedTail
 
 -- 'Tails emptied core by core': one master store each, in the places after the last home block's
 abbrev byCore : List ℕ → World → Outcome World
@@ -66,10 +66,10 @@ byCore [] w =
     let i = w .card .recovered - 64 in
     let tails : ℕ → Tail = λ c. cond (eqb c i) (emptiedTail d c) (tailOn d c) in
     storing w (cond (eqb (i + 1) (s .cores)) (freshCard Up s (map tails (below 8))) (recoveredTo (w .card) (65 + i))) 0 (masterBlock s tails)
-byCore (b ∷ bs) w = recoverStep (b ∷ bs) w
+byCore (b ∷ bs) w = recoverStep in-sequence (b ∷ bs) w
 
 abbrev pub tailsCoreByCore : Step World
-tailsCoreByCore = otherRecover step (λ w. unless (recoverConditions w) w (byCore (blocksLeft w) w))
+tailsCoreByCore = otherRecover step (λ w. unless (recoverConditions w) w (byCore (blocksLeft in-sequence w) w))
 
 -- 'A number used again': recovery leaves the tail numbers, or begins them at 1 again
 abbrev pub tailUnchanged : Step World
@@ -81,7 +81,7 @@ numbersFromOne = recoverTail (λ (t n : ℕ). 1)
 -- ---- 'Cards that look busy'
 -- 'one whose RECOVER reports up before its home stores'
 abbrev pub upBeforeHome : Step World
-upBeforeHome = recoverBy (λ (w : World). []) newestImage emptiedTail
+upBeforeHome = recoverBy (λ (w : World). []) (newestImage in-sequence) emptiedTail
 
 -- 'one that stores the first record and afterwards only counts', of each core
 abbrev pub firstRecordOnly : Step World
@@ -113,7 +113,7 @@ nothingChanges RECOVER w = counting 1 w
 
 -- 'one that recovers a blank area always'
 abbrev pub blankAlways : Step World
-blankAlways = recoverBy blocksLeft (λ (d : Bytes) (b : ℕ). replicate 128 0) emptiedTail
+blankAlways = recoverBy (blocksLeft in-sequence) (λ (d : Bytes) (b : ℕ). replicate 128 0) emptiedTail
 
 -- 'one whose STORE always says 30 or CHECKPOINT always 32'
 abbrev pub storeAlways30 : Step World
@@ -144,7 +144,7 @@ stampsGoOn =
 -- ---- recovery
 -- 'The valid set is the largest set ..': one whose names are all committed counts, whatever these name
 abbrev pub validityOneDeep : Step World
-validityOneDeep = recoverSet (λ (d : Bytes). strike (namesMet (shapeOn d) d (tailOn d)) (committedOn d))
+validityOneDeep = recoverSet (λ (d : Bytes). strike (namesMet in-sequence (shapeOn d) d (tailOn d)) (committedOn d))
 
 -- all committed ones count
 abbrev pub allCommittedValid : Step World
@@ -159,7 +159,7 @@ highestFirst =
     recoverBy (λ (w : World).
     let n = w .card .recovered in
     reversed (select (λ (b : ℕ). eqb n 0 || ltb (suc b) n) (blocksHeld (shapeOn (w .disk)) (w .disk) (validOn (w .disk)))))
-    newestImage emptiedTail
+    (newestImage in-sequence) emptiedTail
 
 -- 'wherever the flag is 1, the image read has the mark as its first four bytes': the flag is not looked at
 abbrev bareImage : Bytes → ℕ → Found → Bytes
@@ -167,7 +167,7 @@ bareImage d b Miss = blockAt d (homeBlock b)
 bareImage d b (Whole e) = let s = shapeOn d in journalAt s d (e .core) (e .position + (placeOf b (blocksOf s d e) + 1))
 
 abbrev pub flagIgnored : Step World
-flagIgnored = recoverBy blocksLeft (λ (d : Bytes) (b : ℕ). bareImage d b (newest (shapeOn d) d b Miss (validOn d))) emptiedTail
+flagIgnored = recoverBy (blocksLeft in-sequence) (λ (d : Bytes) (b : ℕ). bareImage d b (newest (shapeOn d) d b Miss (validOn d))) emptiedTail
 
 -- CUT: 'a recovery under way starts over': it goes on where it was
 abbrev pub cutKeepsPlace : Step World
@@ -301,7 +301,7 @@ noWrap =
 -- 'stores its images home in the order taken, then the master': the master at once
 abbrev pub retiresAtOnce : Step World
 retiresAtOnce =
-    otherCheckpoint step (λ c w. unless (checkpointConditions c w) w (storedMaster c (oldest (committedOf w c)) w))
+    otherCheckpoint step (λ c w. unless (checkpointConditions in-sequence c w) w (storedMaster c (oldest (committedOf w c)) w))
 
 -- 'A block's home image comes from the journal, never from later memory.'
 abbrev pub homeFromMemory : Step World
@@ -370,7 +370,7 @@ committedConditions c w =
     notUp w
     ((noCore w c, 5)
     ∷ (eqb (length (committedOf w c)) 0, 31)
-    ∷ (not (isIn (validNow w) (nameOf e)), 32)
+    ∷ (not (isIn (validNow in-sequence w) (nameOf e)), 32)
     ∷ (sharesCommitted w e, 33)
     ∷ [])
 

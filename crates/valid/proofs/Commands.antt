@@ -2,7 +2,7 @@
 -- set, and whether one of lower stamp shares a block, asked of the slots, was asked of all.
 use Rattle.model.proofs.Base.{ℕ, _<_, arith, _≡_, ap, _∙_, List, [], getD, lt-ltb, any, Bytes}
 use Rattle.model.specs.Journal.{journal, journals}
-use Rattle.model.specs.Valid.{validSet}
+use Rattle.model.specs.Valid.{Order, validSet}
 use Rattle.model.specs.declared.Shape.{Shape}
 use Rattle.model.specs.declared.Tail.{Tail}
 use Rattle.model.specs.declared.Committed.{Committed}
@@ -32,9 +32,9 @@ module _ {s : Shape} (l : InRange s) (d : Bytes) (ts : List Tail) (most slots : 
       rw (lt-ltb c 8 e) (number-at ts c e ∙ ap (λ (t : Tail). t .number) (tails c h))
 
   -- what `valid_slots` leaves is the valid set
-  pub slots-valid : (set : List ℕ) → entries s d (numbersOf ts) set ≡ validSet s d (numbered (numbersOf ts)) (entries s d (numbersOf ts) slots)
-      → entries s d (numbersOf ts) set ≡ validSet s d tailAt (journals s d tailAt mostAt)
-  slots-valid set v = v ∙ ap (validSet s d (numbered (numbersOf ts))) slots-read ∙ valid-tails s d (numbered (numbersOf ts)) tailAt same-number tailAt mostAt
+  pub slots-valid : (o : Order) (set : List ℕ) → entries s d (numbersOf ts) set ≡ validSet o s d (numbered (numbersOf ts)) (entries s d (numbersOf ts) slots)
+      → entries s d (numbersOf ts) set ≡ validSet o s d tailAt (journals s d tailAt mostAt)
+  slots-valid o set v = v ∙ ap (validSet o s d (numbered (numbersOf ts))) slots-read ∙ valid-tails o s d (numbered (numbersOf ts)) tailAt same-number tailAt mostAt
 
   -- what `shares_lower` answers is asked of the journals: 33, its committed part
   pub slots-share : (e : Committed) → any (sharesBelow s d e) (entries s d [] slots) ≡ any (sharesBelow s d e) (journals s d tailAt mostAt)

@@ -5,9 +5,9 @@ use Rattle.model.proofs.Base.{[], _∷_, map, map-append, List·Memᴰ, List·M
 use Rattle.model.proofs.Base.{ltb-true, below, any, all, select, Bytes}
 use Rattle.model.specs.Bytes.{blockAt}
 use Rattle.model.specs.Layout.{hasHead, stampIn, nameCount, namesIn, isListable, isCommit, unescaped}
-use Rattle.model.specs.Journal.{journalAt, journal, journals, namesOf, blocksOf, tagsOf, took, imageOf}
+use Rattle.model.specs.Journal.{nameOf, journalAt, journal, journals, namesOf, blocksOf, tagsOf, took, imageOf}
 use Rattle.model.specs.Shrink.{strike, shrinkIn, shrink}
-use Rattle.model.specs.Valid.{isMet, namesMet, validSet, blocksHeld, later, newest}
+use Rattle.model.specs.Valid.{Order, requiredOf, isMet, namesMet, validSet, blocksHeld, later, newest}
 use Rattle.model.specs.Recovery.{shapeOn, placeOf, imageFound}
 use Rattle.model.specs.declared.Shape.{Shape}
 use Rattle.model.specs.declared.Tail.{Tail}
@@ -18,6 +18,7 @@ use Rattle.model.specs.declared.Found.the-variants.{Whole, Miss}
 use Rattle.model.proofs.Lists.{cases, and-left, and-right, all-mem, flatMap-below}
 use Rattle.model.proofs.Select.{select-mem}
 use Rattle.model.proofs.Shrink.{shrinkIn-settled, shrinkIn-again}
+use Rattle.model.proofs.Required.{required-core}
 use Rattle.model.proofs.Limits.{InRange}
 use Rattle.model.proofs.Journal.{KnownRecord}
 use Rattle.model.proofs.Records.{journals-known}
@@ -171,16 +172,18 @@ listed-core s d c k e r n m =
     let z : List·Memᴰ n (namesIn f (nameCount f)) = rw (r .named) (rw g at m) in
     ltb-true (n .core) (s .cores) (and-left (ltb (n .core) (s .cores)) _ (all-mem (isListable s) (namesIn f (nameCount f)) a z))
 
-module _ (s : Shape) (d : Bytes) (t₁ t₂ : ℕ → Tail) (same : (c : ℕ) → c < s .cores → (t₁ c) .number ≡ (t₂ c) .number) where
-  names-tails : (es : List Committed) (e : Committed) → ((n : Name) → List·Memᴰ n (namesOf s d e) → n .core < s .cores) → namesMet s d t₁ es e ≡ namesMet s d t₂ es e
+module _ (o : Order) (s : Shape) (d : Bytes) (t₁ t₂ : ℕ → Tail) (same : (c : ℕ) → c < s .cores → (t₁ c) .number ≡ (t₂ c) .number) where
+  names-tails : (es : List Committed) (e : Committed) → ((n : Name) → List·Memᴰ n (requiredOf o s d e) → n .core < s .cores) → namesMet o s d t₁ es e ≡ namesMet o s d t₂ es e
   unfolding namesMet isMet
-  names-tails es e h = all-cong (isMet t₁ es) (isMet t₂ es) (namesOf s d e) (λ n m. rw (same (n .core) (h n m)))
+  names-tails es e h = all-cong (isMet t₁ es) (isMet t₂ es) (requiredOf o s d e) (λ n m. rw (same (n .core) (h n m)))
 
-  pub valid-tails : (t : ℕ → Tail) (most : ℕ → ℕ) → validSet s d t₁ (journals s d t most) ≡ validSet s d t₂ (journals s d t most)
+  pub valid-tails : (t : ℕ → Tail) (most : ℕ → ℕ) → validSet o s d t₁ (journals s d t most) ≡ validSet o s d t₂ (journals s d t most)
   unfolding validSet
   valid-tails t most =
-      shrink-cong (namesMet s d t₁) (namesMet s d t₂) (journals s d t most)
-      (λ ss e m. let k = journals-known s d t most e m .1 in names-tails ss e (listed-core s d (e .core) ((t (e .core)) .number + k .0) e (k .1)))
+      shrink-cong (namesMet o s d t₁) (namesMet o s d t₂) (journals s d t most)
+      (λ ss e m.
+      let k = journals-known s d t most e m in
+      names-tails ss e (unfold requiredOf in required-core o (nameOf e) (namesOf s d e) (s .cores) (k .0) (listed-core s d (e .core) ((t (e .core)) .number + k .1 .0) e (k .1 .1))))
 
 pub journals-tails : (s : Shape) (d : Bytes) (t₁ t₂ : ℕ → Tail) (m₁ m₂ : ℕ → ℕ)
     → ((c : ℕ) → c < s .cores → journal s d c (t₁ c) (m₁ c) ≡ journal s d c (t₂ c) (m₂ c)) → journals s d t₁ m₁ ≡ journals s d t₂ m₂

@@ -2,15 +2,15 @@
 -- many are left.
 use Rattle.model.proofs.Base.{ℕ, zero, suc, _+_, _-_, _*_, _/_, _%_, _≤_, _<_, min, arith, decLt, _≡_, refl, sym, ap, fun-ext}
 use Rattle.model.proofs.Base.{_∙_, inl, inr, Bool, true, false, cond, not, _&&_, List, [], _∷_, _++_, map, List·Memᴰ}
-use Rattle.model.proofs.Base.{List·Memᴰ·head, List·Memᴰ·not-nil, List·Memᴰ·append-cases, List·Memᴰ·eq-of-singleton, length, getD}
-use Rattle.model.proofs.Base.{length-append, eqb, ltb, eqb-true, eqb-false, lt-ltb, le-ltb, ltb-true, ltb-false, not-true}
-use Rattle.model.proofs.Base.{not-false, below, all, select, Bytes}
+use Rattle.model.proofs.Base.{List·Memᴰ·head, List·Memᴰ·not-nil, List·Memᴰ·append-cases, List·Memᴰ·eq-of-singleton, length}
+use Rattle.model.proofs.Base.{getD, length-append, eqb, ltb, eqb-true, eqb-false, eq-eqb, ne-eqb, lt-ltb, le-ltb, ltb-true}
+use Rattle.model.proofs.Base.{ltb-false, not-true, not-false, below, all, select, Bytes}
 use mathlib.Core.List.{Memᴰ·append-left, Memᴰ·append-right}
 use Rattle.model.specs.Card.{newName, sameName}
 use Rattle.model.specs.Layout.{pairAt, pairsIn, namesIn, blockCount, nameCount}
 use Rattle.model.specs.Journal.{journalAt, nameOf, namesOf}
 use Rattle.model.specs.Shrink.{strike}
-use Rattle.model.specs.Valid.{isIn, isMet, namesMet}
+use Rattle.model.specs.Valid.{unordered, in-sequence, required, requiredOf, isIn, isMet, namesMet}
 use Rattle.model.specs.declared.Shape.{Shape}
 use Rattle.model.specs.declared.Tail.{Tail}
 use Rattle.model.specs.declared.Name.{Name}
@@ -22,10 +22,24 @@ use Rattle.model.proofs.Limits.{InRange}
 use Rattle.model.proofs.Valid.{sameName-true, sameName-refl}
 use Rattle.layout.specs.Loops.{every}
 use Rattle.layout.proofs.Loops.{every-map, Filled, filled-all}
-use Rattle.journal.specs.Slots.{tailFor, numbersOf, slotOf, isFilled, entry, foundAs, foundAt, listOf, entriesTo, entries, entriesOf, filledFrom}
-use Rattle.valid.specs.Sets.{tailNumber, numbered, isHere, slotMet, nameMet, keepsSlot, keptSlot, struck, SameTo}
+use Rattle.journal.specs.Slots.{tailFor, numbersOf, slotOf, isFilled, entry, foundAt, listOf, entriesTo, entries, entriesOf, filledFrom}
+use Rattle.valid.specs.Sets.{tailNumber, numbered, isHere, slotMet, nameMet, beforeMet, keepsSlot, keptSlot, struck, SameTo}
 use Rattle.journal.proofs.Slots.{empty-slot, filled-slot}
 use Rattle.journal.proofs.Entries.{slot-core}
+
+-- ---- a name's slot
+module _ (s : Shape) (set : List ℕ) (n c k : ℕ) where
+  pub here-absent : s .cores ≤ c → false ≡ isHere s set n c k
+  unfolding isHere
+  here-absent h = rw (le-ltb c (s .cores) h)
+
+  pub here-far : c < s .cores → 12 ≤ k - n → false ≡ isHere s set n c k
+  unfolding isHere
+  here-far h g = rw (lt-ltb c (s .cores) h, le-ltb (k - n) 12 g)
+
+  pub here-slot : (r : Bool) → r ≡ isFilled s set (12 * c + (k - n)) → c < s .cores → k - n < 12 → r ≡ isHere s set n c k
+  unfolding isHere
+  here-slot r e h g = e ∙ rw (lt-ltb c (s .cores) h, lt-ltb (k - n) 12 g)
 
 -- ---- which transactions a set has
 module _ (s : Shape) (d : Bytes) (ks set : List ℕ) where
@@ -46,9 +60,12 @@ module _ (s : Shape) (d : Bytes) (ks set : List ℕ) where
       let same : e ≡ entry s d (i / 12) (getD ks (i / 12) 0 + i % 12) v = cc in
       record { there = slot-core s set i v refl (eqb-false v 0 t); filled = ap not t; same = same })
 
-  pub holds-found : (i : ℕ) → isFilled s set i ≡ true → foundAt s d ks set i ≡ Whole (entry s d (i / 12) (getD ks (i / 12) 0 + i % 12) (slotOf s set i))
+  filled-not : (i : ℕ) → isFilled s set i ≡ true → slotOf s set i ≡ 0 → ⊥
   unfolding isFilled
-  holds-found i h = filled-slot s d ks set i (slotOf s set i) refl (eqb-false _ _ (not-true _ h))
+  filled-not i h = eqb-false _ _ (not-true _ h)
+
+  pub holds-found : (i : ℕ) → isFilled s set i ≡ true → foundAt s d ks set i ≡ Whole (entry s d (i / 12) (getD ks (i / 12) 0 + i % 12) (slotOf s set i))
+  holds-found i h = filled-slot s d ks set i (slotOf s set i) refl (filled-not i h)
 
   pub mem-entries : (n : ℕ) (e : Committed) → List·Memᴰ e (entriesTo s d ks set n) → (i : ℕ) × (i < n) × Holds i e
   unfolding entriesTo listOf
@@ -155,13 +172,42 @@ module _ (s : Shape) (d : Bytes) (ks set : List ℕ) where
         (λ t. rw t (in-slot n (ltb-false _ _ t)))
 
     -- each name of a transaction, looked up by its slot
-    pub names-slot : (e : Committed) → namesMet s d (numbered ks) (entries s d ks set) e
+    pub names-slot : (e : Committed) → namesMet unordered s d (numbered ks) (entries s d ks set) e
         ≡ every (e .named) (nameMet s ks set (journalAt s d (e .core) (e .position + (e .count + 1))))
-    unfolding namesMet namesOf namesIn pairsIn nameMet
+    unfolding namesMet requiredOf required namesOf namesIn pairsIn nameMet
     names-slot e =
         let f = journalAt s d (e .core) (e .position + (e .count + 1)) in
         ap (λ (p : Name → Bool). all p (map (pairAt newName f 24) (below (e .named)))) (fun-ext met-slot)
         ∙ sym (every-map (λ (n : Name). slotMet s ks set (n .core) (n .number)) (pairAt newName f 24) (e .named))
+
+    -- the one before the transaction in a slot. Before a core's first it lies below the tail number; where that is 0, the number
+    -- less one is the transaction's own.
+    slot-before : (i : ℕ) → isFilled s set i ≡ true → slotMet s ks set (i / 12) (getD ks (i / 12) 0 + i % 12 - 1) ≡ beforeMet s set i
+    unfolding slotMet beforeMet
+    slot-before i f =
+        let c = i / 12 in
+        let there : c < s .cores = slot-core s set i (slotOf s set i) refl (filled-not i f) in
+        let t = tailNumber ks c in
+        let q : t ≡ getD ks c 0 = in-range c there in
+        let k = getD ks c 0 + i % 12 - 1 in
+        cases (eqb (i % 12) 0)
+        (λ z.
+        let first : i % 12 ≡ 0 = eqb-true (i % 12) 0 z in
+        rw z (cases (ltb k t) (λ b. rw b) (λ b. rw b (here-at i c k there f refl (omega (arith, ltb-false k t b))))))
+        (λ z.
+        let later : i % 12 ≡ 0 → ⊥ = eqb-false (i % 12) 0 z in
+        let at : 12 * c + (k - t) ≡ i - 1 = omega arith in
+        rw (z, le-ltb k t (omega arith)) (sym (here-slot s set t c k (isFilled s set (i - 1)) (ap (isFilled s set) (sym at)) there (omega arith))))
+
+    -- all that it requires: the one before, and its names
+    required-slot : (i v : ℕ) → isFilled s set i ≡ true
+        → namesMet in-sequence s d (numbered ks) (entries s d ks set) (entry s d (i / 12) (getD ks (i / 12) 0 + i % 12) v)
+        ≡ (beforeMet s set i && namesMet unordered s d (numbered ks) (entries s d ks set) (entry s d (i / 12) (getD ks (i / 12) 0 + i % 12) v))
+    unfolding namesMet requiredOf required all entry
+    required-slot i v f =
+        let k = getD ks (i / 12) 0 + i % 12 in
+        ap (λ (b : Bool). b && namesMet unordered s d (numbered ks) (entries s d ks set) (entry s d (i / 12) k v))
+        (met-slot (newName (i / 12) (k - 1)) ∙ slot-before i f)
 
 -- ---- one round
 module _ {A : Type 0} (p : A → Bool) where
@@ -175,16 +221,11 @@ module _ {A : Type 0} (p : A → Bool) where
 
 module _ (s : Shape) (d : Bytes) (ks set : List ℕ) where
   abbrev stays : Committed → Bool
-  stays = namesMet s d (numbered ks) (entries s d ks set)
-
-  -- its names do not depend on its number
-  keeps-number : (ms : List ℕ) (i : ℕ) → keepsSlot s d ks set (foundAt s d ms set i) ≡ keepsSlot s d ks set (foundAt s d ks set i)
-  unfolding foundAt foundAs keepsSlot namesMet namesOf entry
-  keeps-number ms i = cases (eqb (slotOf s set i) 0) (λ t. rw t) (λ t. rw t)
+  stays = namesMet in-sequence s d (numbered ks) (entries s d ks set)
 
   struck-at : (i : ℕ) → i < 96 → getD (struck s d ks set) i 0 ≡ cond (keepsSlot s d ks set (foundAt s d ks set i)) (getD set i 0) 0
   unfolding struck keptSlot
-  struck-at i h = getD-map-below (keptSlot s d ks set) 96 i 0 h ∙ rw (keeps-number [] i)
+  struck-at i h = getD-map-below (keptSlot s d ks set) 96 i 0 h
 
   slot-same : (a b : List ℕ) (i : ℕ) → getD a i 0 ≡ getD b i 0 → foundAt s d ks a i ≡ foundAt s d ks b i
   unfolding foundAt slotOf
@@ -214,23 +255,19 @@ module _ (s : Shape) (d : Bytes) (ks set : List ℕ) where
       (sym (select-append stays (entriesTo s d ks set n) (listOf (foundAt s d ks set n))))
 
   -- a round over slots is one over the list
-  pub struck-entries : entries s d ks (struck s d ks set) ≡ strike (namesMet s d (numbered ks)) (entries s d ks set)
+  pub struck-entries : entries s d ks (struck s d ks set) ≡ strike (namesMet in-sequence s d (numbered ks)) (entries s d ks set)
   unfolding entries strike
   struck-entries = struck-to 96 (omega arith)
 
 -- ---- what the functions answer
-module _ (s : Shape) (set : List ℕ) (n c k : ℕ) where
-  pub here-absent : s .cores ≤ c → false ≡ isHere s set n c k
-  unfolding isHere
-  here-absent h = rw (le-ltb c (s .cores) h)
+module _ (s : Shape) (set : List ℕ) (i : ℕ) where
+  pub before-first : i % 12 ≤ 0 → true ≡ beforeMet s set i
+  unfolding beforeMet
+  before-first h = rw (eq-eqb (i % 12) 0 (omega arith))
 
-  pub here-far : c < s .cores → 12 ≤ k - n → false ≡ isHere s set n c k
-  unfolding isHere
-  here-far h g = rw (lt-ltb c (s .cores) h, le-ltb (k - n) 12 g)
-
-  pub here-slot : (r : Bool) → r ≡ isFilled s set (12 * c + (k - n)) → c < s .cores → k - n < 12 → r ≡ isHere s set n c k
-  unfolding isHere
-  here-slot r e h g = e ∙ rw (lt-ltb c (s .cores) h, lt-ltb (k - n) 12 g)
+  pub before-later : (r : Bool) → r ≡ isFilled s set (i - 1) → 0 < i % 12 → r ≡ beforeMet s set i
+  unfolding beforeMet
+  before-later r e h = e ∙ rw (ne-eqb (i % 12) 0 (omega arith))
 
 module _ (s : Shape) (ks set : List ℕ) (c k : ℕ) where
   pub met-absent : InRange s → 8 ≤ c → false ≡ slotMet s ks set c k
@@ -252,13 +289,13 @@ module _ (s : Shape) (d : Bytes) (ks set : List ℕ) where
   name-is f i c k r p q e = e ∙ rw (p, q)
 
   names-are : (e : Committed) (f : Bytes) (r : Bool) → f ≡ journalAt s d (e .core) (e .position + (e .count + 1)) → r ≡ every (e .named) (nameMet s ks set f) → InRange s
-      → r ≡ namesMet s d (numbered ks) (entries s d ks set) e
+      → r ≡ namesMet unordered s d (numbered ks) (entries s d ks set) e
   names-are e f r q h l = h ∙ rw q (sym (names-slot s d ks set l e))
 
   -- as they are read from a slot's descriptor and commit
   pub names-read : (c v x n y m : ℕ) (b f : Bytes) (r : Bool) → b ≡ journalAt s d c (v - 1) → x ≡ blockCount b → n ≡ min x 8
       → f ≡ journalAt s d c (v - 1 + (n + 1)) → y ≡ nameCount f → m ≡ min y 12 → r ≡ every m (nameMet s ks set f) → InRange s
-      → (k : ℕ) → r ≡ namesMet s d (numbered ks) (entries s d ks set) (entry s d c k v)
+      → (k : ℕ) → r ≡ namesMet unordered s d (numbered ks) (entries s d ks set) (entry s d c k v)
   unfolding entry
   names-read c v x n y m b f r eb ex en ef ey em er l k =
       let h : n ≡ min (blockCount (journalAt s d c (v - 1))) 8 = en ∙ rw (ex, eb) in
@@ -269,16 +306,23 @@ module _ (s : Shape) (d : Bytes) (ks set : List ℕ) where
   module _ (i v : ℕ) (e : v ≡ slotOf s set i) where
     pub kept-none : v ≡ 0 → 0 ≡ keptSlot s d ks set i
     unfolding keptSlot keepsSlot
-    kept-none h = rw (empty-slot s d [] set i (sym e ∙ h))
+    kept-none h = rw (empty-slot s d ks set i (sym e ∙ h))
 
-    module _ (h : v ≡ 0 → ⊥) (r : Bool) (q : (k : ℕ) → r ≡ namesMet s d (numbered ks) (entries s d ks set) (entry s d (i / 12) k v)) where
-      pub kept-in : r ≡ true → getD set i 0 ≡ keptSlot s d ks set i
-      unfolding keptSlot keepsSlot
-      kept-in t = rw (filled-slot s d [] set i v (sym e) h, ← q (getD [] (i / 12) 0 + i % 12), t)
+    module _ (h : v ≡ 0 → ⊥) (l : InRange s) (b : Bool) (p : b ≡ beforeMet s set i) where
+      kept-by : keptSlot s d ks set i
+          ≡ cond (b && namesMet unordered s d (numbered ks) (entries s d ks set) (entry s d (i / 12) (getD ks (i / 12) 0 + i % 12) v)) (getD set i 0) 0
+      unfolding keptSlot keepsSlot isFilled
+      kept-by = rw (filled-slot s d ks set i v (sym e) h, required-slot s d ks set l i v (rw (← e, ne-eqb v 0 h)), p)
 
-      pub kept-out : r ≡ false → 0 ≡ keptSlot s d ks set i
-      unfolding keptSlot keepsSlot
-      kept-out t = rw (filled-slot s d [] set i v (sym e) h, ← q (getD [] (i / 12) 0 + i % 12), t)
+      pub kept-alone : b ≡ false → 0 ≡ keptSlot s d ks set i
+      kept-alone t = rw (kept-by, t)
+
+      module _ (t : b ≡ true) (r : Bool) (q : (k : ℕ) → r ≡ namesMet unordered s d (numbered ks) (entries s d ks set) (entry s d (i / 12) k v)) where
+        pub kept-in : r ≡ true → getD set i 0 ≡ keptSlot s d ks set i
+        kept-in u = rw (kept-by, t, ← q (getD ks (i / 12) 0 + i % 12), u)
+
+        pub kept-out : r ≡ false → 0 ≡ keptSlot s d ks set i
+        kept-out u = rw (kept-by, t, ← q (getD ks (i / 12) 0 + i % 12), u)
 
 -- ---- the same slots
 module _ (a b : List ℕ) where

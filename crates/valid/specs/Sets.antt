@@ -1,15 +1,16 @@
--- The valid set over slots: a name looked up by its slot, and one round that strikes those with a name unmet.
-use Prim.Native.Nat.{ℕ, _+_, _*_, _-_, _<_}
+-- The valid set over slots: a name looked up by its slot, the one before in the slot before, and one round that strikes those
+-- with one of them unmet.
+use Prim.Native.Nat.{ℕ, _+_, _*_, _-_, _%_, _<_}
 use mathlib.Core.Path.{_≡_}
-use mathlib.Core.List.{List, [], map}
+use mathlib.Core.List.{List, map}
 use mathlib.Core.Bool.{Bool, false, cond, _&&_, _||_}
 use lib.ListN.{getD}
-use lib.Dec.{ltb}
+use lib.Dec.{ltb, eqb}
 use Rattle.model.specs.Lists.{below}
 use Rattle.model.specs.Bytes.{Bytes}
 use Rattle.model.specs.Card.{newName, newTail}
 use Rattle.model.specs.Layout.{pairAt}
-use Rattle.model.specs.Valid.{namesMet}
+use Rattle.model.specs.Valid.{in-sequence, namesMet}
 use Rattle.model.specs.declared.Shape.{Shape}
 use Rattle.model.specs.declared.Tail.{Tail}
 use Rattle.model.specs.declared.Found.{Found}
@@ -36,13 +37,17 @@ slotMet s ks set c k = ltb k (tailNumber ks c) || isHere s set (tailNumber ks c)
 unfoldable pub nameMet : Shape → List ℕ → List ℕ → Bytes → ℕ → Bool
 nameMet s ks set f i = slotMet s ks set ((pairAt newName f 24 i) .core) ((pairAt newName f 24 i) .number)
 
--- a slot stays where each name of its transaction is met
+-- the one before the transaction in slot i is met: for its core's first below the tail, otherwise in the slot before
+unfoldable pub beforeMet : Shape → List ℕ → ℕ → Bool
+beforeMet s set i = eqb (i % 12) 0 || isFilled s set (i - 1)
+
+-- a slot stays where all that its transaction requires is met
 unfoldable pub keepsSlot : Shape → Bytes → List ℕ → List ℕ → Found → Bool
 keepsSlot s d ks set Miss = false
-keepsSlot s d ks set (Whole e) = namesMet s d (numbered ks) (entries s d ks set) e
+keepsSlot s d ks set (Whole e) = namesMet in-sequence s d (numbered ks) (entries s d ks set) e
 
 unfoldable pub keptSlot : Shape → Bytes → List ℕ → List ℕ → ℕ → ℕ
-keptSlot s d ks set i = cond (keepsSlot s d ks set (foundAt s d [] set i)) (getD set i 0) 0
+keptSlot s d ks set i = cond (keepsSlot s d ks set (foundAt s d ks set i)) (getD set i 0) 0
 
 unfoldable pub struck : Shape → Bytes → List ℕ → List ℕ → List ℕ
 struck s d ks set = map (keptSlot s d ks set) (below 96)

@@ -1,15 +1,16 @@
-// The valid set: of the transactions read, those whose names are all met, found by striking the others until none goes.
+// The valid set: of the transactions read, those whose names are all met, as is the one before on their core, found by
+// striking the others until none goes.
 ghost use mathlib.Core.Path.{_≡_};
 ghost use mathlib.Core.Bool.{true};
 ghost use Prim.Native.Nat.{ℕ, _*_, _≤_, _<_};
 ghost use lib.ListN.{length};
 ghost use Rattle.model.proofs.Limits.{InRange};
 ghost use Rattle.model.specs.Shrink.{shrink};
-ghost use Rattle.model.specs.Valid.{namesMet, validSet};
+ghost use Rattle.model.specs.Valid.{unordered, in-sequence, namesMet, validSet};
 ghost use Rattle.model.specs.Limits.{blockSize, diskSize, maxNames};
 ghost use Rattle.layout.specs.Loops.{every};
 ghost use Rattle.journal.specs.Slots.{numbersOf, entry, entries, isFilled, filledFrom};
-ghost use Rattle.valid.specs.Sets.{numbered, isHere, slotMet, nameMet, keptSlot, struck, SameTo};
+ghost use Rattle.valid.specs.Sets.{numbered, isHere, slotMet, nameMet, beforeMet, keptSlot, struck, SameTo};
 use journal::at_most;
 use journal::count_slots;
 use journal::is_filled;
@@ -73,12 +74,12 @@ fn are_met(s: Shape, numbers: &[u32; 8], set: &[u16; 96], commit: &[u8], n: usiz
     true
 }
 
-// Whether each name of core c's transaction is met, with v the position after its descriptor. Its number and its stamp play
-// no part.
+// Whether each name that core c's transaction lists is met, with v the position after its descriptor. Its number plays no
+// part: the one before it is not asked for here.
 fn names_met(s: Shape, disk: &[u8], numbers: &[u32; 8], set: &[u16; 96], c: u8, v: usize) -> bool
     requires { ⌜ InRange s × (length (now disk) ≡ diskSize) × (c < s .cores) × (1 ≤ v) × (v ≤ 256) ⌝ }
     ensures { λ r. ⌜
-        ((k : ℕ) → r ≡ namesMet s (now (disk .entry)) (numbered (now (numbers .entry)))
+        ((k : ℕ) → r ≡ namesMet unordered s (now (disk .entry)) (numbered (now (numbers .entry)))
         (entries s (now (disk .entry)) (now (numbers .entry)) (now (set .entry)))
         (entry s (now (disk .entry)) c k v))
         ⌝ }
@@ -93,13 +94,27 @@ fn names_met(s: Shape, disk: &[u8], numbers: &[u32; 8], set: &[u16; 96], c: u8, 
     are_met(s, numbers, set, commit, named)
 }
 
-// Slot i after one round: struck where a name is unmet.
+// Whether the one before the transaction in slot i is met: in the slot before, or for its core's first below the tail.
+fn before_met(s: Shape, set: &[u16; 96], i: usize) -> bool
+    requires { ⌜ i < 96 ⌝ }
+    ensures { λ r. ⌜ r ≡ beforeMet s (now (set .entry)) i ⌝ }
+{
+    if 0 < i % 12 {
+        return is_filled(s, set, i - 1);
+    }
+    true
+}
+
+// Slot i after one round: struck where the one before or a name is unmet.
 fn keep_slot(s: Shape, disk: &[u8], numbers: &[u32; 8], set: &[u16; 96], i: usize) -> u16
     requires { ⌜ InRange s × (length (now disk) ≡ diskSize) × (i < 96) ⌝ }
     ensures { λ r. ⌜ r ≡ keptSlot s (now (disk .entry)) (now (numbers .entry)) (now (set .entry)) i ⌝ }
 {
     let v = slot_of(s, set, i);
     if v == 0 {
+        return 0;
+    }
+    if !before_met(s, set, i) {
         return 0;
     }
     if names_met(s, disk, numbers, set, (i / 12) as u8, v) {
@@ -132,13 +147,13 @@ fn strike_round(s: Shape, disk: &[u8], numbers: &[u32; 8], set: &mut [u16; 96])
     *set = next;
 }
 
-// The largest part of the set in which each name is met: struck until none goes. The count of those remaining falls with
-// each call.
+// The largest part of the set in which all that is required is met: struck until none goes. The count of those remaining
+// falls with each call.
 fn shrink_set(s: Shape, disk: &[u8], numbers: &[u32; 8], set: &mut [u16; 96], count: usize)
     requires { ⌜ InRange s × (length (now disk) ≡ diskSize) × (count ≡ filledFrom s (now set) 0 96) ⌝ }
     ensures { λ _. ⌜
         entries s (now (disk .entry)) (now (numbers .entry)) (now (set .exit))
-        ≡ shrink (namesMet s (now (disk .entry)) (numbered (now (numbers .entry))))
+        ≡ shrink (namesMet in-sequence s (now (disk .entry)) (numbered (now (numbers .entry))))
         (entries s (now (disk .entry)) (now (numbers .entry)) (now (set .entry)))
         ⌝ }
 {
@@ -189,7 +204,7 @@ pub fn valid_slots(s: Shape, disk: &[u8], tails: [Tail; 8], committed: [u16; 96]
     requires { ⌜ InRange s × (length (now disk) ≡ diskSize) ⌝ }
     ensures { λ r. ⌜
         entries s (now (disk .entry)) (numbersOf tails) r
-        ≡ validSet s (now (disk .entry)) (numbered (numbersOf tails))
+        ≡ validSet in-sequence s (now (disk .entry)) (numbered (numbersOf tails))
         (entries s (now (disk .entry)) (numbersOf tails) committed)
         ⌝ }
 {

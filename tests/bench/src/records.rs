@@ -92,14 +92,15 @@ impl Records {
         self.starts[c + 1] - self.starts[c]
     }
 
-    /// Strikes records with an unmet name until none goes.
+    /// Strikes records with an unmet name, and those behind a struck one in its journal, until none goes.
     pub fn valid(&self, disk: &[u8]) -> [bool; MOST] {
         let mut valid = [true; MOST];
         let mut is_done = false;
         while !is_done {
             is_done = true;
             for (i, record) in self.all().iter().enumerate() {
-                if valid[i] && !self.names_met(disk, record, &valid) {
+                let follows = self.first_of(record.name.core as usize) == i || valid[i - 1];
+                if valid[i] && !(follows && self.names_met(disk, record, &valid)) {
                     valid[i] = false;
                     is_done = false;
                 }

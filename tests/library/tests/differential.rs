@@ -3,11 +3,14 @@
 use card_library::cells::CELLS;
 use card_library::session::Session;
 use card_library::watcher::Library;
-use card_tests::checks::{Bench, Checks};
+use card_tests::checks::{Bench, Checks, Failure};
+use card_tests::command::from_hex;
 use card_tests::endings;
 use card_tests::layout::{DISK, MEMORY};
+use card_tests::order::{Order, Rules};
 use card_tests::random::Random;
-use card_tests::wrong::{Wrong, ALL};
+use card_tests::sequence::{self, TAPES};
+use card_tests::wrong::{caught_by_generated, words, Wrong};
 
 fn differs(wrong: Wrong, commands: u64, seed: u64) -> Option<String> {
     let mut library = Library::default();
@@ -31,10 +34,34 @@ fn the_library_recovers_made_endings_as_the_model_does() {
     }
 }
 
+/// The library beside the model of a rule, where the one before on a core makes a difference: on tapes made for it, and over disks
+/// whose later records name nothing and are left.
+fn in_sequence(order: Order) -> Result<(), Failure> {
+    let mut library = Library::default();
+    let mut bench = Bench::under(Rules::throughout(order), Wrong::No, Checks::NONE, Some(&mut library));
+    sequence::run(&mut bench, 25, 1000)
+}
+
+#[test]
+fn the_library_keeps_a_beginning_of_each_journal_as_the_model_does() {
+    in_sequence(Order::InSequence).expect("the same");
+    assert!(in_sequence(Order::Unordered).is_err(), "the old rule is not told apart");
+}
+
 #[test]
 fn every_wrong_card_is_told_apart() {
-    for (wrong, words) in ALL.iter().filter(|(wrong, _)| *wrong != Wrong::Only33Committed) {
+    for (wrong, words) in caught_by_generated() {
         assert!(differs(*wrong, 400_000, 1).is_some(), "not told apart: {words}");
+    }
+}
+
+/// The old rule's card, and those that have the new one in part: generated tapes hardly meet it, so each has tapes of its own.
+#[test]
+fn every_card_wrong_in_the_sequence_is_told_apart() {
+    for (order, wrong, _, tape) in TAPES {
+        let (mut library, rules) = (Library::default(), Rules { card: *order, books: Order::default() });
+        let mut bench = Bench::under(rules, *wrong, Checks::NONE, Some(&mut library));
+        assert!(bench.run_tape(&from_hex(tape)).is_err(), "not told apart: {}, {order:?}", words(*wrong));
     }
 }
 

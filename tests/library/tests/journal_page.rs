@@ -10,6 +10,7 @@ use card_tests::foreign::{self, SPOILS};
 use card_tests::layout::{put_word, read_master, BLOCK, DISK, HOMES};
 use card_tests::page::{line_at, page, Line};
 use card_tests::random::Random;
+use card_tests::sequence;
 
 /// Tells a kind by the fields of a line and how many transactions its page has.
 type IsMet = fn(&[&str], usize) -> bool;
@@ -142,6 +143,18 @@ fn the_ends_are_the_models() {
     for (count, (words, _)) in met.kinds.iter().zip(KINDS).take(ENDS) {
         println!("{words}: {count} journals");
         assert!(*count > 0, "never met: {words}");
+    }
+}
+
+/// Records that name nothing behind one that is left.
+#[test]
+fn what_follows_one_that_is_left_is_left() {
+    let mut random = Random::new(57);
+    for _ in 0..2000 {
+        let made = sequence::disk(&mut random);
+        let lines = compared(&made.disk);
+        let left = lines.iter().filter(|line| fields(line).last() == Some(&"left")).count();
+        assert_eq!(left, made.read.iter().zip(made.valid).map(|(read, valid)| read - valid).sum::<usize>());
     }
 }
 

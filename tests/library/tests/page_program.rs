@@ -10,21 +10,24 @@ use card_tests::foreign::{self, put};
 use card_tests::layout::{descriptor, put_word, Shape, BLOCK, DISK};
 use card_tests::page::print_page;
 use card_tests::random::Random;
+use card_tests::sequence;
 use std::fs::File;
 use std::io::Write;
 use std::process::Stdio;
 use std::sync::mpsc::channel;
 use std::time::Duration;
 
-/// The made ones, then some that generated tapes leave, and as many foreign ones and ones with made endings.
+/// The made ones, then some that generated tapes leave, and as many foreign ones, ones with made endings and ones with records that
+/// name nothing and are left.
 fn disks() -> Vec<Vec<u8>> {
     let p1 = disk_after(&from_hex(P1_UNCUT));
     let mut disks = vec![p1, highest_disk(), chain_disk(0, true), chain_disk(1, false), vec![0; DISK]];
-    let (mut random, mut seen) = (Random::new(61), 0);
+    let (mut random, mut other, mut seen) = (Random::new(61), Random::new(62), 0);
     each_disk(30_000, 61, |disk| {
         seen += 1;
         if seen % 200 == 0 {
             disks.extend([disk.to_vec(), foreign::disk(&mut random, disk), endings::disk(&mut random)]);
+            disks.push(sequence::disk(&mut other).disk);
         }
     });
     disks

@@ -3,22 +3,17 @@
 // read or a write that fails is said.
 
 use card_library::program::{begin, ended, printed, program, ROOT};
+use card_tests::command::{from_hex, operand_width};
 use card_tests::directed::LARGEST;
 use card_tests::generator::Generator;
 use card_tests::program::{generated, print_tape, print_with, FLAWS, PIECE};
 use card_tests::random::Random;
+use card_tests::sequence::{self, CHANGED_AT_THE_CUT, CHANGED_AT_THE_CUT_LINES};
 use std::fs::File;
 use std::io::{BufRead, BufReader, Write};
 use std::process::Stdio;
 use std::sync::mpsc::channel;
 use std::time::Duration;
-
-/// A tape as hex, with a comment after '#' on each line.
-fn from_hex(text: &str) -> Vec<u8> {
-    let digits: String = text.lines().map(|line| line.split('#').next().unwrap_or("")).collect();
-    let digits: Vec<char> = digits.chars().filter(|digit| !digit.is_whitespace()).collect();
-    digits.chunks(2).map(|pair| u8::from_str_radix(&pair.iter().collect::<String>(), 16).expect("hex")).collect()
-}
 
 #[test]
 fn the_nine_tapes_print_what_the_model_prints() {
@@ -41,13 +36,23 @@ fn random_bytes_print_what_the_model_prints() {
     }
 }
 
-/// Six hundred of any shape, a hundred of the largest, and six that are longer than the program's pieces.
+/// Six hundred of any shape, a hundred of the largest, six that are longer than the program's pieces, and a hundred on which the one
+/// before on a core makes a difference.
 fn tapes() -> Vec<Vec<u8>> {
-    let mut generator = Generator::new(12);
+    let (mut generator, mut random) = (Generator::new(12), Random::new(14));
     let any = (0..600).map(|_| (None, 0));
     let largest = (0..100).map(|_| (Some(LARGEST), 300));
     let long = (0..6).map(|i| ([None, Some(LARGEST)][i % 2], 40_000));
-    any.chain(largest).chain(long).map(|(shape, least)| generated(&mut generator, shape, least)).collect()
+    let generated = any.chain(largest).chain(long).map(|(shape, least)| generated(&mut generator, shape, least));
+    generated.chain((0..100).map(|_| sequence::tape(&mut random))).collect()
+}
+
+/// Its CHECKPOINT hangs on a transaction whose predecessor is not valid, and nothing comes back.
+#[test]
+fn a_tape_on_which_the_rule_makes_a_difference_prints_32_and_no_block() {
+    let text = printed(begin("tape"), &from_hex(CHANGED_AT_THE_CUT));
+    let last: Vec<&str> = text.lines().skip(18).collect();
+    assert_eq!(last, CHANGED_AT_THE_CUT_LINES);
 }
 
 /// How often each answer and a block line was printed.
@@ -109,7 +114,7 @@ fn a_line_is_out_before_more_input_is_awaited() {
     let mut next = 0;
     for line in text.lines().filter(|line| !line.starts_with("block")) {
         let offset: usize = line.split(' ').next().and_then(|number| number.parse().ok()).expect("an offset");
-        let width = card_tests::command::operand_width(tape[offset]).expect("a command");
+        let width = operand_width(tape[offset]).expect("a command");
         for byte in &tape[next..offset + 1 + width] {
             input.write_all(&[*byte]).expect("it is read");
         }

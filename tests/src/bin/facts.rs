@@ -8,6 +8,7 @@ use card_tests::foreign;
 use card_tests::generator::Generator;
 use card_tests::layout::{block_at, put_word, read_master, Name, Shape, Tail, BLOCK, DISK, LAST_TAIL, MEMORY, TAKEN};
 use card_tests::random::Random;
+use card_tests::sequence::{CHANGED_AT_THE_CUT, LATER_ALONE, NAMES_A_LATER_ONE};
 use card_tests::shrink::tape_of;
 use std::fs;
 use std::path::PathBuf;
@@ -248,7 +249,8 @@ fn differing(from: &[u8], to: &[u8]) -> Vec<(usize, Vec<u8>)> {
 fn directed(facts: &mut Facts) {
     let mut random = Random::new(0);
     let written = [SHORT, LIMITS, FULL, "0101010402000000004142", "0101040408"].map(from_hex);
-    for tape in written.into_iter().chain([crowded_list(), nine_blocks(), passed_on()]) {
+    let in_sequence = [CHANGED_AT_THE_CUT, LATER_ALONE, NAMES_A_LATER_ONE].map(from_hex);
+    for tape in written.into_iter().chain(in_sequence).chain([crowded_list(), nine_blocks(), passed_on()]) {
         facts.tape(&Start::blank(), &tape, &mut random);
     }
     for (at, word) in MASTERS.into_iter().chain(foreign::SPOILS) {

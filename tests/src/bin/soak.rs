@@ -1,7 +1,8 @@
-// soak: runs generated tapes on the model card with all checks and says what was met.
+// soak: runs generated tapes on the model card under each rule, with all checks, and says what was met.
 
 use card_tests::checks::{Bench, Checks, Failure, Tally};
 use card_tests::command::hex;
+use card_tests::order::{Rules, ORDERS};
 use card_tests::wrong::Wrong;
 use std::time::Instant;
 
@@ -9,15 +10,18 @@ fn main() {
     let mut arguments = std::env::args().skip(1).map(|text| text.parse::<u64>().expect("a number"));
     let commands = arguments.next().unwrap_or(10_000_000);
     let seed = arguments.next().unwrap_or(1);
-    let mut bench = Bench::new(Wrong::No, Checks::ALL, None);
-    let start = Instant::now();
-    let result = bench.soak(commands, seed);
-    report(&bench.tally, start.elapsed().as_secs_f64());
-    if let Err(failure) = result {
-        report_failure(&failure);
-        std::process::exit(1);
+    for order in ORDERS {
+        let mut bench = Bench::under(Rules::throughout(order), Wrong::No, Checks::ALL, None);
+        let start = Instant::now();
+        let result = bench.soak(commands, seed);
+        println!("rule: {order:?}");
+        report(&bench.tally, start.elapsed().as_secs_f64());
+        if let Err(failure) = result {
+            report_failure(&failure);
+            std::process::exit(1);
+        }
+        println!("no check failed");
     }
-    println!("no check failed");
 }
 
 fn report(tally: &Tally, seconds: f64) {

@@ -3,6 +3,7 @@
 -- the whole history. From then on no write is held by it, so that part of the history stays as it is.
 use Rattle.model.proofs.Base.{ℕ, _≤_, _<_, _≡_, refl, sym, ap, fun-ext, _∙_, _⊎_, false, So, some, List, [], _∷_, map, length}
 use Rattle.model.proofs.Base.{getD, eqb, Bytes}
+use Rattle.model.specs.Valid.{Order}
 use Rattle.model.specs.Card.{sameName}
 use Rattle.model.specs.declared.Name.{Name}
 use Rattle.model.specs.declared.Shape.{Shape}
@@ -27,9 +28,9 @@ pub image-of-closed : (l : Ledger) → Imaged l → (t : Name) → So (isClosed 
     → getD (l .images t) i [] ≡ imageAt l t (getD ((l .book .entry t) .blocks) i 0)
 image-of-closed l imaged t h i less = rw (imaged t h) (getD-map (imageAt l t) ((l .book .entry t) .blocks) i 0 [] less)
 
-pub imaged-fresh : (s : Shape) (saved : List Write) (first : ℕ → ℕ) → Imaged (freshLedger s saved first)
+pub imaged-fresh : (o : Order) (s : Shape) (saved : List Write) (first : ℕ → ℕ) → Imaged (freshLedger o s saved first)
 unfolding freshLedger emptyBook
-imaged-fresh s saved first = λ t h. clash h refl
+imaged-fresh o s saved first = λ t h. clash h refl
 
 -- ---- commands that write nothing
 module _ {t : Name} {g : Stage} {l l′ : Ledger} (m : Staged t g l l′) where

@@ -7,13 +7,13 @@ use Rattle.model.specs.Bytes.{replaced}
 use Rattle.model.specs.Card.{sameName}
 use Rattle.model.specs.declared.Name.{Name}
 use Rattle.model.proofs.Lists.{cases}
-use Rattle.crash.specs.Book.{Stage, absent, running, closed, committed, retired, isClosed, isCommitted, isRetired, Write, Book, kept, image, blank}
+use Rattle.crash.specs.Book.{Stage, absent, running, closed, committed, retired, isClosed, isCommitted, isRetired, Write, Book, requiredIn, kept, image, blank}
 use Rattle.crash.specs.Ledger.{Ledger}
 use Rattle.crash.proofs.Books.Tests.{clash}
 use Rattle.crash.proofs.Books.BookEntries.{by-stage}
 use Rattle.crash.proofs.Blocks.History.{Event, value, upto, Took, Status, StatusSound, Chain, BlockInv}
 use Rattle.crash.proofs.Blocks.Steps.{Extends, blockInv-extends}
-use Rattle.crash.proofs.Books.Largest.{memberOf, stageOf, listsName, kept-largest, kept-more}
+use Rattle.crash.proofs.Books.Largest.{memberOf, stageOf, listsName, listed-requires, kept-largest, kept-more}
 
 -- ---- the histories of a list of writes
 abbrev pub eventOf : Write → Event Name Bytes
@@ -107,7 +107,7 @@ pub sound-of : (l : Ledger) → AllOpened (l .book) → ((t : Name) → So (isRe
 sound-of l known r =
     record {
       kept-closed = λ t h. committed-closed (stageOf (l .book) t) (kept-largest (l .book) (opened-of (l .book) known) .sub t h);
-      kept-names = λ t u h n. ⊎-elim (λ p. p) (λ p. clash p refl) (kept-largest (l .book) (opened-of (l .book) known) .closed t u h n);
+      kept-names = λ t u h n. ⊎-elim (λ p. p) (λ p. clash p refl) (kept-largest (l .book) (opened-of (l .book) known) .closed t u h (listed-requires (l .book) t u n));
       retired-kept = r;
     }
 
@@ -127,7 +127,7 @@ pub record Grows (l l′ : Ledger) (t : Name) : Type 0 where
   pub committed : So (isCommitted (stageOf (l .book) t)) → So (isCommitted (stageOf (l′ .book) t))
   pub retired : So (isRetired (stageOf (l .book) t)) → So (isRetired (stageOf (l′ .book) t))
   pub names : (u : Name) → So (listsName (l .book) t u) → So (listsName (l′ .book) t u)
-  pub names-fixed : So (isClosed (stageOf (l .book) t)) → (l′ .book .entry t) .names ≡ (l .book .entry t) .names
+  pub required-fixed : So (isClosed (stageOf (l .book) t)) → requiredIn (l′ .book) t ≡ requiredIn (l .book) t
   pub stamp-fixed : So (isClosed (stageOf (l .book) t)) → l′ .stamp t ≡ l .stamp t
   pub stamp-new : isClosed (stageOf (l .book) t) ≡ false → So (isClosed (stageOf (l′ .book) t)) → l .closes < l′ .stamp t
 
@@ -139,7 +139,7 @@ module _ {home : ℕ → Bytes} {l : Ledger} (v : Inv home l) (l′ : Ledger) (k
         retired = λ t. grows t .retired;
         kept =
             kept-more (l .book) (l′ .book) (opened-of (l .book) (v .known)) (opened-of (l′ .book) known)
-            (λ t. grows t .committed) (λ t u h n. rw (grows t .names-fixed (committed-closed (stageOf (l .book) t) h)) at n);
+            (λ t. grows t .committed) (λ t u h n. rw (grows t .required-fixed (committed-closed (stageOf (l .book) t) h)) at n);
         names = λ t u. grows t .names u;
         lower =
             λ t u cu low ct. rw (grows u .stamp-fixed cu)

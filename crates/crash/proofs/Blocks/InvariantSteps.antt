@@ -7,6 +7,7 @@ use Rattle.model.proofs.Base.{eqb, leb, eqb-true, lt-ltb, le-leb, lt-leb, any, 
 use mathlib.Core.Bool.{or-false}
 use Rattle.model.specs.Checkpoint.{share}
 use Rattle.model.specs.declared.Name.{Name}
+use Rattle.model.specs.Valid.{Order}
 use Rattle.model.specs.declared.Shape.{Shape}
 use Rattle.model.proofs.Lists.{cases, and-both, or-left, or-right, mem-any, any-append, getD-mem}
 use Rattle.model.proofs.Valid.{sameName-refl}
@@ -17,12 +18,13 @@ use Rattle.crash.proofs.Books.BookEntries.{same-or-not, sameName-false,
 use Rattle.crash.proofs.Books.BookSteps.{close-stamp, close-images-other, close-stamp-other}
 use Rattle.crash.proofs.Blocks.History.{Took, BlockInv}
 use Rattle.crash.proofs.Blocks.Steps.{with-one, blockInv-home}
+use Rattle.crash.proofs.Books.Required.{required-same}
 use Rattle.crash.proofs.Books.Largest.{memberOf, stageOf}
 use Rattle.crash.proofs.Blocks.Invariant.{history, areaBefore, historyOf, imageAt, tookIn, homedBy, homed, status, isOpened, closed-opened, AllOpened, Inv, sound-of, retired-homed, Grows, extends, blockInv-grown}
 
-pub inv-fresh : (s : Shape) (saved : List Write) (first : ℕ → ℕ) → Inv (image blank saved) (freshLedger s saved first)
+pub inv-fresh : (o : Order) (s : Shape) (saved : List Write) (first : ℕ → ℕ) → Inv (image blank saved) (freshLedger o s saved first)
 unfolding freshLedger emptyBook any
-inv-fresh s saved first =
+inv-fresh o s saved first =
     record {
       block-inv = λ b. record { chain = tt; at-home = refl; homed-kept = λ t h. clash h refl };
       took = λ b t h. clash h refl;
@@ -57,6 +59,7 @@ onward retires = record { closed = λ h. refl; committed = λ h. refl; retired =
 -- the ledger l′ is l with t at stage g; one that closes gets the next stamp
 pub record Staged (t : Name) (g : Stage) (l l′ : Ledger) : Type 0 where
   pub moves : Moves (stageOf (l .book) t) g
+  pub begun : l′ .book .begun ≡ l .book .begun
   pub saved : l′ .saved ≡ l .saved
   pub writes : l′ .book .writes ≡ l .book .writes
   pub opened : (u : Name) → List·Memᴰ u (l .book .opened) → List·Memᴰ u (l′ .book .opened)
@@ -95,7 +98,7 @@ module _ {t : Name} {g : Stage} {l l′ : Ledger} (m : Staged t g l l′) where
         committed = λ h. rw g-is (onward (m .moves) .committed h);
         retired = λ h. rw g-is (onward (m .moves) .retired h);
         names = λ u h. rw staged-t h;
-        names-fixed = λ h. rw staged-t refl;
+        required-fixed = λ h. required-same (l .book) (l′ .book) t (m .begun) (ap (λ e. e .names) staged-t);
         stamp-fixed = m .stamp t;
         stamp-new = λ p q. let n : (l′ .stamp t ≡ l′ .closes) × (l .closes < l′ .closes) = m .stamp-new p (rw g-is at q) in omega arith;
       }))
@@ -106,7 +109,7 @@ module _ {t : Name} {g : Stage} {l l′ : Ledger} (m : Staged t g l l′) where
         committed = λ h. rw stage h;
         retired = λ h. rw stage h;
         names = λ u h. rw same h;
-        names-fixed = λ h. rw same refl;
+        required-fixed = λ h. required-same (l .book) (l′ .book) u (m .begun) (ap (λ e. e .names) same);
         stamp-fixed = m .stamp u;
         stamp-new = λ p q. clash (rw stage at q) p;
       })
@@ -157,13 +160,14 @@ module _ {t : Name} {g : Stage} {l l′ : Ledger} (m : Staged t g l l′) where
           inv-by-blockInv (λ b. staged-blockInv b (home b) (homed l b) (v .block-inv b) (staged-stored b) (sym (homes b)) (λ u h. refl))
 
 -- a command that changes the book alone
-book-staged : (l : Ledger) (k : Book) (t : Name) (g : Stage) → Moves (stageOf (l .book) t) g → k .writes ≡ l .book .writes
+book-staged : (l : Ledger) (k : Book) (t : Name) (g : Stage) → k .begun ≡ l .book .begun → Moves (stageOf (l .book) t) g → k .writes ≡ l .book .writes
     → ((u : Name) → List·Memᴰ u (l .book .opened) → List·Memᴰ u (k .opened)) → List·Memᴰ t (k .opened)
     → ((u : Name) → k .entry u ≡ change t (staged g) (l .book .entry) u) → (So (isClosed g) → So (isClosed (stageOf (l .book) t)))
     → Staged t g l (withBook l k)
-book-staged l k t g moves writes opened opened-t entry was-closed =
+book-staged l k t g begun moves writes opened opened-t entry was-closed =
     record {
       moves = moves;
+      begun = begun;
       saved = refl;
       writes = writes;
       opened = opened;
@@ -191,7 +195,7 @@ lower-retired {l = l} v t none-lower b k u k′ h low =
 pub begin-staged : (l : Ledger) (t : Name) → stageOf (l .book) t ≡ absent → Staged t running l (withBook l (begin t (l .book)))
 unfolding begin
 begin-staged l t r =
-    book-staged l (begin t (l .book)) t running (rw r opens) refl (λ u h. List·Memᴰ·tail h) (List·Memᴰ·head refl) (λ u. refl) (λ h. clash h refl)
+    book-staged l (begin t (l .book)) t running refl (rw r opens) refl (λ u h. List·Memᴰ·tail h) (List·Memᴰ·head refl) (λ u. refl) (λ h. clash h refl)
 
 pub inv-begin : {home : ℕ → Bytes} {l : Ledger} → Inv home l → (t : Name) → stageOf (l .book) t ≡ absent → Inv home (withBook l (begin t (l .book)))
 inv-begin {l = l} v t r = inv-staged (begin-staged l t r) v (λ h. clash h refl) (λ b. rw r refl)
@@ -207,6 +211,7 @@ module _ {home : ℕ → Bytes} {l : Ledger} (v : Inv home l) (c : ℕ) where
     close-staged =
         record {
           moves = rw r closes;
+          begun = refl;
           saved = refl;
           writes = refl;
           opened = λ u h. h;
@@ -229,7 +234,7 @@ module _ {home : ℕ → Bytes} {l : Ledger} (v : Inv home l) (c : ℕ) where
     pub store-staged : Staged (uncommittedName c (l .book)) (cond isLastStore (committed 0) (closed (suc n))) l (withBook l (storeBook c (l .book)))
     unfolding storeBook
     store-staged =
-        book-staged l (storeBook c (l .book)) (uncommittedName c (l .book)) (cond isLastStore (committed 0) (closed (suc n)))
+        book-staged l (storeBook c (l .book)) (uncommittedName c (l .book)) (cond isLastStore (committed 0) (closed (suc n))) refl
         (rw r (cases isLastStore (λ h. rw h commits) (λ h. rw h stores)))
         refl (λ u h. h) (v .known (uncommittedName c (l .book)) (rw r refl)) (λ u. rw r refl) (λ h. rw r refl)
 
@@ -252,7 +257,7 @@ module _ {home : ℕ → Bytes} {l : Ledger} (v : Inv home l) (c : ℕ) where
         → Staged (oldestName c (l .book)) g l checkpointed
     unfolding checkpointBook
     checkpoint-staged g e moves =
-        book-staged l (checkpointBook c (l .book)) (oldestName c (l .book)) g (rw r moves)
+        book-staged l (checkpointBook c (l .book)) (oldestName c (l .book)) g refl (rw r moves)
         refl (λ u h. h) (v .known (oldestName c (l .book)) (rw r refl)) (λ u. rw (r, e) refl) (λ h. rw r refl)
 
     pub retire-staged : length oldestBlocks ≤ m → Staged (oldestName c (l .book)) retired l (withBook l (checkpointBook c (l .book)))

@@ -15,6 +15,7 @@ use Rattle.crash.proofs.Books.BookEntries.{change-at, change-other, cha
 use Rattle.crash.proofs.Books.BookSteps.{begun-by, begun-running}
 use Rattle.crash.proofs.Blocks.History.{Event, value, Took, Status, Link, LinkNext, Chain, BlockInv, older}
 use Rattle.crash.proofs.Blocks.Steps.{blockInv-write}
+use Rattle.crash.proofs.Books.Required.{required-same}
 use Rattle.crash.proofs.Books.Largest.{memberOf, stageOf}
 use Rattle.crash.proofs.Blocks.Invariant.{eventOf, history, image-history, areaBefore, historyOf, tookIn, homedBy, homed, status, retired-closed, open-not-homed, AllOpened, Inv, sound-of, retired-homed, Grows, extends, blockInv-grown}
 use Rattle.crash.proofs.Blocks.InvariantSteps.{inv-begin}
@@ -69,6 +70,7 @@ abbrev pub withWrite : Ledger → Write → (Name → Entry) → Ledger
 withWrite l w entry =
     withBook l
     (record {
+      begun = l .book .begun;
       opened = l .book .opened;
       entry = entry;
       writes = w ∷ l .book .writes;
@@ -92,7 +94,7 @@ module _ {home : ℕ → Bytes} {l : Ledger} (v : Inv home l) (w : Write) (entry
         committed = λ h. rw (edits u .stage) h;
         retired = λ h. rw (edits u .stage) h;
         names = edits u .names;
-        names-fixed = λ h. edits u .fixed h .0;
+        required-fixed = λ h. required-same (l .book) (noted .book) u refl (edits u .fixed h .0);
         stamp-fixed = λ h. refl;
         stamp-new = λ p q. clash (rw (edits u .stage) at q) p;
       }

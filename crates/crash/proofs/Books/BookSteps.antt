@@ -32,7 +32,7 @@ pub record Restages (k k′ : Book) (t : Name) (g : Stage) : Type 0 where
 
 abbrev pub restaged : Name → Stage → (ℕ → ℕ) → (ℕ → ℕ) → (ℕ → ℕ) → Book → Book
 restaged t g oldest uncommitted next k =
-    record { opened = k .opened; entry = change t (staged g) (k .entry); writes = k .writes; oldest = oldest; uncommitted = uncommitted; next = next }
+    record { begun = k .begun; opened = k .opened; entry = change t (staged g) (k .entry); writes = k .writes; oldest = oldest; uncommitted = uncommitted; next = next }
 
 pub restages : (t : Name) (g : Stage) (o u n : ℕ → ℕ) (k : Book) → Restages k (restaged t g o u n k) t g
 restages t g o u n k =

@@ -14,9 +14,10 @@ use Rattle.model.proofs.Lists.{cases, and-left, and-right, and-both, or-left, o
 use Rattle.model.proofs.Select.{mem-select, select-mem}
 use Rattle.model.proofs.Shrink.{allNamed, shrink-within, shrink-has, shrunk-names, depends-closed}
 use Rattle.model.proofs.Valid.{sameName-true, sameName-refl}
-use Rattle.crash.specs.Book.{Book, Stage, isCommitted, isRetired, committedIn, namesWithin, kept}
+use Rattle.crash.specs.Book.{Book, Stage, isCommitted, isRetired, requiredIn, committedIn, requiredWithin, kept}
 use Rattle.crash.specs.Ledger.{unretired, metIn, validIn}
 use Rattle.crash.specs.Claims.{LargestKept}
+use Rattle.crash.proofs.Books.Required.{listed-in-book}
 use Rattle.crash.proofs.Books.Tests.{clash, any-in, in-any, nameEquality}
 
 -- `k` is the largest set of those in `from` in which each one listed is in the set, or is met without it
@@ -38,8 +39,8 @@ module _ {Txn : Type 0} where
         max = λ P s c. l .max P (λ t p. rw (f t) (s t p)) (λ t u p n. ⊎-map (λ q. q) (λ q. rw (g t u (rw (f t) (s t p)) n) q) (c t u p n));
       }
 
-  -- more transactions, with the lists of the former ones as they were, give more
-  largest-mono : (from from′ : Txn → Bool) (lists lists′ : Txn → Txn → Bool) (met k k′ : Txn → Bool)
+  -- more transactions, of which the former ones list no others, give more
+  pub largest-mono : (from from′ : Txn → Bool) (lists lists′ : Txn → Txn → Bool) (met k k′ : Txn → Bool)
       → ((t : Txn) → So (from t) → So (from′ t)) → ((t u : Txn) → So (from t) → So (lists′ t u) → So (lists t u))
       → Largest from lists met k → Largest from′ lists′ met k′ → (t : Txn) → So (k t) → So (k′ t)
   largest-mono from from′ lists lists′ met k k′ f n l l′ =
@@ -85,6 +86,13 @@ stageOf k t = (k .entry t) .stage
 abbrev pub listsName : Book → Name → Name → Bool
 listsName k t u = memberOf ((k .entry t) .names) u
 
+-- t depends on u: u is listed, or the one before
+abbrev pub requires : Book → Name → Name → Bool
+requires k t u = memberOf (requiredIn k t) u
+
+pub listed-requires : (k : Book) (t u : Name) → So (listsName k t u) → So (requires k t u)
+listed-requires k t u h = in-any nameEquality (listed-in-book k t u (any-in nameEquality u _ h))
+
 module _ (names : Name → List Name) (gone : Name → Bool) (es : List Name) where
   shrunk-largest : Largest (memberOf es) (λ t. memberOf (names t)) gone (memberOf (shrink (allNamed names (λ (t : Name). t) sameName gone) es))
   shrunk-largest =
@@ -109,14 +117,14 @@ member-select p ts f t =
     (λ h. select-mem p ts t (any-in nameEquality t _ h) .1)
     (λ h. in-any nameEquality (mem-select p ts t (f t h) h))
 
-committed-largest : (k : Book) → Largest (memberOf (committedIn k)) (listsName k) (λ t. false) (memberOf (kept k))
-unfolding kept namesWithin
-committed-largest k = shrunk-largest (λ t. (k .entry t) .names) (λ t. false) (committedIn k)
+pub committed-largest : (k : Book) → Largest (memberOf (committedIn k)) (requires k) (λ t. false) (memberOf (kept k))
+unfolding kept requiredWithin
+committed-largest k = shrunk-largest (requiredIn k) (λ t. false) (committedIn k)
 
 -- Kept is the largest set for the transitive relation.
 pub largest-kept : (k : Book) → LargestKept k
 largest-kept k =
-    let l : Largest (memberOf (committedIn k)) (listsName k) (λ t. false) (memberOf (kept k)) = committed-largest k in
+    let l : Largest (memberOf (committedIn k)) (requires k) (λ t. false) (memberOf (kept k)) = committed-largest k in
     record {
       is-one =
           record {
@@ -133,12 +141,12 @@ largest-kept k =
           t m);
     }
 
--- of the names that committed ones list, those below their core's oldest number are those of the retired
+-- of those that committed ones require, those below their core's oldest number are the retired
 abbrev pub RetiredBelow : Book → Type 0
-RetiredBelow k = (t u : Name) → So (isCommitted (stageOf k t)) → So (listsName k t u) → ltb (u .number) (k .oldest (u .core)) ≡ isRetired (stageOf k u)
+RetiredBelow k = (t u : Name) → So (isCommitted (stageOf k t)) → So (requires k t u) → ltb (u .number) (k .oldest (u .core)) ≡ isRetired (stageOf k u)
 
 module _ (k : Book) (opened : (t : Name) → So (isCommitted (stageOf k t)) → List·Memᴰ t (k .opened)) where
-  pub kept-largest : Largest (λ t. isCommitted (stageOf k t)) (listsName k) (λ t. false) (memberOf (kept k))
+  pub kept-largest : Largest (λ t. isCommitted (stageOf k t)) (requires k) (λ t. false) (memberOf (kept k))
   unfolding committedIn
   kept-largest =
       largest-same _ _ _ _ _ _ (member-select (λ t. isCommitted (stageOf k t)) (k .opened) opened) (λ t u h n. refl) (committed-largest k)
@@ -148,20 +156,20 @@ module _ (k : Book) (opened : (t : Name) → So (isCommitted (stageOf k t)) → 
   unretired-is = member-select (λ t. isCommitted (stageOf k t) && not (isRetired (stageOf k t))) (k .opened) (λ t h. opened t (and-left _ _ h))
 
   module _ (numbered : RetiredBelow k) where
-    valid-largest : Largest (λ t. isCommitted (stageOf k t) && not (isRetired (stageOf k t))) (listsName k) (λ t. isRetired (stageOf k t)) (memberOf (validIn k))
+    valid-largest : Largest (λ t. isCommitted (stageOf k t) && not (isRetired (stageOf k t))) (requires k) (λ t. isRetired (stageOf k t)) (memberOf (validIn k))
     unfolding validIn metIn
     valid-largest =
-        largest-same _ _ (listsName k) _ _ _ unretired-is (λ t u h n. numbered t u (and-left _ _ (rw (unretired-is t) at h)) n)
-        (shrunk-largest (λ t. (k .entry t) .names) (λ n. ltb (n .number) (k .oldest (n .core))) (unretired k))
+        largest-same _ _ (requires k) _ _ _ unretired-is (λ t u h n. numbered t u (and-left _ _ (rw (unretired-is t) at h)) n)
+        (shrunk-largest (requiredIn k) (λ n. ltb (n .number) (k .oldest (n .core))) (unretired k))
 
     pub valid-is-kept : ((t : Name) → So (isRetired (stageOf k t)) → So (memberOf (kept k) t))
         → (t : Name) → memberOf (validIn k) t ≡ (memberOf (kept k) t && not (isRetired (stageOf k t)))
-    valid-is-kept = valid-kept (λ t. isCommitted (stageOf k t)) (λ t. isRetired (stageOf k t)) (listsName k) (memberOf (kept k)) (memberOf (validIn k)) kept-largest valid-largest
+    valid-is-kept = valid-kept (λ t. isCommitted (stageOf k t)) (λ t. isRetired (stageOf k t)) (requires k) (memberOf (kept k)) (memberOf (validIn k)) kept-largest valid-largest
 
--- Of two books the one with more committed, of which those committed in the first list no other names, keeps more.
+-- Of two books the one with more committed, of which those committed in the first require no others, keeps more.
 pub kept-more : (k k′ : Book) → ((t : Name) → So (isCommitted (stageOf k t)) → List·Memᴰ t (k .opened)) → ((t : Name) → So (isCommitted (stageOf k′ t)) → List·Memᴰ t (k′ .opened))
     → ((t : Name) → So (isCommitted (stageOf k t)) → So (isCommitted (stageOf k′ t)))
-    → ((t u : Name) → So (isCommitted (stageOf k t)) → So (listsName k′ t u) → So (listsName k t u))
+    → ((t u : Name) → So (isCommitted (stageOf k t)) → So (requires k′ t u) → So (requires k t u))
     → (t : Name) → So (memberOf (kept k) t) → So (memberOf (kept k′) t)
-kept-more k k′ opened opened′ more names =
-    largest-mono _ _ (listsName k) (listsName k′) _ _ _ more names (kept-largest k opened) (kept-largest k′ opened′)
+kept-more k k′ opened opened′ more fewer =
+    largest-mono _ _ (requires k) (requires k′) _ _ _ more fewer (kept-largest k opened) (kept-largest k′ opened′)

@@ -4,8 +4,6 @@ use Prim.Native.Nat.{ℕ, zero, suc, _+_, _-_, _<_}
 use mathlib.Core.Path.{_≡_, refl, sym, ap, _∙_, subst}
 use mathlib.Core.Bool.{Bool, true, false, cond, not, _&&_}
 use mathlib.Core.List.{List, [], _∷_, _++_}
-use lib.ListN.{getD}
-use lib.Dec.{eqb}
 use borrow.Author.Tests.{not-true}
 use Rattle.model.specs.Lists.{below, all, any}
 use Rattle.model.specs.Bytes.{Bytes}
@@ -13,7 +11,9 @@ use Rattle.model.specs.Card.{newName, sameName, isBlank}
 use Rattle.model.specs.Command.{World}
 use Rattle.model.specs.Journal.{journal, namesOf}
 use Rattle.model.specs.Recovery.{shapeOn, tailOn}
-use Rattle.model.specs.Tape.{Point, run, CHECKPOINT, CLOSE, CUT, Command, FORMAT, RECOVER, Read, STORE, WRITE, early, heard, unknown, whole}
+use Rattle.model.specs.Tape.{Point, run, CHECKPOINT, CLOSE, CUT, Command, FORMAT, RECOVER, STORE, WRITE}
+use Rattle.model.proofs.Command.{of-cond}
+use Rattle.model.proofs.Tape.{heard-keeps}
 use Rattle.model.proofs.Lists.{cases, and-both, and-left, and-right, or-none, any-append, all-map, mem-all}
 use Rattle.model.proofs.Valid.{sameName-refl}
 use Rattle.crash.specs.Book.{Stage, Entry, Book, emptyBook, change, staged, taking, naming, hasRunning, hasClosed, hasCommitted, begin, bookHolder, Meeting, no-holder, own, running-holder, closed-holder, meets, ruled, note, writeBook, closeBook, storeBook, checkpointBook}
@@ -23,8 +23,9 @@ use Rattle.crash.specs.Claims.{fedPoint, readAs, JournalsRead, LedgerKep
 use Rattle.crash.proofs.Books.BookEntries.{sameName-false, change-each}
 use Rattle.crash.proofs.Books.Tests.{clash}
 use Rattle.crash.proofs.Runs.Theorem.{demands}
-use Rattle.model.specs.Step.{stepAt}
+use Rattle.model.specs.Step.{stepAtBy}
 use Rattle.model.specs.declared.Name.{Name}
+use Rattle.model.specs.Valid.{Order}
 use Rattle.model.specs.declared.Shape.{Shape}
 use Rattle.model.specs.declared.Committed.{Committed}
 
@@ -71,11 +72,6 @@ once-added n (x ∷ xs) a h =
 once-named : (n : Name) (e : Entry) → once (e .names) ≡ true → once ((naming n e) .names) ≡ true
 once-named n e h = cases (any (sameName n) (e .names)) (λ a. rw a h) (λ a. rw a (once-added n (e .names) a h))
 
--- ---- the commands in a book
-by-test : {A : Type 0} (P : A → Type 0) (t : Bool) {x y : A} → P x → P y → P (cond t x y)
-by-test P true p q = p
-by-test P false p q = q
-
 module _ (entry : Name → Entry) (h : (u : Name) → once ((entry u) .names) ≡ true) where
   changed-once : (t : Name) (g : Entry → Entry) → ((e : Entry) → once (e .names) ≡ true → once ((g e) .names) ≡ true) → (u : Name) → once ((change t g entry u) .names) ≡ true
   changed-once t g keeps = change-each (λ (u : Name) (e : Entry). once (e .names) ≡ true) t g entry (keeps (entry t) (h t)) (λ u ne. h u)
@@ -103,7 +99,7 @@ module _ (c : ℕ) (k : Book) (h : NamesOnce k) where
   unfolding writeBook
   write-once b o v =
       let t = newName c (k .next c) in
-      note-once t b o v (cond (hasRunning k c) k (begin t k)) (by-test NamesOnce (hasRunning k c) h (begin-once t k h))
+      note-once t b o v (cond (hasRunning k c) k (begin t k)) (of-cond NamesOnce (hasRunning k c) h (begin-once t k h))
 
   close-once : NamesOnce (closeBook c k)
   unfolding closeBook
@@ -117,52 +113,44 @@ module _ (c : ℕ) (k : Book) (h : NamesOnce k) where
   unfolding checkpointBook
   checkpoint-once = staged-once (k .entry) h _ _
 
-empty-once : (first : ℕ → ℕ) → NamesOnce (emptyBook first)
+empty-once : (o : Order) (first : ℕ → ℕ) → NamesOnce (emptyBook o first)
 unfolding emptyBook once
-empty-once first t = refl
+empty-once o first t = refl
 
 noted-once : (k : Command) (b : Book) → NamesOnce b → NamesOnce (noted k b)
 unfolding noted
 noted-once (FORMAT c n j) b h = h
 noted-once (WRITE c n o v) b h = write-once c b h n o v
-noted-once (CLOSE c) b h = by-test NamesOnce (hasRunning b c) (close-once c b h) h
-noted-once (STORE c) b h = by-test NamesOnce (hasClosed b c) (store-once c b h) h
-noted-once (CHECKPOINT c) b h = by-test NamesOnce (hasCommitted b c) (checkpoint-once c b h) h
+noted-once (CLOSE c) b h = of-cond NamesOnce (hasRunning b c) (close-once c b h) h
+noted-once (STORE c) b h = of-cond NamesOnce (hasClosed b c) (store-once c b h) h
+noted-once (CHECKPOINT c) b h = of-cond NamesOnce (hasCommitted b c) (checkpoint-once c b h) h
 noted-once CUT b h = h
 noted-once RECOVER b h = h
 
 served-once : (k : Command) (v : Service) → NamesOnce (v .book) → NamesOnce ((served k v) .book)
 unfolding served emptyService cutService
-served-once (FORMAT c b j) v h = empty-once _
+served-once (FORMAT c b j) v h = empty-once _ _
 served-once (WRITE c b o d) v h = noted-once (WRITE c b o d) (v .book) h
 served-once (CLOSE c) v h = noted-once (CLOSE c) (v .book) h
 served-once (STORE c) v h = noted-once (STORE c) (v .book) h
 served-once (CHECKPOINT c) v h = noted-once (CHECKPOINT c) (v .book) h
-served-once CUT v h = empty-once _
+served-once CUT v h = empty-once _ _
 served-once RECOVER v h = h
 
 recover-once : (bs : List ℕ) (l : Ledger) → NamesOnce (l .book) → NamesOnce ((recoverLedger bs l) .book)
 unfolding recoverLedger freshLedger
-recover-once [] l h = empty-once _
+recover-once [] l h = empty-once _ _
 recover-once (b ∷ bs) l h = h
 
 carried-once : (k : Command) (l : Ledger) → NamesOnce (l .book) → NamesOnce ((carriedOut k l) .book)
 unfolding carriedOut freshLedger closeLedger cutLedger
-carried-once (FORMAT c b j) l h = empty-once _
+carried-once (FORMAT c b j) l h = empty-once _ _
 carried-once (WRITE c b o v) l h = noted-once (WRITE c b o v) (l .book) h
-carried-once (CLOSE c) l h = by-test (λ (l : Ledger). NamesOnce (l .book)) (hasRunning (l .book) c) (close-once c (l .book) h) h
+carried-once (CLOSE c) l h = of-cond (λ (l : Ledger). NamesOnce (l .book)) (hasRunning (l .book) c) (close-once c (l .book) h) h
 carried-once (STORE c) l h = noted-once (STORE c) (l .book) h
 carried-once (CHECKPOINT c) l h = noted-once (CHECKPOINT c) (l .book) h
 carried-once CUT l h = h
 carried-once RECOVER l h = recover-once (l .left) l h
-
--- a refused command changes nothing, nor does what is no command
-module _ {S : Type 0} (book : S → Book) (f : Command → ℕ → S → S) (h : (k : Command) (n : ℕ) (s : S) → NamesOnce (book s) → NamesOnce (book (f k n s))) where
-  heard-once : (r : Read) (n : ℕ) (s : S) → NamesOnce (book s) → NamesOnce (book (heard f r n s))
-  unfolding heard
-  heard-once (whole k) n s g = h k n s g
-  heard-once unknown n s g = g
-  heard-once early n s g = g
 
 fed-once : (k : Command) (n : ℕ) (v : Service) → NamesOnce (v .book) → NamesOnce ((fed k n v) .book)
 unfolding fed
@@ -200,24 +188,24 @@ along l w [] h k = (h, λ b. journals-once l (w .disk) h (k .journals b))
 along l w (p ∷ ps) h k = (
   h,
   λ b. journals-once l (w .disk) h (k .0 .between .journals b),
-  along (enteredPoint p l) (p .outcome .world) ps (unfold enteredPoint in heard-once (λ (l : Ledger). l .book) entered entered-once (p .read) (p .outcome .answer) l h) (k .1),
+  along (enteredPoint p l) (p .outcome .world) ps (unfold enteredPoint in heard-keeps entered (λ (l : Ledger). NamesOnce (l .book)) entered-once (p .read) (p .outcome .answer) l h) (k .1),
 )
 
 served-along : (v : Service) (ps : List (Point World)) → NamesOnce (v .book) → OnceServed v ps
 unfolding fedPoint
 served-along v [] h = h
-served-along v (p ∷ ps) h = (h, served-along (fedPoint p v) ps (heard-once (λ (v : Service). v .book) fed fed-once (p .read) (p .outcome .answer) v h))
+served-along v (p ∷ ps) h = (h, served-along (fedPoint p v) ps (heard-keeps fed (λ (v : Service). NamesOnce (v .book)) fed-once (p .read) (p .outcome .answer) v h))
 
 -- the service book needs no run: any points do
-pub service-once : (n : ℕ) (ps : List (Point World)) → OnceServed (emptyService n) ps
+pub service-once : (o : Order) (n : ℕ) (ps : List (Point World)) → OnceServed (emptyService o n) ps
 unfolding emptyService
-service-once n ps = served-along (emptyService n) ps (empty-once _)
+service-once o n ps = served-along (emptyService o n) ps (empty-once _ _)
 
-start-once : (s : Start) → NamesOnce ((startLedger s) .book)
+start-once : (o : Order) (s : Start) → NamesOnce ((startLedger o s) .book)
 unfolding startLedger blankLedger cutLedger freshLedger
-start-once (from-blank d m) = empty-once _
-start-once (from-down s m) = empty-once _
+start-once o (from-blank d m) = empty-once _ _
+start-once o (from-down s m) = empty-once _ _
 
 -- In every run, from a blank card and from one that is down over a formatted disk: no list has a name twice.
-pub names-once : OnRuns StartFits startWorld stepAt (λ (s : Start) (ps : List (Point World)). OnceAlong (startLedger s) (startWorld s) ps)
-names-once t b s h = along (startLedger s) (startWorld s) (run stepAt t (startWorld s)) (start-once s) (demands t b s h)
+pub names-once : (o : Order) → OnRuns StartFits startWorld (stepAtBy o) (λ (s : Start) (ps : List (Point World)). OnceAlong (startLedger o s) (startWorld s) ps)
+names-once o t b s h = along (startLedger o s) (startWorld s) (run (stepAtBy o) t (startWorld s)) (start-once o s) (demands o t b s h)

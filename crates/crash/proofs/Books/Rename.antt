@@ -1,23 +1,24 @@
 -- Two books that differ in the numbers of the transactions alone: the service book numbers from 1 since the last cut, the
 -- ledger goes on with the card's numbers. Every command keeps such a pair one, and a cut keeps the same writes of both:
 -- whatever a book does with names, it only compares them, and a shift of each core's numbers changes no comparison.
-use Prim.Native.Nat.{ℕ, suc, _+_}
+use Prim.Native.Nat.{ℕ, suc, _+_, _-_, _<_}
 use native.Mathlib.Nat.{suc-add}
 use native.Mathlib.Omega.{arith}
 use mathlib.Core.Path.{_≡_, refl, sym, _∙_, ap}
 use mathlib.Core.List.{List, [], _∷_, _++_, map, map-map, map-append}
 use mathlib.Core.Option.{Option, none, some}
 use mathlib.Core.Bool.{Bool, true, false, cond}
-use lib.ListN.{length, getD}
+use lib.ListN.{length}
 use lib.Dec.{eqb, leb, ltb}
 use borrow.Author.Tests.{eqb-true, eqb-false, eq-eqb, ne-eqb, lt-ltb, le-ltb, ltb-true, ltb-false}
 use Rattle.model.specs.Lists.{any, select}
 use Rattle.model.specs.Bytes.{Bytes}
 use Rattle.model.specs.Card.{newName, sameName}
+use Rattle.model.specs.Valid.{Order, unordered, in-sequence, required}
 use Rattle.model.proofs.Lists.{cases, all-map, any-map}
 use Rattle.model.proofs.Select.{select-map}
 use Rattle.model.proofs.Shrink.{shrink-map}
-use Rattle.crash.specs.Book.{running, closed, committed, retired, isRunning, isClosed, isCommitted, isRetired, stageCount, Entry, Write, Book, emptyBook, change, raise, staged, taking, naming, begin, bookHolder, Meeting, no-holder, own, running-holder, closed-holder, meets, ruled, holderAfter, note, writeBook, closeBook, storeBook, checkpointBook, committedIn, namesWithin, kept, keptWrites, image, hasRunning}
+use Rattle.crash.specs.Book.{running, closed, committed, retired, isRunning, isClosed, isCommitted, isRetired, stageCount, Entry, Write, Beginning, Book, emptyBook, change, raise, staged, taking, naming, begin, bookHolder, Meeting, no-holder, own, running-holder, closed-holder, meets, ruled, holderAfter, note, writeBook, closeBook, storeBook, checkpointBook, requiredIn, committedIn, requiredWithin, kept, keptWrites, image, hasRunning}
 use Rattle.crash.specs.Service.{noted}
 use Rattle.crash.proofs.Books.Tests.{cond-apply}
 use Rattle.crash.proofs.Books.BookEntries.{nextName, oldestName, uncommittedName}
@@ -44,9 +45,15 @@ renamedMeeting shift own = own
 renamedMeeting shift (running-holder u) = running-holder (renamed shift u)
 renamedMeeting shift (closed-holder u) = closed-holder (renamed shift u)
 
+-- the same rule, each core's first number shifted
+pub record BegunRenamed (shift : ℕ → ℕ) (b b′ : Beginning) : Type 0 where
+  pub order : b′ .order ≡ b .order
+  pub first : (c : ℕ) → b′ .first c ≡ b .first c + shift c
+
 -- the second book is the first with each core's numbers shifted; what it says of names that are none of the first's
 -- does not matter
 pub record Renamed (shift : ℕ → ℕ) (k k′ : Book) : Type 0 where
+  pub begun : BegunRenamed shift (k .begun) (k′ .begun)
   pub opened : k′ .opened ≡ map (renamed shift) (k .opened)
   pub entry : (t : Name) → k′ .entry (renamed shift t) ≡ renamedEntry shift (k .entry t)
   pub writes : k′ .writes ≡ map (renamedWrite shift) (k .writes)
@@ -114,9 +121,9 @@ module _ (shift : ℕ → ℕ) where
   holderAfter-renamed (closed-holder u) t = refl
 
 -- ---- the commands
-pub empty-renamed : (shift n n′ : ℕ → ℕ) → ((c : ℕ) → n′ c ≡ n c + shift c) → Renamed shift (emptyBook n) (emptyBook n′)
+pub empty-renamed : (o : Order) (shift n n′ : ℕ → ℕ) → ((c : ℕ) → n′ c ≡ n c + shift c) → Renamed shift (emptyBook o n) (emptyBook o n′)
 unfolding emptyBook
-empty-renamed shift n n′ h = record { opened = refl; entry = λ t. refl; writes = refl; oldest = h; uncommitted = h; next = h }
+empty-renamed o shift n n′ h = record { begun = record { order = refl; first = h }; opened = refl; entry = λ t. refl; writes = refl; oldest = h; uncommitted = h; next = h }
 
 cond-renamed : {shift : ℕ → ℕ} {k k′ j j′ : Book} (t : Bool) → Renamed shift k k′ → Renamed shift j j′ → Renamed shift (cond t k j) (cond t k′ j′)
 cond-renamed true r s = r
@@ -127,6 +134,7 @@ module _ {shift : ℕ → ℕ} {k k′ : Book} (r : Renamed shift k k′) where
   unfolding begin
   begin-renamed t =
       record {
+        begun = r .begun;
         opened = ap (λ (ts : List Name). renamed shift t ∷ ts) (r .opened);
         entry = change-renamed shift t (staged running) (staged running) (λ e. refl) (k .entry) (k′ .entry) (r .entry);
         writes = r .writes;
@@ -156,6 +164,7 @@ module _ {shift : ℕ → ℕ} {k k′ : Book} (r : Renamed shift k k′) where
       let h : bookHolder k′ b (k′ .writes) ≡ renamedHolder shift (bookHolder k b (k .writes)) = ap (bookHolder k′ b) (r .writes) ∙ holderIn-renamed b (k .writes) in
       let e : meets k′ (renamed shift t) (bookHolder k′ b (k′ .writes)) ≡ renamedMeeting shift m = ap (meets k′ (renamed shift t)) h ∙ meets-renamed t (bookHolder k b (k .writes)) in
       record {
+        begun = r .begun;
         opened = r .opened;
         entry = rw e (ruled-renamed shift m t b (k .entry) (k′ .entry) (r .entry));
         writes = rw (e, holderAfter-renamed shift m t, r .writes) refl;
@@ -176,6 +185,7 @@ module _ {shift : ℕ → ℕ} {k k′ : Book} (r : Renamed shift k k′) where
   unfolding closeBook
   close-renamed c =
       record {
+        begun = r .begun;
         opened = r .opened;
         entry =
             rw (renamed-number shift c (k .next c) (k′ .next c) (r .next c))
@@ -196,6 +206,7 @@ module _ {shift : ℕ → ℕ} {k k′ : Book} (r : Renamed shift k k′) where
       let g = staged (cond last (committed 0) (closed n)) in
       let p : newName c (k′ .uncommitted c) ≡ renamed shift t = renamed-number shift c (k .uncommitted c) (k′ .uncommitted c) (r .uncommitted c) in
       record {
+        begun = r .begun;
         opened = r .opened;
         entry = rw (p, r .entry t) (change-renamed shift t g g (λ x. refl) (k .entry) (k′ .entry) (r .entry));
         writes = r .writes;
@@ -214,6 +225,7 @@ module _ {shift : ℕ → ℕ} {k k′ : Book} (r : Renamed shift k k′) where
       let g = staged (cond last retired (committed n)) in
       let p : newName c (k′ .oldest c) ≡ renamed shift t = renamed-number shift c (k .oldest c) (k′ .oldest c) (r .oldest c) in
       record {
+        begun = r .begun;
         opened = r .opened;
         entry = rw (p, r .entry t) (change-renamed shift t g g (λ x. refl) (k .entry) (k′ .entry) (r .entry));
         writes = r .writes;
@@ -268,15 +280,35 @@ module _ {shift : ℕ → ℕ} {k k′ : Book} (r : Renamed shift k k′) where
       rw (r .opened)
       (select-map (renamed shift) (λ t. isCommitted (k .entry t .stage)) (λ t. isCommitted (k′ .entry t .stage)) (λ t. rw (r .entry t) refl) (k .opened))
 
-  names-renamed : (ts : List Name) (t : Name) → namesWithin k′ (map (renamed shift) ts) (renamed shift t) ≡ namesWithin k ts t
-  unfolding namesWithin
-  names-renamed ts t =
-      rw (r .entry t)
-      (all-map (renamed shift) (λ n. any (sameName n) ts) (λ n. any (sameName n) (map (renamed shift) ts)) (λ n. any-renamed shift n ts) (k .entry t .names))
+  -- the one before, where there is one, is renamed with it
+  before-renamed : (o : Order) (t : Name) (ns : List Name) → k .begun .first (t .core) < t .number
+      → required o (renamed shift t) (map (renamed shift) ns) ≡ map (renamed shift) (required o t ns)
+  unfolding required renamed
+  before-renamed unordered t ns h = refl
+  before-renamed in-sequence t ns h =
+      let e : t .number + shift (t .core) - 1 ≡ t .number - 1 + shift (t .core) = omega arith in
+      ap (λ (n : ℕ). newName (t .core) n ∷ map (renamed shift) ns) e
+
+  required-renamed : (t : Name) → requiredIn k′ (renamed shift t) ≡ map (renamed shift) (requiredIn k t)
+  required-renamed t = by-test (ltb (k .begun .first (t .core)) (t .number)) refl
+    where
+      same : ltb (k′ .begun .first ((renamed shift t) .core)) ((renamed shift t) .number) ≡ ltb (k .begun .first (t .core)) (t .number)
+      same = unfold renamed in less-renamed r (shift (t .core)) _ _ _ _ (r .begun .first (t .core)) refl
+
+      by-test : (b : Bool) → ltb (k .begun .first (t .core)) (t .number) ≡ b → requiredIn k′ (renamed shift t) ≡ map (renamed shift) (requiredIn k t)
+      by-test true e =
+          unfold requiredIn in rw (same, e, r .entry t, r .begun .order) (before-renamed (k .begun .order) t ((k .entry t) .names) (ltb-true _ _ e))
+      by-test false e = unfold requiredIn in rw (same, e, r .entry t) refl
+
+  required-within-renamed : (ts : List Name) (t : Name) → requiredWithin k′ (map (renamed shift) ts) (renamed shift t) ≡ requiredWithin k ts t
+  unfolding requiredWithin
+  required-within-renamed ts t =
+      rw (required-renamed t)
+      (all-map (renamed shift) (λ n. any (sameName n) ts) (λ n. any (sameName n) (map (renamed shift) ts)) (λ n. any-renamed shift n ts) (requiredIn k t))
 
   kept-renamed : kept k′ ≡ map (renamed shift) (kept k)
   unfolding kept
-  kept-renamed = rw committed-renamed (shrink-map (renamed shift) (namesWithin k) (namesWithin k′) names-renamed (committedIn k))
+  kept-renamed = rw committed-renamed (shrink-map (renamed shift) (requiredWithin k) (requiredWithin k′) required-within-renamed (committedIn k))
 
   -- A cut keeps the same transactions,
   kept-same : (t : Name) → any (sameName (renamed shift t)) (kept k′) ≡ any (sameName t) (kept k)

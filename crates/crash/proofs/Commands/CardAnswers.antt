@@ -90,7 +90,7 @@ module _ {l : Ledger} {w : World} (u : CardUp l w) where
   unfolding storeConditions storeRefusals
   store-answers c = up-refusal c _ _ (λ h. then (ap not (closing-live c h)) (λ _. none-left))
 
-  pub checkpoint-answers : (c : ℕ) → refusal (checkpointConditions c w) ≡ refusal (checkpointRefusals c l)
+  pub checkpoint-answers : (c : ℕ) → refusal (checkpointConditions (l .book .begun .order) c w) ≡ refusal (checkpointRefusals c l)
   unfolding checkpointConditions checkpointRefusals
   checkpoint-answers c =
       up-refusal c _ _

@@ -10,6 +10,7 @@ use mathlib.Core.List.{List, [], List·Memᴰ, List·Memᴰ·not-nil}
 use lib.ListN.{length, take, drop, replicate, length-replicate, getD-replicate, replicate-append-replicate}
 use lib.Seq.{take-at, drop-at}
 use Rattle.model.specs.Lists.{below, any, select}
+use Rattle.model.specs.Valid.{Order}
 use Rattle.model.specs.Bytes.{Bytes, number, part, be4, blockAt, zeroDisk, zeroMemory}
 use Rattle.model.specs.Shape.{inRange, homeBlock, journalBlock}
 use Rattle.model.specs.Card.{newTail}
@@ -96,35 +97,35 @@ module _ (s : Shape) (r : InRange s) where
             ap (isCommit s i) z ∙ zero-commit s i;
       }
 
-  pub format-up : CardUp (freshLedger s [] (λ (c : ℕ). 1)) ((formatted s) .world)
-  format-up = fresh-up r format-comes-up [] (λ w m. absurd (List·Memᴰ·not-nil m)) (λ c h. (omega arith, omega arith))
+  pub format-up : (o : Order) → CardUp (freshLedger o s [] (λ (c : ℕ). 1)) ((formatted s) .world)
+  format-up o = fresh-up r format-comes-up o [] (λ w m. absurd (List·Memᴰ·not-nil m)) (λ c h. (omega arith, omega arith))
 
 -- ---- a fresh ledger holds no block, and its kept writes are those saved
-fresh-valid : (first : ℕ → ℕ) → validIn (emptyBook first) ≡ []
+fresh-valid : (o : Order) (first : ℕ → ℕ) → validIn (emptyBook o first) ≡ []
 unfolding validIn unretired select shrink shrinkIn emptyBook
-fresh-valid first = refl
+fresh-valid o first = refl
 
-fresh-held : (n : ℕ) (first : ℕ → ℕ) (b : ℕ) → List·Memᴰ b (blocksIn n (emptyBook first)) → ⊥
+fresh-held : (o : Order) (n : ℕ) (first : ℕ → ℕ) (b : ℕ) → List·Memᴰ b (blocksIn n (emptyBook o first)) → ⊥
 unfolding blocksIn any
-fresh-held n first b m = clash (select-mem _ (below n) b m .1) (rw (fresh-valid first))
+fresh-held o n first b m = clash (select-mem _ (below n) b m .1) (rw (fresh-valid o first))
 
-fresh-target : (s : Shape) (saved : List Write) (first : ℕ → ℕ) (b : ℕ) → target (freshLedger s saved first) b ≡ image blank saved b
+fresh-target : (o : Order) (s : Shape) (saved : List Write) (first : ℕ → ℕ) (b : ℕ) → target (freshLedger o s saved first) b ≡ image blank saved b
 unfolding target freshLedger keptWrites select emptyBook
-fresh-target s saved first b = refl
+fresh-target o s saved first b = refl
 
-fresh-gives : (s : Shape) (saved : List Write) (first : ℕ → ℕ) (d : Bytes) → ((b : ℕ) → b < s .blocks → blockAt d (homeBlock b) ≡ image blank saved b)
-    → TargetsStand (freshLedger s saved first) d
+fresh-gives : (o : Order) (s : Shape) (saved : List Write) (first : ℕ → ℕ) (d : Bytes) → ((b : ℕ) → b < s .blocks → blockAt d (homeBlock b) ≡ image blank saved b)
+    → TargetsStand (freshLedger o s saved first) d
 unfolding freshLedger
-fresh-gives s saved first d h =
+fresh-gives o s saved first d h =
     record {
-      held = λ b k m. absurd (fresh-held (s .blocks) first b m);
-      home = λ b k a. h b k ∙ sym (fresh-target s saved first b);
+      held = λ b k m. absurd (fresh-held o (s .blocks) first b m);
+      home = λ b k a. h b k ∙ sym (fresh-target o s saved first b);
     }
 
 -- ---- a card that is down over a formatted disk
-pub down-start : (s : Shape) (m : Bytes) → inRange (s .cores) (s .blocks) (s .journal) ≡ true → IsBytes m → length m ≡ 16384 → CardDown (startLedger (from-down s m)) (startWorld (from-down s m))
+pub down-start : (o : Order) (s : Shape) (m : Bytes) → inRange (s .cores) (s .blocks) (s .journal) ≡ true → IsBytes m → length m ≡ 16384 → CardDown (startLedger o (from-down s m)) (startWorld (from-down s m))
 unfolding startLedger startWorld
-down-start s m h b n =
+down-start o s m h b n =
     let r = range-test s h in
-    let u = format-up s r in
-    down-over (u .well-formed) (u .disk) (fresh-gives s [] (λ (c : ℕ). 1) ((formatted s) .world .disk) (λ b k. format-home s r b k ∙ (unfold image in refl))) m n b
+    let u = format-up s r o in
+    down-over (u .well-formed) (u .disk) (fresh-gives o s [] (λ (c : ℕ). 1) ((formatted s) .world .disk) (λ b k. format-home s r b k ∙ (unfold image in refl))) m n b

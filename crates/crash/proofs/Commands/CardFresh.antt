@@ -4,6 +4,7 @@
 use Rattle.model.proofs.Base.{ℕ, _-_, _≤_, _<_, arith, _≡_, refl, sym, ap, _∙_, false, List, [], flatMap, List·Memᴰ, length, getD}
 use Rattle.model.proofs.Base.{length-map, length-replicate, List·getD-map, getD-replicate, below}
 use native.Mathlib.Nat.{sub-self}
+use Rattle.model.specs.Valid.{Order}
 use Rattle.model.specs.Bytes.{blockAt}
 use Rattle.model.specs.Card.{newTail, freshCore, freshCard, noHolder, tailOf, coreOf, holderOf}
 use Rattle.model.specs.Layout.{masterBlock, isCommit}
@@ -23,12 +24,12 @@ use Rattle.crash.proofs.Disk.Relation.{WriteFits, contents, JournalStan
 use Rattle.crash.proofs.Disk.LedgerFresh.{well-formed-fresh}
 
 -- the journals hold nothing
-module _ (s : Shape) (saved : List Write) (first : ℕ → ℕ) (c : ℕ) where
-  fresh-contents : contents (freshLedger s saved first) c ≡ []
+module _ (o : Order) (s : Shape) (saved : List Write) (first : ℕ → ℕ) (c : ℕ) where
+  fresh-contents : contents (freshLedger o s saved first) c ≡ []
   unfolding contents freshLedger emptyBook below flatMap
   fresh-contents = rw (sub-self (first c))
 
-  fresh-records : recordBlocks (emptyBook first) c (first c) (first c - first c) ≡ 0
+  fresh-records : recordBlocks (emptyBook o first) c (first c) (first c - first c) ≡ 0
   unfolding recordBlocks
   fresh-records = rw (sub-self (first c))
 
@@ -61,21 +62,21 @@ module _ {s : Shape} {first : ℕ → ℕ} {w : World} (r : InRange s) (u : Come
   unfolding holderOf freshCard
   fresh-holder b h = rw (u .card) (getD-replicate 64 b noHolder noHolder (omega (arith, r .few-blocks)))
 
-  module _ (saved : List Write) where
-    fresh-journal : (c : ℕ) → c < s .cores → JournalStands (freshLedger s saved first) (w .disk) c (tailOf (w .card) c)
+  module _ (o : Order) (saved : List Write) where
+    fresh-journal : (c : ℕ) → c < s .cores → JournalStands (freshLedger o s saved first) (w .disk) c (tailOf (w .card) c)
     unfolding freshLedger
     fresh-journal c h =
         let t = fresh-tail c h in
         record {
           number = unfold emptyBook in ap (λ (t : Tail). t .number) t;
           position = rw t (omega (arith, r .long));
-          stands = rw (fresh-contents s saved first c) (λ q k. absurd (omega arith));
+          stands = rw (fresh-contents o s saved first c) (λ q k. absurd (omega arith));
           clear = unfold emptyBook in λ i q k. u .clear c h i q k;
-          room = unfold emptyBook in omega (arith, fresh-records s saved first c);
+          room = unfold emptyBook in omega (arith, fresh-records o s saved first c);
           reserved = unfold emptyBook in λ k. impossible k;
         }
 
-    fresh-stands : DiskStands (freshLedger s saved first) (w .disk) (tailOf (w .card))
+    fresh-stands : DiskStands (freshLedger o s saved first) (w .disk) (tailOf (w .card))
     unfolding freshLedger
     fresh-stands =
         record {
@@ -85,14 +86,14 @@ module _ {s : Shape} {first : ℕ → ℕ} {w : World} (r : InRange s) (u : Come
           journals = λ c h. fresh-journal c h;
         }
 
-    fresh-core-up : (c : ℕ) → c < s .cores → CoreUp (freshLedger s saved first) (w .memory) c (coreOf (w .card) c)
+    fresh-core-up : (c : ℕ) → c < s .cores → CoreUp (freshLedger o s saved first) (w .memory) c (coreOf (w .card) c)
     unfolding freshLedger emptyBook
     fresh-core-up c h =
         rw (fresh-core c h)
         (record {
           next = refl;
           one = omega arith;
-          used = sym (fresh-records s saved first c);
+          used = sym (fresh-records o s saved first c);
           runs = λ k. impossible k;
           idle = λ k. refl;
           closing = λ k. absurd (omega arith);
@@ -103,7 +104,7 @@ module _ {s : Shape} {first : ℕ → ℕ} {w : World} (r : InRange s) (u : Come
           none-homed = λ k. refl;
         })
 
-    pub fresh-up : ((x : Write) → List·Memᴰ x saved → WriteFits s x) → ((c : ℕ) → c < s .cores → (1 ≤ first c) × (first c ≤ 4000000001)) → CardUp (freshLedger s saved first) w
+    pub fresh-up : ((x : Write) → List·Memᴰ x saved → WriteFits s x) → ((c : ℕ) → c < s .cores → (1 ≤ first c) × (first c ≤ 4000000001)) → CardUp (freshLedger o s saved first) w
     unfolding freshLedger freshCard emptyBook bookHolder
     fresh-up fits firsts =
         record {
@@ -116,7 +117,7 @@ module _ {s : Shape} {first : ℕ → ℕ} {w : World} (r : InRange s) (u : Come
           eight-tails = ap (λ (x : Card). length (x .tails)) (u .card) ∙ u .eight;
           eight-cores = ap (λ (x : Card). length (x .cores)) (u .card) ∙ length-map (u .tails) (λ (t : Tail). freshCore (t .number)) ∙ u .eight;
           holder-room = ap (λ (x : Card). length (x .holders)) (u .card) ∙ length-replicate 64 noHolder;
-          well-formed = well-formed-fresh s saved first r fits firsts;
+          well-formed = well-formed-fresh o s saved first r fits firsts;
           disk = fresh-stands;
           cores = fresh-core-up;
           holders = fresh-holder;

@@ -85,7 +85,7 @@ target-block l f b =
 
 -- ---- RECOVER
 module _ {l : Ledger} {w : World} (v : CardDown l w) where
-  left-read : blocksLeft w ≡ l .left
+  left-read : blocksLeft (l .book .begun .order) w ≡ l .left
   unfolding blocksLeft
   left-read = rw (blocks-on (v .well-formed) (v .disk)) (sym (v .left))
 
@@ -97,13 +97,13 @@ module _ {l : Ledger} {w : World} (v : CardDown l w) where
     first-low : b < l .shape .blocks
     first-low = held-low (l .shape .blocks) (l .book) held-first
 
-    home-outcome : recovered w ≡ storing w (recoveredTo (w .card) (b + 1)) (homeBlock b) (target l b)
+    home-outcome : recovered (l .book .begun .order) w ≡ storing w (recoveredTo (w .card) (b + 1)) (homeBlock b) (target l b)
     unfolding recovered recoverStep
     home-outcome =
-        ap (λ (xs : List ℕ). recoverStep xs w) (left-read ∙ e)
+        ap (λ (xs : List ℕ). recoverStep (l .book .begun .order) xs w) (left-read ∙ e)
         ∙ ap (storing w (recoveredTo (w .card) (b + 1)) (homeBlock b)) (newest-image (v .well-formed) (v .disk) (v .newest b held-first))
 
-    pub recover-home : CardDown (recoverLedger (b ∷ bs) l) ((recovered w) .world)
+    pub recover-home : CardDown (recoverLedger (b ∷ bs) l) ((recovered (l .book .begun .order) w) .world)
     unfolding recoverLedger
     recover-home =
         let x = target l b in
@@ -149,27 +149,27 @@ module _ {l : Ledger} {w : World} (v : CardDown l w) where
   is-master = master-block (v .well-formed .range) firstTail
 
   module _ (e : l .left ≡ []) where
-    master-outcome : recovered w ≡ storing w (broughtUp (w .disk)) 0 (masterBlock (l .shape) firstTail)
+    master-outcome : recovered (l .book .begun .order) w ≡ storing w (broughtUp (w .disk)) 0 (masterBlock (l .shape) firstTail)
     unfolding recovered recoverStep
     master-outcome =
-        ap (λ (xs : List ℕ). recoverStep xs w) (left-read ∙ e)
+        ap (λ (xs : List ℕ). recoverStep (l .book .begun .order) xs w) (left-read ∙ e)
         ∙ ap (storing w (broughtUp (w .disk)) 0)
         (ap (λ (s : Shape). masterBlock s (emptiedTail (w .disk))) (shape-read (v .well-formed) (v .disk)) ∙ master-same (l .shape) (emptiedTail (w .disk)) firstTail emptied)
 
-    master-other : (k : ℕ) → k ≢ 0 → blockAt ((recovered w) .world .disk) k ≡ blockAt (w .disk) k
+    master-other : (k : ℕ) → k ≢ 0 → blockAt ((recovered (l .book .begun .order) w) .world .disk) k ≡ blockAt (w .disk) k
     master-other k ne = rw master-outcome (low-other (v .well-formed) (v .disk) 0 (omega arith) (masterBlock (l .shape) firstTail) is-master k ne)
 
     -- the home area is the one that the kept writes give
-    pub recovered-home : (b : ℕ) → b < l .shape .blocks → blockAt ((recovered w) .world .disk) (homeBlock b) ≡ target l b
+    pub recovered-home : (b : ℕ) → b < l .shape .blocks → blockAt ((recovered (l .book .begun .order) w) .world .disk) (homeBlock b) ≡ target l b
     recovered-home b h = master-other (homeBlock b) (λ q. omega arith) ∙ v .at-home b h (rw e (unfold any in refl))
 
-    recovered-clear : (c : ℕ) → c < l .shape .cores → (i q : ℕ) → firstNumber l c ≤ i → isCommit (l .shape) i (journalAt (l .shape) ((recovered w) .world .disk) c q) ≡ false
+    recovered-clear : (c : ℕ) → c < l .shape .cores → (i q : ℕ) → firstNumber l c ≤ i → isCommit (l .shape) i (journalAt (l .shape) ((recovered (l .book .begun .order) w) .world .disk) c q) ≡ false
     recovered-clear c h i q k =
         let r = v .well-formed .ranks c h in
         rw (master-outcome, low-journal (v .well-formed) (v .disk) 0 (omega arith) (masterBlock (l .shape) firstTail) is-master c q)
         (v .disk .journals c h .clear i q (omega (arith, r .mid, r .top)))
 
-    recovered-comes-up : ComeUp (l .shape) (firstNumber l) ((recovered w) .world)
+    recovered-comes-up : ComeUp (l .shape) (firstNumber l) ((recovered (l .book .begun .order) w) .world)
     recovered-comes-up =
         let o = master-outcome in
         let m = masterBlock (l .shape) firstTail in
@@ -186,23 +186,23 @@ module _ {l : Ledger} {w : World} (v : CardDown l w) where
           clear = recovered-clear;
         }
 
-    pub recover-master : CardUp (recoverLedger [] l) ((recovered w) .world)
+    pub recover-master : CardUp (recoverLedger [] l) ((recovered (l .book .begun .order) w) .world)
     unfolding recoverLedger
     recover-master =
-        fresh-up (v .well-formed .range) recovered-comes-up (keptWrites (l .book) ++ l .saved) (kept-fits l (v .well-formed)) (λ c h. (omega arith, omega arith))
+        fresh-up (v .well-formed .range) recovered-comes-up (l .book .begun .order) (keptWrites (l .book) ++ l .saved) (kept-fits l (v .well-formed)) (λ c h. (omega arith, omega arith))
 
   -- ---- the store that the ledger says, and when the card comes up
-  pub recovered-bytes : ((recovered w) .world .disk ≡ recoverStored (l .left) l (w .disk)) × ((recovered w) .stores ≡ 1)
+  pub recovered-bytes : ((recovered (l .book .begun .order) w) .world .disk ≡ recoverStored (l .left) l (w .disk)) × ((recovered (l .book .begun .order) w) .stores ≡ 1)
   unfolding recoverStored target
   recovered-bytes = go (l .left) refl
     where
-      go : (bs : List ℕ) → l .left ≡ bs → ((recovered w) .world .disk ≡ recoverStored bs l (w .disk)) × ((recovered w) .stores ≡ 1)
+      go : (bs : List ℕ) → l .left ≡ bs → ((recovered (l .book .begun .order) w) .world .disk ≡ recoverStored bs l (w .disk)) × ((recovered (l .book .begun .order) w) .stores ≡ 1)
       go [] e = (ap (λ (o : Outcome World). o .world .disk) (master-outcome e), ap (λ (o : Outcome World). o .stores) (master-outcome e))
       go (b ∷ bs) e = (ap (λ (o : Outcome World). o .world .disk) (home-outcome e), ap (λ (o : Outcome World). o .stores) (home-outcome e))
 
-  pub recover-up : isUp ((recovered w) .world .card .phase) ≡ eqb (length (l .left)) 0
+  pub recover-up : isUp ((recovered (l .book .begun .order) w) .world .card .phase) ≡ eqb (length (l .left)) 0
   recover-up = go (l .left) refl
     where
-      go : (bs : List ℕ) → l .left ≡ bs → isUp ((recovered w) .world .card .phase) ≡ eqb (length bs) 0
+      go : (bs : List ℕ) → l .left ≡ bs → isUp ((recovered (l .book .begun .order) w) .world .card .phase) ≡ eqb (length bs) 0
       go [] e = ap isUp (recover-master e .phase)
       go (b ∷ bs) e = ap isUp (recover-home e .phase) ∙ sym (ne-eqb (suc (length bs)) 0 (λ z. omega arith))

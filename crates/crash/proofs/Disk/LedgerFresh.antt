@@ -4,6 +4,7 @@ use Rattle.model.proofs.Base.{ℕ, _+_, _≤_, _<_, arith, _≡_, refl, _∙_, 
 use Rattle.model.proofs.Base.{List·Memᴰ·tail, List·Memᴰ·not-nil, List·Memᴰ·append-cases, length, length-replicate, eqb, all}
 use Rattle.model.proofs.Base.{Bytes}
 use Rattle.model.specs.Bytes.{replaced}
+use Rattle.model.specs.Valid.{Order}
 use Rattle.model.specs.declared.Phase.{Phase}
 use Rattle.model.specs.declared.Phase.the-variants.{Down}
 use Rattle.model.specs.declared.Shape.{Shape}
@@ -45,10 +46,10 @@ now-block l f b =
     image-block (l .shape) (image blank (l .saved)) b (image-block (l .shape) blank b (blank-block b) (l .saved) (f .saved)) (l .book .writes) (f .writes)
 
 -- ---- a card that has come up, a cut, a home store of recovery
-pub well-formed-fresh : (s : Shape) (saved : List Write) (first : ℕ → ℕ) → InRange s → ((w : Write) → List·Memᴰ w saved → WriteFits s w)
-    → ((c : ℕ) → c < s .cores → (1 ≤ first c) × (first c ≤ 4000000001)) → WellFormed (freshLedger s saved first)
+pub well-formed-fresh : (o : Order) (s : Shape) (saved : List Write) (first : ℕ → ℕ) → InRange s → ((w : Write) → List·Memᴰ w saved → WriteFits s w)
+    → ((c : ℕ) → c < s .cores → (1 ≤ first c) × (first c ≤ 4000000001)) → WellFormed (freshLedger o s saved first)
 unfolding freshLedger emptyBook
-well-formed-fresh s saved first r fits firsts =
+well-formed-fresh o s saved first r fits firsts =
     record {
       range = r;
       ranks = λ c h.
@@ -56,6 +57,8 @@ well-formed-fresh s saved first r fits firsts =
           let hi = firsts c h .1 in
           record {
             positive = lo;
+            from-first = omega arith;
+            all-retired = λ i g h. absurd (omega arith);
             low = omega arith;
             mid = omega arith;
             top = hi;

@@ -10,6 +10,7 @@ use Rattle.crash.proofs.Books.BookSteps.{Restages, restaged, restages, 
 use Rattle.crash.proofs.Disk.Relation.{first-waiting, Ranks, sumNext}
 
 module _ (k k′ : Book) (c : ℕ) (r : Ranks k c) (o : k′ .oldest c ≡ k .oldest c) (u : k′ .uncommitted c ≡ k .uncommitted c) (n : k′ .next c ≡ k .next c)
+    (f : k′ .begun .first c ≡ k .begun .first c)
     (stages : (i : ℕ) → i ≢ k .next c → (k′ .entry (newName c i)) .stage ≡ (k .entry (newName c i)) .stage)
     (blocks : (i : ℕ) → i < k .next c → length ((k′ .entry (newName c i)) .blocks) ≡ length ((k .entry (newName c i)) .blocks))
     (current : ((k′ .entry (nextName c k)) .stage ≡ absent) ⊎ ((k′ .entry (nextName c k)) .stage ≡ running)) where
@@ -20,6 +21,8 @@ module _ (k k′ : Book) (c : ℕ) (r : Ranks k c) (o : k′ .oldest c ≡ k .ol
   ranks-kept =
       record {
         positive = rw o (r .positive);
+        from-first = rw (o, f) (r .from-first);
+        all-retired = λ i g h. let a : k .begun .first c ≤ i = rw f at g in let b : i < k .oldest c = rw o at h in stages i (below-next i (omega arith)) ∙ r .all-retired i a b;
         low = rw (o, u) (r .low);
         mid = rw (u, n) (r .mid);
         top = rw n (r .top);
@@ -76,7 +79,7 @@ module _ (k : Book) (c i : ℕ) (g : Stage) (o u n : ℕ → ℕ) where
   pub ranks-elsewhere : (a : ℕ) → a ≢ c → o a ≡ k .oldest a → u a ≡ k .uncommitted a → n a ≡ k .next a → Ranks k a → Ranks (restaged (newName c i) g o u n k) a
   ranks-elsewhere a ne p q s r =
       let same : (j : ℕ) → restaged (newName c i) g o u n k .entry (newName a j) ≡ k .entry (newName a j) = λ j. one .other (newName a j) (other-core j i ne) in
-      ranks-kept k (restaged (newName c i) g o u n k) a r p q s (λ j h. ap (λ e. e .stage) (same j)) (λ j h. ap (λ e. length (e .blocks)) (same j)) (rw (same (k .next a)) (r .current))
+      ranks-kept k (restaged (newName c i) g o u n k) a r p q s refl (λ j h. ap (λ e. e .stage) (same j)) (λ j h. ap (λ e. length (e .blocks)) (same j)) (rw (same (k .next a)) (r .current))
 
 module _ (k : Book) (c : ℕ) (r : Ranks k c) where
   pub ranks-closed : k .uncommitted c ≡ k .next c → k .next c ≤ 4000000000 → Ranks (restaged (nextName c k) (closed 0) (k .oldest) (k .uncommitted) (raise c (k .next)) k) c
@@ -85,6 +88,8 @@ module _ (k : Book) (c : ℕ) (r : Ranks k c) where
       let other = one-other k c (k .next c) (closed 0) (k .oldest) (k .uncommitted) (raise c (k .next)) in
       record {
         positive = r .positive;
+        from-first = r .from-first;
+        all-retired = λ i a b. rw (other i (λ e. omega arith)) (r .all-retired i a b);
         low = r .low;
         mid = rw up (omega arith);
         top = rw up (omega arith);
@@ -107,6 +112,8 @@ module _ (k : Book) (c : ℕ) (r : Ranks k c) where
         let other = one-other k c (k .uncommitted c) (closed (suc n)) (k .oldest) (k .uncommitted) (k .next) in
         record {
           positive = r .positive;
+          from-first = r .from-first;
+          all-retired = λ i a b. rw (other i (λ e. omega arith)) (r .all-retired i a b);
           low = r .low;
           mid = r .mid;
           top = r .top;
@@ -128,6 +135,8 @@ module _ (k : Book) (c : ℕ) (r : Ranks k c) where
         let at = one-at k c (k .uncommitted c) (committed 0) (k .oldest) (raise c (k .uncommitted)) (k .next) in
         record {
           positive = r .positive;
+          from-first = r .from-first;
+          all-retired = λ i a b. rw (other i (λ e. omega arith)) (r .all-retired i a b);
           low = rw up (omega arith);
           mid = rw up (omega arith);
           top = r .top;
@@ -152,6 +161,8 @@ module _ (k : Book) (c : ℕ) (r : Ranks k c) where
         let other = one-other k c (k .oldest c) (committed (suc n)) (k .oldest) (k .uncommitted) (k .next) in
         record {
           positive = r .positive;
+          from-first = r .from-first;
+          all-retired = λ i a b. rw (other i (λ e. omega arith)) (r .all-retired i a b);
           low = r .low;
           mid = r .mid;
           top = r .top;
@@ -169,6 +180,11 @@ module _ (k : Book) (c : ℕ) (r : Ranks k c) where
         let other = one-other k c (k .oldest c) retired (raise c (k .oldest)) (k .uncommitted) (k .next) in
         record {
           positive = rw up (omega arith);
+          from-first = rw up (omega (arith, r .from-first));
+          all-retired = λ i f a. elim (ℕ-discrete i (k .oldest c)) [
+            | yes e ↦ one-at k c (k .oldest c) retired (raise c (k .oldest)) (k .uncommitted) (k .next) i e
+            | no ne ↦ (let d : i < suc (k .oldest c) = rw up at a in rw (other i ne) (r .all-retired i f (omega arith)))
+          ];
           low = rw up (omega arith);
           mid = r .mid;
           top = r .top;

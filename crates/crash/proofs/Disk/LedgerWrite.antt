@@ -126,7 +126,7 @@ module _ (l : Ledger) (f : WellFormed l) (t : Name) (last : t .number ≡ l .boo
           range = f .range;
           ranks = λ a h.
               let r = f .ranks a h in
-              ranks-kept (l .book) (note t b o v (l .book)) a r refl refl refl
+              ranks-kept (l .book) (note t b o v (l .book)) a r refl refl refl refl
               (λ i ne. after-stage (newName a i))
               (λ i lt. ap length (ruled-blocks-other m t b (l .book .entry) (newName a i)
               (λ e. let p : i ≡ t .number = ap (λ (n : Name). n .number) e in
@@ -191,7 +191,7 @@ module _ (l : Ledger) (f : WellFormed l) (c : ℕ) (hc : c < l .shape .cores) wh
           ranks = λ a h.
               let r = f .ranks a h in
               let other : (i : ℕ) → newName a i ≢ w → (opening (newName a i)) .stage ≡ (k .entry (newName a i)) .stage = λ i ne. ap (λ e. e .stage) (opening-other (newName a i) ne) in
-              ranks-kept k (begin w k) a r refl refl refl
+              ranks-kept k (begin w k) a r refl refl refl refl
               (λ i ne. other i (λ e. ne (ap (λ (n : Name). n .number) e ∙ sym (ap (λ (n : Name). k .next (n .core)) e))))
               (λ i lt. ap length (opening-blocks (newName a i)))
               (same-or-not (nextName a k) w (λ e. inr (opening-at (nextName a k) e)) (λ ne. rw (opening-other (nextName a k) ne) (r .current)));

@@ -43,7 +43,7 @@ module _ {l : Ledger} {w : World} (u : CardUp l w) where
   unfolding committedNow
   committed-now = rw (shape-up u)
 
-  valid-now : validNow w ≡ validSet (l .shape) (w .disk) (tailOf (w .card)) (journals (l .shape) (w .disk) (tailOf (w .card)) (committedCount (w .card)))
+  valid-now : validNow (l .book .begun .order) w ≡ validSet (l .book .begun .order) (l .shape) (w .disk) (tailOf (w .card)) (journals (l .shape) (w .disk) (tailOf (w .card)) (committedCount (w .card)))
   unfolding validNow
   valid-now = rw (committed-now, shape-up u)
 
@@ -198,7 +198,7 @@ module _ {l : Ledger} {w : World} (u : CardUp l w) (c : ℕ) (in-range : c < l .
     oldest-name = ap nameOf (oldest-of u c in-range some)
 
     -- '32'
-    pub oldest-valid : isIn (validNow w) (nameOf (oldest (committedOf w c))) ≡ any (sameName (oldestName c (l .book))) (validIn (l .book))
+    pub oldest-valid : isIn (validNow (l .book .begun .order) w) (nameOf (oldest (committedOf w c))) ≡ any (sameName (oldestName c (l .book))) (validIn (l .book))
     oldest-valid =
         ap₂ isIn (valid-now u) oldest-name
         ∙ valid-same (u .well-formed) (u .disk) (committedCount (w .card)) (count-enough u) (oldestName c (l .book))

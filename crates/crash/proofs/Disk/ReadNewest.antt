@@ -7,7 +7,7 @@ use Rattle.model.proofs.Base.{List·Memᴰ·eq-of-singleton, Memᴰ·cast, leng
 use Rattle.model.proofs.Base.{any, Bytes}
 use Rattle.model.specs.Journal.{journals, nameOf, blocksOf, took}
 use Rattle.model.specs.Valid.{validSet, later, newest}
-use Rattle.model.specs.Recovery.{shapeOn, validOn, placeOf, imageFound, newestImage}
+use Rattle.model.specs.Recovery.{shapeOn, validOnBy, placeOf, imageFound, newestImage}
 use Rattle.model.specs.declared.Shape.{Shape}
 use Rattle.model.specs.declared.Tail.{Tail}
 use Rattle.model.specs.declared.Name.{Name}
@@ -128,10 +128,10 @@ module _ {l : Ledger} {d : Bytes} {tailAt : ℕ → Tail} (f : WellFormed l) (z 
   taken-by = Memᴰ·cast (sym (n .block)) (getD-mem ((l .book .entry (n .holder)) .blocks) (n .place) 0 (n .within))
 
   newest-read : (most : ℕ → ℕ) → ((c : ℕ) → c < l .shape .cores → l .book .uncommitted c - l .book .oldest c ≤ most c)
-      → (e : Committed) × (newest (l .shape) d b Miss (validSet (l .shape) d tailAt (journals (l .shape) d tailAt most)) ≡ Whole e)
-      × List·Memᴰ e (validSet (l .shape) d tailAt (journals (l .shape) d tailAt most)) × (nameOf e ≡ n .holder)
+      → (e : Committed) × (newest (l .shape) d b Miss (validSet (l .book .begun .order) (l .shape) d tailAt (journals (l .shape) d tailAt most)) ≡ Whole e)
+      × List·Memᴰ e (validSet (l .book .begun .order) (l .shape) d tailAt (journals (l .shape) d tailAt most)) × (nameOf e ≡ n .holder)
   newest-read most enough =
-      let vs = validSet (l .shape) d tailAt (journals (l .shape) d tailAt most) in
+      let vs = validSet (l .book .begun .order) (l .shape) d tailAt (journals (l .shape) d tailAt most) in
       let h = valid-read f z most enough (n .holder) (n .valid) in
       let x = valid-are f z most enough (h .0) (h .1) in
       let t : took (l .shape) d b (h .0) ≡ true = took-read b x ∙ in-any blockEquality (rw (h .2) taken-by) in
@@ -162,11 +162,11 @@ module _ {l : Ledger} {d : Bytes} {tailAt : ℕ → Tail} (f : WellFormed l) (z 
       (r .images (n .place) (omega (arith, n .within)) ∙ ap (λ (t : Name). getD (l .images t) (n .place) []) h ∙ n .image)
 
 -- 'Each block held in the valid set gets the image of highest stamp': the target's
-pub newest-image : {l : Ledger} {d : Bytes} {tailAt : ℕ → Tail} → WellFormed l → DiskStands l d tailAt → {b : ℕ} → Newest l b → newestImage d b ≡ target l b
+pub newest-image : {l : Ledger} {d : Bytes} {tailAt : ℕ → Tail} → WellFormed l → DiskStands l d tailAt → {b : ℕ} → Newest l b → newestImage (l .book .begun .order) d b ≡ target l b
 unfolding newestImage
 newest-image {l} {d} f z {b} n =
     let own = own-tails f z in
     let few = few-records f z in
     let r = newest-read f own n (λ (c : ℕ). l .shape .journal) few in
-    let g : newest (shapeOn d) d b Miss (validOn d) ≡ Whole (r .0) = rw (shape-read f z, valid-on f z) (r .1) in
+    let g : newest (shapeOn d) d b Miss (validOnBy (l .book .begun .order) d) ≡ Whole (r .0) = rw (shape-read f z, valid-on f z) (r .1) in
     ap (imageFound d b) g ∙ image-found f z n (r .0 .core) (r .0) (valid-are f own (λ (c : ℕ). l .shape .journal) few (r .0) (r .2)) (r .3)

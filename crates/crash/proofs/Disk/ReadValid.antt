@@ -2,13 +2,13 @@
 -- Both valid sets are the largest of their kind over the same transactions, with the same names and the same tails:
 -- so the names of the reader's set are the ledger's set, and so are the blocks.
 use Rattle.model.proofs.Base.{ℕ, _-_, _≤_, _<_, arith, decLt, _≡_, sym, ap, subst, fun-ext, _∙_, _⊎_, inl, inr, Bool, true, false}
-use Rattle.model.proofs.Base.{not, _&&_, _||_, map, flatMap, List·Memᴰ, Memᴰ·cast, eqb, ltb, not-true, below, any, select, Bytes}
+use Rattle.model.proofs.Base.{not, _&&_, _||_, map, flatMap, List·Memᴰ, Memᴰ·cast, eqb, ltb, not-true, lt-ltb, below, all, any, select, Bytes}
 use mathlib.Core.List.{Memᴰ·map, Memᴰ·of-map}
 use Rattle.model.specs.Card.{sameName}
-use Rattle.model.specs.Journal.{journal, journals, nameOf, blocksOf, namesOf}
+use Rattle.model.specs.Journal.{journal, journals, nameOf, blocksOf}
 use Rattle.model.specs.Shrink.{AllStay, Within}
-use Rattle.model.specs.Valid.{isIn, isMet, namesMet, validSet, blocksHeld}
-use Rattle.model.specs.Recovery.{shapeOn, tailOn, committedOn, validOn}
+use Rattle.model.specs.Valid.{Order, required, requiredOf, isIn, isMet, namesMet, validSet, blocksHeld}
+use Rattle.model.specs.Recovery.{shapeOn, tailOn, committedOn, validOnBy}
 use Rattle.model.specs.declared.Tail.{Tail}
 use Rattle.model.specs.declared.Name.{Name}
 use Rattle.model.specs.declared.Committed.{Committed}
@@ -17,8 +17,10 @@ use Rattle.model.proofs.Lists.{and-both, and-left, and-right, or-left, or-right
 use Rattle.model.proofs.Select.{mem-select, select-mem}
 use Rattle.model.proofs.Shrink.{Monotone, shrink-closed, shrink-within, shrink-largest, named-monotone}
 use Rattle.model.proofs.Valid.{sameName-true, sameName-refl, valid-within, valid-largest, valid-names}
-use Rattle.crash.specs.Book.{isCommitted, isRetired, Book}
+use Rattle.crash.specs.Book.{isCommitted, isRetired, requiredIn, Book}
 use Rattle.crash.specs.Ledger.{Ledger, unretired, metIn, validIn, blocksIn}
+use Rattle.model.proofs.Required.{required-core}
+use Rattle.crash.proofs.Books.Required.{book-required, required-in-book}
 use Rattle.crash.proofs.Books.Tests.{clash, any-in, in-any, nameEquality}
 use Rattle.crash.proofs.Disk.Relation.{WellFormed, JournalStands, DiskStands}
 use Rattle.crash.proofs.Disk.LedgerStages.{closed-present, committed-rank}
@@ -32,22 +34,48 @@ belowOldest k n = ltb (n .number) (k .oldest (n .core))
 
 metIn-monotone : (k : Book) → Monotone (metIn k)
 unfolding metIn
-metIn-monotone k = named-monotone (λ (t : Name). (k .entry t) .names) (λ (t : Name). t) sameName sameName-true sameName-refl (belowOldest k)
+metIn-monotone k = named-monotone (requiredIn k) (λ (t : Name). t) sameName sameName-true sameName-refl (belowOldest k)
 
 pub valid-unretired : (k : Book) (t : Name) → List·Memᴰ t (validIn k) → List·Memᴰ t (unretired k)
 unfolding validIn
 valid-unretired k = shrink-within (metIn k) (unretired k)
 
-valid-met : (k : Book) (t n : Name) → List·Memᴰ t (validIn k) → List·Memᴰ n ((k .entry t) .names) → (belowOldest k n ≡ true) ⊎ (any (sameName n) (validIn k) ≡ true)
+valid-met : (k : Book) (t n : Name) → List·Memᴰ t (validIn k) → List·Memᴰ n (requiredIn k t) → (belowOldest k n ≡ true) ⊎ (any (sameName n) (validIn k) ≡ true)
 unfolding validIn metIn
 valid-met k t n m i =
     or-cases (belowOldest k n) (any (sameName n) (validIn k))
-    (all-mem (λ (n : Name). belowOldest k n || any (sameName n) (validIn k)) ((k .entry t) .names) (shrink-closed (metIn k) (unretired k) t m) i)
+    (all-mem (λ (n : Name). belowOldest k n || any (sameName n) (validIn k)) (requiredIn k t) (shrink-closed (metIn k) (unretired k) t m) i)
 
 module _ {l : Ledger} {d : Bytes} {tailAt : ℕ → Tail} (f : WellFormed l) (z : DiskStands l d tailAt) where
-  -- a name that is listed: below the tail on the disk, and in the ledger
-  below-tail : (t n : Name) → List·Memᴰ n ((l .book .entry t) .names) → ltb (n .number) ((tailAt (n .core)) .number) ≡ belowOldest (l .book) n
-  below-tail t n m = ap (ltb (n .number)) (z .journals (n .core) (f .limits n (f .named t n m) .core) .number)
+  abbrev o : Order
+  o = l .book .begun .order
+
+  -- a name of a core of the disk: below the tail on the disk, and in the ledger
+  below-tail : (n : Name) → n .core < l .shape .cores → ltb (n .number) ((tailAt (n .core)) .number) ≡ belowOldest (l .book) n
+  below-tail n h = ap (ltb (n .number)) (z .journals (n .core) h .number)
+
+  each-core : (t n : Name) → t .core < l .shape .cores → List·Memᴰ n (required o t ((l .book .entry t) .names)) → n .core < l .shape .cores
+  each-core t n h = required-core o t ((l .book .entry t) .names) (l .shape .cores) h (λ u m. f .limits u (f .named t u m) .core) n
+
+  -- the one before the first since the card came up is below the tail
+  required-or-below : (t n : Name) → t .core < l .shape .cores → List·Memᴰ n (required o t ((l .book .entry t) .names))
+      → List·Memᴰ n (requiredIn (l .book) t) ⊎ (belowOldest (l .book) n ≡ true)
+  required-or-below t n c m =
+      let r = f .ranks (t .core) c in
+      elim (required-in-book (l .book) t n m) [
+        | inl i ↦ inl i
+        | inr e ↦ inr (subst (λ (x : Name). belowOldest (l .book) x ≡ true) (sym (e .0))
+            (lt-ltb (t .number - 1) (l .book .oldest (t .core)) (omega (arith, e .1, r .from-first, r .positive))))
+      ]
+
+  read-required : (e : Committed) → ReadAsLedger l d (e .core) e → requiredOf o (l .shape) d e ≡ required o (nameOf e) ((l .book .entry (nameOf e)) .names)
+  unfolding requiredOf
+  read-required e x = ap (required o (nameOf e)) (x .names)
+
+  met-or-below : (t n : Name) → List·Memᴰ t (validIn (l .book)) → List·Memᴰ n (requiredIn (l .book) t) ⊎ (belowOldest (l .book) n ≡ true)
+      → (belowOldest (l .book) n ≡ true) ⊎ (any (sameName n) (validIn (l .book)) ≡ true)
+  met-or-below t n m (inl i) = valid-met (l .book) t n m i
+  met-or-below t n m (inr b) = inl b
 
   module _ (most : ℕ → ℕ) (enough : (c : ℕ) → c < l .shape .cores → l .book .uncommitted c - l .book .oldest c ≤ most c) where
     -- ---- all journals
@@ -94,65 +122,70 @@ module _ {l : Ledger} {d : Bytes} {tailAt : ℕ → Tail} (f : WellFormed l) (z 
         ]
 
     -- ---- the valid set
-    pub valid-name : (e : Committed) → List·Memᴰ e (validSet (l .shape) d tailAt (journals (l .shape) d tailAt most)) → List·Memᴰ (nameOf e) (validIn (l .book))
+    pub valid-name : (e : Committed) → List·Memᴰ e (validSet o (l .shape) d tailAt (journals (l .shape) d tailAt most)) → List·Memᴰ (nameOf e) (validIn (l .book))
     unfolding validIn metIn
     valid-name e m =
         let es = journals (l .shape) d tailAt most in
-        let vs = validSet (l .shape) d tailAt es in
+        let vs = validSet o (l .shape) d tailAt es in
         let k = l .book in
         let ts = map nameOf vs in
         let within : Within ts (unretired k) =
-        λ t i. let r = Memᴰ·of-map nameOf vs i in Memᴰ·cast (sym (r .2)) (read-unretired (r .0) (valid-within (l .shape) d tailAt es (r .0) (r .1))) in
+        λ t i. let r = Memᴰ·of-map nameOf vs i in Memᴰ·cast (sym (r .2)) (read-unretired (r .0) (valid-within o (l .shape) d tailAt es (r .0) (r .1))) in
         let closed : AllStay (metIn k) ts =
         λ t i.
         let r = Memᴰ·of-map nameOf vs i in
-        let x = journals-are (r .0) (valid-within (l .shape) d tailAt es (r .0) (r .1)) in
-        mem-all (λ (n : Name). belowOldest k n || any (sameName n) ts) ((k .entry t) .names)
+        let x = journals-are (r .0) (valid-within o (l .shape) d tailAt es (r .0) (r .1)) in
+        let c : (nameOf (r .0)) .core < l .shape .cores = journals-listed (r .0) (valid-within o (l .shape) d tailAt es (r .0) (r .1)) .0 in
+        subst (λ (t : Name). all (λ (n : Name). belowOldest k n || any (sameName n) ts) (requiredIn k t) ≡ true) (r .2)
+        (mem-all (λ (n : Name). belowOldest k n || any (sameName n) ts) (requiredIn k (nameOf (r .0)))
         (λ n j.
-        let listed : List·Memᴰ n (namesOf (l .shape) d (r .0)) = rw (x .names, r .2) j in
-        elim (valid-names (l .shape) d tailAt es (r .0) (r .1) n listed) [
-          | inl b ↦ or-left (any (sameName n) ts) (sym (below-tail t n j) ∙ b)
+        let q : List·Memᴰ n (required o (nameOf (r .0)) ((k .entry (nameOf (r .0))) .names)) = book-required k (nameOf (r .0)) n j in
+        let asked : List·Memᴰ n (requiredOf o (l .shape) d (r .0)) = rw (read-required (r .0) x) q in
+        elim (valid-names o (l .shape) d tailAt es (r .0) (r .1) n asked) [
+          | inl b ↦ or-left (any (sameName n) ts) (sym (below-tail n (each-core (nameOf (r .0)) n c q)) ∙ b)
           | inr u ↦ or-right (belowOldest k n) (in-any nameEquality (Memᴰ·cast (u .2) (Memᴰ·map nameOf (u .1))))
-        ]) in
+        ])) in
         shrink-largest (metIn k) (metIn-monotone k) (unretired k) ts within closed (nameOf e) (Memᴰ·map nameOf m)
 
     name-valid : (e : Committed) → List·Memᴰ e (journals (l .shape) d tailAt most) → List·Memᴰ (nameOf e) (validIn (l .book))
-        → List·Memᴰ e (validSet (l .shape) d tailAt (journals (l .shape) d tailAt most))
+        → List·Memᴰ e (validSet o (l .shape) d tailAt (journals (l .shape) d tailAt most))
     unfolding namesMet isMet isIn
     name-valid e m v =
         let es = journals (l .shape) d tailAt most in
         let k = l .book in
         let test : Committed → Bool = λ x. any (sameName (nameOf x)) (validIn k) in
         let ss = select test es in
-        let closed : AllStay (namesMet (l .shape) d tailAt) ss =
+        let closed : AllStay (namesMet o (l .shape) d tailAt) ss =
         λ x i.
         let r = select-mem test es x i in
         let y = journals-are x (r .0) in
-        mem-all (isMet tailAt ss) (namesOf (l .shape) d x)
+        let c : (nameOf x) .core < l .shape .cores = journals-listed x (r .0) .0 in
+        mem-all (isMet tailAt ss) (requiredOf o (l .shape) d x)
         (λ n j.
-        let listed : List·Memᴰ n ((k .entry (nameOf x)) .names) = rw (y .names) at j in
-        elim (valid-met k (nameOf x) n (any-in nameEquality (nameOf x) (validIn k) (r .1)) listed) [
-          | inl b ↦ or-left (isIn ss n) (below-tail (nameOf x) n listed ∙ b)
+        let q : List·Memᴰ n (required o (nameOf x) ((k .entry (nameOf x)) .names)) = rw (read-required x y) at j in
+        let below : belowOldest k n ≡ true → isMet tailAt ss n ≡ true = λ b. or-left (isIn ss n) (below-tail n (each-core (nameOf x) n c q) ∙ b) in
+        elim (met-or-below (nameOf x) n (any-in nameEquality (nameOf x) (validIn k) (r .1)) (required-or-below (nameOf x) n c q)) [
+          | inl b ↦ below b
           | inr u ↦ or-right (ltb (n .number) ((tailAt (n .core)) .number))
               (let w = unretired-read n (valid-unretired k n (any-in nameEquality n (validIn k) u)) in
               mem-any (λ (g : Committed). sameName n (nameOf g)) (mem-select test es (w .0) (w .1) (rw (w .2) u)) (rw (w .2) (sameName-refl n)))
         ]) in
-        valid-largest (l .shape) d tailAt es ss (λ x i. select-mem test es x i .0) closed e (mem-select test es e m (in-any nameEquality v))
+        valid-largest o (l .shape) d tailAt es ss (λ x i. select-mem test es x i .0) closed e (mem-select test es e m (in-any nameEquality v))
 
     -- a valid transaction of the ledger is read, as a valid one
     pub valid-read : (t : Name) → List·Memᴰ t (validIn (l .book))
-        → (e : Committed) × List·Memᴰ e (validSet (l .shape) d tailAt (journals (l .shape) d tailAt most)) × (nameOf e ≡ t)
+        → (e : Committed) × List·Memᴰ e (validSet o (l .shape) d tailAt (journals (l .shape) d tailAt most)) × (nameOf e ≡ t)
     valid-read t v =
         let r = unretired-read t (valid-unretired (l .book) t v) in
         (r .0, name-valid (r .0) (r .1) (rw (r .2) v), r .2)
 
-    pub valid-are : (e : Committed) → List·Memᴰ e (validSet (l .shape) d tailAt (journals (l .shape) d tailAt most)) → ReadAsLedger l d (e .core) e
-    valid-are e m = journals-are e (valid-within (l .shape) d tailAt (journals (l .shape) d tailAt most) e m)
+    pub valid-are : (e : Committed) → List·Memᴰ e (validSet o (l .shape) d tailAt (journals (l .shape) d tailAt most)) → ReadAsLedger l d (e .core) e
+    valid-are e m = journals-are e (valid-within o (l .shape) d tailAt (journals (l .shape) d tailAt most) e m)
 
-    pub valid-same : (n : Name) → isIn (validSet (l .shape) d tailAt (journals (l .shape) d tailAt most)) n ≡ any (sameName n) (validIn (l .book))
+    pub valid-same : (n : Name) → isIn (validSet o (l .shape) d tailAt (journals (l .shape) d tailAt most)) n ≡ any (sameName n) (validIn (l .book))
     unfolding isIn
     valid-same n =
-        let vs = validSet (l .shape) d tailAt (journals (l .shape) d tailAt most) in
+        let vs = validSet o (l .shape) d tailAt (journals (l .shape) d tailAt most) in
         bool-ext
         (λ h. let r = any-mem (λ (e : Committed). sameName n (nameOf e)) vs h in
         in-any nameEquality (Memᴰ·cast (sameName-true n (nameOf (r .0)) (r .2)) (valid-name (r .0) (r .1))))
@@ -160,10 +193,10 @@ module _ {l : Ledger} {d : Bytes} {tailAt : ℕ → Tail} (f : WellFormed l) (z 
         mem-any (λ (e : Committed). sameName n (nameOf e)) (r .1) (rw (r .2) (sameName-refl n)))
 
     -- ---- the home blocks held in it
-    blocks-same : blocksHeld (l .shape) d (validSet (l .shape) d tailAt (journals (l .shape) d tailAt most)) ≡ blocksIn (l .shape .blocks) (l .book)
+    blocks-same : blocksHeld (l .shape) d (validSet o (l .shape) d tailAt (journals (l .shape) d tailAt most)) ≡ blocksIn (l .shape .blocks) (l .book)
     unfolding blocksHeld blocksIn
     blocks-same =
-        let vs = validSet (l .shape) d tailAt (journals (l .shape) d tailAt most) in
+        let vs = validSet o (l .shape) d tailAt (journals (l .shape) d tailAt most) in
         let k = l .book in
         let holds : ℕ → Name → Bool = λ b t. any (eqb b) ((k .entry t) .blocks) in
         ap (λ (p : ℕ → Bool). select p (below (l .shape .blocks)))
@@ -190,9 +223,9 @@ module _ {l : Ledger} {d : Bytes} {tailAt : ℕ → Tail} (f : WellFormed l) (z 
         journals = λ c h. subst (JournalStands l d c) (sym (tail-read f z c h)) (z .journals c h);
       }
 
-  pub valid-on : validOn d ≡ validSet (l .shape) d (tailOn d) (journals (l .shape) d (tailOn d) (λ (c : ℕ). l .shape .journal))
-  unfolding validOn committedOn
+  pub valid-on : validOnBy (l .book .begun .order) d ≡ validSet (l .book .begun .order) (l .shape) d (tailOn d) (journals (l .shape) d (tailOn d) (λ (c : ℕ). l .shape .journal))
+  unfolding validOnBy committedOn
   valid-on = rw (shape-read f z)
 
-  pub blocks-on : blocksHeld (shapeOn d) d (validOn d) ≡ blocksIn (l .shape .blocks) (l .book)
+  pub blocks-on : blocksHeld (shapeOn d) d (validOnBy (l .book .begun .order) d) ≡ blocksIn (l .shape .blocks) (l .book)
   blocks-on = rw (shape-read f z, valid-on) (blocks-same f own-tails (λ (c : ℕ). l .shape .journal) (few-records f z))

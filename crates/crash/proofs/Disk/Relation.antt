@@ -64,6 +64,8 @@ pub record Frozen (l : Ledger) (t : Name) : Type 0 where
 -- the stages of core c's transactions by number
 pub record Ranks (k : Book) (c : ℕ) : Type 0 where
   pub positive : 1 ≤ k .oldest c
+  pub from-first : k .begun .first c ≤ k .oldest c
+  pub all-retired : (i : ℕ) → k .begun .first c ≤ i → i < k .oldest c → (k .entry (newName c i)) .stage ≡ retired
   pub low : k .oldest c ≤ k .uncommitted c
   pub mid : k .uncommitted c ≤ k .next c
   pub top : k .next c ≤ 4000000001

@@ -10,7 +10,7 @@ use lib.Dec.{eqb}
 use Rattle.model.specs.Lists.{select}
 use Rattle.model.specs.Bytes.{Bytes, part}
 use Rattle.model.specs.Reading.{readNumber}
-use Rattle.model.specs.Tape.{Point, run, CLOSE, CUT, Command, FORMAT, RECOVER}
+use Rattle.model.specs.Tape.{Point, run, CLOSE, CUT, Command, FORMAT, RECOVER, STORE}
 use Rattle.model.specs.Printing.{blankWorld}
 use Rattle.model.proofs.Computes.{computes}
 use Rattle.crash.specs.Book.{committedIn, kept}
@@ -20,7 +20,8 @@ use Rattle.crash.proofs.Books.BookExamples.{write, commits, books}
 use Rattle.model.specs.Card.{newName}
 use Rattle.crash.specs.Claims.{homeArea, fedPoint}
 use Rattle.model.specs.Command.{World}
-use Rattle.model.specs.Step.{stepAt}
+use Rattle.model.specs.Step.{stepAt, stepAtBy}
+use Rattle.model.specs.Valid.{Order, unordered, in-sequence}
 
 -- a RECOVER that leaves the card up
 abbrev comesUp : Point World → Bool
@@ -52,14 +53,16 @@ pub comes-up-without : blockThree (before ++ (6 ∷ 7 ∷ [])) ≡ (0 ∷ 0 ∷ 
 unfolding computes homeArea
 comes-up-without = refl
 
--- 'No order is implied between transactions of one core': as before, then core 0's second transaction writes block 2 and
--- commits; block 2 comes back, and block 3 with the first one's write does not
-pub later-comes-back :
+-- As before, then core 0's second transaction writes block 2 and commits. 'No order is implied between transactions of one core':
+-- block 2 comes back, and block 3 with the first one's write does not. In sequence neither does.
+abbrev laterBack : Order → List Bytes
+laterBack o =
     map (λ (p : Point World). part 256 4 (homeArea 4 (p .outcome .world)) ++ part 384 4 (homeArea 4 (p .outcome .world)))
-    (select comesUp (run stepAt (before ++ (2 ∷ 0 ∷ 0 ∷ 2 ∷ 0 ∷ 9 ∷ 9 ∷ 9 ∷ 9 ∷ 3 ∷ 0 ∷ 4 ∷ 0 ∷ 4 ∷ 0 ∷ 4 ∷ 0 ∷ 6 ∷ 7 ∷ 7 ∷ [])) blankWorld))
-    ≡ (9 ∷ 9 ∷ 9 ∷ 9 ∷ 0 ∷ 0 ∷ 0 ∷ 0 ∷ []) ∷ []
+    (select comesUp (run (stepAtBy o) (before ++ (2 ∷ 0 ∷ 0 ∷ 2 ∷ 0 ∷ 9 ∷ 9 ∷ 9 ∷ 9 ∷ 3 ∷ 0 ∷ 4 ∷ 0 ∷ 4 ∷ 0 ∷ 4 ∷ 0 ∷ 6 ∷ 7 ∷ 7 ∷ [])) blankWorld))
+
+pub later-comes-back : (laterBack unordered ≡ (9 ∷ 9 ∷ 9 ∷ 9 ∷ 0 ∷ 0 ∷ 0 ∷ 0 ∷ []) ∷ []) × (laterBack in-sequence ≡ (0 ∷ 0 ∷ 0 ∷ 0 ∷ 0 ∷ 0 ∷ 0 ∷ 0 ∷ []) ∷ [])
 unfolding computes homeArea
-later-comes-back = refl
+later-comes-back = (refl, refl)
 
 abbrev fedAll : Service → List (Point World) → Service
 fedAll v [] = v
@@ -69,19 +72,25 @@ fedAll v (p ∷ ps) = fedAll (fedPoint p v) ps
 abbrev counts : Service → List ℕ
 counts v = length (committedIn (v .book)) ∷ length (kept (v .book)) ∷ []
 
-pub committed-not-kept : counts (fedAll (emptyService 0) (run stepAt before blankWorld)) ≡ 1 ∷ 0 ∷ []
+pub committed-not-kept : counts (fedAll (emptyService in-sequence 0) (run stepAt before blankWorld)) ≡ 1 ∷ 0 ∷ []
 unfolding books fedPoint
 committed-not-kept = refl
 
--- ---- the ledger: an image closed after a recovery has the bytes from before it, under the new write; numbers go on two above
+-- ---- the ledger, after a recovery: numbers go on two above
 abbrev ledgered : Ledger → List Command → Ledger
 ledgered l [] = l
 ledgered l (k ∷ ks) = ledgered (entered k 0 l) ks
 
-pub image-has-its-base :
-    map (take 8)
-    ((ledgered blankLedger
-    (FORMAT 1 1 8 ∷ write 0 0 1 ∷ commits 0 ++ CUT ∷ RECOVER ∷ RECOVER ∷ write 0 4 2 ∷ CLOSE 0 ∷ [])) .images (newName 0 3))
-    ≡ (1 ∷ 1 ∷ 1 ∷ 1 ∷ 2 ∷ 2 ∷ 2 ∷ 2 ∷ []) ∷ []
+-- number 3 is closed
+abbrev afterRecovery : Ledger
+afterRecovery = ledgered (blankLedger in-sequence) (FORMAT 1 1 8 ∷ write 0 0 1 ∷ commits 0 ++ CUT ∷ RECOVER ∷ RECOVER ∷ write 0 4 2 ∷ CLOSE 0 ∷ [])
+
+-- its image has the bytes from before the cut, under the new write
+pub image-has-its-base : map (take 8) (afterRecovery .images (newName 0 3)) ≡ (1 ∷ 1 ∷ 1 ∷ 1 ∷ 2 ∷ 2 ∷ 2 ∷ 2 ∷ []) ∷ []
 unfolding books blankLedger freshLedger imageNow closeLedger unretired metIn validIn blocksIn cutLedger recoverLedger carriedOut entered
 image-has-its-base = refl
+
+-- committed, it is kept: it is the first since the card came up, and number 2 was never borne
+pub first-since-recovery : kept ((ledgered afterRecovery (STORE 0 ∷ STORE 0 ∷ STORE 0 ∷ [])) .book) ≡ newName 0 3 ∷ []
+unfolding books blankLedger freshLedger imageNow closeLedger unretired metIn validIn blocksIn cutLedger recoverLedger carriedOut entered
+first-since-recovery = refl

@@ -1,22 +1,20 @@
 -- The theorem: blank, up or down, card and ledger agree (`Related`), and every command keeps it so.
 -- From one coming up to the next cut layer A and the bytes go together (`RelatedUp`); from a cut on, what recovery gives is
 -- fixed (`CardDown`). The claims follow along the points of a run.
-use Prim.Native.Nat.{ℕ, zero, suc, _+_, _<_, _-_, _≤_}
+use Prim.Native.Nat.{ℕ, zero, suc, _<_, _-_, _≤_}
 use native.Mathlib.Omega.{arith}
-use native.Mathlib.Decide.{decLt}
 use mathlib.Core.Path.{_≡_, refl, sym, ap, _∙_, subst}
-use mathlib.Core.Logic.{inl, inr, _≢_}
-use mathlib.Core.Option.{some}
-use mathlib.Core.Bool.{Bool, true, false, So, cond, not, _&&_, _||_}
-use mathlib.Core.List.{List, [], _∷_, List·Memᴰ, _++_, List·Memᴰ·not-nil}
-use lib.ListN.{length, getD, drop, length-take, length-drop}
-use lib.Dec.{eqb, ltb, leb}
-use borrow.Author.Tests.{ne-eqb, eqb-true, eqb-false, ltb-true, ltb-false, leb-false, not-false}
+use mathlib.Core.Bool.{Bool, true, false, not}
+use mathlib.Core.List.{List, [], _∷_, _++_}
+use lib.ListN.{length}
+use lib.Dec.{leb}
+use borrow.Author.Tests.{ne-eqb, ltb-true, ltb-false, leb-false, not-false}
 use Rattle.model.specs.Lists.{below}
 use Rattle.model.specs.Bytes.{Bytes}
 use Rattle.model.specs.Shape.{between, inRange, newShape}
 use Rattle.model.specs.Card.{blankCard, isBlank, isUp, isDown, emptyCard, freshCard, shapeOf}
 use Rattle.model.specs.Command.{World, refusal, wrongLength, Clear, noBlock}
+use Rattle.model.specs.Valid.{Order}
 use Rattle.model.specs.Format.{formatted}
 use Rattle.model.specs.Write.{written}
 use Rattle.model.specs.Commit.{closed, stored}
@@ -42,11 +40,10 @@ use Rattle.crash.proofs.Disk.LedgerStages.{running-is}
 use Rattle.model.specs.Tape.{CHECKPOINT, CLOSE, CUT, Command, FORMAT, RECOVER, STORE, TapeStep, WRITE}
 use Rattle.crash.proofs.Runs.UpSteps.{RelatedUp, checkpoint-at, close-at, close-memory, cut-at, fresh-at, holder-open, store-at, up-reads, write-at, write-memory}
 use Rattle.model.proofs.Sizes.{checkpointed-memory, recoverStep-memory}
-use Rattle.model.specs.Step.{conditionsOf, doneBy, stepAt}
+use Rattle.model.specs.Step.{conditionsOf, doneBy, stepAtBy}
 use Rattle.model.specs.Reading.{readBlock, blockReader, readConditions, readNumber}
 use Rattle.crash.proofs.Books.BookEntries.{nextName}
 use Rattle.crash.proofs.Disk.ReadMaster.{shape-up}
-use Rattle.model.specs.declared.Name.{Name}
 use Rattle.model.specs.declared.Shape.{Shape}
 use Rattle.model.specs.declared.Card.{Card}
 use Rattle.model.specs.declared.Phase.the-variants.{Blank}
@@ -55,7 +52,7 @@ use Rattle.model.specs.declared.Phase.{Phase}
 -- ---- blank, up or down
 pub record RelatedBlank (l : Ledger) (w : World) : Type 0 where
   pub card : w .card ≡ blankCard
-  pub ledger : l ≡ blankLedger
+  pub ledger : l ≡ blankLedger (l .book .begun .order)
   pub disk : length (w .disk) ≡ 32896
   pub memory : length (w .memory) ≡ 16384
 
@@ -65,7 +62,7 @@ pub data Related (l : Ledger) (w : World) : Type 0 where
   related-down : CardDown l w → Related l w
 
 -- of a command other than RECOVER
-plain : {l : Ledger} {w : World} {k : Command} → (k ≡ RECOVER → ⊥) → Related (carriedOut k l) ((doneBy k w) .world) → DoneAs k l w (doneBy k w) → Carried Related l w k
+plain : {l : Ledger} {w : World} {k : Command} → (k ≡ RECOVER → ⊥) → Related (carriedOut k l) ((doneBy (l .book .begun .order) k w) .world) → DoneAs k l w (doneBy (l .book .begun .order) k w) → Carried Related l w k
 plain n h d = record { next = h; done = d; home = λ e. absurd (n e) }
 
 isRecover : Command → Bool
@@ -96,7 +93,7 @@ module _ {l : Ledger} {w : World} (b : RelatedBlank l w) where
       cases (inRange c n j) (λ e. e)
       (λ e. absurd (let p : isBlank (l .phase) ≡ true = rw (b .ledger) refl in let z : 4 ≡ 0 = rw (p, e) at h in omega arith)) in
       let r = range-test s ok in
-      plain (other refl) (related-up (fresh-at s [] (λ (c : ℕ). 1) ((formatted s) .world) (format-up s r) (format-home s r))) (record { disk = refl; memory = refl; stores = refl })
+      plain (other refl) (related-up (fresh-at (l .book .begun .order) s [] (λ (c : ℕ). 1) ((formatted s) .world) (format-up s r (l .book .begun .order)) (format-home s r))) (record { disk = refl; memory = refl; stores = refl })
 
   blank-carries : (k : Command) → refusal (refusalsOf k l) ≡ 0 → Carried Related l w k
   unfolding refusalsOf writeRefusals closeRefusals storeRefusals checkpointRefusals
@@ -117,20 +114,20 @@ module _ {l : Ledger} {w : World} (d : CardDown l w) where
   refused-22 : {A : Type 0} (ts : List (Bool × ℕ)) → refusal ((isBlank (l .phase), 20) ∷ (isDown (l .phase), 22) ∷ ts) ≡ 0 → A
   refused-22 ts h = clash (ap isDown (d .ledger)) (refusal-passed _ 22 ts (omega arith) (refusal-passed _ 20 _ (omega arith) h .1) .0)
 
-  recover-next : (left : List ℕ) → l .left ≡ left → Related (recoverLedger (l .left) l) ((recovered w) .world)
+  recover-next : (left : List ℕ) → l .left ≡ left → Related (recoverLedger (l .left) l) ((recovered (l .book .begun .order) w) .world)
   unfolding target
   recover-next [] e =
-      let up : CardUp (recoverLedger [] l) ((recovered w) .world) = recover-master d e in
-      subst (λ (left : List ℕ). Related (recoverLedger left l) ((recovered w) .world)) (sym e)
-      (related-up (unfold recoverLedger in fresh-at (l .shape) (keptWrites (l .book) ++ l .saved) _ ((recovered w) .world) up (recovered-home d e)))
-  recover-next (b ∷ left) e = subst (λ (left : List ℕ). Related (recoverLedger left l) ((recovered w) .world)) (sym e) (related-down (recover-home d e))
+      let up : CardUp (recoverLedger [] l) ((recovered (l .book .begun .order) w) .world) = recover-master d e in
+      subst (λ (left : List ℕ). Related (recoverLedger left l) ((recovered (l .book .begun .order) w) .world)) (sym e)
+      (related-up (unfold recoverLedger in fresh-at (l .book .begun .order) (l .shape) (keptWrites (l .book) ++ l .saved) _ ((recovered (l .book .begun .order) w) .world) up (recovered-home d e)))
+  recover-next (b ∷ left) e = subst (λ (left : List ℕ). Related (recoverLedger left l) ((recovered (l .book .begun .order) w) .world)) (sym e) (related-down (recover-home d e))
 
   recover-carried : Carried Related l w RECOVER
   unfolding doneBy carriedOut diskAfter memoryAfter storeCount target recovered
   recover-carried =
       record {
         next = recover-next (l .left) refl;
-        done = record { disk = recovered-bytes d .0; memory = recoverStep-memory (blocksLeft w) w; stores = recovered-bytes d .1 };
+        done = record { disk = recovered-bytes d .0; memory = recoverStep-memory (l .book .begun .order) (blocksLeft (l .book .begun .order) w) w; stores = recovered-bytes d .1 };
         home = λ _ e b h. recovered-home d e b h;
       }
 
@@ -251,8 +248,10 @@ related-simulation = record { sizes = sizes; between = λ l w h. record { phase 
     journals l w (related-up u) h = journals-read (u .up .well-formed) (u .up .disk)
     journals l w (related-down d) h = journals-read (d .well-formed) (d .disk)
 
-    answers : (l : Ledger) (w : World) → Related l w → (k : Command) → refusal (conditionsOf k w) ≡ refusal (refusalsOf k l)
-    answers l w (related-blank b) k = rw (b .ledger) (blank-answers w (b .card) (b .disk) (b .memory) k)
+    answers : (l : Ledger) (w : World) → Related l w → (k : Command) → refusal (conditionsOf (l .book .begun .order) k w) ≡ refusal (refusalsOf k l)
+    answers l w (related-blank b) k =
+        subst (λ (x : Ledger). refusal (conditionsOf (x .book .begun .order) k w) ≡ refusal (refusalsOf k x)) (sym (b .ledger))
+        (unfold blankLedger emptyBook in blank-answers (l .book .begun .order) w (b .card) (b .disk) (b .memory) k)
     answers l w (related-up u) k = up-answers (u .up) (holder-open u) k
     answers l w (related-down d) k = down-answers d k
 
@@ -261,39 +260,41 @@ related-simulation = record { sizes = sizes; between = λ l w h. record { phase 
     carries l w (related-up u) k fits h = up-carries u k fits h
     carries l w (related-down d) k fits h = down-carries d k h
 
-pub starts : (s : Start) → StartFits s → Related (startLedger s) (startWorld s)
-unfolding startLedger startWorld
-starts (from-blank d m) h = related-blank (record { card = refl; ledger = refl; disk = h .stated .0; memory = h .stated .1 })
-starts (from-down s m) h = related-down (down-start s m (h .stated .0) (h .memory) (h .stated .1))
+pub starts : (o : Order) (s : Start) → StartFits s → Related (startLedger o s) (startWorld s)
+unfolding startLedger startWorld blankLedger emptyBook
+starts o (from-blank d m) h = related-blank (record { card = refl; ledger = refl; disk = h .stated .0; memory = h .stated .1 })
+starts o (from-down s m) h = related-down (down-start o s m (h .stated .0) (h .memory) (h .stated .1))
 
--- a card whose commands go as the model's meets the claims
-pub claim-of : (f : TapeStep World) → CardKeeps Related f → Claim f
-claim-of = claim-kept Related related-simulation starts
+-- a card whose commands go as the model's of a rule meets the claims of that rule
+module _ (o : Order) (f : TapeStep World) (go : CardKeeps Related o f) where
+  pub claim-of : Claim o f
+  claim-of = claim-kept Related related-simulation starts o f go
 
-pub demands-of : (f : TapeStep World) → CardKeeps Related f → Demands f
-demands-of = demands-kept Related related-simulation starts
+  pub demands-of : Demands o f
+  demands-of = demands-kept Related related-simulation starts o f go
 
-pub readings-of : (f : TapeStep World) → CardKeeps Related f → Readings blockReader f
-readings-of = reading Related related-simulation starts
+  pub readings-of : Readings o blockReader f
+  readings-of = reading Related related-simulation starts o f go
 
--- Demand 3: whenever recovery brings the card up, the home area is the blank one with the kept writes, in issue order.
-pub claim : Claim stepAt
-claim = claim-of stepAt (point-keeps Related related-simulation)
+-- Demand 3, under either rule throughout: whenever recovery brings the card up, the home area is the blank one with the kept writes,
+-- in issue order.
+pub claim : (o : Order) → Claim o (stepAtBy o)
+claim o = claim-of o (stepAtBy o) (point-keeps Related related-simulation o)
 
 -- Demands 1 and 2 of the ledger, and the course of recovery.
-pub demands : Demands stepAt
-demands = demands-of stepAt (point-keeps Related related-simulation)
+pub demands : (o : Order) → Demands o (stepAtBy o)
+demands o = demands-of o (stepAtBy o) (point-keeps Related related-simulation o)
 
 -- What reading gives.
-pub readings : Readings blockReader stepAt
-readings = readings-of stepAt (point-keeps Related related-simulation)
+pub readings : (o : Order) → Readings o blockReader (stepAtBy o)
+readings o = readings-of o (stepAtBy o) (point-keeps Related related-simulation o)
 
--- Whatever is the same function of tape, offset and world meets them too: nobody need believe how `stepAt` is defined.
-pub same-meets : (f : TapeStep World) → ((t : Bytes) (at : ℕ) (w : World) → f t at w ≡ stepAt t at w) → Claim f × Demands f × Readings blockReader f
-same-meets f h = let g = same-keeps Related related-simulation f h in (claim-of f g, demands-of f g, readings-of f g)
+-- Whatever is the same function of tape, offset and world meets them too: nobody need believe how `stepAtBy` is defined.
+pub same-meets : (o : Order) (f : TapeStep World) → ((t : Bytes) (at : ℕ) (w : World) → f t at w ≡ stepAtBy o t at w) → Claim o f × Demands o f × Readings o blockReader f
+same-meets o f h = let g = same-keeps Related related-simulation o f h in (claim-of o f g, demands-of o f g, readings-of o f g)
 
 -- 'A transaction uncommitted at a cut never commits': a card that has come up reads no transaction in any journal, and
 -- by `demands` none ever but those opened since. A later bearer of its number is another one.
-pub storedSince-fresh : (s : Shape) (saved : List Write) (first : ℕ → ℕ) (c : ℕ) → storedSince (freshLedger s saved first) c ≡ []
+pub storedSince-fresh : (o : Order) (s : Shape) (saved : List Write) (first : ℕ → ℕ) (c : ℕ) → storedSince (freshLedger o s saved first) c ≡ []
 unfolding storedSince freshLedger emptyBook below
-storedSince-fresh s saved first c = let e : first c - first c ≡ 0 = omega arith in rw e refl
+storedSince-fresh o s saved first c = let e : first c - first c ≡ 0 = omega arith in rw e refl

@@ -1,33 +1,35 @@
 -- A card that is up: the bytes and the histories of the blocks agree with the ledger (`RelatedUp`), and each command carried out keeps
 -- it so; a cut hands on what recovery will give.
-use Prim.Native.Nat.{ℕ, zero, suc, _+_, _<_, _-_, _≤_}
+use Prim.Native.Nat.{ℕ, _<_, _-_, _≤_}
 use native.Mathlib.Omega.{arith}
 use native.Mathlib.Decide.{decLt}
 use mathlib.Core.Path.{_≡_, refl, sym, ap, _∙_, subst}
 use mathlib.Core.Logic.{inl, inr, _≢_}
 use mathlib.Core.Option.{Option, none, some}
-use mathlib.Core.Bool.{Bool, true, false, So, cond, not, _&&_, _||_}
-use mathlib.Core.List.{List, [], _∷_, map, List·Memᴰ, _++_, List·Memᴰ·not-nil}
-use lib.ListN.{length, getD, drop, length-take, length-drop}
+use mathlib.Core.Bool.{true, false, So, cond}
+use mathlib.Core.List.{List, [], map, List·Memᴰ, List·Memᴰ·not-nil}
+use lib.ListN.{length, getD}
 use lib.Dec.{eqb, ltb}
-use borrow.Author.Tests.{ne-eqb, eqb-true, eqb-false, ltb-true, ltb-false, lt-leb, leb-false, not-false}
+use borrow.Author.Tests.{eqb-true, eqb-false, ltb-true, ltb-false, lt-leb}
 use Rattle.model.specs.Lists.{any}
 use Rattle.model.specs.Bytes.{store, replaced, Bytes, blockAt, zeroMemory}
 use Rattle.model.specs.Shape.{homeBlock}
 use Rattle.model.specs.Card.{sameName, downCard, coreOf, holderOf, taken, shapeOf}
 use Rattle.model.specs.Command.{World, refusal, unstored, noBlock}
+use Rattle.model.specs.Valid.{Order, predecessor}
 use Rattle.model.specs.Write.{written, writtenMemory}
 use Rattle.model.specs.Commit.{closed, stored, copied}
 use Rattle.model.specs.Checkpoint.{checkpointed}
 use Rattle.model.proofs.Lists.{cases, and-left, getD-mem}
-use Rattle.crash.specs.Book.{Book, Write, absent, running, committed, kept, image, blank, isClosed, bookHolder, storeBook, checkpointBook, writeBook}
+use Rattle.crash.specs.Book.{Book, Write, absent, running, committed, requiredIn, kept, image, blank, isClosed, isCommitted, isRetired, bookHolder, storeBook, checkpointBook, writeBook}
 use Rattle.crash.specs.Ledger.{Ledger, freshLedger, cutLedger, withBook, closeLedger, validIn, sharesLowerIn, blocksAfter, copiesStored, imageNow, journalPasses, namesPass, numberPasses}
 use Rattle.crash.proofs.Commands.CardWrite.{write-up, memory-written}
 use Rattle.crash.proofs.Disk.LedgerWrite.{well-formed-write}
 use Rattle.crash.proofs.Books.Tests.{clash, any-in, in-any, nameEquality, blockEquality}
 use Rattle.crash.proofs.Books.BookEntries.{nextName, oldestName}
+use Rattle.crash.proofs.Books.Required.{book-required-cases}
 use Rattle.crash.proofs.Books.Largest.{memberOf, RetiredBelow, valid-is-kept}
-use Rattle.crash.proofs.Blocks.Invariant.{Inv, imageAt, opened-of}
+use Rattle.crash.proofs.Blocks.Invariant.{Inv, imageAt, opened-of, committed-closed}
 use Rattle.crash.proofs.Blocks.InvariantSteps.{inv-fresh, inv-close, inv-store, inv-retire, inv-home-store, lower-retired}
 use Rattle.crash.proofs.Blocks.InvariantWrite.{home-current, open-holds, holder-took, inv-write}
 use Rattle.crash.proofs.Blocks.ClosedImages.{Imaged, image-of-closed, imaged-fresh, imaged-close, imaged-store, imaged-retire, imaged-home-store, imaged-write}
@@ -38,7 +40,7 @@ use Rattle.crash.proofs.Runs.CutTargets.{held-newest, home-target}
 use Rattle.crash.proofs.Commands.CardStore.{store-up, store-homes}
 use Rattle.crash.proofs.Commands.CardClose.{close-up, memory-closed}
 use Rattle.crash.proofs.Commands.CardCheckpoint.{checkpoint-up, home-stored, home-others, homes-stay}
-use Rattle.crash.proofs.Disk.LedgerStages.{below-oldest}
+use Rattle.crash.proofs.Disk.LedgerStages.{below-oldest, closed-present, stored-unretired, committed-rank}
 use Rattle.crash.proofs.Runs.RunClaims.{HasData}
 use Rattle.model.specs.Tape.{WRITE}
 use Rattle.model.specs.Reading.{readBlock, readConditions, readNumber}
@@ -46,9 +48,6 @@ use Rattle.crash.proofs.Disk.ReadMaster.{shape-up}
 use Rattle.model.specs.declared.Name.{Name}
 use Rattle.model.specs.declared.Holder.{Holder}
 use Rattle.model.specs.declared.Shape.{Shape}
-use Rattle.model.specs.declared.Card.{Card}
-use Rattle.model.specs.declared.Phase.the-variants.{Blank}
-use Rattle.model.specs.declared.Phase.{Phase}
 
 -- ---- a card that is up: the bytes and the histories of the blocks agree with the ledger
 pub record RelatedUp (l : Ledger) (w : World) : Type 0 where
@@ -58,11 +57,32 @@ pub record RelatedUp (l : Ledger) (w : World) : Type 0 where
   pub inv : Inv home l
   pub imaged : Imaged l
 
--- names below a core's oldest number are those of retired transactions
+-- ---- what a committed transaction requires is there: those listed, and the one before since the card came up
+before-there : (l : Ledger) → WellFormed l → (t : Name) → isCommitted ((l .book .entry t) .stage) ≡ true → l .book .begun .first (t .core) < t .number
+    → (l .book .entry (predecessor t)) .stage ≢ absent
+before-there l f t h low =
+    let present = closed-present _ (committed-closed ((l .book .entry t) .stage) h) in
+    let r = f .ranks (t .core) (f .limits t present .core) in
+    elim (decLt (t .number - 1) (l .book .oldest (t .core))) [
+      | yes lt ↦ (λ e. clash (ap isRetired (r .all-retired (t .number - 1) (omega arith) lt)) (ap isRetired e))
+      | no ge ↦ cases (isRetired ((l .book .entry t) .stage))
+          (λ d. absurd (omega (arith, ltb-true (t .number) (l .book .oldest (t .core)) (below-oldest r (t .number) present ∙ d))))
+          (λ d. closed-present _ (stored-unretired r (t .number - 1) (omega arith) (omega (arith, committed-rank r (t .number) h d .1)) .is-closed))
+    ]
+
+required-there : (l : Ledger) → WellFormed l → (t u : Name) → isCommitted ((l .book .entry t) .stage) ≡ true → List·Memᴰ u (requiredIn (l .book) t)
+    → (l .book .entry u) .stage ≢ absent
+required-there l f t u h m =
+    elim (book-required-cases (l .book) t u m) [
+      | inl n ↦ f .named t u n
+      | inr e ↦ subst (λ (x : Name). (l .book .entry x) .stage ≢ absent) (sym (e .0)) (before-there l f t h (e .1))
+    ]
+
+-- required ones below a core's oldest number are retired
 pub retired-below : (l : Ledger) → WellFormed l → RetiredBelow (l .book)
 retired-below l f t u h n =
-    let named = f .named t u (any-in nameEquality u _ n) in
-    below-oldest (f .ranks (u .core) (f .limits u named .core)) (u .number) named
+    let there = required-there l f t u h (any-in nameEquality u _ n) in
+    below-oldest (f .ranks (u .core) (f .limits u there .core)) (u .number) there
 
 module _ {l : Ledger} {w : World} (u : RelatedUp l w) where
   abbrev k : Book
@@ -210,8 +230,8 @@ module _ {l : Ledger} {w : World} (u : RelatedUp l w) where
       })
 
 -- a card that has just come up, over the area that its saved writes give
-pub fresh-at : (s : Shape) (saved : List Write) (first : ℕ → ℕ) (w : World) → CardUp (freshLedger s saved first) w
-    → ((b : ℕ) → b < s .blocks → blockAt (w .disk) (homeBlock b) ≡ image blank saved b) → RelatedUp (freshLedger s saved first) w
+pub fresh-at : (o : Order) (s : Shape) (saved : List Write) (first : ℕ → ℕ) (w : World) → CardUp (freshLedger o s saved first) w
+    → ((b : ℕ) → b < s .blocks → blockAt (w .disk) (homeBlock b) ≡ image blank saved b) → RelatedUp (freshLedger o s saved first) w
 unfolding freshLedger
-fresh-at s saved first w up homes =
-    record { up = up; home = image blank saved; homes = homes; inv = inv-fresh s saved first; imaged = imaged-fresh s saved first }
+fresh-at o s saved first w up homes =
+    record { up = up; home = image blank saved; homes = homes; inv = inv-fresh o s saved first; imaged = imaged-fresh o s saved first }

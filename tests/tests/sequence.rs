@@ -1,0 +1,211 @@
+// sequence.rs: transactions of one core in their own sequence (paper 02, request c): what is kept and what is valid is a beginning of
+// each core's run and lies in what the old rule keeps, on any tape and any disk; and each card that has the rule in part is caught.
+
+use card_tests::book::Book;
+use card_tests::checks::{Bench, Checks, Seen, Watcher};
+use card_tests::command::{self, from_hex, Command};
+use card_tests::directed::{chain_disk, chain_tape};
+use card_tests::disks::{disk_after, each_disk};
+use card_tests::foreign;
+use card_tests::journal::Journals;
+use card_tests::layout::CORES;
+use card_tests::order::{Order, Rules, ORDERS};
+use card_tests::page::page;
+use card_tests::program::print_under;
+use card_tests::random::Random;
+use card_tests::sequence::{self, CHANGED_AT_THE_CUT, CHANGED_AT_THE_CUT_LINES, LATER_ALONE, NAMES_A_LATER_ONE, TAPES};
+use card_tests::shrink::tape_of;
+use card_tests::wrong::{words, Wrong, SEQUENCE};
+
+const OLD_BOOKS: Rules = Rules { card: Order::InSequence, books: Order::Unordered };
+const OLD_CARD: Rules = Rules { card: Order::Unordered, books: Order::InSequence };
+
+fn passes(rules: Rules, wrong: Wrong, checks: Checks, tape: &str) -> bool {
+    Bench::under(rules, wrong, checks, None).run_tape(&from_hex(tape)).is_ok()
+}
+
+#[test]
+fn each_tape_tells_its_wrong_card() {
+    for (order, wrong, checks, tape) in TAPES {
+        let rules = Rules { card: *order, books: Order::InSequence };
+        assert!(!passes(rules, *wrong, *checks, tape), "not caught: {}, {order:?}", words(*wrong));
+        assert!(passes(Rules::default(), Wrong::No, Checks::ALL, tape), "the right card fails: {tape}");
+    }
+}
+
+#[test]
+fn each_wrong_card_has_a_tape() {
+    for card in SEQUENCE {
+        assert!(TAPES.iter().any(|(_, wrong, ..)| *wrong == card), "no tape: {}", words(card));
+    }
+}
+
+/// A later transaction comes back without an earlier one: only the old rule's book has it so.
+#[test]
+fn each_rules_card_fails_the_other_claim() {
+    for (checks, tape) in
+        [(Checks::AREA, LATER_ALONE), (Checks::BYTES, LATER_ALONE), (Checks::ANSWER, NAMES_A_LATER_ONE)]
+    {
+        assert!(!passes(OLD_BOOKS, Wrong::No, checks, tape) && !passes(OLD_CARD, Wrong::No, checks, tape));
+        assert!(ORDERS.iter().all(|order| passes(Rules::throughout(*order), Wrong::No, Checks::ALL, tape)));
+    }
+}
+
+#[test]
+fn generated_tapes_tell_the_rules_apart() {
+    for (rules, checks) in [OLD_BOOKS, OLD_CARD].iter().flat_map(|r| [(r, Checks::ANSWER), (r, Checks::AREA)]) {
+        assert!(Bench::under(*rules, Wrong::No, checks, None).soak(200_000, 3).is_err(), "not told apart: {rules:?}");
+    }
+}
+
+#[test]
+fn a_rule_changed_at_the_cut_gives_neither_area() {
+    for rules in [Rules::default(), OLD_BOOKS] {
+        assert!(!passes(rules, Wrong::SequenceInRecoveryAlone, Checks::AREA, CHANGED_AT_THE_CUT), "{rules:?}");
+    }
+    let last_lines = |order| -> Vec<String> {
+        let text = print_under(order, &from_hex(CHANGED_AT_THE_CUT));
+        text.lines().skip(18).map(String::from).collect()
+    };
+    let blocks = ["block 0 0404040400000000", "block 1 0303030305050505"];
+    assert_eq!(last_lines(Order::InSequence), CHANGED_AT_THE_CUT_LINES);
+    assert_eq!(last_lines(Order::Unordered)[..4], ["73 5 0 10", "75 6 0 10", "76 7 0 11", "77 7 0 12"]);
+    assert_eq!(last_lines(Order::Unordered)[4..], blocks);
+}
+
+/// How many sets were looked at, and how many of them the added dependence made smaller.
+#[derive(Default)]
+struct Looks {
+    sets: usize,
+    smaller: usize,
+}
+
+impl Looks {
+    /// For each core, whether each of its run is in the set under the new rule and under the old.
+    fn look(&mut self, new: &[Vec<bool>; CORES], old: &[Vec<bool>; CORES]) {
+        self.sets += 1;
+        self.smaller += (new != old) as usize;
+        for (new, old) in new.iter().zip(old) {
+            assert!(new.is_sorted_by(|one, next| one >= next), "not a beginning: {new:?}");
+            assert!(new.iter().zip(old).all(|(new, old)| new <= old), "{new:?} does not lie in {old:?}");
+        }
+    }
+}
+
+/// Keeps a book beside a card and looks at what a cut would keep.
+#[derive(Default)]
+struct Kept {
+    book: Book,
+    looks: Looks,
+    longest: usize,
+}
+
+impl Watcher for Kept {
+    fn start(&mut self, _: bool, _: &[u8], _: &[u8]) {
+        self.book = Book::default();
+    }
+
+    fn command(&mut self, tape: &[u8], offset: usize, seen: Seen) -> Result<(), String> {
+        let Ok((command, _)) = command::read(tape, offset) else { return Ok(()) };
+        if matches!(command, Command::Cut | Command::Checkpoint { .. }) {
+            let runs = self.book.runs(Order::InSequence);
+            self.looks.look(&runs, &self.book.runs(Order::Unordered));
+            self.longest = runs.iter().map(Vec::len).fold(self.longest, usize::max);
+        }
+        self.book.feed(command, seen.outcome.answer);
+        Ok(())
+    }
+}
+
+#[test]
+fn what_a_cut_keeps_is_a_beginning_of_each_run() {
+    for order in ORDERS {
+        let (mut kept, mut random) = (Kept::default(), Random::new(41));
+        let mut bench = Bench::under(Rules::throughout(order), Wrong::No, Checks::NONE, Some(&mut kept));
+        bench.set_foreign_share(0);
+        bench.soak(100_000, 41).expect("nothing is checked");
+        for _ in 0..1000 {
+            bench.run_tape(&sequence::tape(&mut random)).expect("nothing is checked");
+        }
+        let Looks { sets, smaller } = kept.looks;
+        println!("{sets} kept sets under {order:?}, {smaller} of them smaller than without the one before");
+        assert!(sets > 10_000 && smaller > 1000 && kept.longest > 20, "{sets}, {smaller}, {}", kept.longest);
+    }
+}
+
+#[test]
+fn tapes_and_disks_made_for_the_rule_pass_every_check() {
+    for order in ORDERS {
+        let mut bench = Bench::under(Rules::throughout(order), Wrong::No, Checks::ALL, None);
+        sequence::run(&mut bench, 42, 1000).expect("all checks hold");
+    }
+}
+
+#[test]
+fn tapes_made_for_the_rule_tell_each_wrong_card() {
+    for (order, wrong, checks, _) in TAPES {
+        let rules = Rules { card: *order, books: Order::InSequence };
+        let (mut random, mut bench) = (Random::new(44), Bench::under(rules, *wrong, *checks, None));
+        let is_caught = (0..100).any(|_| bench.run_tape(&sequence::tape(&mut random)).is_err());
+        assert!(is_caught, "not caught by {checks:?}: {}, {order:?}", words(*wrong));
+    }
+}
+
+fn valid_runs(journals: &Journals, order: Order) -> [Vec<bool>; CORES] {
+    let valid = journals.valid(journals.everything(), order);
+    std::array::from_fn(|core| {
+        let first = journals.first_of(core as u8);
+        (0..journals.of_core(core as u8).len()).map(|i| valid >> (first + i) & 1 == 1).collect()
+    })
+}
+
+#[test]
+fn the_valid_set_is_a_beginning_of_each_journal() {
+    let (mut looks, mut random) = (Looks::default(), Random::new(43));
+    let mut look = |disk: &[u8]| {
+        let Ok((_, journals)) = Journals::of_disk(disk) else { return };
+        looks.look(&valid_runs(&journals, Order::InSequence), &valid_runs(&journals, Order::Unordered));
+    };
+    each_disk(50_000, 43, |disk| {
+        look(disk);
+        if random.chance(300) {
+            look(&foreign::disk(&mut random, disk));
+        }
+    });
+    let Looks { sets, smaller } = looks;
+    println!("{sets} valid sets, {smaller} of them smaller than without the one before");
+    assert!(sets > 10_000 && smaller > 300);
+}
+
+/// What comes after a record that is left is left too, though it names nothing.
+#[test]
+fn made_disks_are_read_as_they_were_made() {
+    let (mut random, mut hidden) = (Random::new(45), 0);
+    for _ in 0..2000 {
+        let made = sequence::disk(&mut random);
+        let (_, journals) = Journals::of_disk(&made.disk).expect("a fit master");
+        let due: [Vec<bool>; CORES] =
+            std::array::from_fn(|core| (0..made.read[core]).map(|i| i < made.valid[core]).collect());
+        assert_eq!(valid_runs(&journals, Order::InSequence), due);
+        let words = page(&made.disk).into_iter().skip(1).map(|line| line[41..45] == *b"kept");
+        assert!(words.take(journals.records.len()).eq(due.concat()), "the page has other words");
+        hidden += (0..CORES).map(|core| (made.read[core] - made.valid[core]).saturating_sub(1)).sum::<usize>();
+    }
+    assert!(hidden > 10_000, "{hidden} left that name nothing");
+}
+
+/// The worst cases for a reading that strikes round by round stay so: each round strikes one.
+#[test]
+fn chains_are_struck_one_by_one() {
+    let (commands, links) = chain_tape();
+    for (disk, count) in
+        [(chain_disk(0, false), 96), (chain_disk(1, false), 64), (disk_after(&tape_of(&commands)), links)]
+    {
+        let (_, journals) = Journals::of_disk(&disk).expect("a fit master");
+        for order in ORDERS {
+            let rounds = std::iter::successors(Some(journals.everything()), |set| Some(journals.struck(*set, order)));
+            let sizes: Vec<u32> = rounds.take(count + 1).map(u128::count_ones).collect();
+            assert!(sizes.iter().rev().copied().eq(0..=count as u32), "{order:?}: {sizes:?}");
+        }
+    }
+}
