@@ -72,6 +72,7 @@ once-added n (x ∷ xs) a h =
 once-named : (n : Name) (e : Entry) → once (e .names) ≡ true → once ((naming n e) .names) ≡ true
 once-named n e h = cases (any (sameName n) (e .names)) (λ a. rw a h) (λ a. rw a (once-added n (e .names) a h))
 
+-- ---- the commands in a book
 module _ (entry : Name → Entry) (h : (u : Name) → once ((entry u) .names) ≡ true) where
   changed-once : (t : Name) (g : Entry → Entry) → ((e : Entry) → once (e .names) ≡ true → once ((g e) .names) ≡ true) → (u : Name) → once ((change t g entry u) .names) ≡ true
   changed-once t g keeps = change-each (λ (u : Name) (e : Entry). once (e .names) ≡ true) t g entry (keeps (entry t) (h t)) (λ u ne. h u)

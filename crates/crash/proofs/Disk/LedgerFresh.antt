@@ -56,13 +56,10 @@ well-formed-fresh o s saved first r fits firsts =
           let lo = firsts c h .0 in
           let hi = firsts c h .1 in
           record {
-            positive = lo;
-            from-first = omega arith;
-            all-retired = λ i g h. absurd (omega arith);
+            below = record { positive = lo; from-first = omega arith; old = λ i g. inl refl; all-retired = λ i g h. absurd (omega arith) };
             low = omega arith;
             mid = omega arith;
             top = hi;
-            old = λ i g. inl refl;
             first = λ g. absurd (omega arith);
             done = λ i g j. absurd (omega arith);
             waiting = λ i g j. absurd (omega arith);

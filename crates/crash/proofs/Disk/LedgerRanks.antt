@@ -7,7 +7,18 @@ use Rattle.model.specs.Card.{newName}
 use Rattle.crash.specs.Book.{Stage, absent, running, closed, committed, retired, Book, raise, storeBook, checkpointBook}
 use Rattle.crash.proofs.Books.BookEntries.{nextName, uncommittedName, oldestName, other-number, other-core, raise-at, raise-other}
 use Rattle.crash.proofs.Books.BookSteps.{Restages, restaged, restages, store-more, store-last, checkpoint-home, checkpoint-retires}
-use Rattle.crash.proofs.Disk.Relation.{first-waiting, Ranks, sumNext}
+use Rattle.crash.proofs.Disk.Relation.{first-waiting, RanksBelow, Ranks, sumNext}
+
+-- where the oldest number, the first one and all stages below stay
+below-kept : (k k′ : Book) (c : ℕ) → k′ .oldest c ≡ k .oldest c → k′ .begun .first c ≡ k .begun .first c
+    → ((i : ℕ) → i < k .oldest c → (k′ .entry (newName c i)) .stage ≡ (k .entry (newName c i)) .stage) → RanksBelow k c → RanksBelow k′ c
+below-kept k k′ c o f same b =
+    record {
+      positive = rw o (b .positive);
+      from-first = rw (o, f) (b .from-first);
+      old = λ i h. let g : i < k .oldest c = rw o at h in rw (same i g) (b .old i g);
+      all-retired = λ i a h. let g : i < k .oldest c = rw o at h in same i g ∙ b .all-retired i (rw f at a) g;
+    }
 
 module _ (k k′ : Book) (c : ℕ) (r : Ranks k c) (o : k′ .oldest c ≡ k .oldest c) (u : k′ .uncommitted c ≡ k .uncommitted c) (n : k′ .next c ≡ k .next c)
     (f : k′ .begun .first c ≡ k .begun .first c)
@@ -20,13 +31,10 @@ module _ (k k′ : Book) (c : ℕ) (r : Ranks k c) (o : k′ .oldest c ≡ k .ol
   pub ranks-kept : Ranks k′ c
   ranks-kept =
       record {
-        positive = rw o (r .positive);
-        from-first = rw (o, f) (r .from-first);
-        all-retired = λ i g h. let a : k .begun .first c ≤ i = rw f at g in let b : i < k .oldest c = rw o at h in stages i (below-next i (omega arith)) ∙ r .all-retired i a b;
+        below = below-kept k k′ c o f (λ i h. stages i (below-next i (omega arith))) (r .below);
         low = rw (o, u) (r .low);
         mid = rw (u, n) (r .mid);
         top = rw n (r .top);
-        old = λ i h. let g : i < k .oldest c = rw o at h in rw (stages i (below-next i (omega arith))) (r .old i g);
         first = λ h.
             let g : k .oldest c < k .uncommitted c = rw (o, u) at h in
             let lt : k .oldest c < k .next c = omega arith in
@@ -87,13 +95,10 @@ module _ (k : Book) (c : ℕ) (r : Ranks k c) where
       let up = raise-at c (k .next) in
       let other = one-other k c (k .next c) (closed 0) (k .oldest) (k .uncommitted) (raise c (k .next)) in
       record {
-        positive = r .positive;
-        from-first = r .from-first;
-        all-retired = λ i a b. rw (other i (λ e. omega arith)) (r .all-retired i a b);
+        below = below-kept k _ c refl refl (λ i a. ap (λ e. e .stage) (other i (λ e. omega arith))) (r .below);
         low = r .low;
         mid = rw up (omega arith);
         top = rw up (omega arith);
-        old = λ i h. rw (other i (λ e. omega arith)) (r .old i h);
         first = λ h. rw (other (k .oldest c) (λ e. omega arith)) (r .first h);
         done = λ i h g. rw (other i (λ e. omega arith)) (r .done i h g);
         waiting =
@@ -111,13 +116,10 @@ module _ (k : Book) (c : ℕ) (r : Ranks k c) where
         let step = restages (uncommittedName c k) (closed (suc n)) (k .oldest) (k .uncommitted) (k .next) k in
         let other = one-other k c (k .uncommitted c) (closed (suc n)) (k .oldest) (k .uncommitted) (k .next) in
         record {
-          positive = r .positive;
-          from-first = r .from-first;
-          all-retired = λ i a b. rw (other i (λ e. omega arith)) (r .all-retired i a b);
+          below = below-kept k _ c refl refl (λ i a. ap (λ e. e .stage) (other i (λ e. omega arith))) (r .below);
           low = r .low;
           mid = r .mid;
           top = r .top;
-          old = λ i a. rw (other i (λ e. omega arith)) (r .old i a);
           first = λ a. rw (other (k .oldest c) (λ e. omega arith)) (r .first a);
           done = λ i a b. rw (other i (λ e. omega arith)) (r .done i a b);
           waiting = λ i a b. elim (ℕ-discrete i (k .uncommitted c)) [
@@ -134,13 +136,10 @@ module _ (k : Book) (c : ℕ) (r : Ranks k c) where
         let other = one-other k c (k .uncommitted c) (committed 0) (k .oldest) (raise c (k .uncommitted)) (k .next) in
         let at = one-at k c (k .uncommitted c) (committed 0) (k .oldest) (raise c (k .uncommitted)) (k .next) in
         record {
-          positive = r .positive;
-          from-first = r .from-first;
-          all-retired = λ i a b. rw (other i (λ e. omega arith)) (r .all-retired i a b);
+          below = below-kept k _ c refl refl (λ i a. ap (λ e. e .stage) (other i (λ e. omega arith))) (r .below);
           low = rw up (omega arith);
           mid = rw up (omega arith);
           top = r .top;
-          old = λ i a. rw (other i (λ e. omega arith)) (r .old i a);
           first = λ a. elim (ℕ-discrete (k .oldest c) (k .uncommitted c)) [
             | yes e ↦ (0, at (k .oldest c) e, omega arith)
             | no ne ↦ (let b : k .oldest c < suc (k .uncommitted c) = rw up at a in rw (other (k .oldest c) ne) (r .first (omega arith)))
@@ -160,13 +159,10 @@ module _ (k : Book) (c : ℕ) (r : Ranks k c) where
         let step = restages (oldestName c k) (committed (suc n)) (k .oldest) (k .uncommitted) (k .next) k in
         let other = one-other k c (k .oldest c) (committed (suc n)) (k .oldest) (k .uncommitted) (k .next) in
         record {
-          positive = r .positive;
-          from-first = r .from-first;
-          all-retired = λ i a b. rw (other i (λ e. omega arith)) (r .all-retired i a b);
+          below = below-kept k _ c refl refl (λ i a. ap (λ e. e .stage) (other i (λ e. omega arith))) (r .below);
           low = r .low;
           mid = r .mid;
           top = r .top;
-          old = λ i a. rw (other i (λ e. omega arith)) (r .old i a);
           first = λ a. (suc n, step .stage, rw (step .blocks (oldestName c k)) (omega arith));
           done = λ i a b. rw (other i (λ e. omega arith)) (r .done i a b);
           waiting = λ i a b. rw (other i (λ e. omega arith)) (r .waiting i a b);
@@ -178,20 +174,24 @@ module _ (k : Book) (c : ℕ) (r : Ranks k c) where
     ranks-retired =
         let up = raise-at c (k .oldest) in
         let other = one-other k c (k .oldest c) retired (raise c (k .oldest)) (k .uncommitted) (k .next) in
+        let at = one-at k c (k .oldest c) retired (raise c (k .oldest)) (k .uncommitted) (k .next) in
         record {
-          positive = rw up (omega arith);
-          from-first = rw up (omega (arith, r .from-first));
-          all-retired = λ i f a. elim (ℕ-discrete i (k .oldest c)) [
-            | yes e ↦ one-at k c (k .oldest c) retired (raise c (k .oldest)) (k .uncommitted) (k .next) i e
-            | no ne ↦ (let d : i < suc (k .oldest c) = rw up at a in rw (other i ne) (r .all-retired i f (omega arith)))
-          ];
+          below =
+              record {
+                positive = rw up (omega (arith, r .below .positive));
+                from-first = rw up (omega (arith, r .below .from-first));
+                old = λ i a. elim (ℕ-discrete i (k .oldest c)) [
+                  | yes e ↦ inr (at i e)
+                  | no ne ↦ (let d : i < suc (k .oldest c) = rw up at a in rw (other i ne) (r .below .old i (omega arith)))
+                ];
+                all-retired = λ i f a. elim (ℕ-discrete i (k .oldest c)) [
+                  | yes e ↦ at i e
+                  | no ne ↦ (let d : i < suc (k .oldest c) = rw up at a in rw (other i ne) (r .below .all-retired i f (omega arith)))
+                ];
+              };
           low = rw up (omega arith);
           mid = r .mid;
           top = r .top;
-          old = λ i a. elim (ℕ-discrete i (k .oldest c)) [
-            | yes e ↦ inr (one-at k c (k .oldest c) retired (raise c (k .oldest)) (k .uncommitted) (k .next) i e)
-            | no ne ↦ (let d : i < suc (k .oldest c) = rw up at a in rw (other i ne) (r .old i (omega arith)))
-          ];
           first = λ a. (let d : suc (k .oldest c) < k .uncommitted c = rw up at a in
               (0, rw (up, other (suc (k .oldest c)) (λ e. omega arith)) (r .done (suc (k .oldest c)) (omega arith) d), omega arith));
           done = λ i a b. (let d : suc (k .oldest c) < i = rw up at a in rw (other i (λ e. omega arith)) (r .done i (omega arith) b));

@@ -59,7 +59,7 @@ module _ {k : Book} {c : ℕ} (r : Ranks k c) (i : ℕ) where
       → (i ≡ k .next c → (stage ≡ absent) ⊎ (stage ≡ running) → A) → (stage ≡ absent → A) → A
   by-rank old stored waiting current rest =
       elim (decLt i (k .oldest c)) [
-        | yes o ↦ old o (r .old i o)
+        | yes o ↦ old o (r .below .old i o)
         | no o ↦ elim (decLt i (k .uncommitted c)) [
           | yes u ↦ (let x = committed-stage (omega arith) u in stored (omega arith) u (x .0) (x .1))
           | no u ↦ elim (decLt i (k .next c)) [

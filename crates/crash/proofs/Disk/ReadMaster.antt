@@ -25,7 +25,7 @@ module _ {l : Ledger} {d : Bytes} {tailAt : ℕ → Tail} (f : WellFormed l) (z 
       let j = z .journals c h in
       let r = f .ranks c h in
       rw (
-        le-leb 1 ((tailAt c) .number) (omega (arith, r .positive, j .number)),
+        le-leb 1 ((tailAt c) .number) (omega (arith, r .below .positive, j .number)),
         le-leb ((tailAt c) .number) (suc maxNumber) (omega (arith, r .low, r .mid, r .top, j .number)),
         lt-ltb ((tailAt c) .position) (l .shape .journal) (j .position),
       )

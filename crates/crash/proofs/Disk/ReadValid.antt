@@ -65,7 +65,7 @@ module _ {l : Ledger} {d : Bytes} {tailAt : ℕ → Tail} (f : WellFormed l) (z 
       elim (required-in-book (l .book) t n m) [
         | inl i ↦ inl i
         | inr e ↦ inr (subst (λ (x : Name). belowOldest (l .book) x ≡ true) (sym (e .0))
-            (lt-ltb (t .number - 1) (l .book .oldest (t .core)) (omega (arith, e .1, r .from-first, r .positive))))
+            (lt-ltb (t .number - 1) (l .book .oldest (t .core)) (omega (arith, e .1, r .below .from-first, r .below .positive))))
       ]
 
   read-required : (e : Committed) → ReadAsLedger l d (e .core) e → requiredOf o (l .shape) d e ≡ required o (nameOf e) ((l .book .entry (nameOf e)) .names)
@@ -163,9 +163,8 @@ module _ {l : Ledger} {d : Bytes} {tailAt : ℕ → Tail} (f : WellFormed l) (z 
         mem-all (isMet tailAt ss) (requiredOf o (l .shape) d x)
         (λ n j.
         let q : List·Memᴰ n (required o (nameOf x) ((k .entry (nameOf x)) .names)) = rw (read-required x y) at j in
-        let below : belowOldest k n ≡ true → isMet tailAt ss n ≡ true = λ b. or-left (isIn ss n) (below-tail n (each-core (nameOf x) n c q) ∙ b) in
         elim (met-or-below (nameOf x) n (any-in nameEquality (nameOf x) (validIn k) (r .1)) (required-or-below (nameOf x) n c q)) [
-          | inl b ↦ below b
+          | inl b ↦ or-left (isIn ss n) (below-tail n (each-core (nameOf x) n c q) ∙ b)
           | inr u ↦ or-right (ltb (n .number) ((tailAt (n .core)) .number))
               (let w = unretired-read n (valid-unretired k n (any-in nameEquality n (validIn k) u)) in
               mem-any (λ (g : Committed). sameName n (nameOf g)) (mem-select test es (w .0) (w .1) (rw (w .2) u)) (rw (w .2) (sameName-refl n)))

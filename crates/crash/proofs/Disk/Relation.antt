@@ -61,15 +61,19 @@ pub record Frozen (l : Ledger) (t : Name) : Type 0 where
   pub low : 1 ≤ l .stamp t
   pub high : l .stamp t ≤ l .closes
 
--- the stages of core c's transactions by number
-pub record Ranks (k : Book) (c : ℕ) : Type 0 where
+-- core c's transactions below its oldest unretired one: from its first number on all are retired
+pub record RanksBelow (k : Book) (c : ℕ) : Type 0 where
   pub positive : 1 ≤ k .oldest c
   pub from-first : k .begun .first c ≤ k .oldest c
+  pub old : (i : ℕ) → i < k .oldest c → ((k .entry (newName c i)) .stage ≡ absent) ⊎ ((k .entry (newName c i)) .stage ≡ retired)
   pub all-retired : (i : ℕ) → k .begun .first c ≤ i → i < k .oldest c → (k .entry (newName c i)) .stage ≡ retired
+
+-- the stages of core c's transactions by number
+pub record Ranks (k : Book) (c : ℕ) : Type 0 where
+  pub below : RanksBelow k c
   pub low : k .oldest c ≤ k .uncommitted c
   pub mid : k .uncommitted c ≤ k .next c
   pub top : k .next c ≤ 4000000001
-  pub old : (i : ℕ) → i < k .oldest c → ((k .entry (newName c i)) .stage ≡ absent) ⊎ ((k .entry (newName c i)) .stage ≡ retired)
   pub first : k .oldest c < k .uncommitted c
       → (n : ℕ) × ((k .entry (oldestName c k)) .stage ≡ committed n) × (n ≤ length ((k .entry (oldestName c k)) .blocks))
   pub done : (i : ℕ) → k .oldest c < i → i < k .uncommitted c → (k .entry (newName c i)) .stage ≡ committed 0

@@ -64,7 +64,7 @@ before-there l f t h low =
     let present = closed-present _ (committed-closed ((l .book .entry t) .stage) h) in
     let r = f .ranks (t .core) (f .limits t present .core) in
     elim (decLt (t .number - 1) (l .book .oldest (t .core))) [
-      | yes lt ↦ (λ e. clash (ap isRetired (r .all-retired (t .number - 1) (omega arith) lt)) (ap isRetired e))
+      | yes lt ↦ (λ e. clash (ap isRetired (r .below .all-retired (t .number - 1) (omega arith) lt)) (ap isRetired e))
       | no ge ↦ cases (isRetired ((l .book .entry t) .stage))
           (λ d. absurd (omega (arith, ltb-true (t .number) (l .book .oldest (t .core)) (below-oldest r (t .number) present ∙ d))))
           (λ d. closed-present _ (stored-unretired r (t .number - 1) (omega arith) (omega (arith, committed-rank r (t .number) h d .1)) .is-closed))
