@@ -1,11 +1,11 @@
 /* rev_d.h: the revision D storage card as a library. For x86-64 with the System V calling convention; link libfirmware.a.
  *
- * The card is three buffers that the caller lends to each call: its state in 512 cells of eight bytes, the disk, the memory. The
+ * The card is three buffers that the caller lends to each call: its state in 423 cells of eight bytes, the disk, the memory. The
  * library keeps nothing between calls and has no global variable: different cards may be in use at the same time, one card by one
  * thread at a time. No call allocates, blocks or ends the program, and none uses more than 12,288 bytes of stack.
  *
  * What is asked of a caller, at every entry:
- * - No pointer is null, also where its length is 0. A pointer with a length has that many bytes behind it, `cells` has 512 cells
+ * - No pointer is null, also where its length is 0. A pointer with a length has that many bytes behind it, `cells` has 423 cells
  *   and is aligned to 8, `out` has 128 bytes.
  * - rev_d_command and rev_d_tape write cells, disk and memory: no two of cells, tape, disk and memory overlap.
  * - A reading writes nothing but `out`, which overlaps none of the others; rev_d_page_line nothing but `buffer`, which does not
@@ -24,7 +24,7 @@ extern "C" {
 
 /* Cells, and bytes of the two slices: commands and readings answer slices of another length with 1. A block has 128 bytes, a line of
  * the journal page 65. */
-#define REV_D_CELLS 512
+#define REV_D_CELLS 423
 #define REV_D_DISK 32896
 #define REV_D_MEMORY 16384
 #define REV_D_BLOCK 128
@@ -40,12 +40,12 @@ extern "C" {
  *  6  block not below B
  *  7  offset above 124
  *  8  RECOVER: master has a wrong mark or type, C, B, J out of range, or, for a core below C, a tail number outside
- *     1 to 4,000,000,001 or a position not below J; its other bytes are not looked at
+ *     1 to 4,000,000,001 or a position not below J; or its bytes 8 to 11 hold neither 0 nor 1. Its other bytes are not
+ *     looked at
  * 20  blank (all but FORMAT)
  * 21  FORMAT, not blank
  * 22  down (WRITE, CLOSE, STORE, CHECKPOINT, reading)
  * 23  RECOVER while up
- * 24  a list, the writer's or the holder's, would pass 12 names
  * 25  a ninth block
  * 26  journal full: blocks of the records of closed unretired transactions, stored yet or not, plus 2 and the blocks of the
  *     running one, would pass J. Retired blocks count as free.
@@ -57,7 +57,7 @@ extern "C" {
  * 32  CHECKPOINT, oldest not valid
  * 33  CHECKPOINT, a lower-stamped unretired transaction shares a block (both took it)
  *
- * Where several hold: 1, 2, 3, then 20 to 23, then 4 to 8, then 24 to 33, lowest first.
+ * Where several hold: 1, 2, 3, then 20 to 23, then 4 to 8, then 25 to 33, lowest first.
  */
 
 /* The cells. They may be looked at, copied and put back; a copy put back goes with the disk and memory of the same moment.
@@ -72,25 +72,23 @@ extern "C" {
 
 /* Groups. Core c's tail has two cells from REV_D_FIRST_TAIL + 2 * c on: number, position. Block b's holder is cell
  * REV_D_FIRST_HOLDER + b: 0 for none, else 1 above the holder's name; a name is 8 * number + core. Core c has REV_D_CORE_SIZE cells
- * from REV_D_FIRST_CORE + REV_D_CORE_SIZE * c on: the number that runs or opens next, then those below. All other cells are unused and
- * stay 0. */
-#define REV_D_FIRST_TAIL 16
-#define REV_D_FIRST_HOLDER 32
-#define REV_D_FIRST_CORE 96
-#define REV_D_CORE_SIZE 52
+ * from REV_D_FIRST_CORE + REV_D_CORE_SIZE * c on: the number that runs or opens next, then those below. */
+#define REV_D_FIRST_TAIL 7
+#define REV_D_FIRST_HOLDER 23
+#define REV_D_FIRST_CORE 87
+#define REV_D_CORE_SIZE 42
 #define REV_D_CORE_USED 1     /* journal blocks of its committed unretired records */
 #define REV_D_CORE_STORED 2   /* stores done of its closed transaction */
 #define REV_D_CORE_HOMED 3    /* home stores done of its oldest committed one */
 #define REV_D_CORE_RUNNING 4  /* its running transaction */
-#define REV_D_CORE_CLOSED 28  /* its closed one */
+#define REV_D_CORE_CLOSED 23  /* its closed one */
 
 /* A transaction has REV_D_TRANSACTION_SIZE cells: 1 where there is one, then: */
-#define REV_D_TRANSACTION_SIZE 24
+#define REV_D_TRANSACTION_SIZE 19
 #define REV_D_TRANSACTION_STAMP 1
-#define REV_D_TRANSACTION_COUNT 2  /* how many blocks it took */
-#define REV_D_TRANSACTION_NAMED 3  /* how many names its list has */
-#define REV_D_TRANSACTION_BLOCKS 4 /* from here on the blocks */
-#define REV_D_TRANSACTION_NAMES 12 /* from here on the names */
+#define REV_D_TRANSACTION_COUNT 2    /* how many blocks it took */
+#define REV_D_TRANSACTION_BLOCKS 3   /* from here on the blocks */
+#define REV_D_TRANSACTION_HIGHEST 11 /* from here on, core 0 first, the highest number that it names; 0 for none */
 
 /* What came of a command: the offset of the next one, its number, its byte (0 past the tape's end). */
 struct rev_d_reply {
@@ -151,8 +149,9 @@ uint8_t rev_d_read_block(const uint64_t *cells, uint16_t block, const uint8_t *d
  *
  * A disk that RECOVER would refuse, on a card that is down over it, has one line: the number (1 or 8) in columns 1-2. Any other has
  * a head line, C 1-2, B 4-5, J 7-8; a line for each committed transaction that is not retired, in order of core and number: core
- * 1-2, number 4-13, stamp 15-34, how many blocks 36-37 and names 39-40, then `kept`, in the valid set, or `left` in 42-45; and a line
- * for each core: core 1-2, and in 4-5 the end of its journal, that is why no further record was read. The first that fits of
+ * 1-2, number 4-13, stamp 15-34, how many blocks it took 36-37 and cores it names 39-40, then `kept`, in the valid set, or `left` in
+ * 42-45; and a line for each core: core 1-2, and in 4-5 the end of its journal, that is why no further record was read. The first
+ * that fits of
  *  1: no descriptor of the expected number, that number above 4,000,000,000, or no block left for one;
  *  2: a descriptor field out of range or a block twice;
  *  3: too few blocks left for data and commit;

@@ -2,9 +2,10 @@
 
 use crate::command::{self, Command};
 use crate::few::Few;
-use crate::journal::Journals;
-use crate::layout::{master, Block, Name, Shape, Tail, Tails, BLOCK, CORES, DISK, HOMES, MEMORY, NAMES, TAKEN};
-use crate::order::Order;
+use crate::journal::{Journals, Reader};
+use crate::layout::{
+    master, Block, Layout, Master, Name, Shape, Tail, Tails, BLOCK, CORES, DISK, HOMES, MEMORY, NAMES, TAKEN,
+};
 use crate::wrong::Wrong;
 
 #[derive(Clone, Copy, PartialEq, Eq, Debug)]
@@ -20,6 +21,7 @@ pub struct Transaction {
     pub number: u32,
     pub stamp: u64,
     pub blocks: Few<u8, TAKEN>,
+    /// A card that writes numbers keeps one name for each core, that of the highest number.
     pub names: Few<Name, NAMES>,
 }
 
@@ -39,6 +41,26 @@ pub struct Core {
     pub home: u8,
 }
 
+/// What a card is throughout: the layout that it writes, and what is wrong with it.
+#[derive(Clone, Copy, PartialEq, Eq, Debug, Default)]
+pub struct Kind {
+    pub layout: Layout,
+    pub wrong: Wrong,
+}
+
+impl Kind {
+    /// The card of request (c), as `Wrong::No`, or one before it.
+    pub const fn older(wrong: Wrong) -> Kind {
+        Kind { layout: Layout::Lists, wrong }
+    }
+}
+
+impl From<Wrong> for Kind {
+    fn from(wrong: Wrong) -> Kind {
+        Kind { wrong, ..Kind::default() }
+    }
+}
+
 /// The card's state, apart from the lent slices.
 #[derive(Clone, Copy, PartialEq, Eq, Debug)]
 pub struct Card {
@@ -50,8 +72,7 @@ pub struct Card {
     pub closes: u64,
     /// While down: the lowest block that recovery has not passed yet.
     pub place: u8,
-    pub order: Order,
-    pub wrong: Wrong,
+    pub kind: Kind,
     /// What only a wrong card remembers.
     pub aside: u64,
 }
@@ -74,15 +95,15 @@ pub type Done = Result<u8, u8>;
 
 impl Card {
     pub fn blank() -> Card {
-        Card::with(Phase::Blank, Order::default(), Wrong::No)
+        Card::with(Phase::Blank, Kind::default())
     }
 
     /// A card that begins down over a disk written elsewhere.
     pub fn down() -> Card {
-        Card::with(Phase::Down, Order::default(), Wrong::No)
+        Card::with(Phase::Down, Kind::default())
     }
 
-    pub fn with(phase: Phase, order: Order, wrong: Wrong) -> Card {
+    pub fn with(phase: Phase, kind: Kind) -> Card {
         Card {
             phase,
             shape: Shape::default(),
@@ -90,14 +111,13 @@ impl Card {
             holders: [None; HOMES],
             closes: 0,
             place: 0,
-            order,
-            wrong,
+            kind,
             aside: 0,
         }
     }
 
     pub fn is(&self, wrong: Wrong) -> bool {
-        self.wrong == wrong
+        self.kind.wrong == wrong
     }
 
     /// Runs the command at an offset of a tape.
@@ -150,15 +170,25 @@ impl Card {
         tails[..cores as usize].fill(Tail { number: 1, position: 0 });
         lent.disk.fill(0);
         lent.memory.fill(0);
-        lent.disk[..BLOCK].copy_from_slice(&master(shape, &tails));
+        let layout = self.layout_unless(Wrong::FormatMasterZero);
+        lent.disk[..BLOCK].copy_from_slice(&master(&Master { layout, shape, tails }));
         self.come_up(shape, &tails);
         Ok(0)
+    }
+
+    /// The layout that the card writes and reads while it is up, unless it is wrong in this.
+    pub(crate) fn layout_unless(&self, wrong: Wrong) -> Layout {
+        if self.is(wrong) {
+            Layout::Lists
+        } else {
+            self.kind.layout
+        }
     }
 
     /// The state of a card that has just come up: empty journals, no holder, no close counted.
     pub(crate) fn come_up(&mut self, shape: Shape, tails: &Tails) {
         let closes = self.closes;
-        *self = Card { shape, aside: self.aside, ..Card::with(Phase::Up, self.order, self.wrong) };
+        *self = Card { shape, aside: self.aside, ..Card::with(Phase::Up, self.kind) };
         for (core, tail) in self.cores.iter_mut().zip(tails) {
             *core = Core { tail: *tail, next: tail.number, ..Core::default() };
         }
@@ -172,11 +202,12 @@ impl Card {
             lent.memory.fill(0);
         }
         let (place, closes, aside) = (self.place, self.closes, self.aside);
-        *self = Card::with(Phase::Down, self.order, self.wrong);
-        match self.wrong {
+        *self = Card::with(Phase::Down, self.kind);
+        match self.kind.wrong {
             Wrong::CutKeepsPlace => self.place = place,
             Wrong::StampsGoOn => self.closes = closes,
             Wrong::FirstRecordOnly => self.aside = aside,
+            Wrong::LayoutForgotten => self.aside = (place > 0) as u64,
             _ => {}
         }
         Ok(0)
@@ -207,10 +238,13 @@ impl Card {
         std::array::from_fn(|core| self.cores[core].tail)
     }
 
-    /// Committed unretired transactions of an up card: the first records, as many as the card counts.
+    /// Committed unretired transactions of an up card: the first records, as many as the card counts. It wrote them all itself since
+    /// it came up, so the master is not looked at.
     pub(crate) fn journals(&self, disk: &[u8]) -> Journals {
         let limits = std::array::from_fn(|core| self.cores[core].committed as usize);
-        Journals::read(disk, self.shape, &self.tails(), &limits)
+        let layout = self.layout_unless(Wrong::ListsInRunning);
+        let master = Master { layout, shape: self.shape, tails: self.tails() };
+        Journals::read(Reader { disk, master, wrong: self.kind.wrong }, &limits)
     }
 
     /// The refusal of reading a block, 0 for none.

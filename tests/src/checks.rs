@@ -3,14 +3,17 @@
 use crate::book::Book;
 use crate::card::{Card, Outcome, Phase};
 use crate::command::{self, Command};
-use crate::foreign;
 use crate::generator::Generator;
-use crate::layout::{block_at, read_master, Shape, Tail, BLOCK, DISK, HOMES, MEMORY};
-use crate::ledger::{Entry, Ledger, Line, Stored};
-use crate::order::Rules;
+use crate::layout::{block_at, master, read_master, Layout, Master, Shape, BLOCK, DISK, HOMES, MEMORY};
+use crate::ledger::{Entry, Ledger, Line, Rules, Stored};
+use crate::order::Order;
 use crate::random::Random;
 use crate::second_reader::{journal_stop, read_journal, Stop};
 use crate::wrong::{Wrong, WrongReader};
+
+mod starts;
+
+pub use starts::Shares;
 
 /// Which checks are made; a wrong card can be tried against one demand alone.
 #[derive(Clone, Copy, PartialEq, Eq, Debug)]
@@ -49,6 +52,8 @@ pub struct Failure {
     pub commands: u64,
     pub offset: usize,
     pub tape: Vec<u8>,
+    /// What another card ran before, whose disk was handed over.
+    pub before: Vec<u8>,
     pub is_foreign: bool,
 }
 
@@ -71,6 +76,9 @@ pub struct Tally {
     pub commands: u64,
     pub tapes: u64,
     pub foreign_disks: u64,
+    /// Disks handed over by another card, and what it answered on the tapes that left them.
+    pub handed_over: u64,
+    pub answers_before: [u64; 42],
     pub recoveries: u64,
     pub cuts_in_recovery: u64,
     pub longest_list: usize,
@@ -82,7 +90,8 @@ pub struct Tally {
 
 pub struct Bench<'w> {
     checks: Checks,
-    rules: Rules,
+    /// The rule of the book and the ledger.
+    order: Order,
     wrong: Wrong,
     card: Card,
     disk: Vec<u8>,
@@ -93,11 +102,14 @@ pub struct Bench<'w> {
     book: Book,
     ledger: Ledger,
     is_foreign: bool,
-    /// Share of foreign disks in a thousand starts.
-    foreign_share: usize,
+    /// Another card runs, whose disk will be handed over.
+    is_other: bool,
+    shares: Shares,
     /// RECOVERs carried out since the last cut or start.
     recovers: usize,
     tape: Vec<u8>,
+    /// The tape of the card whose disk was handed over.
+    before: Vec<u8>,
     random: Random,
     /// Chooses the extra looks alone, so that the tapes are the same whatever is checked.
     probe: Random,
@@ -117,15 +129,18 @@ fn require(holds: bool, check: &'static str, detail: impl FnOnce() -> String) ->
 
 impl<'w> Bench<'w> {
     pub fn new(wrong: Wrong, checks: Checks, watcher: Option<&'w mut dyn Watcher>) -> Bench<'w> {
-        Bench::under(Rules::default(), wrong, checks, watcher)
+        Bench::under(Order::default(), wrong, checks, watcher)
     }
 
-    pub fn under(rules: Rules, wrong: Wrong, checks: Checks, watcher: Option<&'w mut dyn Watcher>) -> Bench<'w> {
+    /// The same by book and ledger of either rule.
+    pub fn under(order: Order, wrong: Wrong, checks: Checks, watcher: Option<&'w mut dyn Watcher>) -> Bench<'w> {
         let answers = [0; 42];
         let tally = Tally {
             commands: 0,
             tapes: 0,
             foreign_disks: 0,
+            handed_over: 0,
+            answers_before: answers,
             recoveries: 0,
             cuts_in_recovery: 0,
             longest_list: 0,
@@ -135,29 +150,26 @@ impl<'w> Bench<'w> {
         };
         Bench {
             checks,
-            rules,
+            order,
             wrong,
-            card: Card::with(Phase::Blank, rules.card, wrong),
+            card: Card::with(Phase::Blank, wrong.into()),
             disk: vec![0; DISK],
             memory: vec![0; MEMORY],
             seen_disk: vec![0; DISK],
             seen_memory: vec![0; MEMORY],
-            book: Book::under(rules.books),
-            ledger: Ledger::blank(&[0; MEMORY], rules.books),
+            book: Book::under(order),
+            ledger: Ledger::blank(&[0; MEMORY], Rules::default()),
             is_foreign: false,
-            foreign_share: 300,
+            is_other: false,
+            shares: Shares::USUAL,
             recovers: 0,
             tape: Vec::new(),
+            before: Vec::new(),
             random: Random::new(1),
             probe: Random::new(2),
             watcher,
             tally,
         }
-    }
-
-    /// How many of a thousand starts are over a foreign disk.
-    pub fn set_foreign_share(&mut self, share: usize) {
-        self.foreign_share = share;
     }
 
     /// Runs generated tapes until so many commands are done.
@@ -170,11 +182,7 @@ impl<'w> Bench<'w> {
         let mut generator = Generator::new(seed);
         self.random = Random::new(seed ^ 0x5EED);
         while !is_enough(&self.tally) {
-            if self.random.chance(self.foreign_share) {
-                self.start_foreign();
-            } else {
-                self.start_blank();
-            }
+            self.start_any(&mut generator)?;
             self.generated_tape(&mut generator)?;
         }
         Ok(())
@@ -195,12 +203,8 @@ impl<'w> Bench<'w> {
     }
 
     fn generated_tape(&mut self, generator: &mut Generator) -> Result<(), Failure> {
-        for _ in 0..self.tape_length(generator) {
-            let offset = self.tape.len();
-            generator.command(&self.card).write_to(&mut self.tape);
-            self.try_wrong_lengths(offset)?;
-            self.step(offset)?;
-        }
+        let count = self.tape_length(generator);
+        self.generated_commands(generator, count)?;
         let offset = self.tape.len();
         if self.random.chance(300) {
             self.tape.extend(generator.garbage());
@@ -208,13 +212,26 @@ impl<'w> Bench<'w> {
         self.run_from(offset)
     }
 
+    fn generated_commands(&mut self, generator: &mut Generator, count: usize) -> Result<(), Failure> {
+        for _ in 0..count {
+            let offset = self.tape.len();
+            generator.command(&self.card).write_to(&mut self.tape);
+            self.try_wrong_lengths(offset)?;
+            self.step(offset)?;
+        }
+        Ok(())
+    }
+
     /// Foreign disks get short tapes, and the shortest where every RECOVER is refused, so that many are seen.
     fn tape_length(&self, generator: &mut Generator) -> usize {
-        if !self.is_foreign {
+        if self.card.phase == Phase::Blank {
             return generator.begin();
         }
-        let most = if self.ledger.restores.is_some() { 200 } else { 4 };
-        generator.begin_with(self.ledger.shape.or_smallest()).min(most)
+        let (shape, most) = match read_master(&self.disk) {
+            Some(master) => (master.shape, if self.is_foreign { 200 } else { usize::MAX }),
+            None => (Shape::SMALLEST, 4),
+        };
+        generator.begin_with(shape).min(most)
     }
 
     /// Runs the rest of the tape and looks at the whole slices at its end.
@@ -236,45 +253,8 @@ impl<'w> Bench<'w> {
     fn failure(&self, found: (&'static str, String), offset: usize) -> Failure {
         let tape = self.tape.clone();
         let commands = self.tally.commands;
-        Failure { check: found.0, detail: found.1, commands, offset, tape, is_foreign: self.is_foreign }
-    }
-
-    /// A blank card over slices of any content.
-    fn start_blank(&mut self) {
-        self.random.fill(&mut self.disk);
-        self.random.fill(&mut self.memory);
-        self.card = Card::with(Phase::Blank, self.rules.card, self.wrong);
-        self.book = Book::under(self.rules.books);
-        self.ledger = Ledger::blank(&self.memory, self.rules.books);
-        self.is_foreign = false;
-        self.started();
-    }
-
-    /// A card that is down over a disk written elsewhere.
-    fn start_foreign(&mut self) {
-        let disk = foreign::disk(&mut self.random, &self.disk);
-        self.start_over(disk);
-    }
-
-    fn start_over(&mut self, disk: Vec<u8>) {
-        self.disk = disk;
-        self.random.fill(&mut self.memory);
-        self.card = Card::with(Phase::Down, self.rules.card, self.wrong);
-        self.ledger = Ledger::over(&self.disk, &self.memory, self.rules.books);
-        self.is_foreign = true;
-        self.tally.foreign_disks += 1;
-        self.started();
-    }
-
-    fn started(&mut self) {
-        self.tally.tapes += 1;
-        self.recovers = 0;
-        self.tape.clear();
-        self.seen_disk.copy_from_slice(&self.disk);
-        self.seen_memory.copy_from_slice(&self.memory);
-        if let Some(watcher) = &mut self.watcher {
-            watcher.start(self.is_foreign, &self.disk, &self.memory);
-        }
+        let before = self.before.clone();
+        Failure { check: found.0, detail: found.1, commands, offset, tape, before, is_foreign: self.is_foreign }
     }
 
     /// Now and then the same command with slices of a wrong length: refusal 1, and nothing changes.
@@ -290,7 +270,7 @@ impl<'w> Bench<'w> {
         };
         let outcome = self.card.command(&mut self.disk[..disk], &mut self.memory[..memory], &self.tape, offset);
         let expected = Outcome { answer: 1, stores: 0, next: self.tape.len() };
-        self.tally.answers[1] += 1;
+        self.count_answer(1);
         let same = outcome == expected && self.card == before && self.disk == self.seen_disk;
         let same = same && self.memory == self.seen_memory;
         require(same, "answer", || format!("slices of {disk} and {memory} bytes gave {outcome:?}"))
@@ -307,7 +287,7 @@ impl<'w> Bench<'w> {
             Err(refusal) => self.check_refusal(&before, outcome, refusal, self.tape.len()),
         };
         checked.map_err(|found| self.failure(found, offset))?;
-        if let Some(watcher) = &mut self.watcher {
+        if let Some(watcher) = self.watcher.as_deref_mut().filter(|_| !self.is_other) {
             let seen = Seen { outcome, card: &self.card, disk: &self.disk, memory: &self.memory };
             let watched = watcher.command(&self.tape, offset, seen);
             watched.map_err(|detail| self.failure(("differs", detail), offset))?;
@@ -316,12 +296,20 @@ impl<'w> Bench<'w> {
     }
 
     fn count(&mut self, before: &Card, offset: usize, outcome: Outcome) {
+        self.count_answer(outcome.answer);
+        if self.is_other {
+            return;
+        }
         let was_down = before.phase == Phase::Down;
         let is_cut = matches!(command::read(&self.tape, offset), Ok((Command::Cut, _)));
         self.tally.commands += 1;
-        self.tally.answers[(outcome.answer as usize).min(41)] += 1;
         self.tally.recoveries += (was_down && self.card.phase == Phase::Up) as u64;
         self.tally.cuts_in_recovery += (was_down && is_cut && outcome.answer == 0) as u64;
+    }
+
+    fn count_answer(&mut self, answer: u8) {
+        let answers = if self.is_other { &mut self.tally.answers_before } else { &mut self.tally.answers };
+        answers[(answer as usize).min(41)] += 1;
     }
 
     fn check_command(&mut self, before: &Card, command: Command, next: usize, outcome: Outcome) -> Checked {
@@ -418,7 +406,7 @@ impl<'w> Bench<'w> {
         }
         if self.is_foreign && command == Command::Cut {
             // Stale records of a foreign disk may be read again, so the ledger starts anew from the disk.
-            self.ledger = Ledger::over(&self.disk, &self.memory, self.rules.books);
+            self.ledger = Ledger::over(&self.disk, &self.memory, Rules { order: self.order, ..Rules::default() });
         }
         Ok(())
     }
@@ -462,25 +450,24 @@ impl<'w> Bench<'w> {
         if changed.is_empty() && matches!(command, Command::Write { .. } | Command::Close { .. }) {
             return Ok(());
         }
-        let Some((shape, tails)) = read_master(&self.disk) else {
+        let Some(master) = read_master(&self.disk) else {
             let was_bad = self.is_foreign && self.ledger.phase == Phase::Down;
             return require(was_bad, "journal", || "the master is bad".into());
         };
-        for core in 0..shape.cores {
-            if command == Command::Cut || self.ledger.phase == Phase::Up {
-                self.check_journal(shape, core, tails[core as usize])?;
-            }
+        if command != Command::Cut && self.ledger.phase != Phase::Up {
+            return Ok(());
         }
-        Ok(())
+        require(master == self.ledger.master(), "journal", || format!("the master tells {master:?}"))?;
+        (0..master.shape.cores).try_for_each(|core| self.check_journal(&master, core))
     }
 
-    fn check_journal(&mut self, shape: Shape, core: u8, tail: Tail) -> Checked {
+    fn check_journal(&mut self, master: &Master, core: u8) -> Checked {
         let line = &self.ledger.lines[core as usize];
         // After recovery a foreign disk may still have stale records behind the card's own.
         let limit = if self.is_foreign { line.committed().count() } else { usize::MAX };
-        let read = read_journal(&self.disk, shape, core, tail, limit);
-        let same = shape == self.ledger.shape && tail == line.tail && is_told(&read, line);
-        let longest = read.iter().map(|entry| entry.names.len()).max().unwrap_or(0);
+        let read = read_journal(&self.disk, master, core, limit);
+        let same = is_told(&read, line, master.layout);
+        let longest = line.entries.iter().map(|entry| entry.names.len()).max().unwrap_or(0);
         self.tally.longest_list = self.tally.longest_list.max(longest);
         self.tally.most_records = self.tally.most_records.max(read.len());
         require(same, "journal", || format!("the journal of core {core} does not read as the ledger has it"))
@@ -491,11 +478,11 @@ impl<'w> Bench<'w> {
         if matches!(command, Command::Write { .. } | Command::Close { .. }) {
             return Ok(());
         }
-        let Some((shape, tails)) = read_master(&self.disk) else {
+        let Some(master) = read_master(&self.disk) else {
             return require(false, "ends", || "the master is bad".into());
         };
-        for core in 0..shape.cores {
-            let Stop { end, .. } = journal_stop(&self.disk, shape, core, tails[core as usize], WrongReader::No);
+        for core in 0..master.shape.cores {
+            let Stop { end, .. } = journal_stop(&self.disk, &master, core, WrongReader::No);
             let due = self.ledger.lines[core as usize].end();
             self.tally.ends[end as usize] += 1;
             require(end == due, "ends", || format!("the journal of core {core} ends with {end}, due is {due}"))?;
@@ -531,7 +518,7 @@ impl<'w> Bench<'w> {
     }
 
     fn check_format(&self) -> Checked {
-        let expected = crate::layout::master(self.ledger.shape, &self.ledger.tails());
+        let expected = master(&self.ledger.master());
         let same = self.disk[..BLOCK] == expected && self.disk[BLOCK..].iter().all(|byte| *byte == 0);
         require(same && self.memory.iter().all(|byte| *byte == 0), "bytes", || "FORMAT left other bytes".into())
     }
@@ -567,10 +554,10 @@ impl<'w> Bench<'w> {
 }
 
 /// Whether records read are the ledger's committed transactions: number, blocks, images, stamp and names.
-fn is_told(read: &[Entry], line: &Line) -> bool {
+fn is_told(read: &[Entry], line: &Line, layout: Layout) -> bool {
     let same = |(one, other): (&Entry, &Entry)| {
         let bytes = one.blocks == other.blocks && one.images == other.images;
-        bytes && one.number == other.number && one.stamp == other.stamp && one.names == other.names
+        bytes && one.number == other.number && one.stamp == other.stamp && one.names == other.due_names(layout)
     };
     read.len() == line.committed().count() && read.iter().zip(line.committed()).all(same)
 }

@@ -3,8 +3,8 @@
 
 use crate::command::Command;
 use crate::layout::{
-    commit, descriptor, master, read_master, Name, Shape, Tail, Tails, BLOCK, CORES, DISK, HOMES, LAST_NUMBER,
-    LAST_TAIL, NAMES,
+    commit, descriptor, master, read_master, Layout, Master, Name, Shape, Tail, Tails, BLOCK, CORES, DISK, HOMES,
+    LAST_NUMBER, LAST_TAIL, NAMES,
 };
 
 pub const LARGEST: Shape = Shape { cores: 8, blocks: 64, journal: 24 };
@@ -12,17 +12,18 @@ pub const LARGEST: Shape = Shape { cores: 8, blocks: 64, journal: 24 };
 /// A name that no journal of these disks meets.
 const UNMET: Name = Name { core: 0, number: 1000 };
 
-/// A disk with a master of this shape, whose first cores have these tails.
-pub fn disk_with(shape: Shape, tails: &[Tail]) -> Vec<u8> {
+/// A disk with a master of this layout and shape, whose first cores have these tails.
+pub fn disk_with(layout: Layout, shape: Shape, tails: &[Tail]) -> Vec<u8> {
     let mut all = Tails::default();
     all[..tails.len()].copy_from_slice(tails);
     let mut disk = vec![0; DISK];
-    disk[..BLOCK].copy_from_slice(&master(shape, &all));
+    disk[..BLOCK].copy_from_slice(&master(&Master { layout, shape, tails: all }));
     disk
 }
 
-/// A whole record put down at a position. Its images begin with the mark.
-pub fn put_record(disk: &mut [u8], shape: Shape, name: Name, at: usize, blocks: &[u8], names: &[Name]) {
+/// A whole record put down at a position, as the master asks for. Its images begin with the mark.
+pub fn put_record(disk: &mut [u8], name: Name, at: usize, blocks: &[u8], names: &[Name]) {
+    let Master { layout, shape, .. } = read_master(disk).expect("a master");
     let mut put = |position: usize, block: &[u8]| {
         let start = shape.place(name.core, position) * BLOCK;
         disk[start..start + block.len()].copy_from_slice(block);
@@ -31,13 +32,13 @@ pub fn put_record(disk: &mut [u8], shape: Shape, name: Name, at: usize, blocks: 
     for i in 0..blocks.len() {
         put(at + 1 + i, &[0, 0, 0, 0, 7, 8, 9, 10 + i as u8]);
     }
-    put(at + 1 + blocks.len(), &commit(name.number, 3, names));
+    put(at + 1 + blocks.len(), &commit(layout, name.number, 3, names));
 }
 
 /// Puts so many records of so many blocks into each core's journal. Each record names the next one, in order of core and
 /// number; the last names one that is never met, or none. Where it is never met, each round strikes one record, the last.
 pub fn put_chain(disk: &mut [u8], counts: [usize; CORES], blocks: usize, is_met: bool) {
-    let (shape, tails) = read_master(disk).expect("a master");
+    let Master { shape, tails, .. } = read_master(disk).expect("a master");
     let cores = (0..shape.cores).flat_map(|core| (0..counts[core as usize]).map(move |i| (core, i)));
     let links: Vec<(u8, usize)> = cores.collect();
     let name_of = |(core, i): (u8, usize)| Name { core, number: tails[core as usize].number + i as u32 };
@@ -45,26 +46,27 @@ pub fn put_chain(disk: &mut [u8], counts: [usize; CORES], blocks: usize, is_met:
         let next = links.get(k + 1).map(|link| name_of(*link)).or((!is_met).then_some(UNMET));
         let homes: Vec<u8> = (0..blocks).map(|b| ((k * blocks + b) % shape.blocks as usize) as u8).collect();
         let at = tails[core as usize].position as usize + i * (blocks + 2);
-        put_record(disk, shape, name_of((core, i)), at, &homes, next.as_slice());
+        put_record(disk, name_of((core, i)), at, &homes, next.as_slice());
     }
 }
 
 /// A disk of the largest shape whose journals are full of one chain.
-pub fn chain_disk(blocks: usize, is_met: bool) -> Vec<u8> {
-    let mut disk = disk_with(LARGEST, &[Tail { number: 1, position: 0 }; CORES]);
+pub fn chain_disk(layout: Layout, blocks: usize, is_met: bool) -> Vec<u8> {
+    let mut disk = disk_with(layout, LARGEST, &[Tail { number: 1, position: 0 }; CORES]);
     put_chain(&mut disk, [LARGEST.journal as usize / (blocks + 2); CORES], blocks, is_met);
     disk
 }
 
 /// A disk of the largest shape where each core's one transaction has the highest number and stamp, and the most blocks and
-/// names. Its list names nothing but itself. What follows it in the journal has a number too high to be read.
-pub fn highest_disk() -> Vec<u8> {
+/// names: all of these transactions, some twice. What follows it in the journal has a number too high to be read.
+pub fn highest_disk(layout: Layout) -> Vec<u8> {
     let position = 20;
-    let mut disk = disk_with(LARGEST, &[Tail { number: LAST_NUMBER, position }; CORES]);
+    let names: [Name; NAMES] = std::array::from_fn(|i| Name { core: i as u8 % LARGEST.cores, number: LAST_NUMBER });
+    let mut disk = disk_with(layout, LARGEST, &[Tail { number: LAST_NUMBER, position }; CORES]);
     for core in 0..LARGEST.cores {
         let (at, name) = (position as usize, Name { core, number: LAST_NUMBER });
-        put_record(&mut disk, LARGEST, name, at, &[63, 0, 1, 2, 3, 4, 5, 6], &[name; NAMES]);
-        put_record(&mut disk, LARGEST, Name { core, number: LAST_TAIL }, at + 10, &[], &[]);
+        put_record(&mut disk, name, at, &[63, 0, 1, 2, 3, 4, 5, 6], &names);
+        put_record(&mut disk, Name { core, number: LAST_TAIL }, at + 10, &[], &[]);
         let stamp = LARGEST.place(core, at + 9) * BLOCK + 12;
         disk[stamp..stamp + 8].fill(0xFF);
     }

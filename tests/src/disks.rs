@@ -1,9 +1,8 @@
 // disks.rs: disks to be looked at: the one that a tape leaves, and all that generated tapes pass through, foreign ones too.
 
-use crate::card::{Card, Phase};
+use crate::card::{Card, Kind, Phase};
 use crate::checks::{Bench, Checks, Seen, Watcher};
 use crate::layout::{DISK, MEMORY};
-use crate::order::Order;
 use crate::wrong::Wrong;
 
 /// The first case of paper 01 up to its CUT, in hex.
@@ -13,13 +12,13 @@ pub const P1_UNCUT: &str =
 
 /// The disk after a tape on a blank card, over slices filled with EE.
 pub fn disk_after(tape: &[u8]) -> Vec<u8> {
-    disk_under(Order::default(), tape)
+    disk_by(Kind::default(), tape)
 }
 
-/// The same with a card under either rule.
-pub fn disk_under(order: Order, tape: &[u8]) -> Vec<u8> {
+/// The same by a card of another kind.
+pub fn disk_by(kind: Kind, tape: &[u8]) -> Vec<u8> {
     let (mut disk, mut memory, mut offset) = (vec![0xEE; DISK], vec![0xEE; MEMORY], 0);
-    let mut card = Card::with(Phase::Blank, order, Wrong::No);
+    let mut card = Card::with(Phase::Blank, kind);
     while offset < tape.len() {
         offset = card.command(&mut disk, &mut memory, tape, offset).next;
     }

@@ -1,9 +1,10 @@
 // endings.rs: foreign disks made for why reading stops: in each journal whole records, and behind them a descriptor of the expected
 // number and its commit, each right or with one field wrong. Tail, records and the blocks left for the last one are any.
 
-use crate::foreign::{any_shape, any_tails, put};
+use crate::foreign::{any_master, fill_unread, put};
 use crate::layout::{
-    commit, descriptor, master, put_word, Block, Name, Shape, Tail, COMMIT, DESCRIPTOR, DISK, HOMES, MARK, NAMES, TAKEN,
+    commit, descriptor, master, put_word, Block, Layout, Master, Name, Shape, Tail, COMMIT, CORES, DESCRIPTOR, DISK,
+    HOMES, MARK, NAMES, TAKEN,
 };
 use crate::random::Random;
 
@@ -19,17 +20,18 @@ pub fn disk(random: &mut Random) -> Vec<u8> {
     if random.chance(500) {
         random.fill(&mut disk);
     }
-    let shape = any_shape(random);
-    let tails = any_tails(random, shape);
-    put(&mut disk, 0, &master(shape, &tails));
+    let fields = any_master(random);
+    let Master { layout, shape, tails } = fields;
+    put(&mut disk, 0, &master(&fields));
     for core in 0..shape.cores {
-        Journal { disk: &mut disk, shape, core, tail: tails[core as usize] }.fill(random);
+        Journal { disk: &mut disk, layout, shape, core, tail: tails[core as usize] }.fill(random);
     }
     disk
 }
 
 struct Journal<'a> {
     disk: &'a mut [u8],
+    layout: Layout,
     shape: Shape,
     core: u8,
     tail: Tail,
@@ -61,7 +63,7 @@ impl Journal<'_> {
     /// A commit of the last record's number wherever nothing else will stand, so that one that is looked for at a wrong place is found.
     fn forge_commits(&mut self, random: &mut Random, number: u32) {
         if random.chance(500) {
-            (0..self.shape.journal as usize).for_each(|used| self.put(used, &commit(number, 1, &[])));
+            (0..self.shape.journal as usize).for_each(|used| self.put(used, &commit(self.layout, number, 1, &[])));
         }
     }
 
@@ -79,9 +81,12 @@ impl Journal<'_> {
         let flags: Vec<bool> = taken.iter().map(|_| random.chance(500)).collect();
         let names: Vec<Name> = (0..random.pick(&[0, 1, 2, NAMES])).map(|_| any_name(random, self.shape)).collect();
         let mut first = descriptor(number, &taken[..count], &flags);
-        let mut last = commit(number, random.pick(&[1, 2, 1 << 32, u64::MAX]), &names);
+        let mut last = commit(self.layout, number, random.pick(&[1, 2, 1 << 32, u64::MAX]), &names);
         put_word(&mut first, 16 + 8 * count, taken[count] as u32);
-        put_word(&mut last, 28 + 8 * names.len(), 1);
+        match self.layout {
+            Layout::Lists => put_word(&mut last, 28 + 8 * names.len(), 1),
+            Layout::Numbers => fill_unread(random, &mut last),
+        }
         (first, last)
     }
 
@@ -94,13 +99,30 @@ impl Journal<'_> {
             spoil_descriptor(random, &mut first, self.shape, number, count);
         }
         if random.chance(700) {
-            spoil_commit(random, &mut last, self.shape, number);
+            self.spoil_commit(random, &mut last, number);
         }
         if left > 0 {
             self.put(used, &first);
         }
         if left >= count + 2 {
             self.put(used + count + 1, &last);
+        }
+    }
+
+    /// One word out of range, or a bit of any flipped.
+    fn spoil_commit(&self, random: &mut Random, block: &mut Block, number: u32) {
+        let cores = self.shape.cores as u32;
+        let beside = random.pick(&[number - 1, number + 1]);
+        let fields = [(0, MARK ^ 1), (4, DESCRIPTOR), (8, beside)];
+        let in_list = [(20, 13), (20, u32::MAX), (24, cores), (28, 0), (112, cores), (116, 0)];
+        // numbers of cores that are not there; where all are, any number is in range
+        let beyond: Vec<(usize, u32)> = (self.shape.cores as usize..CORES).map(|core| (24 + 4 * core, 1)).collect();
+        let named = if self.layout == Layout::Lists { &in_list[..] } else { &beyond };
+        let (at, word) = random.pick(&[&fields[..], named].concat());
+        match random.below(10) {
+            0 => block[12..20].fill(0),
+            1..=3 => flip(random, block, 32),
+            _ => put_word(block, at, word),
         }
     }
 }
@@ -150,18 +172,6 @@ fn spoil_descriptor(random: &mut Random, block: &mut Block, shape: Shape, number
         flip(random, block, 6 + 2 * count);
     } else {
         put_word(block, at, word);
-    }
-}
-
-fn spoil_commit(random: &mut Random, block: &mut Block, shape: Shape, number: u32) {
-    let beside = random.pick(&[number - 1, number + 1]);
-    let fields = [(0, MARK ^ 1), (4, DESCRIPTOR), (8, beside), (20, 13), (20, u32::MAX)];
-    let names = [(24, shape.cores as u32), (28, 0), (112, shape.cores as u32), (116, 0)];
-    let (at, word) = random.pick(&[&fields[..], &names].concat());
-    match random.below(10) {
-        0 => block[12..20].fill(0),
-        1..=3 => flip(random, block, 32),
-        _ => put_word(block, at, word),
     }
 }
 

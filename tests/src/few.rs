@@ -20,15 +20,6 @@ impl<T: Copy + Default, const N: usize> Few<T, N> {
             self.count += 1;
         }
     }
-
-    /// The list without the elements that fail the test, in the same order.
-    pub fn keep(&self, test: impl Fn(&T) -> bool) -> Self {
-        let mut kept = Few::new();
-        for item in self.iter().filter(|item| test(item)) {
-            kept.push(*item);
-        }
-        kept
-    }
 }
 
 impl<T: Copy + Default, const N: usize> Default for Few<T, N> {

@@ -1,7 +1,8 @@
-// foreign.rs: disks written elsewhere: random bytes, disks of runs with damage, and crafted masters and records.
+// foreign.rs: disks written elsewhere, in both layouts: random bytes, disks of runs with damage, and crafted masters and records.
 
 use crate::layout::{
-    commit, descriptor, master, put_word, Block, Name, Shape, Tail, Tails, BLOCK, DISK, LAST_NUMBER, LAST_TAIL,
+    commit, descriptor, master, put_word, Block, Layout, Master, Name, Shape, Tail, Tails, BLOCK, CORES, DISK,
+    LAST_NUMBER, LAST_TAIL, LAYOUTS,
 };
 use crate::random::Random;
 
@@ -23,15 +24,17 @@ fn random_bytes(random: &mut Random) -> Vec<u8> {
     let mut disk = vec![0; DISK];
     random.fill(&mut disk);
     if random.chance(500) {
-        let shape = any_shape(random);
-        let tails = any_tails(random, shape);
-        put(&mut disk, 0, &master(shape, &tails));
+        put(&mut disk, 0, &master(&any_master(random)));
     }
     disk
 }
 
+/// Bytes that are not as the run left them; sometimes a master that tells any layout.
 fn damaged(random: &mut Random, run: &[u8]) -> Vec<u8> {
     let mut disk = run.to_vec();
+    if random.chance(200) {
+        put_word(&mut disk, 8, random.pick(&LAYOUTS) as u32);
+    }
     for _ in 0..random.below(6) {
         let limit = random.pick(&[BLOCK, 8 * BLOCK, 60 * BLOCK, DISK]);
         let at = random.below(limit);
@@ -56,28 +59,35 @@ pub(crate) fn any_tails(random: &mut Random, shape: Shape) -> Tails {
     tails
 }
 
+pub(crate) fn any_master(random: &mut Random) -> Master {
+    let shape = any_shape(random);
+    Master { layout: random.pick(&LAYOUTS), shape, tails: any_tails(random, shape) }
+}
+
 /// A good master (mostly) and journals of records that no run of one card would leave.
 fn crafted(random: &mut Random) -> Vec<u8> {
     let mut disk = vec![0; DISK];
-    let shape = any_shape(random);
-    let tails = any_tails(random, shape);
+    let fields = any_master(random);
     random.fill(&mut disk[BLOCK..]);
-    put(&mut disk, 0, &master(shape, &tails));
+    put(&mut disk, 0, &master(&fields));
     if random.chance(100) {
         spoil_master(random, &mut disk);
     }
     let bad = random.pick(&[0, 0, 40, 200]);
-    for core in 0..shape.cores {
-        craft_journal(random, &mut disk, shape, core, &tails, bad);
+    for core in 0..fields.shape.cores {
+        craft_journal(random, &mut disk, &fields, core, bad);
     }
     disk
 }
 
 /// Places in a master and words to put there: just outside their range, or not looked at.
-pub const SPOILS: [(usize, u32); 14] = [
+pub const SPOILS: [(usize, u32); 17] = [
     (0, 0),
     (4, 1),
-    (8, 7),
+    (8, 2),
+    (8, 256),
+    (8, 1 << 24),
+    (8, u32::MAX),
     (12, 0),
     (12, 9),
     (16, 0),
@@ -96,31 +106,31 @@ fn spoil_master(random: &mut Random, disk: &mut [u8]) {
     put_word(disk, at, word);
 }
 
-fn craft_journal(random: &mut Random, disk: &mut [u8], shape: Shape, core: u8, tails: &Tails, bad: usize) {
-    let Tail { mut number, position } = tails[core as usize];
+fn craft_journal(random: &mut Random, disk: &mut [u8], master: &Master, core: u8, bad: usize) {
+    let Tail { mut number, position } = master.tails[core as usize];
     let mut at = position as usize;
     for _ in 0..random.below(8) {
-        let record = craft_record(random, shape, core, number, tails);
-        at += put_record(random, disk, shape, core, at, &record, bad);
+        let record = craft_record(random, master, core, number);
+        at += put_record(random, disk, master.shape, core, at, &record, bad);
         number = number.saturating_add(1);
     }
     if random.chance(300) {
         // A stale whole record where the emptied journal will begin, with a number near the new tail's.
         number = number.saturating_add(random.below(3) as u32);
-        let stale = craft_record(random, shape, core, number, tails);
-        put_record(random, disk, shape, core, 0, &stale, 0);
+        let stale = craft_record(random, master, core, number);
+        put_record(random, disk, master.shape, core, 0, &stale, 0);
     }
 }
 
 struct Crafted {
-    number: u32,
     blocks: Vec<u8>,
-    flags: Vec<bool>,
-    stamp: u64,
-    names: Vec<Name>,
+    first: Block,
+    last: Block,
 }
 
-fn craft_record(random: &mut Random, shape: Shape, core: u8, number: u32, tails: &Tails) -> Crafted {
+/// A record near which others stand. Its commit is now and then in the other layout than the master tells.
+fn craft_record(random: &mut Random, master: &Master, core: u8, number: u32) -> Crafted {
+    let shape = master.shape;
     let mut blocks: Vec<u8> = Vec::new();
     for _ in 0..random.pick(&[0, 1, 1, 2, 3, 8]) {
         let block = random.below(shape.blocks as usize) as u8;
@@ -128,12 +138,23 @@ fn craft_record(random: &mut Random, shape: Shape, core: u8, number: u32, tails:
             blocks.push(block);
         }
     }
-    let flags = blocks.iter().map(|_| random.chance(200)).collect();
+    let flags: Vec<bool> = blocks.iter().map(|_| random.chance(200)).collect();
     let stamp = random.pick(&[1, 1, 2, 3, 4, u64::MAX, 1 << 32]);
+    let names = craft_names(random, master, core, number);
+    let layout = if random.chance(60) { random.pick(&LAYOUTS) } else { master.layout };
+    let mut last = commit(layout, number, stamp, &names);
+    if layout == Layout::Numbers {
+        fill_unread(random, &mut last);
+    }
+    Crafted { first: descriptor(number, &blocks, &flags), last, blocks }
+}
+
+/// Up to one name more than a list may have.
+fn craft_names(random: &mut Random, master: &Master, core: u8, number: u32) -> Vec<Name> {
     let mut names = Vec::new();
-    for _ in 0..random.pick(&[0, 0, 1, 1, 2, 12]) {
-        let other = random.below(shape.cores as usize) as u8;
-        let tail = tails[other as usize].number;
+    for _ in 0..random.pick(&[0, 0, 0, 1, 1, 1, 2, 2, 12, 13]) {
+        let other = random.below(master.shape.cores as usize) as u8;
+        let tail = master.tails[other as usize].number;
         let near = tail.saturating_add(random.below(6) as u32).saturating_sub(2).max(1);
         let name = Name { core: other, number: near };
         let choices = [name, name, Name { core, number }, Name { core: other, number: tail }];
@@ -142,19 +163,31 @@ fn craft_record(random: &mut Random, shape: Shape, core: u8, number: u32, tails:
     if random.chance(30) && !names.is_empty() {
         names[0].number = random.pick(&[u32::MAX, LAST_NUMBER, LAST_TAIL]);
     }
-    Crafted { number, blocks, flags, stamp, names }
+    names
+}
+
+/// Fills what is not looked at in a commit of numbers: bytes 20 to 23, and those behind the numbers.
+pub(crate) fn fill_unread(random: &mut Random, commit: &mut Block) {
+    if random.chance(300) {
+        put_word(commit, 20, random.pick(&[1, 2, 12, 13, 256, u32::MAX]));
+    }
+    if random.chance(200) {
+        random.fill(&mut commit[24 + 4 * CORES..]);
+    }
 }
 
 /// Puts a record down and says how many blocks it takes; a share of them gets one field wrong.
 fn put_record(r: &mut Random, disk: &mut [u8], shape: Shape, core: u8, at: usize, rec: &Crafted, bad: usize) -> usize {
-    let mut first = descriptor(rec.number, &rec.blocks, &rec.flags);
-    let mut last = commit(rec.number, rec.stamp, &rec.names);
+    let (mut first, mut last) = (rec.first, rec.last);
     if r.chance(bad) {
         let (at, word) = r.pick(&[(0, 0), (4, 2), (8, 1), (12, 9), (16, 64), (20, 2), (24, 0), (126, 1)]);
         put_word(&mut first, at.min(124), word);
     }
     if r.chance(bad) {
-        let (at, word) = r.pick(&[(0, 1), (4, 1), (8, 2), (16, 0), (20, 13), (24, 8), (28, 0), (120, 0)]);
+        // the last places are those of the first and the last core that the shape has not
+        let beyond = 24 + 4 * (shape.cores as usize).min(CORES - 1);
+        let of_list = [(20, 13), (24, 8), (28, 0), (120, 0)];
+        let (at, word) = r.pick(&[&[(0, 1), (4, 1), (8, 2), (16, 0), (beyond, 1), (52, 9)][..], &of_list].concat());
         put_word(&mut last, at, word);
     }
     put(disk, shape.place(core, at), &first);

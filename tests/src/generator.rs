@@ -28,6 +28,8 @@ pub struct Generator {
     shape: Shape,
     mood: Mood,
     queue: VecDeque<Command>,
+    /// How often the slow core's running transaction was visited: its list has about as many names.
+    visits: usize,
 }
 
 impl Generator {
@@ -35,7 +37,7 @@ impl Generator {
         let mut random = Random::new(seed);
         let shape = any_shape(&mut random);
         let mood = any_mood(&mut random, shape);
-        Generator { random, shape, mood, queue: VecDeque::new() }
+        Generator { random, shape, mood, queue: VecDeque::new(), visits: 0 }
     }
 
     /// Chooses the shape and the mood of a new tape, and says how many commands it is to have.
@@ -246,8 +248,8 @@ impl Generator {
     fn queue_visit(&mut self, card: &Card, slow: u8) {
         let running = card.cores[slow as usize].running;
         let held = running.and_then(|running| running.blocks.first().copied());
-        let is_long = running.is_some_and(|running| running.names.len() >= 11);
-        if is_long && self.random.chance(150) {
+        self.visits = if held.is_some() { self.visits + 1 } else { 0 };
+        if self.visits > 11 && self.random.chance(100) {
             self.queue_commit_of(card, slow);
             self.queue.push_back(Command::Cut);
             return;

@@ -2,10 +2,11 @@
 
 use crate::few::Few;
 use crate::layout::{
-    block_at, read_master, unescaped, word, Block, Name, Shape, Tails, COMMIT, CORES, DESCRIPTOR, LAST_NUMBER, MARK,
-    NAMES, TAKEN,
+    block_at, read_master, unescaped, word, Block, Layout, Master, Name, Shape, Tails, COMMIT, CORES, DESCRIPTOR,
+    LAST_NUMBER, MARK, NAMES, TAKEN,
 };
 use crate::order::Order;
+use crate::wrong::Wrong;
 
 /// One committed transaction as its journal tells it.
 #[derive(Clone, Copy, PartialEq, Eq, Debug, Default)]
@@ -32,6 +33,11 @@ impl Record {
     pub fn image(&self, disk: &[u8], shape: Shape, i: usize) -> Block {
         let place = shape.place(self.core, self.position as usize + 1 + i);
         unescaped(block_at(disk, place), self.flags[i])
+    }
+
+    /// The different cores named.
+    pub fn cores_named(&self) -> usize {
+        (0..CORES as u8).filter(|core| self.names.iter().any(|name| name.core == *core)).count()
     }
 
     pub fn took(&self, block: u8) -> bool {
@@ -77,18 +83,20 @@ pub type Set = u128;
 impl Journals {
     /// The shape of a disk and its whole journals, as recovery reads them; 8 where the master is unfit.
     pub fn of_disk(disk: &[u8]) -> Result<(Shape, Journals), u8> {
-        let (shape, tails) = read_master(disk).ok_or(8)?;
-        Ok((shape, Journals::read(disk, shape, &tails, &[usize::MAX; CORES])))
+        let master = read_master(disk).ok_or(8)?;
+        let reader = Reader { disk, master, wrong: Wrong::No };
+        Ok((master.shape, Journals::read(reader, &[usize::MAX; CORES])))
     }
 
     /// Reads at most `limits[core]` records of each core, from its tail on.
-    pub fn read(disk: &[u8], shape: Shape, tails: &Tails, limits: &[usize; CORES]) -> Journals {
+    pub fn read(reader: Reader, limits: &[usize; CORES]) -> Journals {
+        let Master { shape, tails, .. } = reader.master;
         let (records, ends, starts) = (Vec::new(), [None; CORES], [0; CORES + 1]);
-        let mut all = Journals { records, tails: *tails, ends, starts };
+        let mut all = Journals { records, tails, ends, starts };
         for (core, limit) in limits.iter().enumerate() {
             all.starts[core] = all.records.len();
             if core < shape.cores as usize {
-                all.ends[core] = read_journal(disk, shape, core as u8, tails, *limit, &mut all.records);
+                all.ends[core] = reader.journal(core as u8, *limit, &mut all.records);
             }
         }
         all.starts[CORES] = all.records.len();
@@ -143,46 +151,93 @@ impl Journals {
     }
 }
 
-/// Reads on until there is no record, and says why, or until the limit.
-fn read_journal(
-    disk: &[u8],
-    shape: Shape,
-    core: u8,
-    tails: &Tails,
-    limit: usize,
-    out: &mut Vec<Record>,
-) -> Option<End> {
-    let tail = tails[core as usize];
-    let (mut number, mut used) = (tail.number, 0);
-    for _ in 0..limit {
-        match read_record(disk, shape, core, number, tail.position as usize, used) {
-            Ok(record) => {
-                used += record.length();
-                number += 1;
-                out.push(record);
-            }
-            Err(end) => return Some(end),
-        }
-    }
-    None
+/// Reads the records of a disk by what its master tells, or the card that is up.
+#[derive(Clone, Copy)]
+pub struct Reader<'a> {
+    pub disk: &'a [u8],
+    pub master: Master,
+    pub wrong: Wrong,
 }
 
-/// The record that begins `used` blocks after the tail, or why there is none.
-pub fn read_record(disk: &[u8], shape: Shape, core: u8, number: u32, tail: usize, used: usize) -> Result<Record, End> {
-    let start = (tail + used) % shape.journal as usize;
-    let left = (shape.journal as usize).saturating_sub(used);
-    let mut record = Record { core, number, position: start as u8, ..Record::default() };
-    let first = block_at(disk, shape.place(core, start));
-    if left == 0 || number > LAST_NUMBER || !is_headed(first, DESCRIPTOR, number) {
-        return Err(End::NoDescriptor);
+impl Reader<'_> {
+    /// Reads on until there is no record, and says why, or until the limit.
+    fn journal(&self, core: u8, limit: usize, out: &mut Vec<Record>) -> Option<End> {
+        let (mut number, mut used) = (self.master.tails[core as usize].number, 0);
+        for _ in 0..limit {
+            match self.record(core, number, used) {
+                Ok(record) => {
+                    used += record.length();
+                    number += 1;
+                    out.push(record);
+                }
+                Err(end) => return Some(end),
+            }
+        }
+        None
     }
-    read_entries(first, shape, &mut record).ok_or(End::UnfitDescriptor)?;
-    if left < record.length() {
-        return Err(End::TooFewLeft);
+
+    /// The record that begins `used` blocks after the tail, or why there is none.
+    pub fn record(&self, core: u8, number: u32, used: usize) -> Result<Record, End> {
+        let Master { shape, tails, .. } = self.master;
+        let start = (tails[core as usize].position as usize + used) % shape.journal as usize;
+        let left = (shape.journal as usize).saturating_sub(used);
+        let mut record = Record { core, number, position: start as u8, ..Record::default() };
+        let first = block_at(self.disk, shape.place(core, start));
+        if left == 0 || number > LAST_NUMBER || !is_headed(first, DESCRIPTOR, number) {
+            return Err(End::NoDescriptor);
+        }
+        read_entries(first, shape, &mut record).ok_or(End::UnfitDescriptor)?;
+        if left < record.length() {
+            return Err(End::TooFewLeft);
+        }
+        let last = block_at(self.disk, shape.place(core, start + record.blocks.len() + 1));
+        self.commit(last, &mut record).ok_or(End::NoCommit)?;
+        Ok(record)
     }
-    let last = block_at(disk, shape.place(core, start + record.blocks.len() + 1));
-    read_commit(last, shape, &mut record).ok_or(End::NoCommit)?;
-    Ok(record)
+
+    fn commit(&self, block: &[u8], record: &mut Record) -> Option<()> {
+        record.stamp = (word(block, 12) as u64) << 32 | word(block, 16) as u64;
+        if !is_headed(block, COMMIT, record.number) || record.stamp == 0 {
+            return None;
+        }
+        match self.master.layout {
+            Layout::Lists => self.list(block, record),
+            Layout::Numbers => self.numbers(block, record),
+        }
+    }
+
+    fn list(&self, block: &[u8], record: &mut Record) -> Option<()> {
+        let count = word(block, 20);
+        if count > NAMES as u32 {
+            return None;
+        }
+        for i in 0..count as usize {
+            let (core, number) = (word(block, 24 + 8 * i), word(block, 28 + 8 * i));
+            if core >= self.master.shape.cores as u32 || number == 0 {
+                return None;
+            }
+            record.names.push(Name { core: core as u8, number });
+        }
+        Some(())
+    }
+
+    /// Of a core that is not there no number may stand; bytes 20 to 23 are not looked at.
+    fn numbers(&self, block: &[u8], record: &mut Record) -> Option<()> {
+        if self.wrong == Wrong::UnusedBytesRead && word(block, 20) != 0 {
+            return None;
+        }
+        for core in 0..CORES as u8 {
+            let number = word(block, 24 + 4 * core as usize);
+            match self.wrong {
+                _ if number == 0 => {}
+                _ if core < self.master.shape.cores => record.names.push(Name { core, number }),
+                Wrong::CoreBeyondUnread => {}
+                Wrong::CoreBeyondNamed => record.names.push(Name { core, number }),
+                _ => return None,
+            }
+        }
+        Some(())
+    }
 }
 
 fn is_headed(block: &[u8], kind: u32, number: u32) -> bool {
@@ -201,22 +256,6 @@ fn read_entries(block: &[u8], shape: Shape, record: &mut Record) -> Option<()> {
         }
         record.blocks.push(home as u8);
         record.flags.push(flag == 1);
-    }
-    Some(())
-}
-
-fn read_commit(block: &[u8], shape: Shape, record: &mut Record) -> Option<()> {
-    let count = word(block, 20);
-    record.stamp = (word(block, 12) as u64) << 32 | word(block, 16) as u64;
-    if !is_headed(block, COMMIT, record.number) || record.stamp == 0 || count > NAMES as u32 {
-        return None;
-    }
-    for i in 0..count as usize {
-        let (core, number) = (word(block, 24 + 8 * i), word(block, 28 + 8 * i));
-        if core >= shape.cores as u32 || number == 0 {
-            return None;
-        }
-        record.names.push(Name { core: core as u8, number });
     }
     Some(())
 }

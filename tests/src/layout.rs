@@ -35,6 +35,36 @@ pub struct Tail {
 
 pub type Tails = [Tail; CORES];
 
+/// How a commit holds what its transaction names. Bytes 8 to 11 of the master say which: 0 or 1, and nothing else is fit.
+#[derive(Clone, Copy, PartialEq, Eq, Debug, Default)]
+pub enum Layout {
+    /// Paper 01: up to twelve names.
+    Lists = 0,
+    /// Paper 02, request d: for each core the highest number named.
+    #[default]
+    Numbers = 1,
+}
+
+pub const LAYOUTS: [Layout; 2] = [Layout::Lists, Layout::Numbers];
+
+impl Layout {
+    pub fn of_word(word: u32) -> Option<Layout> {
+        LAYOUTS.into_iter().find(|layout| *layout as u32 == word)
+    }
+
+    pub fn other(self) -> Layout {
+        LAYOUTS[1 - self as usize]
+    }
+}
+
+/// What a master tells.
+#[derive(Clone, Copy, PartialEq, Eq, Debug, Default)]
+pub struct Master {
+    pub layout: Layout,
+    pub shape: Shape,
+    pub tails: Tails,
+}
+
 /// C, B and J, within their limits.
 #[derive(Clone, Copy, PartialEq, Eq, Debug, Default)]
 pub struct Shape {
@@ -49,10 +79,12 @@ impl Shape {
         fits.then_some(Shape { cores: cores as u8, blocks: blocks as u8, journal: journal as u8 })
     }
 
+    pub const SMALLEST: Shape = Shape { cores: 1, blocks: 1, journal: 4 };
+
     /// A shape that can be worked with: the smallest one where none is known yet.
     pub fn or_smallest(self) -> Shape {
         if self.cores == 0 {
-            Shape { cores: 1, blocks: 1, journal: 4 }
+            Shape::SMALLEST
         } else {
             self
         }
@@ -104,8 +136,9 @@ fn header(kind: u32, number: u32) -> Block {
     block
 }
 
-pub fn master(shape: Shape, tails: &Tails) -> Block {
-    let mut block = header(MASTER, 0);
+pub fn master(fields: &Master) -> Block {
+    let Master { layout, shape, tails } = fields;
+    let mut block = header(MASTER, *layout as u32);
     put_word(&mut block, 12, shape.cores as u32);
     put_word(&mut block, 16, shape.blocks as u32);
     put_word(&mut block, 20, shape.journal as u32);
@@ -126,15 +159,47 @@ pub fn descriptor(number: u32, blocks: &[u8], flags: &[bool]) -> Block {
     block
 }
 
-pub fn commit(number: u32, stamp: u64, names: &[Name]) -> Block {
+/// A commit of a transaction that names these, in either layout.
+pub fn commit(layout: Layout, number: u32, stamp: u64, names: &[Name]) -> Block {
+    match layout {
+        Layout::Lists => list_commit(number, stamp, names),
+        Layout::Numbers => number_commit(number, stamp, &highest(names)),
+    }
+}
+
+fn commit_header(number: u32, stamp: u64) -> Block {
     let mut block = header(COMMIT, number);
     block[12..20].copy_from_slice(&stamp.to_be_bytes());
+    block
+}
+
+/// One name more than a list may have still has its place in the block.
+fn list_commit(number: u32, stamp: u64, names: &[Name]) -> Block {
+    let mut block = commit_header(number, stamp);
     put_word(&mut block, 20, names.len() as u32);
-    for (i, name) in names.iter().enumerate().take(NAMES) {
-        put_word(&mut block, 24 + 8 * i, name.core as u32);
-        put_word(&mut block, 28 + 8 * i, name.number);
+    for (pair, name) in block[24..].chunks_exact_mut(8).zip(names) {
+        put_word(pair, 0, name.core as u32);
+        put_word(pair, 4, name.number);
     }
     block
+}
+
+pub fn number_commit(number: u32, stamp: u64, numbers: &[u32; CORES]) -> Block {
+    let mut block = commit_header(number, stamp);
+    for (core, number) in numbers.iter().enumerate() {
+        put_word(&mut block, 24 + 4 * core, *number);
+    }
+    block
+}
+
+/// For each core the highest number named, zero for none.
+pub fn highest(names: &[Name]) -> [u32; CORES] {
+    let mut numbers = [0; CORES];
+    for name in names {
+        let highest = &mut numbers[name.core as usize];
+        *highest = name.number.max(*highest);
+    }
+    numbers
 }
 
 pub fn begins_with_mark(image: &[u8]) -> bool {
@@ -159,8 +224,13 @@ pub fn unescaped(data: &[u8], flag: bool) -> Block {
     block
 }
 
-/// The master's shape and tails, or nothing where RECOVER answers 8.
-pub fn read_master(disk: &[u8]) -> Option<(Shape, Tails)> {
+/// What the master tells, or nothing where RECOVER answers 8.
+pub fn read_master(disk: &[u8]) -> Option<Master> {
+    read_master_in(Layout::of_word(word(disk, 8))?, disk)
+}
+
+/// The same with the layout given, whatever bytes 8 to 11 hold.
+pub fn read_master_in(layout: Layout, disk: &[u8]) -> Option<Master> {
     let block = block_at(disk, 0);
     if word(block, 0) != MARK || word(block, 4) != MASTER {
         return None;
@@ -174,5 +244,5 @@ pub fn read_master(disk: &[u8]) -> Option<(Shape, Tails)> {
         }
         *tail = Tail { number, position: position as u8 };
     }
-    Some((shape, tails))
+    Some(Master { layout, shape, tails })
 }

@@ -3,18 +3,26 @@
 use crate::card::Phase;
 use crate::command::Command;
 use crate::layout::{
-    begins_with_mark, block_at, commit, copy_of, descriptor, escaped, master, read_master, Block, Name, Shape, Tail,
-    Tails, BLOCK, CORES, HOMES, LAST_NUMBER, LAST_TAIL, MEMORY, NAMES, TAKEN, ZERO,
+    begins_with_mark, block_at, commit, copy_of, descriptor, escaped, master, read_master, Block, Layout, Master, Name,
+    Shape, Tail, Tails, BLOCK, CORES, HOMES, LAST_NUMBER, LAST_TAIL, MEMORY, NAMES, TAKEN, ZERO,
 };
 use crate::order::Order;
 use crate::second_reader::read_journal;
 use std::collections::VecDeque;
+
+/// What a ledger goes by: the rule, and the layout that its card writes.
+#[derive(Clone, Copy, Debug, Default)]
+pub struct Rules {
+    pub order: Order,
+    pub layout: Layout,
+}
 
 /// One unretired transaction.
 #[derive(Clone, Debug, Default, PartialEq)]
 pub struct Entry {
     pub number: u32,
     pub blocks: Vec<u8>,
+    /// All that it names, in the order named; of one read from a disk, what its commit holds.
     pub names: Vec<Name>,
     /// Given at CLOSE with the images; 0 while running.
     pub stamp: u64,
@@ -26,6 +34,15 @@ pub struct Entry {
 impl Entry {
     pub fn length(&self) -> usize {
         self.blocks.len() + 2
+    }
+
+    /// What its commit must hold: the whole list, or for each core the highest number in it.
+    pub fn due_names(&self, layout: Layout) -> Vec<Name> {
+        let highest = |core| self.names.iter().filter(move |name| name.core == core).max_by_key(|name| name.number);
+        match layout {
+            Layout::Lists => self.names.clone(),
+            Layout::Numbers => (0..CORES as u8).filter_map(highest).copied().collect(),
+        }
     }
 
     fn is_running(&self) -> bool {
@@ -86,8 +103,10 @@ impl Line {
 pub type Stored = Option<(usize, Block)>;
 
 pub struct Ledger {
-    pub order: Order,
+    rules: Rules,
     pub phase: Phase,
+    /// The layout of the disk, which is another one while a card recovers an older disk.
+    pub layout: Layout,
     pub shape: Shape,
     pub lines: [Line; CORES],
     pub holders: [Option<Name>; HOMES],
@@ -101,10 +120,11 @@ pub struct Ledger {
 }
 
 impl Ledger {
-    pub fn blank(memory: &[u8], order: Order) -> Ledger {
+    pub fn blank(memory: &[u8], rules: Rules) -> Ledger {
         Ledger {
-            order,
+            rules,
             phase: Phase::Blank,
+            layout: rules.layout,
             shape: Shape::default(),
             lines: Default::default(),
             holders: [None; HOMES],
@@ -117,24 +137,36 @@ impl Ledger {
     }
 
     /// The ledger of a card that is down over a disk written elsewhere: here alone it learns from the disk.
-    pub fn over(disk: &[u8], memory: &[u8], order: Order) -> Ledger {
-        let mut ledger = Ledger { phase: Phase::Down, ..Ledger::blank(memory, order) };
-        let Some((shape, tails)) = read_master(disk) else { return ledger };
-        ledger.shape = shape;
+    pub fn over(disk: &[u8], memory: &[u8], rules: Rules) -> Ledger {
+        let mut ledger = Ledger { phase: Phase::Down, ..Ledger::blank(memory, rules) };
+        let Some(master) = read_master(disk) else { return ledger };
+        let Master { layout, shape, tails } = master;
+        (ledger.layout, ledger.shape) = (layout, shape);
         for block in 0..shape.blocks {
             ledger.home[block as usize] = copy_of(disk, shape.home(block));
         }
         for core in 0..shape.cores {
             let tail = tails[core as usize];
-            let entries = read_journal(disk, shape, core, tail, usize::MAX).into();
+            let entries = read_journal(disk, &master, core, usize::MAX).into();
             ledger.lines[core as usize] = Line { tail, next: tail.number, entries };
         }
         ledger.restores = Some(ledger.plan_recovery());
         ledger
     }
 
+    /// A card that writes numbers goes on where the one so far was cut, over the same disk and any memory.
+    pub fn hand_over(&mut self, memory: &[u8]) {
+        self.rules.layout = Layout::Numbers;
+        self.memory.copy_from_slice(memory);
+    }
+
     pub fn tails(&self) -> Tails {
         std::array::from_fn(|core| self.lines[core].tail)
+    }
+
+    /// The master that the disk must hold.
+    pub fn master(&self) -> Master {
+        Master { layout: self.layout, shape: self.shape, tails: self.tails() }
     }
 
     /// What a command must be answered, by the conditions of the paper.
@@ -194,16 +226,21 @@ impl Ledger {
         let tied = other.filter(|(_, entry)| entry.is_running());
         let takes = holder.is_none() || other.is_some() && tied.is_none();
         let blocks = running.map_or(0, |entry| entry.blocks.len()) + takes as usize;
-        let names: &[Name] = running.map_or(&[], |entry| &entry.names);
         let held: usize = line.closed().map(Entry::length).sum();
         match () {
-            _ if other.is_some_and(|(name, _)| would_pass(names, name)) => 24,
-            _ if tied.is_some_and(|(_, entry)| would_pass(&entry.names, writer)) => 24,
+            _ if other.is_some_and(|(name, _)| self.would_pass(running, name)) => 24,
+            _ if tied.is_some_and(|(_, entry)| self.would_pass(Some(entry), writer)) => 24,
             _ if blocks > TAKEN => 25,
             _ if held + 2 + blocks > self.shape.journal as usize => 26,
             _ if running.is_none() && line.next > LAST_NUMBER => 27,
             _ => 0,
         }
+    }
+
+    /// Whether one more name would make a list longer than twelve, where lists are written; one that stands there is not added again.
+    fn would_pass(&self, entry: Option<&Entry>, name: Name) -> bool {
+        let is_long = entry.is_some_and(|entry| entry.names.len() >= NAMES && !entry.names.contains(&name));
+        self.rules.layout == Layout::Lists && is_long
     }
 
     fn close_answer(&self, core: u8) -> u8 {
@@ -250,7 +287,7 @@ impl Ledger {
                 continue;
             }
             let Some(entry) = line.find(name.number).filter(|entry| entry.is_committed()) else { return false };
-            let before = (self.order == Order::InSequence).then_some(Name { number: name.number - 1, ..name });
+            let before = (self.rules.order == Order::InSequence).then_some(Name { number: name.number - 1, ..name });
             for needed in entry.names.iter().copied().chain(before) {
                 if !seen.contains(&needed) {
                     seen.push(needed);
@@ -290,7 +327,7 @@ impl Ledger {
 
     fn format(&mut self, cores: u8, blocks: u8, journal: u8) {
         let Some(shape) = Shape::new(cores as u32, blocks as u32, journal as u32) else { return };
-        *self = Ledger { phase: Phase::Up, shape, ..Ledger::blank(&[0; MEMORY], self.order) };
+        *self = Ledger { phase: Phase::Up, shape, ..Ledger::blank(&[0; MEMORY], self.rules) };
         for line in &mut self.lines[..cores as usize] {
             line.tail = Tail { number: 1, position: 0 };
             line.next = 1;
@@ -359,7 +396,7 @@ impl Ledger {
         let line = self.lines.get_mut(core as usize)?;
         let start = line.tail.position as usize + line.committed().map(Entry::length).sum::<usize>();
         let entry = line.entries.iter_mut().find(|entry| !entry.is_running() && !entry.is_committed())?;
-        let block = record_block(entry, entry.stored);
+        let block = record_block(self.rules.layout, entry, entry.stored);
         let place = self.shape.place(core, start + entry.stored);
         entry.stored += 1;
         Some((place, block))
@@ -379,7 +416,7 @@ impl Ledger {
         line.tail = Tail { number: retired.number + 1, position: position as u8 };
         line.entries.pop_front();
         self.holders.iter_mut().filter(|holder| **holder == Some(retired)).for_each(|holder| *holder = None);
-        Some((0, master(self.shape, &self.tails())))
+        Some((0, master(&self.master())))
     }
 
     fn cut(&mut self) {
@@ -408,20 +445,16 @@ impl Ledger {
             *line = Line { tail: Tail { number, position: 0 }, next: number, entries: VecDeque::new() };
         }
         self.phase = Phase::Up;
+        self.layout = self.rules.layout;
         self.closes = 0;
         self.restores = None;
-        Some((0, master(self.shape, &self.tails())))
+        Some((0, master(&self.master())))
     }
 
     /// Whether the home area on a disk is the one that the commands so far leave.
     pub fn home_is(&self, disk: &[u8]) -> bool {
         (0..self.shape.blocks).all(|block| block_at(disk, self.shape.home(block)) == self.home[block as usize])
     }
-}
-
-/// Whether one more name would make a list longer than twelve; one that stands there is not added again.
-fn would_pass(names: &[Name], name: Name) -> bool {
-    names.len() >= NAMES && !names.contains(&name)
 }
 
 fn is_older_sharer(entry: &Entry, oldest: &Entry) -> bool {
@@ -438,13 +471,13 @@ fn offer_images(newest: &mut [Option<(u64, Block)>; HOMES], entry: &Entry) {
     }
 }
 
-fn record_block(entry: &Entry, step: usize) -> Block {
+fn record_block(layout: Layout, entry: &Entry, step: usize) -> Block {
     if step == 0 {
         let flags: Vec<bool> = entry.images.iter().map(|image| begins_with_mark(image)).collect();
         return descriptor(entry.number, &entry.blocks, &flags);
     }
     match entry.images.get(step - 1) {
         Some(image) => escaped(image),
-        None => commit(entry.number, entry.stamp, &entry.names),
+        None => commit(layout, entry.number, entry.stamp, &entry.due_names(layout)),
     }
 }

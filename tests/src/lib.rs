@@ -14,6 +14,7 @@ pub mod generator;
 pub mod journal;
 pub mod layout;
 pub mod ledger;
+pub mod older;
 pub mod order;
 pub mod page;
 pub mod program;

@@ -1,4 +1,5 @@
-// order.rs: the two rules of what a transaction depends on beside the names of its list.
+// order.rs: the two rules of what a transaction depends on beside what it names. Cards have the new one; the old one is a wrong card's,
+// and that of cards before request (c).
 
 use crate::layout::Name;
 
@@ -11,8 +12,6 @@ pub enum Order {
     InSequence,
 }
 
-pub const ORDERS: [Order; 2] = [Order::Unordered, Order::InSequence];
-
 impl Order {
     /// The one before on the same core, where the rule asks for it. It is met as a name is: in the set or below its core's tail.
     pub fn before(self, name: Name) -> Option<Name> {
@@ -20,19 +19,5 @@ impl Order {
             Order::Unordered => None,
             Order::InSequence => Some(Name { number: name.number.checked_sub(1)?, ..name }),
         }
-    }
-}
-
-/// The rule of the card under test, and that of the book and the ledger it is held against.
-#[derive(Clone, Copy, PartialEq, Eq, Debug, Default)]
-pub struct Rules {
-    pub card: Order,
-    pub books: Order,
-}
-
-impl Rules {
-    /// The same rule throughout.
-    pub fn throughout(order: Order) -> Rules {
-        Rules { card: order, books: order }
     }
 }

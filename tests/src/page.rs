@@ -4,6 +4,7 @@
 use crate::journal::{End, Journals, Record};
 use crate::layout::{Shape, DISK};
 use crate::order::Order;
+use crate::wrong::WrongPage;
 use std::fmt::Display;
 
 /// What a line of the log holds; the line feed comes after it.
@@ -13,18 +14,18 @@ pub type Line = [u8; COLUMNS + 1];
 
 /// All lines of a disk's page.
 pub fn page(disk: &[u8]) -> Vec<Line> {
-    page_under(Order::default(), disk)
+    page_by(WrongPage::No, disk)
 }
 
-/// The same with the valid set read by either rule.
-pub fn page_under(order: Order, disk: &[u8]) -> Vec<Line> {
+/// The same by a page that is wrong in one rule.
+pub fn page_by(wrong: WrongPage, disk: &[u8]) -> Vec<Line> {
     let (shape, journals) = match read(disk) {
         Ok(read) => read,
         Err(refusal) => return vec![set(&[(2, &refusal)])],
     };
-    let valid = journals.valid(journals.everything(), order);
+    let valid = journals.valid(journals.everything(), Order::InSequence);
     let records = journals.records.iter().enumerate();
-    let lines = records.map(|(i, record)| transaction(record, valid >> i & 1 == 1));
+    let lines = records.map(|(i, record)| transaction(record, valid >> i & 1 == 1, wrong));
     let ends = journals.ends.iter().enumerate().filter_map(|(core, end)| Some(ending(core, (*end)?)));
     std::iter::once(head(shape)).chain(lines).chain(ends).collect()
 }
@@ -52,10 +53,14 @@ fn head(shape: Shape) -> Line {
     set(&[(2, &shape.cores), (2, &shape.blocks), (2, &shape.journal)])
 }
 
-fn transaction(record: &Record, is_kept: bool) -> Line {
-    let Record { core, number, stamp, blocks, names, .. } = record;
+fn transaction(record: &Record, is_kept: bool, wrong: WrongPage) -> Line {
+    let Record { core, number, stamp, blocks, .. } = record;
     let word = if is_kept { "kept" } else { "left" };
-    set(&[(2, core), (10, number), (20, stamp), (2, &blocks.len()), (2, &names.len()), (4, &word)])
+    let named = match wrong {
+        WrongPage::No => record.cores_named(),
+        WrongPage::NamesCounted => record.names.len(),
+    };
+    set(&[(2, core), (10, number), (20, stamp), (2, &blocks.len()), (2, &named), (4, &word)])
 }
 
 fn ending(core: usize, end: End) -> Line {

@@ -1,11 +1,9 @@
 // program.rs: what the tape program prints: a line for each command, then the home blocks that are not all zero. What programs
 // with a flaw of their own over the right card would print, and tapes for the program.
 
-use crate::card::{Card, Phase};
+use crate::card::{Card, Kind, Phase};
 use crate::generator::Generator;
-use crate::layout::{block_at, read_master, Shape, DISK, MEMORY};
-use crate::order::Order;
-use crate::wrong::Wrong;
+use crate::layout::{block_at, read_master, Master, Shape, DISK, MEMORY};
 use std::fmt::Write;
 
 /// How much the program reads and writes at a time.
@@ -40,19 +38,16 @@ pub const FLAWS: &[(Flaw, &str)] = &[
 ];
 
 pub fn print_tape(tape: &[u8]) -> String {
-    print_under(Order::default(), tape)
-}
-
-/// The same by a card under either rule.
-pub fn print_under(order: Order, tape: &[u8]) -> String {
-    print_by(Card::with(Phase::Blank, order, Wrong::No), tape, Flaw::No)
+    print_with(tape, Flaw::No)
 }
 
 pub fn print_with(tape: &[u8], flaw: Flaw) -> String {
-    print_by(Card::blank(), tape, flaw)
+    print_by(Kind::default(), tape, flaw)
 }
 
-fn print_by(mut card: Card, tape: &[u8], flaw: Flaw) -> String {
+/// The same by a card of another kind.
+pub fn print_by(kind: Kind, tape: &[u8], flaw: Flaw) -> String {
+    let mut card = Card::with(Phase::Blank, kind);
     let (mut disk, mut memory) = (vec![0; DISK], vec![0; MEMORY]);
     let tape = if flaw == Flaw::FirstPiece { &tape[..tape.len().min(PIECE)] } else { tape };
     let (mut offset, mut commands, mut stores, mut text) = (0, 0, 0u64, String::new());
@@ -75,7 +70,7 @@ fn print_by(mut card: Card, tape: &[u8], flaw: Flaw) -> String {
 
 /// A disk without a master is that of a blank card, which prints no block.
 fn print_home(disk: &[u8], flaw: Flaw, text: &mut String) {
-    let Some((shape, _)) = read_master(disk) else { return };
+    let Some(Master { shape, .. }) = read_master(disk) else { return };
     let count = if flaw == Flaw::FewHomes && shape.blocks > 16 { 0 } else { shape.blocks };
     for block in 0..count {
         let bytes = block_at(disk, shape.home(block));

@@ -1,8 +1,11 @@
 // recovery.rs: the card's CHECKPOINT and RECOVER: images going home and tails moving on.
 
 use crate::card::{Card, Done, Lent, Phase};
-use crate::journal::{Journals, Record, Set};
-use crate::layout::{copy_of, master, Block, Shape, Tail, Tails, LAST_TAIL, ZERO};
+use crate::journal::{Journals, Reader, Record, Set};
+use crate::layout::{
+    copy_of, master, read_master, read_master_in, word, Block, Layout, Master, Shape, Tail, Tails, CORES, LAST_TAIL,
+    ZERO,
+};
 use crate::order::Order;
 use crate::wrong::Wrong;
 
@@ -51,9 +54,10 @@ impl Card {
         mine.committed -= 1;
         mine.length = mine.length.saturating_sub(length);
         mine.home = 0;
-        let block = master(self.shape, &self.tails());
+        let layout = self.layout_unless(Wrong::CheckpointMasterZero);
+        let block = master(&Master { layout, shape: self.shape, tails: self.tails() });
         self.put(lent.disk, 0, &block);
-        for holder in self.holders.iter_mut().filter(|_| self.wrong != Wrong::HolderKept) {
+        for holder in self.holders.iter_mut().filter(|_| self.kind.wrong != Wrong::HolderKept) {
             if *holder == Some(oldest.name()) {
                 *holder = None;
             }
@@ -62,21 +66,22 @@ impl Card {
 
     fn valid_set(&self, journals: &Journals) -> Set {
         let all = journals.everything();
-        match self.wrong {
+        match self.kind.wrong {
             Wrong::AllCommittedValid => all,
-            Wrong::ValidityOneDeep => journals.struck(all, self.order),
-            Wrong::SequenceOneRound => journals.struck(journals.valid(all, Order::Unordered), self.order),
-            Wrong::SequenceBelowTail => journals.valid(not_first(journals), self.order),
-            _ => journals.valid(all, self.order_now()),
+            Wrong::ValidityOneDeep => journals.struck(all, Order::InSequence),
+            Wrong::SequenceOneRound => journals.struck(journals.valid(all, Order::Unordered), Order::InSequence),
+            Wrong::SequenceBelowTail => journals.valid(not_first(journals), Order::InSequence),
+            _ => journals.valid(all, self.order()),
         }
     }
 
     /// CHECKPOINT reads the valid set while the card is up, RECOVER while it is down.
-    fn order_now(&self) -> Order {
-        match (self.wrong, self.phase) {
+    fn order(&self) -> Order {
+        match (self.kind.wrong, self.phase) {
+            (Wrong::NoSequence, _) => Order::Unordered,
             (Wrong::SequenceInRecoveryAlone, Phase::Up) => Order::Unordered,
             (Wrong::SequenceInRunningAlone, Phase::Down) => Order::Unordered,
-            _ => self.order,
+            _ => Order::InSequence,
         }
     }
 
@@ -98,7 +103,10 @@ impl Card {
     }
 
     pub(crate) fn recover(&mut self, lent: &mut Lent) -> Done {
-        let (shape, journals) = Journals::of_disk(lent.disk)?;
+        let master = self.master_of(lent.disk).ok_or(8)?;
+        let shape = master.shape;
+        let reader = Reader { disk: lent.disk, master, wrong: self.kind.wrong };
+        let journals = Journals::read(reader, &[usize::MAX; CORES]);
         let valid = self.valid_set(&journals);
         match self.next_home(lent.disk, shape, &journals, valid) {
             Some((block, image)) => {
@@ -108,6 +116,19 @@ impl Card {
             None => self.empty_journals(lent, shape, &journals),
         }
         Ok(1)
+    }
+
+    /// What the master tells; wrong cards take its bytes 8 to 11 otherwise.
+    fn master_of(&self, disk: &[u8]) -> Option<Master> {
+        let layout = match (self.kind.wrong, word(disk, 8)) {
+            (Wrong::OtherWordTaken, 2..) => Layout::Numbers,
+            (Wrong::ZeroRefused, 0) => return None,
+            (Wrong::ListsAlways, 1) => Layout::Lists,
+            (Wrong::NumbersAlways, 0) => Layout::Numbers,
+            (Wrong::LayoutForgotten, 0) if self.aside > 0 => Layout::Numbers,
+            _ => return read_master(disk),
+        };
+        read_master_in(layout, disk)
     }
 
     fn place_after(&self, shape: Shape, block: u8) -> u8 {
@@ -120,7 +141,7 @@ impl Card {
 
     /// The lowest block not passed yet that the valid set holds, with its newest image.
     fn next_home(&self, disk: &[u8], shape: Shape, journals: &Journals, valid: Set) -> Option<(u8, Block)> {
-        match self.wrong {
+        match self.kind.wrong {
             Wrong::UpBeforeHome => return None,
             Wrong::BlankAlways => return (self.place < shape.blocks).then_some((self.place, ZERO)),
             _ => {}
@@ -136,7 +157,7 @@ impl Card {
         let newest = journals.newest(block, valid)?;
         let members = journals.records.iter().enumerate().filter(|(i, _)| valid >> i & 1 == 1).map(|(_, r)| r);
         let mut holders = members.filter(|record| record.took(block));
-        match self.wrong {
+        match self.kind.wrong {
             Wrong::NewestByOrder => holders.next_back(),
             Wrong::TieFirst => holders.find(|record| record.stamp == newest.stamp),
             _ => Some(newest),
@@ -152,14 +173,22 @@ impl Card {
         if self.is(Wrong::TailsCoreByCore) {
             return self.empty_one_journal(lent, shape, journals, &tails);
         }
-        self.put(lent.disk, 0, &master(shape, &tails));
+        let layout = self.closing_layout(lent.disk);
+        self.put(lent.disk, 0, &master(&Master { layout, shape, tails }));
         self.come_up(shape, &tails);
+    }
+
+    fn closing_layout(&self, disk: &[u8]) -> Layout {
+        match Layout::of_word(word(disk, 8)) {
+            Some(found) if self.is(Wrong::RecoverMasterKept) => found,
+            _ => self.layout_unless(Wrong::RecoverMasterZero),
+        }
     }
 
     fn empty_one_journal(&mut self, lent: &mut Lent, shape: Shape, journals: &Journals, fresh: &Tails) {
         let mut tails = journals.tails;
         tails[self.aside as usize] = fresh[self.aside as usize];
-        self.put(lent.disk, 0, &master(shape, &tails));
+        self.put(lent.disk, 0, &master(&Master { layout: self.kind.layout, shape, tails }));
         self.place = shape.blocks;
         self.aside += 1;
         if self.aside == shape.cores as u64 {

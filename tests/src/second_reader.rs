@@ -1,7 +1,7 @@
 // second_reader.rs: another reader of the journals, written apart from the card's own, for the ledger and the checks; it can be made
 // wrong in one rule about why reading stops.
 
-use crate::layout::{Block, Name, Shape, Tail, BLOCK, LAST_NUMBER, MARK};
+use crate::layout::{Block, Layout, Master, Name, Shape, Tail, BLOCK, LAST_NUMBER, MARK};
 use crate::ledger::Entry;
 use crate::wrong::WrongReader;
 
@@ -20,8 +20,9 @@ fn place(shape: Shape, core: u8, start: Tail, distance: usize) -> usize {
 }
 
 /// All transactions that a journal holds whole from its tail on, at most `limit`.
-pub fn read_journal(disk: &[u8], shape: Shape, core: u8, tail: Tail, limit: usize) -> Vec<Entry> {
-    let journal = shape.journal as usize;
+pub fn read_journal(disk: &[u8], master: &Master, core: u8, limit: usize) -> Vec<Entry> {
+    let Master { shape, tails, .. } = *master;
+    let (journal, tail) = (shape.journal as usize, tails[core as usize]);
     let place = |distance: usize| place(shape, core, tail, distance);
     let (mut found, mut distance) = (Vec::new(), 0);
     while found.len() < limit && distance + 2 <= journal {
@@ -33,7 +34,7 @@ pub fn read_journal(disk: &[u8], shape: Shape, core: u8, tail: Tail, limit: usiz
             break;
         }
         let closing = words(disk, place(end));
-        let Some(names) = commit_names(&closing, shape, number) else { break };
+        let Some(names) = commit_names(&closing, master, number) else { break };
         let images = (0..blocks.len()).map(|i| image(disk, place(distance + 1 + i), opening[5 + 2 * i])).collect();
         let stamp = (closing[3] as u64) * (1 << 32) + closing[4] as u64;
         let stored = blocks.len() + 2;
@@ -52,10 +53,11 @@ pub struct Stop {
 }
 
 /// Goes from record to record by the conditions of `end_at` alone.
-pub fn journal_stop(disk: &[u8], shape: Shape, core: u8, tail: Tail, reader: WrongReader) -> Stop {
-    let (mut next, mut left) = (tail, shape.journal as usize);
+pub fn journal_stop(disk: &[u8], master: &Master, core: u8, reader: WrongReader) -> Stop {
+    let shape = master.shape;
+    let (mut next, mut left) = (master.tails[core as usize], shape.journal as usize);
     loop {
-        if let Some(end) = end_at(disk, shape, core, next, left, reader) {
+        if let Some(end) = end_at(disk, master, core, next, left, reader) {
             return Stop { end, next, left };
         }
         let length = 2 + words(disk, place(shape, core, next, 0))[3] as usize;
@@ -67,17 +69,19 @@ pub fn journal_stop(disk: &[u8], shape: Shape, core: u8, tail: Tail, reader: Wro
 
 /// The end where a record is looked for with so many blocks left: of all conditions the first that fits. None where a record stands
 /// whole.
-pub fn end_at(disk: &[u8], shape: Shape, core: u8, next: Tail, left: usize, reader: WrongReader) -> Option<u8> {
+pub fn end_at(disk: &[u8], master: &Master, core: u8, next: Tail, left: usize, reader: WrongReader) -> Option<u8> {
+    let shape = master.shape;
     let opening = words(disk, place(shape, core, next, 0));
     let count = opening[3] as usize;
     let closing = words(disk, place(shape, core, next, 1 + count.min(8)));
+    let is_no_commit = |master: Master| commit_names(&closing, &master, next.number).is_none();
     let mut conditions = [
         (1, left == 0),
         (1, next.number > LAST_NUMBER),
         (1, opening[..3] != [MARK, 1, next.number]),
         (2, blocks_in_range(&opening, shape, u32::MAX).is_none()),
         (3, left < count + 2),
-        (4, commit_names(&closing, shape, next.number).is_none()),
+        (4, is_no_commit(*master)),
     ];
     match reader {
         WrongReader::No => {}
@@ -91,6 +95,11 @@ pub fn end_at(disk: &[u8], shape: Shape, core: u8, next: Tail, left: usize, read
             conditions[1..].rotate_left(1);
         }
         WrongReader::LowByte => conditions[3].1 = blocks_in_range(&opening, shape, 0xFF).is_none(),
+        WrongReader::CoreBeyond => {
+            conditions[5].1 = is_no_commit(Master { shape: Shape { cores: 8, ..shape }, ..*master })
+        }
+        WrongReader::UnusedRead => conditions[5].1 |= master.layout == Layout::Numbers && closing[5] != 0,
+        WrongReader::OtherLayout => conditions[5].1 = is_no_commit(Master { layout: master.layout.other(), ..*master }),
     }
     conditions.iter().find(|(_, fits)| *fits).map(|(end, _)| *end)
 }
@@ -114,15 +123,31 @@ fn blocks_in_range(block: &Words, shape: Shape, mask: u32) -> Option<Vec<u8>> {
     (in_range && distinct).then(|| pairs.iter().map(|(block, _)| *block as u8).collect())
 }
 
-/// Words 0 to 5: mark, type 2, number, stamp in two, count; then as many pairs of core and number.
-fn commit_names(block: &Words, shape: Shape, number: u32) -> Option<Vec<Name>> {
-    let [mark, kind, bearer, high, low, count, pairs @ ..] = block;
-    if (*mark, *kind, *bearer) != (MARK, 2, number) || (*high, *low) == (0, 0) || *count > 12 {
+/// Words 0 to 4: mark, type 2, number, stamp in two; then what is named.
+fn commit_names(block: &Words, master: &Master, number: u32) -> Option<Vec<Name>> {
+    let [mark, kind, bearer, high, low, named @ ..] = block;
+    if (*mark, *kind, *bearer) != (MARK, 2, number) || (*high, *low) == (0, 0) {
         return None;
     }
-    let pairs = pairs.chunks(2).take(*count as usize);
-    let in_range = pairs.clone().all(|pair| pair[0] < shape.cores as u32 && pair[1] > 0);
+    match master.layout {
+        Layout::Lists => names_of_list(named, master.shape),
+        Layout::Numbers => names_of_numbers(named, master.shape),
+    }
+}
+
+/// A count, then as many pairs of core and number.
+fn names_of_list(words: &[u32], shape: Shape) -> Option<Vec<Name>> {
+    let pairs = words[1..].chunks(2).take(words[0] as usize);
+    let in_range = words[0] <= 12 && pairs.clone().all(|pair| pair[0] < shape.cores as u32 && pair[1] > 0);
     in_range.then(|| pairs.map(|pair| Name { core: pair[0] as u8, number: pair[1] }).collect())
+}
+
+/// A word of any value, then eight numbers, all zero from core C on.
+fn names_of_numbers(words: &[u32], shape: Shape) -> Option<Vec<Name>> {
+    let (there, beyond) = words[1..9].split_at(shape.cores as usize);
+    let names =
+        (0..).zip(there).filter(|(_, number)| **number > 0).map(|(core, number)| Name { core, number: *number });
+    beyond.iter().all(|number| *number == 0).then(|| names.collect())
 }
 
 fn image(disk: &[u8], index: usize, flag: u32) -> Block {

@@ -6,8 +6,9 @@ use crate::command::Command;
 use crate::directed::commit_of;
 use crate::endings::RECOVERED;
 use crate::foreign::{any_shape, put};
-use crate::layout::{commit, descriptor, master, Block, Name, Shape, Tail, Tails, BLOCK, CORES, DISK};
-use crate::order::Order::{self, InSequence, Unordered};
+use crate::layout::{
+    commit, descriptor, master, Block, Layout, Master, Name, Shape, Tail, Tails, BLOCK, CORES, DISK, LAYOUTS,
+};
 use crate::random::Random;
 use crate::shrink::tape_of;
 use crate::wrong::Wrong;
@@ -30,38 +31,45 @@ pub const NAMES_A_LATER_ONE: &str =
     "01 03 02 04 | 02 02 0001 00 01010101 | 02 01 0001 04 02020202 | 03 01 | 04 01 | 04 01 \
     | 02 00 0000 00 03030303 | 02 01 0000 04 04040404 | 03 00 | 04 00 | 04 00 | 04 00 | 03 01 | 04 01 | 04 01 | 05 00";
 
-/// Cards that are wrong under the new rule, the old rule's card among them, each with a short tape on which one demand alone
-/// catches it.
+/// Core 0's transaction names both of core 1, the first of which names one that still runs. Its commit holds the second alone, so that
+/// the old rule's card keeps it: neither rule's book does.
+pub const FIRST_NOT_HELD: &str =
+    "01 03 03 09 | 02 01 0000 00 01010101 | 02 02 0000 04 02020202 | 03 01 | 04 01 | 04 01 | 04 01 \
+    | 02 01 0001 00 03030303 | 03 01 | 04 01 | 04 01 | 04 01 | 02 00 0002 00 05050505 | 02 00 0000 08 04040404 \
+    | 02 00 0001 08 06060606 | 03 00 | 04 00 | 04 00 | 04 00 | 04 00 | 04 00 | 06 | 07 | 07 | 07 | 07";
+
+/// Cards that are wrong in the sequence, the old rule's among them, each with a short tape on which one demand alone catches it.
 #[rustfmt::skip]
-pub const TAPES: &[(Order, Wrong, Checks, &str)] = &[
-    (Unordered, Wrong::No, Checks::AREA, LATER_ALONE),
-    (Unordered, Wrong::No, Checks::BYTES, LATER_ALONE),
-    (Unordered, Wrong::No, Checks::ANSWER, NAMES_A_LATER_ONE),
-    (InSequence, Wrong::SequenceInRecoveryAlone, Checks::AREA, CHANGED_AT_THE_CUT),
+pub const TAPES: &[(Wrong, Checks, &str)] = &[
+    (Wrong::NoSequence, Checks::AREA, LATER_ALONE),
+    (Wrong::NoSequence, Checks::BYTES, LATER_ALONE),
+    (Wrong::NoSequence, Checks::ANSWER, NAMES_A_LATER_ONE),
+    (Wrong::NoSequence, Checks::AREA, FIRST_NOT_HELD),
+    (Wrong::SequenceInRecoveryAlone, Checks::AREA, CHANGED_AT_THE_CUT),
     // the second of core 1 takes block 0 after the first of core 0 has closed
-    (InSequence, Wrong::SequenceInRecoveryAlone, Checks::AREA,
+    (Wrong::SequenceInRecoveryAlone, Checks::AREA,
         "01 03 02 05 | 02 02 0001 00 01010101 | 02 01 0001 04 02020202 | 03 01 | 04 01 | 04 01 | 02 00 0000 00 03030303 \
          | 02 01 0000 04 04040404 | 03 00 | 02 01 0000 08 05050505 | 04 00 | 04 00 | 04 00 | 03 01 | 04 01 | 04 01 | 04 01 \
          | 05 00 | 06 | 07"),
-    (InSequence, Wrong::SequenceInRecoveryAlone, Checks::ANSWER, NAMES_A_LATER_ONE),
-    (InSequence, Wrong::SequenceInRunningAlone, Checks::AREA, LATER_ALONE),
-    (InSequence, Wrong::SequenceInRunningAlone, Checks::BYTES, LATER_ALONE),
+    (Wrong::SequenceInRecoveryAlone, Checks::ANSWER, NAMES_A_LATER_ONE),
+    (Wrong::SequenceInRunningAlone, Checks::AREA, LATER_ALONE),
+    (Wrong::SequenceInRunningAlone, Checks::BYTES, LATER_ALONE),
     // the third of core 0 comes back, whose second was struck
-    (InSequence, Wrong::SequenceOneRound, Checks::AREA,
+    (Wrong::SequenceOneRound, Checks::AREA,
         "01 02 03 08 | 02 01 0000 00 01010101 | 02 00 0000 04 02020202 | 03 00 | 04 00 | 04 00 | 02 00 0001 00 03030303 | 03 00 \
          | 04 00 | 04 00 | 04 00 | 02 00 0002 00 04040404 | 03 00 | 04 00 | 04 00 | 04 00 | 06 | 07 | 07"),
-    (InSequence, Wrong::SequenceOneRound, Checks::ANSWER, NAMES_A_LATER_ONE),
+    (Wrong::SequenceOneRound, Checks::ANSWER, NAMES_A_LATER_ONE),
     // core 0's transaction names core 1's third
-    (InSequence, Wrong::SequenceOneRound, Checks::ANSWER,
+    (Wrong::SequenceOneRound, Checks::ANSWER,
         "01 03 03 07 | 02 02 0001 00 01010101 | 02 01 0001 04 02020202 | 03 01 | 04 01 | 04 01 | 02 01 0002 00 03030303 | 03 01 \
          | 04 01 | 04 01 | 04 01 | 02 00 0000 00 04040404 | 02 01 0000 04 05050505 | 03 00 | 04 00 | 04 00 | 04 00 | 03 01 \
          | 04 01 | 04 01 | 05 00"),
     // the first since a recovery, and one whose predecessor is retired
-    (InSequence, Wrong::SequenceBelowTail, Checks::AREA,
+    (Wrong::SequenceBelowTail, Checks::AREA,
         "01 01 01 04 | 06 | 07 | 02 00 0000 00 01010101 | 03 00 | 04 00 | 04 00 | 04 00 | 06 | 07"),
-    (InSequence, Wrong::SequenceBelowTail, Checks::ANSWER,
+    (Wrong::SequenceBelowTail, Checks::ANSWER,
         "01 01 01 04 | 06 | 07 | 02 00 0000 00 01010101 | 03 00 | 04 00 | 04 00 | 04 00 | 05 00"),
-    (InSequence, Wrong::SequenceBelowTail, Checks::AREA,
+    (Wrong::SequenceBelowTail, Checks::AREA,
         "01 01 01 04 | 02 00 0000 00 01010101 | 03 00 | 04 00 | 04 00 | 04 00 | 05 00 | 05 00 | 02 00 0000 00 02020202 | 03 00 \
          | 04 00 | 04 00 | 04 00 | 06 | 07"),
 ];
@@ -112,23 +120,25 @@ fn write(random: &mut Random, core: u8, block: u8) -> Command {
     Command::Write { core, block: block as u16, offset, data }
 }
 
-/// A foreign disk of whole records. In a journal the first that is not valid names one that is not committed, or one of an earlier
-/// core that is left; what comes after it names nothing. So its records are known to be valid or not without being read.
+/// A foreign disk of whole records in either layout. In a journal the first that is not valid names one that is not committed, or
+/// one of an earlier core that is left; what comes after it names nothing. So its records are known to be valid or not without
+/// being read.
 pub struct Made {
     pub disk: Vec<u8>,
-    pub shape: Shape,
-    pub tails: Tails,
+    layout: Layout,
+    shape: Shape,
+    tails: Tails,
     /// Of each core, how many records are read and how many of them are valid under the new rule.
     pub read: [usize; CORES],
     pub valid: [usize; CORES],
 }
 
 pub fn disk(random: &mut Random) -> Made {
-    let (shape, tails) = (any_shape(random), Tails::default());
-    let mut made = Made { disk: vec![0; DISK], shape, tails, read: [0; CORES], valid: [0; CORES] };
+    let (layout, shape, tails) = (random.pick(&LAYOUTS), any_shape(random), Tails::default());
+    let mut made = Made { disk: vec![0; DISK], layout, shape, tails, read: [0; CORES], valid: [0; CORES] };
     random.fill(&mut made.disk);
     (0..shape.cores as usize).for_each(|core| made.choose(random, core));
-    put(&mut made.disk, 0, &master(shape, &made.tails));
+    put(&mut made.disk, 0, &master(&Master { layout, shape, tails: made.tails }));
     (0..shape.cores).for_each(|core| made.fill(random, core));
     made
 }
@@ -180,13 +190,13 @@ impl Made {
     }
 
     fn put_record(&mut self, random: &mut Random, name: Name, at: usize, count: usize, names: &[Name]) {
-        let (shape, first) = (self.shape, random.below(self.shape.blocks as usize));
+        let (layout, shape, first) = (self.layout, self.shape, random.below(self.shape.blocks as usize));
         let blocks: Vec<u8> = (0..count).map(|i| ((first + i) % shape.blocks as usize) as u8).collect();
         let flags: Vec<bool> = blocks.iter().map(|_| random.chance(200)).collect();
         let stamp = random.between(1, 40) as u64;
         let mut store = |i: usize, block: &Block| put(&mut self.disk, shape.place(name.core, at + i), block);
         store(0, &descriptor(name.number, &blocks, &flags));
         (0..count).for_each(|i| store(1 + i, &[name.number as u8 ^ (16 * i) as u8; BLOCK]));
-        store(1 + count, &commit(name.number, stamp, names));
+        store(1 + count, &commit(layout, name.number, stamp, names));
     }
 }

@@ -1,12 +1,13 @@
 // shrink.rs: makes a tape that catches a wrong card as short and as plain as it can.
 
-use crate::checks::{Bench, Checks, Failure};
+use crate::checks::{Bench, Checks, Failure, Shares};
 use crate::command::{self, Command};
-use crate::order::Rules;
+use crate::order::Order;
 use crate::wrong::Wrong;
 
 pub struct Shrinker {
-    pub rules: Rules,
+    /// The rule of the book and the ledger.
+    pub books: Order,
     pub wrong: Wrong,
     pub checks: Checks,
 }
@@ -14,7 +15,7 @@ pub struct Shrinker {
 impl Shrinker {
     /// The failure of a tape on a blank wrong card, if it fails.
     pub fn failure(&self, commands: &[Command]) -> Option<Failure> {
-        Bench::under(self.rules, self.wrong, self.checks, None).run_tape(&tape_of(commands)).err()
+        Bench::under(self.books, self.wrong, self.checks, None).run_tape(&tape_of(commands)).err()
     }
 
     /// A short tape out of generated ones of several seeds; none if no tape from a blank card fails.
@@ -24,8 +25,8 @@ impl Shrinker {
     }
 
     fn found(&self, commands: u64, seed: u64) -> Option<Vec<u8>> {
-        let mut bench = Bench::under(self.rules, self.wrong, self.checks, None);
-        bench.set_foreign_share(0);
+        let mut bench = Bench::under(self.books, self.wrong, self.checks, None);
+        bench.set_shares(Shares::NONE);
         bench.soak(commands, seed).err().map(|failure| failure.tape)
     }
 

@@ -3,8 +3,8 @@
 use crate::card::{Card, Done, Lent, Transaction};
 use crate::few::Few;
 use crate::layout::{
-    begins_with_mark, block_at, commit, copy_of, descriptor, escaped, Block, Name, BLOCK, HOMES, LAST_NUMBER, NAMES,
-    TAKEN,
+    begins_with_mark, block_at, commit, copy_of, descriptor, escaped, Block, Layout, Name, BLOCK, HOMES, LAST_NUMBER,
+    NAMES, TAKEN,
 };
 use crate::wrong::Wrong;
 
@@ -54,10 +54,6 @@ impl Card {
         name.number.checked_sub(core.tail.number).is_some_and(|above| above < core.committed as u32)
     }
 
-    fn is_retired(&self, name: Name) -> bool {
-        name.number < self.cores[name.core as usize].tail.number
-    }
-
     /// The four rules for the holder of a block.
     fn plan(&self, core: u8, block: u8) -> Plan {
         let mine = &self.cores[core as usize];
@@ -81,7 +77,8 @@ impl Card {
     }
 
     fn misplan(&self, plan: &mut Plan) {
-        match self.wrong {
+        match self.kind.wrong {
+            Wrong::OwnCoreLeftOut => plan.names = plan.names.filter(|name| name.core != plan.writer.core),
             Wrong::NoNameForCommitted => plan.names = plan.names.filter(|name| !self.is_committed(*name)),
             Wrong::OnlyWriterNames => plan.names_back = None,
             Wrong::OnlyHolderNames if plan.names_back.is_some() => plan.names = None,
@@ -89,19 +86,26 @@ impl Card {
         }
     }
 
-    /// A list with a name added: the same list where it stands there already.
-    fn with_name(&self, list: &Few<Name, NAMES>, name: Option<Name>) -> (Few<Name, NAMES>, bool) {
-        let mut longer = *list;
-        let Some(name) = name else { return (longer, true) };
-        if list.contains(&name) && !self.is(Wrong::NameTwice) {
-            return (longer, true);
+    /// The names with one added, and whether they still fit in a commit.
+    fn with_name(&self, names: &Few<Name, NAMES>, name: Option<Name>) -> (Few<Name, NAMES>, bool) {
+        let mut more = *names;
+        let Some(name) = name else { return (more, true) };
+        match self.kind.layout {
+            Layout::Lists if names.contains(&name) => {}
+            Layout::Lists => more.push(name),
+            Layout::Numbers => self.raise(&mut more, name),
         }
-        if list.len() == NAMES && self.is(Wrong::RetiredNamesNotCounted) {
-            longer = list.keep(|each| !self.is_retired(*each));
+        (more, more.contains(&name) || self.kind.layout == Layout::Numbers)
+    }
+
+    /// For each core one name, that of the highest number.
+    fn raise(&self, names: &mut Few<Name, NAMES>, name: Name) {
+        let Some(named) = names.iter_mut().find(|named| named.core == name.core) else { return names.push(name) };
+        match self.kind.wrong {
+            Wrong::LastNumber => *named = name,
+            Wrong::FirstNumber => {}
+            _ => named.number = named.number.max(name.number),
         }
-        let fits = longer.len() < NAMES;
-        longer.push(name);
-        (longer, fits)
     }
 
     fn holders_list(&self, plan: &Plan) -> Option<(Few<Name, NAMES>, bool)> {
@@ -109,11 +113,11 @@ impl Card {
         Some(self.with_name(&holder.names, Some(plan.writer)))
     }
 
-    /// Refusals 24 to 27, judged on what the WRITE would leave.
+    /// Refusals 25 to 27, and 24 by a card that writes lists, judged on what the WRITE would leave.
     fn refuse_write(&self, plan: &Plan) -> Result<(), u8> {
         let (_, writer_fits) = self.with_name(&plan.transaction.names, plan.names);
         let holder_fits = self.holders_list(plan).is_none_or(|(_, fits)| fits);
-        if !writer_fits || !holder_fits && !self.is(Wrong::HolderListUnlimited) {
+        if !writer_fits || !holder_fits {
             return Err(24);
         }
         let taken = plan.transaction.blocks.len() + plan.takes as usize;
@@ -235,8 +239,7 @@ impl Card {
             let image = self.source(lent, core, closed, step - 1);
             return if self.is(Wrong::NoEscape) { copy_of(image, 0) } else { escaped(image) };
         }
-        let most = if self.is(Wrong::TwelfthNameDropped) { NAMES - 1 } else { NAMES };
-        commit(closed.number, closed.stamp, &closed.names[..closed.names.len().min(most)])
+        commit(self.kind.layout, closed.number, closed.stamp, &closed.names)
     }
 
     fn source<'a>(&self, lent: &'a Lent, core: u8, closed: &Transaction, i: usize) -> &'a [u8] {

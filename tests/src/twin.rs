@@ -1,10 +1,8 @@
 // twin.rs: a watcher that runs the right card beside another one.
 
-use crate::card::{Card, Phase};
+use crate::card::Card;
 use crate::checks::{Seen, Watcher};
 use crate::layout::{DISK, MEMORY};
-use crate::order::Order;
-use crate::wrong::Wrong;
 
 /// The right card beside the one under test: tells where answers, counts or bytes first differ.
 pub struct Twin {
@@ -15,21 +13,13 @@ pub struct Twin {
 
 impl Default for Twin {
     fn default() -> Self {
-        Twin::under(Order::default())
-    }
-}
-
-impl Twin {
-    pub fn under(order: Order) -> Twin {
-        let card = Card::with(Phase::Blank, order, Wrong::No);
-        Twin { card, disk: vec![0; DISK], memory: vec![0; MEMORY] }
+        Twin { card: Card::blank(), disk: vec![0; DISK], memory: vec![0; MEMORY] }
     }
 }
 
 impl Watcher for Twin {
     fn start(&mut self, is_down: bool, disk: &[u8], memory: &[u8]) {
-        let phase = if is_down { Phase::Down } else { Phase::Blank };
-        self.card = Card::with(phase, self.card.order, Wrong::No);
+        self.card = if is_down { Card::down() } else { Card::blank() };
         self.disk.copy_from_slice(disk);
         self.memory.copy_from_slice(memory);
     }

@@ -1,10 +1,11 @@
-// wrong.rs: the switches that make a card wrong in one rule, and those of a journal reader.
+// wrong.rs: the switches that make a card wrong in one rule, and those of a journal reader and of the journal page.
 
 macro_rules! switches {
     ($kind:ident, $all:ident: $($name:ident = $words:expr),* $(,)?) => {
         /// `No` is the right one; every other one breaks a single rule.
-        #[derive(Clone, Copy, PartialEq, Eq, Debug)]
+        #[derive(Clone, Copy, PartialEq, Eq, Debug, Default)]
         pub enum $kind {
+            #[default]
             No,
             $($name),*
         }
@@ -27,10 +28,22 @@ switches! {
     NoNameForCommitted = "no name for a holder already committed",
     ValidityOneDeep = "validity one name deep",
     AllCommittedValid = "recovery takes all committed ones as valid",
-    TwelfthNameDropped = "a twelfth name dropped from the commit",
-    RetiredNamesNotCounted = "retired names not counted to 12",
-    NameTwice = "a name twice in a list",
-    HolderListUnlimited = "24 not tested for the holder's list",
+    LastNumber = "the last number named of a core instead of the highest",
+    FirstNumber = "the first number named of a core instead of the highest",
+    OwnCoreLeftOut = "no number for the own core",
+    FormatMasterZero = "0 in bytes 8-11 of FORMAT's master",
+    CheckpointMasterZero = "0 in bytes 8-11 of CHECKPOINT's master",
+    RecoverMasterZero = "0 in bytes 8-11 of RECOVER's master",
+    RecoverMasterKept = "RECOVER's master keeps 0 or 1 as it was",
+    OtherWordTaken = "another word than 0 and 1 in the master taken",
+    ZeroRefused = "a master that holds 0 refused with 8",
+    ListsAlways = "lists read where the master holds 1",
+    ListsInRunning = "lists read by CHECKPOINT",
+    NumbersAlways = "numbers read where the master holds 0",
+    LayoutForgotten = "numbers read where 0 stands, once recovery was cut",
+    CoreBeyondUnread = "a number for a core not below C passed over",
+    CoreBeyondNamed = "a number for a core not below C taken as a name",
+    UnusedBytesRead = "no commit where bytes 20-23 are not zero",
     StampAtOpen = "stamp given at open",
     StampAtCommit = "stamp given at commit",
     StampsGoOn = "stamps going on after recovery",
@@ -62,6 +75,7 @@ switches! {
     NoWrap = "a record that does not wrap",
     No26OnOpen = "26 not tested for a WRITE that opens without a block",
     Only26Stored = "26 does not count a closed one not yet stored",
+    NoSequence = "the one before not asked for: paper 01's rule",
     SequenceInRecoveryAlone = "the one before asked for in recovery alone",
     SequenceInRunningAlone = "the one before asked for in running alone",
     SequenceOneRound = "the one before asked for in one round alone",
@@ -77,11 +91,24 @@ switches! {
     NoneLeftUnasked = "'no block left' not asked for",
     LimitLast = "end 4 for a number above the limit",
     LowByte = "the range of blocks tested on the low byte",
+    CoreBeyond = "a core not below C in range",
+    UnusedRead = "end 4 where bytes 20-23 of numbers are not zero",
+    OtherLayout = "the layout that the master does not tell",
 }
 
-/// Wrong in what request (c) of paper 02 asks for. They are tried under the new rule; their tapes stand in `sequence.rs`.
-pub const SEQUENCE: [Wrong; 4] =
-    [Wrong::SequenceInRecoveryAlone, Wrong::SequenceInRunningAlone, Wrong::SequenceOneRound, Wrong::SequenceBelowTail];
+switches! {
+    WrongPage, PAGES:
+    NamesCounted = "the page counts names, not the cores named",
+}
+
+/// Wrong in what request (c) of paper 02 asks for; their tapes stand in `sequence.rs`.
+pub const SEQUENCE: [Wrong; 5] = [
+    Wrong::NoSequence,
+    Wrong::SequenceInRecoveryAlone,
+    Wrong::SequenceInRunningAlone,
+    Wrong::SequenceOneRound,
+    Wrong::SequenceBelowTail,
+];
 
 /// Those that generated tapes catch. They hardly meet what the sequence changes, and the equivalent card is never caught.
 pub fn caught_by_generated() -> impl Iterator<Item = &'static (Wrong, &'static str)> {

@@ -1,10 +1,11 @@
-// cases.rs: the nine cases of the paper, as the tape program prints them, the same under both rules of what a transaction depends on;
-// and the ways in which a tape ends.
+// cases.rs: the nine cases of the paper, as the tape program prints them, the same by a card that writes lists; and the ways in which
+// a tape ends.
 
+use card_tests::card::Kind;
 use card_tests::command::from_hex;
-use card_tests::disks::{disk_under, P1_UNCUT};
-use card_tests::order::ORDERS;
-use card_tests::program::print_under;
+use card_tests::disks::{disk_after, disk_by, P1_UNCUT};
+use card_tests::program::{print_by, Flaw};
+use card_tests::wrong::Wrong;
 
 fn first() -> String {
     format!("{P1_UNCUT} | 06 | 07 | 07")
@@ -28,9 +29,9 @@ const FIRST_LINES: [&str; 10] = [
 const ONE_COMMITTED: [&str; 6] = ["0 1 0 0", "4 2 0 0", "13 3 0 0", "15 4 0 1", "17 4 0 2", "19 4 0 3"];
 
 fn prints(tape: &str, lines: &[&str]) {
-    for order in ORDERS {
-        let printed = print_under(order, &from_hex(tape));
-        assert_eq!(printed.lines().collect::<Vec<_>>(), lines, "tape {tape} under {order:?}");
+    for kind in [Kind::default(), Kind::older(Wrong::No)] {
+        let printed = print_by(kind, &from_hex(tape), Flaw::No);
+        assert_eq!(printed.lines().collect::<Vec<_>>(), lines, "tape {tape} by {kind:?}");
     }
 }
 
@@ -84,10 +85,9 @@ fn p6_the_number_after_a_cut() {
         "block 0 1111111100000000",
     ];
     prints(tape, &[&ONE_COMMITTED[..], &end].concat());
-    for disk in ORDERS.map(|order| disk_under(order, &from_hex(tape))) {
-        assert_eq!(disk[24..32], [0, 0, 0, 3, 0, 0, 0, 0], "tail number and position in the master");
-        assert_eq!(disk[3 * 128 + 8..3 * 128 + 12], [0, 0, 0, 3], "number of the descriptor at position 0");
-    }
+    let disk = disk_after(&from_hex(tape));
+    assert_eq!(disk[24..32], [0, 0, 0, 3, 0, 0, 0, 0], "tail number and position in the master");
+    assert_eq!(disk[3 * 128 + 8..3 * 128 + 12], [0, 0, 0, 3], "number of the descriptor at position 0");
 }
 
 #[test]
@@ -149,22 +149,37 @@ fn a_card_that_is_down_still_prints_its_blocks() {
     prints(tape, &[&ONE_COMMITTED[..], &end].concat());
 }
 
+/// A disk block has these bytes, and zeros behind them.
+fn holds(disk: &[u8], index: usize, digits: &str) {
+    let mut bytes = from_hex(digits);
+    bytes.resize(128, 0);
+    assert_eq!(disk[index * 128..(index + 1) * 128], bytes, "disk block {index}");
+}
+
 #[test]
 fn the_bytes_of_the_first_case() {
-    let [old, disk] = ORDERS.map(|order| disk_under(order, &from_hex(P1_UNCUT)));
-    assert!(old == disk && from_hex(&first()).len() == 41);
-    let block = |index: usize, digits: &str| {
-        let mut bytes = from_hex(digits);
-        bytes.resize(128, 0);
-        assert_eq!(disk[index * 128..(index + 1) * 128], bytes, "disk block {index}");
-    };
-    block(0, "C03B3998 00000004 00000000 00000002 00000004 0000000C 00000001 00000000 00000001 00000000");
+    assert_eq!(from_hex(&first()).len(), 41);
+    let disk = disk_after(&from_hex(P1_UNCUT));
+    let block = |index: usize, digits: &str| holds(&disk, index, digits);
+    block(0, "C03B3998 00000004 00000001 00000002 00000004 0000000C 00000001 00000000 00000001 00000000");
     (1..5).for_each(|home| block(home, ""));
     block(5, "C03B3998 00000001 00000001 00000001 00000003 00000000");
     block(6, "41424344 45464748");
-    block(7, "C03B3998 00000002 00000001 0000000000000001 00000001 00000001 00000001");
+    block(7, "C03B3998 00000002 00000001 0000000000000001 00000000 00000000 00000001");
     block(8, "");
     block(17, "C03B3998 00000001 00000001 00000000");
-    block(18, "C03B3998 00000002 00000001 0000000000000002 00000001 00000000 00000001");
+    block(18, "C03B3998 00000002 00000001 0000000000000002 00000000 00000001");
     (19..257).for_each(|index| block(index, ""));
+}
+
+/// The same with lists, which differ in the master and in what a commit holds.
+#[test]
+fn the_bytes_of_the_first_case_with_lists() {
+    let tape = from_hex(P1_UNCUT);
+    let (new, old) = (disk_after(&tape), disk_by(Kind::older(Wrong::No), &tape));
+    holds(&old, 0, "C03B3998 00000004 00000000 00000002 00000004 0000000C 00000001 00000000 00000001 00000000");
+    holds(&old, 7, "C03B3998 00000002 00000001 0000000000000001 00000001 00000001 00000001");
+    holds(&old, 18, "C03B3998 00000002 00000001 0000000000000002 00000001 00000000 00000001");
+    let differing = (0..257).filter(|index| new[index * 128..][..128] != old[index * 128..][..128]);
+    assert!(differing.eq([0, 7, 18]));
 }

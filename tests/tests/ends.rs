@@ -1,17 +1,17 @@
-// ends.rs: why the reading of a journal stops: both sides of each boundary, two faults at once, readers that are wrong in one rule, and
-// a torn record from its first store until recovery has emptied the journals.
+// ends.rs: why the reading of a journal stops: both sides of each boundary in both layouts, two faults at once, readers that are wrong
+// in one rule, and a torn record from its first store until recovery has emptied the journals.
 
 use card_tests::card::Card;
 use card_tests::command::from_hex;
 use card_tests::directed::{disk_with, put_record};
-use card_tests::journal::{read_record, Journals};
+use card_tests::journal::{Journals, Reader};
 use card_tests::layout::{
-    commit, descriptor, put_word, Block, Name, Shape, Tail, BLOCK, COMMIT, DESCRIPTOR, DISK, LAST_NUMBER, LAST_TAIL,
-    MARK, MASTER, MEMORY, NAMES,
+    commit, descriptor, put_word, read_master, Block, Layout, Name, Shape, Tail, BLOCK, COMMIT, DESCRIPTOR, DISK,
+    LAST_NUMBER, LAST_TAIL, LAYOUTS, MARK, MASTER, MEMORY, NAMES,
 };
 use card_tests::page::page;
 use card_tests::second_reader::{end_at, journal_stop};
-use card_tests::wrong::{WrongReader, READERS};
+use card_tests::wrong::{Wrong, WrongReader, READERS};
 
 const SHAPE: Shape = Shape { cores: 3, blocks: 10, journal: 12 };
 const J: usize = SHAPE.journal as usize;
@@ -42,20 +42,24 @@ fn twelve_names() -> [Name; NAMES] {
 impl Made {
     /// A record of so many blocks and with twelve names, and records before it so that so many blocks are left for it.
     fn new(position: usize, number: u32, left: usize, count: usize) -> Made {
+        Made::laid(Layout::Numbers, position, number, left, count)
+    }
+
+    fn laid(layout: Layout, position: usize, number: u32, left: usize, count: usize) -> Made {
         let tail = Tail { number, position: position as u8 };
         let mut tails = [Tail { number: 1, position: 0 }; 3];
         tails[CORE as usize] = tail;
-        let mut made = Made { disk: disk_with(SHAPE, &tails), tail, used: 0, count, records: 0 };
+        let mut made = Made { disk: disk_with(layout, SHAPE, &tails), tail, used: 0, count, records: 0 };
         for length in lengths(J - left) {
             let (name, at) = (made.next(), position + made.used);
-            put_record(&mut made.disk, SHAPE, name, at, &TAKEN[..length - 2], &[]);
+            put_record(&mut made.disk, name, at, &TAKEN[..length - 2], &[]);
             made.used += length;
             made.records += 1;
         }
         let number = made.next().number;
         made.put(0, &descriptor(number, &TAKEN[..count], &vec![false; count]));
         if left >= count + 2 {
-            made.put(count + 1, &commit(number, 1, &twelve_names()));
+            made.put(count + 1, &commit(layout, number, 1, &twelve_names()));
         }
         made
     }
@@ -92,9 +96,10 @@ impl Made {
 
     /// The end of the journal; the last record is read with it or not. Page and second reader agree.
     fn end(&self) -> (u8, bool) {
-        let (shape, journals) = Journals::of_disk(&self.disk).expect("a fit master");
+        let (_, journals) = Journals::of_disk(&self.disk).expect("a fit master");
         let end = journals.ends[CORE as usize].expect("all is read").number();
-        assert_eq!(journal_stop(&self.disk, shape, CORE, self.tail, WrongReader::No).end, end);
+        let master = read_master(&self.disk).expect("a fit master");
+        assert_eq!(journal_stop(&self.disk, &master, CORE, WrongReader::No).end, end);
         let page = page(&self.disk);
         assert_eq!(page[page.len() - 2], *format!("{CORE:2} {end:2}{:59}\n", "").as_bytes());
         let read = journals.of_core(CORE).len();
@@ -106,10 +111,13 @@ impl Made {
     fn alone(&self, left: usize, reader: WrongReader) -> u8 {
         let position = (self.tail.position as usize + self.used) % J;
         let next = Tail { number: self.next().number, position: position as u8 };
-        let end = end_at(&self.disk, SHAPE, CORE, next, left, reader).unwrap_or(0);
+        let mut master = read_master(&self.disk).expect("a fit master");
+        let end = end_at(&self.disk, &master, CORE, next, left, reader).unwrap_or(0);
         if reader == WrongReader::No {
             // with a tail so many blocks further on, all the others are used
-            let read = read_record(&self.disk, SHAPE, CORE, next.number, position + left, J - left);
+            master.tails[CORE as usize].position = ((position + left) % J) as u8;
+            let reader = Reader { disk: &self.disk, master, wrong: Wrong::No };
+            let read = reader.record(CORE, next.number, J - left);
             assert_eq!(read.map_or_else(|end| end.number(), |_| 0), end);
         }
         end
@@ -133,18 +141,23 @@ fn missed(end: u8) -> (u8, bool) {
 }
 
 /// Each word alone, in a record at every position of the journal, so that it stands before and behind the journal's end.
-fn holds(words: &[Put], due: (u8, bool), spoilt: impl Fn(Made) -> Made) {
+fn holds(layout: Layout, words: &[Put], due: (u8, bool), spoilt: impl Fn(Made) -> Made) {
     for position in 0..J {
-        assert_eq!(spoilt(Made::whole(position, 8)).end(), due, "{words:x?} at position {position}");
+        let made = Made::laid(layout, position, NUMBER, J, 8);
+        assert_eq!(spoilt(made).end(), due, "{words:x?} at position {position}, {layout:?}");
     }
 }
 
 fn descriptor_holds(words: &[Put], due: (u8, bool)) {
-    holds(words, due, |made| made.with_descriptor(words));
+    LAYOUTS.iter().for_each(|layout| holds(*layout, words, due, |made| made.with_descriptor(words)));
 }
 
 fn commit_holds(words: &[Put], due: (u8, bool)) {
-    holds(words, due, |made| made.with_commit(words));
+    LAYOUTS.iter().for_each(|layout| commit_in_holds(*layout, words, due));
+}
+
+fn commit_in_holds(layout: Layout, words: &[Put], due: (u8, bool)) {
+    holds(layout, words, due, |made| made.with_commit(words));
 }
 
 #[test]
@@ -163,10 +176,10 @@ fn end_1_the_expected_number_above_the_last() {
     for position in 0..J {
         let [last, above] = [LAST_NUMBER, LAST_TAIL].map(|number| Made::new(position, number, J, 2));
         assert_eq!(last.end(), READ);
-        assert_eq!(last.with_commit(&[(20, 13)]).end(), missed(4));
+        assert_eq!(last.with_commit(&[(4, 1)]).end(), missed(4));
         assert_eq!(above.end(), missed(1));
         assert_eq!(above.clone().with_descriptor(&[(12, 9)]).end(), missed(1));
-        assert_eq!(above.with_commit(&[(20, 13)]).end(), missed(1));
+        assert_eq!(above.with_commit(&[(4, 1)]).end(), missed(1));
         // a record of the last number read first
         let next = Made::new(position, LAST_NUMBER, J - 3, 2);
         assert_eq!((next.end(), next.records), (missed(1), 1));
@@ -226,9 +239,9 @@ fn one_block_left_is_looked_at() {
 #[test]
 fn end_1_no_block_left() {
     for position in 0..J {
-        let mut full = disk_with(SHAPE, &[Tail { number: NUMBER, position: position as u8 }; 3]);
+        let mut full = disk_with(Layout::Numbers, SHAPE, &[Tail { number: NUMBER, position: position as u8 }; 3]);
         for i in 0..J / 2 {
-            put_record(&mut full, SHAPE, Name { core: CORE, number: NUMBER + i as u32 }, position + 2 * i, &[], &[]);
+            put_record(&mut full, Name { core: CORE, number: NUMBER + i as u32 }, position + 2 * i, &[], &[]);
         }
         let (_, journals) = Journals::of_disk(&full).expect("a fit master");
         assert_eq!((journals.of_core(CORE).len(), journals.ends[1].expect("all is read").number()), (6, 1));
@@ -249,10 +262,31 @@ fn end_4_mark_type_and_number_of_the_commit() {
 }
 
 #[test]
-fn end_4_stamp_and_names() {
+fn end_4_stamp() {
     commit_holds(&[(12, 0), (16, 0)], missed(4));
     commit_holds(&[(12, 1), (16, 0)], READ);
     commit_holds(&[(12, 0), (16, 1)], READ);
+}
+
+/// The shape has three cores. Bytes 20 to 23 are not looked at, nor those from 56 on.
+#[test]
+fn end_4_numbers() {
+    let commit_holds = |words: &[Put], due| commit_in_holds(Layout::Numbers, words, due);
+    for unread in [1, 12, 13, 256, u32::MAX] {
+        commit_holds(&[(20, unread)], READ);
+        commit_holds(&[(56, unread), (60, unread), (124, unread)], READ);
+    }
+    for number in [0, 1, 6, 7, 8, LAST_TAIL, u32::MAX] {
+        (0..3).for_each(|core| commit_holds(&[(24 + 4 * core, number)], READ));
+        (3..8).for_each(|core| commit_holds(&[(24 + 4 * core, number)], if number == 0 { READ } else { missed(4) }));
+    }
+    commit_holds(&[(24, 0), (28, 0), (32, 0)], READ);
+    commit_holds(&[(52, 1 << 24)], missed(4));
+}
+
+#[test]
+fn end_4_lists() {
+    let commit_holds = |words: &[Put], due| commit_in_holds(Layout::Lists, words, due);
     // a thirteenth name in range, which is not looked at before
     commit_holds(&[(20, 12), (120, 0), (124, 1)], READ);
     for count in [13, 256, 268, u32::MAX] {
@@ -313,6 +347,11 @@ fn each_wrong_reader_is_told_apart_by_a_record() {
         (WrongReader::LimitLast, Made::new(11, LAST_TAIL, J, 2), J, 1, 4),
         // a whole record that names block 259
         (WrongReader::LowByte, whole().with_descriptor(&[(16, 259)]), J, 2, 0),
+        // a number for the first core that the shape has not
+        (WrongReader::CoreBeyond, whole().with_commit(&[(24 + 4 * 3, 1)]), J, 4, 0),
+        // as many names as no list has, where numbers stand
+        (WrongReader::UnusedRead, whole().with_commit(&[(20, 13)]), J, 0, 4),
+        (WrongReader::OtherLayout, whole().with_commit(&[(20, 13)]), J, 0, 4),
     ];
     assert_eq!(
         cases.each_ref().map(|(reader, ..)| *reader).to_vec(),

@@ -1,10 +1,9 @@
-// refusals.rs: every number of the paper's list is answered, on a short run made for it and in generated ones.
+// refusals.rs: every number of the paper's list is answered, on a short run made for it and in generated ones; 24 by older cards alone.
 
-use card_tests::card::{Card, Outcome, Phase};
+use card_tests::card::{Card, Kind, Outcome, Phase};
 use card_tests::checks::{Bench, Checks};
 use card_tests::command::from_hex;
-use card_tests::layout::{master, Shape, Tail, Tails, DISK, LAST_NUMBER, LAST_TAIL, MEMORY};
-use card_tests::order::{Order, Rules, ORDERS};
+use card_tests::layout::{master, Block, Master, Shape, Tail, Tails, DISK, LAST_NUMBER, LAST_TAIL, LAYOUTS, MEMORY};
 use card_tests::wrong::Wrong;
 
 struct Run {
@@ -15,11 +14,11 @@ struct Run {
 
 impl Run {
     fn blank() -> Run {
-        Run::under(Order::default())
+        Run::of(Kind::default())
     }
 
-    fn under(order: Order) -> Run {
-        let card = Card::with(Phase::Blank, order, Wrong::No);
+    fn of(kind: Kind) -> Run {
+        let card = Card::with(Phase::Blank, kind);
         Run { card, disk: vec![0x5A; DISK], memory: vec![0x5A; MEMORY] }
     }
 
@@ -55,11 +54,16 @@ fn commit(core: u8, blocks: usize) -> String {
     format!("03 {core:02x} ") + &format!("04 {core:02x} ").repeat(blocks + 2)
 }
 
-/// The last answer of a tape on a blank card, the same under both rules.
+/// The last answer of a tape on a blank card, the same by an older card.
 fn last(tape: &str) -> u8 {
-    let [old, new] = ORDERS.map(|order| *Run::under(order).answers(tape).last().unwrap());
+    let [new, old] = last_of_both(tape);
     assert_eq!(old, new);
     new
+}
+
+/// By a card of today and by one of request (c).
+fn last_of_both(tape: &str) -> [u8; 2] {
+    [Kind::default(), Kind::older(Wrong::No)].map(|kind| *Run::of(kind).answers(tape).last().unwrap())
 }
 
 #[test]
@@ -106,14 +110,21 @@ fn refusal_8_looks_at_the_fields_named_and_no_other() {
     let shape = Shape::new(2, 64, 24).unwrap();
     let mut tails = Tails::default();
     tails[..2].fill(Tail { number: LAST_TAIL, position: 23 });
-    let good = master(shape, &tails);
+    for layout in LAYOUTS {
+        looks_at_the_fields(master(&Master { layout, shape, tails }));
+    }
+}
+
+fn looks_at_the_fields(good: Block) {
     let with = |at: usize, byte: u8| {
         let mut block = good;
         block[at] = byte;
         Run::down_over(&block).answers("07")[0]
     };
-    let unread = [8, 11, 40, 43, 44, 127].map(|at| with(at, 0xFF));
-    assert_eq!(unread, [0; 6]);
+    let unread = [40, 43, 44, 127].map(|at| with(at, 0xFF));
+    assert_eq!(unread, [0; 4]);
+    assert_eq!([0, 1, 2, 3, 255].map(|byte| with(11, byte)), [0, 0, 8, 8, 8]);
+    assert_eq!([8, 9, 10].map(|at| with(at, 1)), [8; 3]);
     let header = [(0, 0), (3, 0), (7, 1), (12, 1), (15, 0), (15, 9)];
     let others = [(19, 0), (19, 65), (23, 3), (23, 25), (27, 0xFF), (31, 24)];
     assert_eq!(header.map(|(at, byte)| with(at, byte)), [8; 6]);
@@ -136,16 +147,17 @@ fn refusals_of_the_phase() {
     assert_eq!(run.card.read_number(&run.disk, &run.memory, 0), 0);
 }
 
+/// A thirteenth name, in the holder's list and in the writer's, is refused by an older card alone.
 #[test]
-fn refusal_24_for_the_holder_and_for_the_writer() {
+fn no_list_is_too_long() {
     let visit = write(1, 0) + &commit(1, 0);
     let holder = "01 02 09 18".to_string() + &write(0, 0) + &visit.repeat(12);
     assert_eq!(last(&holder), 0);
     // The twelve records fill core 1's journal, so a thirteenth visit comes from core 2 of a wider card.
     let wider = holder.replacen("01 02 09 18", "01 03 09 18", 1);
-    assert_eq!(last(&(wider.clone() + &write(2, 0))), 24);
-    // The holder's own list is full too: as a writer it may not take a closed one's block.
-    assert_eq!(last(&(wider.clone() + &write(2, 1) + &commit(2, 1) + &write(0, 1))), 24);
+    assert_eq!(last_of_both(&(wider.clone() + &write(2, 0))), [0, 24]);
+    // The holder's own list is full too: as a writer it takes a closed one's block.
+    assert_eq!(last_of_both(&(wider.clone() + &write(2, 1) + &commit(2, 1) + &write(0, 1))), [0, 24]);
     assert_eq!(last(&(wider + &write(0, 1))), 0);
 }
 
@@ -162,7 +174,7 @@ fn refusals_25_to_27() {
     assert_eq!(last(&("01 02 03 06".to_string() + &opens)), 0);
     let mut tails = Tails::default();
     tails[0] = Tail { number: LAST_NUMBER - 1, position: 3 };
-    let mut run = Run::down_over(&master(Shape::new(1, 1, 4).unwrap(), &tails));
+    let mut run = Run::down_over(&master(&Master { shape: Shape::new(1, 1, 4).unwrap(), tails, ..Master::default() }));
     let once = write(0, 0) + &commit(0, 1) + "05 00 05 00";
     assert_eq!(run.answers(&("07".to_string() + &once + &write(0, 0))), [0, 0, 0, 0, 0, 0, 0, 0, 27]);
     assert_eq!(run.answers(&("06 07".to_string() + &write(0, 0) + "06 07")), [0, 0, 27, 0, 0]);
@@ -186,10 +198,10 @@ fn refusals_28_to_33() {
 
 #[test]
 fn generated_runs_meet_every_number() {
-    for order in ORDERS {
-        let mut bench = Bench::under(Rules::throughout(order), Wrong::No, Checks::ALL, None);
-        bench.soak(300_000, 3).expect("all checks hold");
-        let unmet: Vec<usize> = (0..=8).chain(20..=33).filter(|answer| bench.tally.answers[*answer] == 0).collect();
-        assert_eq!(unmet, [0; 0], "numbers never answered under {order:?}");
-    }
+    let mut bench = Bench::new(Wrong::No, Checks::ALL, None);
+    bench.soak(300_000, 3).expect("all checks hold");
+    let all = (0..=8).chain(20..=33);
+    let unmet: Vec<usize> = all.filter(|answer| bench.tally.answers[*answer] == 0).collect();
+    assert_eq!(unmet, [24], "numbers never answered");
+    assert!(bench.tally.answers_before[24] > 0 && bench.tally.longest_list > 12);
 }

@@ -2,41 +2,39 @@
 // each core's run and lies in what the old rule keeps, on any tape and any disk; and each card that has the rule in part is caught.
 
 use card_tests::book::Book;
-use card_tests::checks::{Bench, Checks, Seen, Watcher};
+use card_tests::checks::{Bench, Checks, Seen, Shares, Watcher};
 use card_tests::command::{self, from_hex, Command};
 use card_tests::directed::{chain_disk, chain_tape};
 use card_tests::disks::{disk_after, each_disk};
 use card_tests::foreign;
-use card_tests::journal::Journals;
-use card_tests::layout::CORES;
-use card_tests::order::{Order, Rules, ORDERS};
+use card_tests::journal::{Journals, Set};
+use card_tests::layout::{CORES, LAYOUTS};
+use card_tests::order::Order;
 use card_tests::page::page;
-use card_tests::program::print_under;
+use card_tests::program::{print_by, Flaw};
 use card_tests::random::Random;
-use card_tests::sequence::{self, CHANGED_AT_THE_CUT, CHANGED_AT_THE_CUT_LINES, LATER_ALONE, NAMES_A_LATER_ONE, TAPES};
-use card_tests::shrink::tape_of;
+use card_tests::sequence::{
+    self, CHANGED_AT_THE_CUT, CHANGED_AT_THE_CUT_LINES, FIRST_NOT_HELD, LATER_ALONE, NAMES_A_LATER_ONE, TAPES,
+};
+use card_tests::shrink::{commands_of, tape_of};
 use card_tests::wrong::{words, Wrong, SEQUENCE};
 
-const OLD_BOOKS: Rules = Rules { card: Order::InSequence, books: Order::Unordered };
-const OLD_CARD: Rules = Rules { card: Order::Unordered, books: Order::InSequence };
-
-fn passes(rules: Rules, wrong: Wrong, checks: Checks, tape: &str) -> bool {
-    Bench::under(rules, wrong, checks, None).run_tape(&from_hex(tape)).is_ok()
+fn passes(books: Order, wrong: Wrong, checks: Checks, tape: &str) -> bool {
+    Bench::under(books, wrong, checks, None).run_tape(&from_hex(tape)).is_ok()
 }
 
 #[test]
 fn each_tape_tells_its_wrong_card() {
-    for (order, wrong, checks, tape) in TAPES {
-        let rules = Rules { card: *order, books: Order::InSequence };
-        assert!(!passes(rules, *wrong, *checks, tape), "not caught: {}, {order:?}", words(*wrong));
-        assert!(passes(Rules::default(), Wrong::No, Checks::ALL, tape), "the right card fails: {tape}");
+    for (wrong, checks, tape) in TAPES {
+        assert!(!passes(Order::InSequence, *wrong, *checks, tape), "not caught: {}", words(*wrong));
+        assert!(passes(Order::InSequence, Wrong::No, Checks::ALL, tape), "the right card fails: {tape}");
     }
 }
 
 #[test]
 fn each_wrong_card_has_a_tape() {
     for card in SEQUENCE {
-        assert!(TAPES.iter().any(|(_, wrong, ..)| *wrong == card), "no tape: {}", words(card));
+        assert!(TAPES.iter().any(|(wrong, ..)| *wrong == card), "no tape: {}", words(card));
     }
 }
 
@@ -46,31 +44,53 @@ fn each_rules_card_fails_the_other_claim() {
     for (checks, tape) in
         [(Checks::AREA, LATER_ALONE), (Checks::BYTES, LATER_ALONE), (Checks::ANSWER, NAMES_A_LATER_ONE)]
     {
-        assert!(!passes(OLD_BOOKS, Wrong::No, checks, tape) && !passes(OLD_CARD, Wrong::No, checks, tape));
-        assert!(ORDERS.iter().all(|order| passes(Rules::throughout(*order), Wrong::No, Checks::ALL, tape)));
+        assert!(!passes(Order::Unordered, Wrong::No, checks, tape));
+        assert!(!passes(Order::InSequence, Wrong::NoSequence, checks, tape));
+        assert!(passes(Order::Unordered, Wrong::NoSequence, Checks::ALL, tape));
     }
+}
+
+/// The old rule's claim is false of a card whose commits hold numbers: its own book has another area.
+#[test]
+fn the_old_rules_claim_fails_with_numbers() {
+    for books in [Order::Unordered, Order::InSequence] {
+        assert!(!passes(books, Wrong::NoSequence, Checks::AREA, FIRST_NOT_HELD), "{books:?}");
+        assert!(Bench::under(books, Wrong::NoSequence, Checks::AREA, None).soak(200_000, 3).is_err(), "{books:?}");
+    }
+    let blocks = ["block 0 0101010102020202", "block 1 0303030300000000", "block 2 0505050500000000"];
+    let text = print_by(Wrong::NoSequence.into(), &from_hex(FIRST_NOT_HELD), Flaw::No);
+    assert!(text.lines().filter(|line| line.starts_with("block")).eq(blocks), "{text}");
+    let mut book = Book::under(Order::Unordered);
+    commands_of(&from_hex(FIRST_NOT_HELD)).iter().for_each(|command| book.feed(*command, 0));
+    assert!(book
+        .area()
+        .chunks(8)
+        .enumerate()
+        .all(|(i, eight)| eight == if i == 16 { [3, 3, 3, 3, 0, 0, 0, 0] } else { [0; 8] }));
 }
 
 #[test]
 fn generated_tapes_tell_the_rules_apart() {
-    for (rules, checks) in [OLD_BOOKS, OLD_CARD].iter().flat_map(|r| [(r, Checks::ANSWER), (r, Checks::AREA)]) {
-        assert!(Bench::under(*rules, Wrong::No, checks, None).soak(200_000, 3).is_err(), "not told apart: {rules:?}");
+    for (books, wrong) in [(Order::Unordered, Wrong::No), (Order::InSequence, Wrong::NoSequence)] {
+        for checks in [Checks::ANSWER, Checks::AREA] {
+            assert!(Bench::under(books, wrong, checks, None).soak(200_000, 3).is_err(), "not told apart: {books:?}");
+        }
     }
 }
 
 #[test]
 fn a_rule_changed_at_the_cut_gives_neither_area() {
-    for rules in [Rules::default(), OLD_BOOKS] {
-        assert!(!passes(rules, Wrong::SequenceInRecoveryAlone, Checks::AREA, CHANGED_AT_THE_CUT), "{rules:?}");
+    for books in [Order::InSequence, Order::Unordered] {
+        assert!(!passes(books, Wrong::SequenceInRecoveryAlone, Checks::AREA, CHANGED_AT_THE_CUT), "{books:?}");
     }
-    let last_lines = |order| -> Vec<String> {
-        let text = print_under(order, &from_hex(CHANGED_AT_THE_CUT));
+    let last_lines = |wrong: Wrong| -> Vec<String> {
+        let text = print_by(wrong.into(), &from_hex(CHANGED_AT_THE_CUT), Flaw::No);
         text.lines().skip(18).map(String::from).collect()
     };
     let blocks = ["block 0 0404040400000000", "block 1 0303030305050505"];
-    assert_eq!(last_lines(Order::InSequence), CHANGED_AT_THE_CUT_LINES);
-    assert_eq!(last_lines(Order::Unordered)[..4], ["73 5 0 10", "75 6 0 10", "76 7 0 11", "77 7 0 12"]);
-    assert_eq!(last_lines(Order::Unordered)[4..], blocks);
+    assert_eq!(last_lines(Wrong::No), CHANGED_AT_THE_CUT_LINES);
+    assert_eq!(last_lines(Wrong::NoSequence)[..4], ["73 5 0 10", "75 6 0 10", "76 7 0 11", "77 7 0 12"]);
+    assert_eq!(last_lines(Wrong::NoSequence)[4..], blocks);
 }
 
 /// How many sets were looked at, and how many of them the added dependence made smaller.
@@ -119,35 +139,32 @@ impl Watcher for Kept {
 
 #[test]
 fn what_a_cut_keeps_is_a_beginning_of_each_run() {
-    for order in ORDERS {
+    for wrong in [Wrong::No, Wrong::NoSequence] {
         let (mut kept, mut random) = (Kept::default(), Random::new(41));
-        let mut bench = Bench::under(Rules::throughout(order), Wrong::No, Checks::NONE, Some(&mut kept));
-        bench.set_foreign_share(0);
+        let mut bench = Bench::new(wrong, Checks::NONE, Some(&mut kept));
+        bench.set_shares(Shares::NONE);
         bench.soak(100_000, 41).expect("nothing is checked");
         for _ in 0..1000 {
             bench.run_tape(&sequence::tape(&mut random)).expect("nothing is checked");
         }
         let Looks { sets, smaller } = kept.looks;
-        println!("{sets} kept sets under {order:?}, {smaller} of them smaller than without the one before");
+        println!("{sets} kept sets by {}, {smaller} of them smaller than without the one before", words(wrong));
         assert!(sets > 10_000 && smaller > 1000 && kept.longest > 20, "{sets}, {smaller}, {}", kept.longest);
     }
 }
 
 #[test]
 fn tapes_and_disks_made_for_the_rule_pass_every_check() {
-    for order in ORDERS {
-        let mut bench = Bench::under(Rules::throughout(order), Wrong::No, Checks::ALL, None);
-        sequence::run(&mut bench, 42, 1000).expect("all checks hold");
-    }
+    let mut bench = Bench::new(Wrong::No, Checks::ALL, None);
+    sequence::run(&mut bench, 42, 1000).expect("all checks hold");
 }
 
 #[test]
 fn tapes_made_for_the_rule_tell_each_wrong_card() {
-    for (order, wrong, checks, _) in TAPES {
-        let rules = Rules { card: *order, books: Order::InSequence };
-        let (mut random, mut bench) = (Random::new(44), Bench::under(rules, *wrong, *checks, None));
+    for (wrong, checks, _) in TAPES {
+        let (mut random, mut bench) = (Random::new(44), Bench::new(*wrong, *checks, None));
         let is_caught = (0..100).any(|_| bench.run_tape(&sequence::tape(&mut random)).is_err());
-        assert!(is_caught, "not caught by {checks:?}: {}, {order:?}", words(*wrong));
+        assert!(is_caught, "not caught by {checks:?}: {}", words(*wrong));
     }
 }
 
@@ -198,14 +215,12 @@ fn made_disks_are_read_as_they_were_made() {
 #[test]
 fn chains_are_struck_one_by_one() {
     let (commands, links) = chain_tape();
-    for (disk, count) in
-        [(chain_disk(0, false), 96), (chain_disk(1, false), 64), (disk_after(&tape_of(&commands)), links)]
-    {
+    let chains = LAYOUTS.map(|layout| [(chain_disk(layout, 0, false), 96), (chain_disk(layout, 1, false), 64)]);
+    for (disk, count) in chains.into_iter().flatten().chain([(disk_after(&tape_of(&commands)), links)]) {
         let (_, journals) = Journals::of_disk(&disk).expect("a fit master");
-        for order in ORDERS {
-            let rounds = std::iter::successors(Some(journals.everything()), |set| Some(journals.struck(*set, order)));
-            let sizes: Vec<u32> = rounds.take(count + 1).map(u128::count_ones).collect();
-            assert!(sizes.iter().rev().copied().eq(0..=count as u32), "{order:?}: {sizes:?}");
-        }
+        let strike = |set: &Set| Some(journals.struck(*set, Order::InSequence));
+        let rounds = std::iter::successors(Some(journals.everything()), strike);
+        let sizes: Vec<u32> = rounds.take(count + 1).map(u128::count_ones).collect();
+        assert!(sizes.iter().rev().copied().eq(0..=count as u32), "{sizes:?}");
     }
 }

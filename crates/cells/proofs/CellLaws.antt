@@ -33,7 +33,7 @@ pub core-cong : (a b c d e f g h : ℕ) (r s t u : Transaction) → a ≡ b → 
     → _≡_ {A = Core} (record { next = a; used = c; stored = e; homed = g; running = r; closed = t }) (record { next = b; used = d; stored = f; homed = h; running = s; closed = u })
 core-cong a b c d e f g h r s t u i j k l m n = rw (i, j, k, l, m, n)
 
-pub coreIn-same : (v w : List ℕ) (b : ℕ) → ((i : ℕ) → b ≤ i → i < b + 52 → getD w i 0 ≡ getD v i 0) → coreIn w b ≡ coreIn v b
+pub coreIn-same : (v w : List ℕ) (b : ℕ) → ((i : ℕ) → b ≤ i → i < b + 42 → getD w i 0 ≡ getD v i 0) → coreIn w b ≡ coreIn v b
 unfolding coreIn
 coreIn-same v w b e =
     core-cong _ _ _ _ _ _ _ _ _ _ _ _
@@ -42,7 +42,7 @@ coreIn-same v w b e =
     (ap (λ (n : ℕ). n % 256) (e (b + 2) (omega arith) (omega arith)))
     (ap (λ (n : ℕ). n % 256) (e (b + 3) (omega arith) (omega arith)))
     (transactionIn-same v w (b + 4) (λ i p q. e i (omega arith) (omega arith)))
-    (transactionIn-same v w (b + 28) (λ i p q. e i (omega arith) (omega arith)))
+    (transactionIn-same v w (b + 23) (λ i p q. e i (omega arith) (omega arith)))
 
 pub card-cong : (p q : Phase) (s t : Shape) (a b c d : ℕ) (ts us : List Tail) (ks ls : List Core) (hs is : List Holder) → p ≡ q → s ≡ t → a ≡ b → c ≡ d → ts ≡ us → ks ≡ ls → hs ≡ is
     → _≡_ {A = Card} (record { phase = p; shape = s; closes = a; recovered = c; tails = ts; cores = ks; holders = hs }) (record { phase = q; shape = t; closes = b; recovered = d; tails = us; cores = ls; holders = is })
@@ -52,7 +52,7 @@ pub shape-cong : (a b c d e f : ℕ) → a ≡ b → c ≡ d → e ≡ f → _�
 shape-cong a b c d e f p q r = rw (p, q, r)
 
 -- cells of one core
-module _ (v w : List ℕ) (c : ℕ) (h : c < 8) (e : Frame v w (corePlace c) 52) where
+module _ (v w : List ℕ) (c : ℕ) (h : c < 8) (e : Frame v w (corePlace c) 42) where
   core-other : (d : ℕ) → d < 8 → (d ≡ c → ⊥) → coreIn w (corePlace d) ≡ coreIn v (corePlace d)
   core-other d l f = coreIn-same v w (corePlace d) (λ i p q. cases (ltb d c) (λ t. let z : d < c = ltb-true d c t in e .low i (omega arith)) (λ t. let z : c ≤ d = ltb-false d c t in e .high i (omega arith)))
 
@@ -69,7 +69,7 @@ module _ (v w : List ℕ) (c : ℕ) (h : c < 8) (e : Frame v w (corePlace c) 52)
       (map-below _ _ 64 (λ b p. ap holderIn (e .low (holderPlace b) (omega arith))))
 
 -- cells of its running transaction
-module _ (v w : List ℕ) (c : ℕ) (h : c < 8) (e : Frame v w (corePlace c + 4) 24) where
+module _ (v w : List ℕ) (c : ℕ) (h : c < 8) (e : Frame v w (corePlace c + 4) 19) where
   running-inside : coreIn w (corePlace c) ≡ withRunning (coreIn v (corePlace c)) (transactionIn w (corePlace c + 4))
   unfolding coreIn
   running-inside =
@@ -79,11 +79,11 @@ module _ (v w : List ℕ) (c : ℕ) (h : c < 8) (e : Frame v w (corePlace c + 4)
       (ap (λ (n : ℕ). n % 256) (e .low (corePlace c + 2) (omega arith)))
       (ap (λ (n : ℕ). n % 256) (e .low (corePlace c + 3) (omega arith)))
       refl
-      (transactionIn-high v w (corePlace c + 4) 24 (corePlace c + 28) e (omega arith))
+      (transactionIn-high v w (corePlace c + 4) 19 (corePlace c + 23) e (omega arith))
 
   pub running-put : cardIn w ≡ withCore (cardIn v) c (withRunning (coreOf (cardIn v) c) (transactionIn w (corePlace c + 4)))
   running-put =
-      core-put v w c h (frame-wider v w (corePlace c + 4) 24 (corePlace c) 52 e (omega arith) (omega arith))
+      core-put v w c h (frame-wider v w (corePlace c + 4) 19 (corePlace c) 42 e (omega arith) (omega arith))
       ∙ ap (withCore (cardIn v) c) (running-inside ∙ ap (λ (k : Core). withRunning k (transactionIn w (corePlace c + 4))) (sym (coreOf-cardIn v c h)))
 
 -- the cell of a holder
@@ -97,7 +97,7 @@ holder-cell x n e = rw (ne-eqb (x + 1) 0 (omega arith), back-one x, e)
 pub holder-frame : (v : List ℕ) (b x : ℕ) → b < 64 → x < 34359738368 → Frame v (set v (holderPlace b) (x + 1)) (holderPlace b) 1
 holder-frame v b x h l = frame-set v (holderPlace b) 1 (holderPlace b) (x + 1) (omega arith) (omega arith) (fits-holder b (x + 1) h (omega arith))
 
-pub holder-put : (v : List ℕ) (b x : ℕ) → length v ≡ 512 → b < 64 → (n : Name) → nameIn x ≡ n → cardIn (set v (holderPlace b) (x + 1)) ≡ withHolder (cardIn v) b (newHolder n)
+pub holder-put : (v : List ℕ) (b x : ℕ) → length v ≡ 423 → b < 64 → (n : Name) → nameIn x ≡ n → cardIn (set v (holderPlace b) (x + 1)) ≡ withHolder (cardIn v) b (newHolder n)
 unfolding cardIn
 holder-put v b x l h n e =
     card-cong _ _ _ _ _ _ _ _ _ _ _ _ _ _

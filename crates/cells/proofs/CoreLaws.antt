@@ -2,7 +2,7 @@
 use Rattle.model.proofs.Base.{ℕ, _+_, _%_, _≤_, _<_, arith, _≡_, refl, sym, ap, _∙_, List, map, length, getD, set, length-set}
 use Rattle.model.proofs.Base.{getD-set-same, getD-set-other, below}
 use lib.Seq.{set-set}
-use Rattle.model.specs.Card.{freshCore, coreOf, withCore, withLists}
+use Rattle.model.specs.Card.{freshCore, coreOf, withCore, withArrays}
 use Rattle.model.specs.Recovery.{recoveredTo}
 use Rattle.model.specs.declared.Core.{Core}
 use Rattle.model.specs.declared.Card.{Card}
@@ -23,11 +23,11 @@ module _ (v : List ℕ) (c : ℕ) (h : c < 8) (k : Core) where
       getD-set-same (map (λ (d : ℕ). coreIn v (corePlace d)) (below 8)) c k (freshCore 0) (omega arith)
 
 pub with-core-twice : (x : Card) (c : ℕ) (k l : Core) → withCore (withCore x c k) c l ≡ withCore x c l
-with-core-twice x c k l = ap (λ (ks : List Core). withLists x (x .tails) ks (x .holders)) (set-set (x .cores) c k l)
+with-core-twice x c k l = ap (λ (ks : List Core). withArrays x (x .tails) ks (x .holders)) (set-set (x .cores) c k l)
 
 -- ---- its closed transaction
-module _ (v w : List ℕ) (c : ℕ) (h : c < 8) (e : Frame v w (corePlace c + 28) 24) where
-  closed-inside : coreIn w (corePlace c) ≡ withClosed (coreIn v (corePlace c)) (transactionIn w (corePlace c + 28))
+module _ (v w : List ℕ) (c : ℕ) (h : c < 8) (e : Frame v w (corePlace c + 23) 19) where
+  closed-inside : coreIn w (corePlace c) ≡ withClosed (coreIn v (corePlace c)) (transactionIn w (corePlace c + 23))
   unfolding coreIn
   closed-inside =
       core-cong _ _ _ _ _ _ _ _ _ _ _ _
@@ -35,16 +35,16 @@ module _ (v w : List ℕ) (c : ℕ) (h : c < 8) (e : Frame v w (corePlace c + 28
       (ap (λ (n : ℕ). n % 256) (e .low (corePlace c + 1) (omega arith)))
       (ap (λ (n : ℕ). n % 256) (e .low (corePlace c + 2) (omega arith)))
       (ap (λ (n : ℕ). n % 256) (e .low (corePlace c + 3) (omega arith)))
-      (transactionIn-low v w (corePlace c + 28) 24 (corePlace c + 4) e (omega arith))
+      (transactionIn-low v w (corePlace c + 23) 19 (corePlace c + 4) e (omega arith))
       refl
 
-  pub closed-put : cardIn w ≡ withCore (cardIn v) c (withClosed (coreOf (cardIn v) c) (transactionIn w (corePlace c + 28)))
+  pub closed-put : cardIn w ≡ withCore (cardIn v) c (withClosed (coreOf (cardIn v) c) (transactionIn w (corePlace c + 23)))
   closed-put =
-      core-put v w c h (frame-wider v w (corePlace c + 28) 24 (corePlace c) 52 e (omega arith) (omega arith))
-      ∙ ap (withCore (cardIn v) c) (closed-inside ∙ ap (λ (k : Core). withClosed k (transactionIn w (corePlace c + 28))) (sym (coreOf-cardIn v c h)))
+      core-put v w c h (frame-wider v w (corePlace c + 23) 19 (corePlace c) 42 e (omega arith) (omega arith))
+      ∙ ap (withCore (cardIn v) c) (closed-inside ∙ ap (λ (k : Core). withClosed k (transactionIn w (corePlace c + 23))) (sym (coreOf-cardIn v c h)))
 
 -- ---- its numbers
-module _ (v : List ℕ) (c : ℕ) (h : c < 8) (size : length v ≡ 512) (next used stored homed : ℕ) (p : next < 4294967296) (q : used < 256) (r : stored < 256) (s : homed < 256) where
+module _ (v : List ℕ) (c : ℕ) (h : c < 8) (size : length v ≡ 423) (next used stored homed : ℕ) (p : next < 4294967296) (q : used < 256) (r : stored < 256) (s : homed < 256) where
   abbrev w₁ : List ℕ
   w₁ = set v (corePlace c) next
 
@@ -99,15 +99,15 @@ module _ (v : List ℕ) (c : ℕ) (h : c < 8) (size : length v ≡ 512) (next us
       (ap (λ (n : ℕ). n % 256) third ∙ omega arith)
       (ap (λ (n : ℕ). n % 256) fourth ∙ omega arith)
       (transactionIn-high v w₄ (corePlace c) 4 (corePlace c + 4) numbers-frame (omega arith))
-      (transactionIn-high v w₄ (corePlace c) 4 (corePlace c + 28) numbers-frame (omega arith))
+      (transactionIn-high v w₄ (corePlace c) 4 (corePlace c + 23) numbers-frame (omega arith))
 
   pub numbers-put : cardIn w₄ ≡ withCore (cardIn v) c (withNumbers (coreOf (cardIn v) c) next used stored homed)
   numbers-put =
-      core-put v w₄ c h (frame-wider v w₄ (corePlace c) 4 (corePlace c) 52 numbers-frame (omega arith) (omega arith))
+      core-put v w₄ c h (frame-wider v w₄ (corePlace c) 4 (corePlace c) 42 numbers-frame (omega arith) (omega arith))
       ∙ ap (withCore (cardIn v) c) (numbers-inside ∙ ap (λ (k : Core). withNumbers k next used stored homed) (sym (coreOf-cardIn v c h)))
 
 -- the four cells stand within the array
-module _ (v : List ℕ) (c : ℕ) (h : c < 8) (at : ℕ) (e : at ≡ corePlace c) (size : length v ≡ 512) where
+module _ (v : List ℕ) (c : ℕ) (h : c < 8) (at : ℕ) (e : at ≡ corePlace c) (size : length v ≡ 423) where
   pub at-second : (x : ℕ) → at + 1 < length (set v at x)
   at-second x = rw (length-set v at x) (omega arith)
 
@@ -126,15 +126,15 @@ module _ (v : List ℕ) (c : ℕ) (h : c < 8) (at : ℕ) (e : at ≡ corePlace c
 
 -- ---- parts that stay
 module _ (v w : List ℕ) where
-  pub tails-kept : ((i : ℕ) → 16 ≤ i → i < 32 → getD w i 0 ≡ getD v i 0) → (cardIn w) .tails ≡ (cardIn v) .tails
+  pub tails-kept : ((i : ℕ) → 7 ≤ i → i < 23 → getD w i 0 ≡ getD v i 0) → (cardIn w) .tails ≡ (cardIn v) .tails
   unfolding cardIn
   tails-kept e = map-below _ _ 8 (λ c p. tailFrom-same v w (tailPlace c) (λ i q r. e i (omega arith) (omega arith)))
 
-  pub holders-kept : ((i : ℕ) → 32 ≤ i → i < 96 → getD w i 0 ≡ getD v i 0) → (cardIn w) .holders ≡ (cardIn v) .holders
+  pub holders-kept : ((i : ℕ) → 23 ≤ i → i < 87 → getD w i 0 ≡ getD v i 0) → (cardIn w) .holders ≡ (cardIn v) .holders
   unfolding cardIn
   holders-kept e = map-below _ _ 64 (λ b p. ap holderIn (e (holderPlace b) (omega arith) (omega arith)))
 
-  pub cores-kept : ((i : ℕ) → 96 ≤ i → getD w i 0 ≡ getD v i 0) → (cardIn w) .cores ≡ (cardIn v) .cores
+  pub cores-kept : ((i : ℕ) → 87 ≤ i → getD w i 0 ≡ getD v i 0) → (cardIn w) .cores ≡ (cardIn v) .cores
   unfolding cardIn
   cores-kept e = map-below _ _ 8 (λ c p. coreIn-same v w (corePlace c) (λ i q r. e i (omega arith)))
 
@@ -177,7 +177,7 @@ module _ (v w : List ℕ) where
       (holders-kept (λ i p q. e .high i (omega arith)))
 
   -- the holders alone
-  pub holders-put : Frame v w 32 64 → cardIn w ≡ withLists (cardIn v) ((cardIn v) .tails) ((cardIn v) .cores) ((cardIn w) .holders)
+  pub holders-put : Frame v w 23 64 → cardIn w ≡ withArrays (cardIn v) ((cardIn v) .tails) ((cardIn v) .cores) ((cardIn w) .holders)
   unfolding cardIn
   holders-put e =
       card-cong _ _ _ _ _ _ _ _ _ _ _ _ _ _

@@ -15,17 +15,17 @@ either false a b p q = q
 -- 0 fits everywhere
 fits-nothing : (i : ℕ) → fitsTransaction i 0 ≡ true
 unfolding fitsTransaction
-fits-nothing i = either (eqb i 0) _ _ refl (either (eqb i 1) _ _ refl (either (ltb i 12) _ _ refl refl))
+fits-nothing i = either (eqb i 0) _ _ refl (either (eqb i 1) _ _ refl (either (ltb i 11) _ _ refl refl))
 
 pub fits-zero : (i : ℕ) → fitsAt i 0 ≡ true
 unfolding fitsAt fitsHeader fitsCore
 fits-zero i =
-    either (ltb i 16) _ _
-    (either (eqb i 0) _ _ refl (either (eqb i 4) _ _ refl (either (eqb i 6) _ _ refl (either (ltb i 7) _ _ refl refl))))
-    (either (ltb i 32) _ _
-    (either (eqb (i % 2) 0) _ _ refl refl)
-    (either (ltb i 96) _ _ refl
-    (either (eqb ((i - 96) % 52) 0) _ _ refl (either (ltb ((i - 96) % 52) 4) _ _ refl (fits-nothing (((i - 96) % 52 - 4) % 24))))))
+    either (ltb i 7) _ _
+    (either (eqb i 0) _ _ refl (either (eqb i 4) _ _ refl (either (eqb i 6) _ _ refl refl)))
+    (either (ltb i 23) _ _
+    (either (eqb ((i - 7) % 2) 0) _ _ refl refl)
+    (either (ltb i 87) _ _ refl
+    (either (eqb ((i - 87) % 42) 0) _ _ refl (either (ltb ((i - 87) % 42) 4) _ _ refl (fits-nothing (((i - 87) % 42 - 4) % 19))))))
 
 -- ---- the header
 pub fits-phase : (x : ℕ) → x < 3 → fitsAt 0 x ≡ true
@@ -35,7 +35,7 @@ fits-phase x h = lt-ltb x 3 h
 pub fits-field : (i x : ℕ) → 0 < i → i < 7 → x < 256 → fitsAt i x ≡ true
 unfolding fitsAt fitsHeader
 fits-field i x p q h =
-    rw (lt-ltb i 16 (omega arith), ne-eqb i 0 (omega arith), lt-ltb i 7 q, lt-ltb x 256 h) (either (eqb i 4) _ _ refl (either (eqb i 6) _ _ refl refl))
+    rw (lt-ltb i 7 q, ne-eqb i 0 (omega arith), lt-ltb x 256 h) (either (eqb i 4) _ _ refl (either (eqb i 6) _ _ refl refl))
 
 pub fits-closes : (x : ℕ) → fitsAt 4 x ≡ true
 unfolding fitsAt fitsHeader
@@ -48,15 +48,15 @@ fits-stores x = refl
 -- ---- tails and holders
 pub fits-in-number : (c x : ℕ) → c < 8 → fitsAt (tailPlace c) x ≡ ltb x 4294967296
 unfolding fitsAt
-fits-in-number c x p = rw (le-ltb (16 + 2 * c) 16 (omega arith), lt-ltb (16 + 2 * c) 32 (omega arith), eq-eqb ((16 + 2 * c) % 2) 0 (omega arith))
+fits-in-number c x p = rw (le-ltb (7 + 2 * c) 7 (omega arith), lt-ltb (7 + 2 * c) 23 (omega arith), eq-eqb ((7 + 2 * c - 7) % 2) 0 (omega arith))
 
 pub fits-in-position : (c x : ℕ) → c < 8 → fitsAt (tailPlace c + 1) x ≡ ltb x 256
 unfolding fitsAt
-fits-in-position c x p = rw (le-ltb (16 + 2 * c + 1) 16 (omega arith), lt-ltb (16 + 2 * c + 1) 32 (omega arith), ne-eqb ((16 + 2 * c + 1) % 2) 0 (omega arith))
+fits-in-position c x p = rw (le-ltb (7 + 2 * c + 1) 7 (omega arith), lt-ltb (7 + 2 * c + 1) 23 (omega arith), ne-eqb ((7 + 2 * c + 1 - 7) % 2) 0 (omega arith))
 
 pub fits-in-holder : (b x : ℕ) → b < 64 → fitsAt (holderPlace b) x ≡ leb x 34359738368
 unfolding fitsAt
-fits-in-holder b x p = rw (le-ltb (32 + b) 16 (omega arith), le-ltb (32 + b) 32 (omega arith), lt-ltb (32 + b) 96 (omega arith))
+fits-in-holder b x p = rw (le-ltb (23 + b) 7 (omega arith), le-ltb (23 + b) 23 (omega arith), lt-ltb (23 + b) 87 (omega arith))
 
 pub fits-number : (c x : ℕ) → c < 8 → x < 4294967296 → fitsAt (tailPlace c) x ≡ true
 fits-number c x p h = fits-in-number c x p ∙ lt-ltb x 4294967296 h
@@ -68,16 +68,16 @@ pub fits-holder : (b x : ℕ) → b < 64 → x ≤ 34359738368 → fitsAt (holde
 fits-holder b x p h = fits-in-holder b x p ∙ le-leb x 34359738368 h
 
 -- ---- cores and transactions
-pub fits-in-core : (c j x : ℕ) → c < 8 → j < 52 → fitsAt (corePlace c + j) x ≡ fitsCore j x
+pub fits-in-core : (c j x : ℕ) → c < 8 → j < 42 → fitsAt (corePlace c + j) x ≡ fitsCore j x
 unfolding fitsAt
 fits-in-core c j x p q =
-    let e : (96 + 52 * c + j - 96) % 52 ≡ j = omega arith in
-    rw (le-ltb (96 + 52 * c + j) 16 (omega arith), le-ltb (96 + 52 * c + j) 32 (omega arith), le-ltb (96 + 52 * c + j) 96 (omega arith), e)
+    let e : (87 + 42 * c + j - 87) % 42 ≡ j = omega arith in
+    rw (le-ltb (87 + 42 * c + j) 7 (omega arith), le-ltb (87 + 42 * c + j) 23 (omega arith), le-ltb (87 + 42 * c + j) 87 (omega arith), e)
 
 pub fits-next : (c x : ℕ) → c < 8 → x < 4294967296 → fitsAt (corePlace c) x ≡ true
 unfolding fitsCore
 fits-next c x p h =
-    let z : 96 + 52 * c + 0 ≡ 96 + 52 * c = omega arith in
+    let z : 87 + 42 * c + 0 ≡ 87 + 42 * c = omega arith in
     ap (λ (i : ℕ). fitsAt i x) (sym z) ∙ fits-in-core c 0 x p (omega arith) ∙ lt-ltb x 4294967296 h
 
 pub fits-count : (c j x : ℕ) → c < 8 → 0 < j → j < 4 → x < 256 → fitsAt (corePlace c + j) x ≡ true
@@ -86,25 +86,25 @@ fits-count c j x p q r h =
     fits-in-core c j x p (omega arith) ∙ rw (ne-eqb j 0 (omega arith), lt-ltb j 4 r, lt-ltb x 256 h)
 
 pub running-place : (c : ℕ) → c < 8 → IsPlace (runningPlace c)
-running-place c h = (omega arith, omega arith, let e : (96 + 52 * c + 4 - 96) % 52 ≡ 4 = omega arith in rw e)
+running-place c h = (omega arith, omega arith, let e : (87 + 42 * c + 4 - 87) % 42 ≡ 4 = omega arith in rw e)
 
 pub closed-place : (c : ℕ) → c < 8 → IsPlace (closedPlace c)
-closed-place c h = (omega arith, omega arith, let e : (96 + 52 * c + 28 - 96) % 52 ≡ 28 = omega arith in rw e)
+closed-place c h = (omega arith, omega arith, let e : (87 + 42 * c + 23 - 87) % 42 ≡ 23 = omega arith in rw e)
 
 -- where a transaction stands in its core
-low-place : (m : ℕ) → m < 52 → m % 24 ≡ 4 → (4 ≤ m) × (m ≤ 28)
+low-place : (m : ℕ) → m < 42 → m % 19 ≡ 4 → (4 ≤ m) × (m ≤ 23)
 low-place m h r = (omega arith, omega arith)
 
-pub in-place : (m k : ℕ) → m % 24 ≡ 4 → k < 24 → (m + k - 4) % 24 ≡ k
+pub in-place : (m k : ℕ) → m % 19 ≡ 4 → k < 19 → (m + k - 4) % 19 ≡ k
 in-place m k r h = omega arith
 
-module _ (a : ℕ) (p : 96 ≤ a) (q : a + 24 ≤ 512) (r : (a - 96) % 52 % 24 ≡ 4) where
-  pub fits-at : (k x : ℕ) → k < 24 → fitsAt (a + k) x ≡ fitsTransaction k x
+module _ (a : ℕ) (p : 87 ≤ a) (q : a + 19 ≤ 423) (r : (a - 87) % 42 % 19 ≡ 4) where
+  pub fits-at : (k x : ℕ) → k < 19 → fitsAt (a + k) x ≡ fitsTransaction k x
   unfolding fitsAt fitsCore
   fits-at k x h =
-      let l : (4 ≤ (a - 96) % 52) × ((a - 96) % 52 ≤ 28) = low-place ((a - 96) % 52) (omega arith) r in
-      let e : (a + k - 96) % 52 ≡ (a - 96) % 52 + k = omega (arith, l .0, l .1) in
-      rw (le-ltb (a + k) 16 (omega arith), le-ltb (a + k) 32 (omega arith), le-ltb (a + k) 96 (omega arith), e, ne-eqb ((a - 96) % 52 + k) 0 (omega (arith, l .0)), le-ltb ((a - 96) % 52 + k) 4 (omega (arith, l .0)), in-place ((a - 96) % 52) k r h)
+      let l : (4 ≤ (a - 87) % 42) × ((a - 87) % 42 ≤ 23) = low-place ((a - 87) % 42) (omega arith) r in
+      let e : (a + k - 87) % 42 ≡ (a - 87) % 42 + k = omega (arith, l .0, l .1) in
+      rw (le-ltb (a + k) 7 (omega arith), le-ltb (a + k) 23 (omega arith), le-ltb (a + k) 87 (omega arith), e, ne-eqb ((a - 87) % 42 + k) 0 (omega (arith, l .0)), le-ltb ((a - 87) % 42 + k) 4 (omega (arith, l .0)), in-place ((a - 87) % 42) k r h)
 
   pub fits-live : (x : ℕ) → x < 2 → fitsAt a x ≡ true
   unfolding fitsTransaction
@@ -116,15 +116,15 @@ module _ (a : ℕ) (p : 96 ≤ a) (q : a + 24 ≤ 512) (r : (a - 96) % 52 % 24 �
   unfolding fitsTransaction
   fits-stamp x = fits-at 1 x (omega arith)
 
-  pub fits-byte : (k x : ℕ) → 2 ≤ k → k < 12 → x < 256 → fitsAt (a + k) x ≡ true
+  pub fits-byte : (k x : ℕ) → 2 ≤ k → k < 11 → x < 256 → fitsAt (a + k) x ≡ true
   unfolding fitsTransaction
   fits-byte k x l m h =
-      fits-at k x (omega arith) ∙ rw (ne-eqb k 0 (omega arith), ne-eqb k 1 (omega arith), lt-ltb k 12 m, lt-ltb x 256 h)
+      fits-at k x (omega arith) ∙ rw (ne-eqb k 0 (omega arith), ne-eqb k 1 (omega arith), lt-ltb k 11 m, lt-ltb x 256 h)
 
-  pub fits-name : (k x : ℕ) → 12 ≤ k → k < 24 → x < 34359738368 → fitsAt (a + k) x ≡ true
+  pub fits-highest : (k x : ℕ) → 11 ≤ k → k < 19 → x < 4294967296 → fitsAt (a + k) x ≡ true
   unfolding fitsTransaction
-  fits-name k x l m h =
-      fits-at k x m ∙ rw (ne-eqb k 0 (omega arith), ne-eqb k 1 (omega arith), le-ltb k 12 l, lt-ltb x 34359738368 h)
+  fits-highest k x l m h =
+      fits-at k x m ∙ rw (ne-eqb k 0 (omega arith), ne-eqb k 1 (omega arith), le-ltb k 11 l, lt-ltb x 4294967296 h)
 
 -- ---- arrays that differ in some cells
 pub fits-set : (v : List ℕ) (j x : ℕ) → fitsAt j x ≡ true → AllFit v → AllFit (set v j x)

@@ -9,14 +9,14 @@ use Rattle.cells.specs.Changes.{Frame}
 use Rattle.cells.proofs.RefusalLaws.{was-refused, was-done}
 
 -- the cells of a changed array
-pub same-long : (v w : List ℕ) (a n : ℕ) → length v ≡ 512 → Frame v w a n → length w ≡ 512
+pub same-long : (v w : List ℕ) (a n : ℕ) → length v ≡ 423 → Frame v w a n → length w ≡ 423
 same-long v w a n e b = b .size ∙ e
 
 -- under another name of its outcome
 pub meets-same : (o p : Outcome World) (v w : List ℕ) (d m : Bytes) (r : Answer) → Meets o v w d m r → o ≡ p → Meets p v w d m r
 meets-same o p v w d m r f e = record { outcome = f .outcome ∙ e; size = f .size; fits = f .fits; refused = f .refused }
 
-module _ (cs : List (Bool × ℕ)) (v : List ℕ) (d m : Bytes) (done : Outcome World) (l : length v ≡ 512) (n : ℕ) (e : n ≡ refusal cs) where
+module _ (cs : List (Bool × ℕ)) (v : List ℕ) (d m : Bytes) (done : Outcome World) (l : length v ≡ 423) (n : ℕ) (e : n ≡ refusal cs) where
   pub meets-refused : (n ≡ 0 → ⊥) → Meets (unless cs (worldIn v d m) done) v v d m (newAnswer n 0)
   meets-refused h = record { outcome = was-refused cs (worldIn v d m) done n e h; size = l; fits = λ f. f; refused = λ z. refl }
 

@@ -1,14 +1,12 @@
 -- A test of a list's first elements grows by one element and ends with all; an array filled in a loop is the mapped list. How
--- many blocks and names a transaction has, a search through its names, and when a thirteenth name does not fit.
+-- many blocks a transaction has.
 use Rattle.model.proofs.Base.{ℕ, zero, suc, _+_, _≤_, _<_, min, arith, add-one, _≡_, refl, sym, ap, _∙_, Bool, true, false, List}
 use Rattle.model.proofs.Base.{[], _∷_, _++_, map, append-nil, length, take, drop, getD, set, length-take, take-all}
-use Rattle.model.proofs.Base.{take-suc, getD-take, leb, eq-eqb, ne-eqb, lt-ltb, le-ltb, le-leb, lt-leb, leb-false, not-true}
+use Rattle.model.proofs.Base.{take-suc, getD-take, eq-eqb, ne-eqb, lt-ltb, le-ltb, le-leb, lt-leb, not-true}
 use Rattle.model.proofs.Base.{not-false, any}
 use lib.ListN.{drop-of-length-le}
 use borrow.Author.Needs.{needs}
-use Rattle.model.specs.Card.{sameName, taken, listed, lists, withName}
-use Rattle.model.specs.Write.{passesNames}
-use Rattle.model.specs.declared.Name.{Name}
+use Rattle.model.specs.Card.{taken}
 use Rattle.model.specs.declared.Transaction.{Transaction}
 use Rattle.model.proofs.Lists.{any-append, mem-any, getD-mem}
 use Rattle.layout.proofs.Pairs.{length-mapped}
@@ -63,7 +61,7 @@ module _ {A B : Type 0} (f : A → B) where
   unfolding filled
   filled-all i l ks e h = rw (take-all i l h, drop-of-length-le ks (let g : length ks ≤ i = omega arith in g), append-nil)
 
--- ---- a transaction's blocks and names: a count above the array's length counts as its length
+-- ---- a transaction's blocks: a count above the array's length counts as its length
 module _ (t : Transaction) where
   pub took-all : length (t .blocks) ≡ 8 → 8 ≤ t .count → 8 ≡ length (taken t)
   unfolding taken
@@ -72,41 +70,3 @@ module _ (t : Transaction) where
   pub took-some : length (t .blocks) ≡ 8 → t .count ≤ 8 → t .count ≡ length (taken t)
   unfolding taken
   took-some n h = sym (length-take (t .count) (t .blocks) ∙ omega arith)
-
-  pub named-all : length (t .names) ≡ 12 → 12 ≤ t .named → 12 ≡ length (listed t)
-  unfolding listed
-  named-all n h = sym (length-take (t .named) (t .names) ∙ omega arith)
-
-  pub named-some : length (t .names) ≡ 12 → t .named ≤ 12 → t .named ≡ length (listed t)
-  unfolding listed
-  named-some n h = sym (length-take (t .named) (t .names) ∙ omega arith)
-
-  -- a search through the names
-  module _ (n : Name) where
-    pub none-listed : any (sameName n) (take 0 (listed t)) ≡ false
-    none-listed = any-none (sameName n) (listed t)
-
-    pub name-hit : (i : ℕ) (d : Name) (count : ℕ) → count ≡ length (listed t) → i < count → (g : Bool) → g ≡ sameName n (getD (t .names) i d) → g ≡ true → true ≡ lists t n
-    unfolding lists listed
-    name-hit i d count e h g q r = sym (any-hit (sameName n) (t .names) (t .named) i (omega arith) d (sym q ∙ r))
-
-    pub name-missed : (i : ℕ) (d : Name) (count : ℕ) → count ≡ length (listed t) → i < count → any (sameName n) (take i (listed t)) ≡ false → (g : Bool) → g ≡ sameName n (getD (t .names) i d) → g ≡ false → any (sameName n) (take (i + 1) (listed t)) ≡ false
-    unfolding listed
-    name-missed i d count e h q g r z = any-more (sameName n) (t .names) (t .named) i (omega arith) d q (sym r ∙ z)
-
-    pub all-missed : (i count : ℕ) → count ≡ length (listed t) → any (sameName n) (take i (listed t)) ≡ false → count ≤ i → false ≡ lists t n
-    unfolding lists
-    all-missed i count e q h = sym (any-all (sameName n) (listed t) i q (omega arith))
-
--- ---- names: 24
-module _ (t : Transaction) (n : Name) (g : Bool) (e : g ≡ lists t n) where
-  pub passes-full : g ≡ false → leb 12 (t .named) ≡ passesNames t n
-  unfolding passesNames
-  passes-full h = rw (← e, h)
-
-  pub name-room : passesNames t n ≡ false → g ≡ false → t .named < 12
-  name-room p h = leb-false 12 (t .named) (passes-full h ∙ p)
-
-  pub name-stands : g ≡ true → t ≡ withName t n
-  unfolding withName
-  name-stands h = rw (← e, h)

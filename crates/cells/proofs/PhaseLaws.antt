@@ -4,7 +4,7 @@ use Rattle.model.proofs.Base.{ℕ, zero, suc, _+_, _%_, _≤_, _<_, arith, _≡
 use Rattle.model.proofs.Base.{getD, set, replicate, length-set, length-replicate, getD-replicate, getD-set-same, getD-set-other}
 use mathlib.Core.List.{map-id}
 use lib.ListN.{List·getD-eq-default}
-use Rattle.model.specs.Card.{freshCore, freshCard, emptyCard, blankCard, downCard, coreOf, withLists, withCore}
+use Rattle.model.specs.Card.{freshCore, freshCard, emptyCard, blankCard, downCard, coreOf, withArrays, withCore}
 use Rattle.model.specs.declared.Phase.the-variants.{Up}
 use Rattle.model.specs.declared.Shape.{Shape}
 use Rattle.model.specs.declared.Tail.{Tail}
@@ -22,17 +22,17 @@ use Rattle.cells.proofs.CoreLaws.{tails-kept, cores-kept, holders-kept}
 
 -- ---- zeros
 abbrev zeros : List ℕ
-zeros = replicate 512 0
+zeros = replicate 423 0
 
-module _ (v : List ℕ) (size : length v ≡ 512) where
-  zeros-frame : Frame v zeros 0 512
+module _ (v : List ℕ) (size : length v ≡ 423) where
+  zeros-frame : Frame v zeros 0 423
   unfolding AllFit
   zeros-frame =
       record {
-        size = length-replicate {A = ℕ} 512 0 ∙ sym size;
+        size = length-replicate {A = ℕ} 423 0 ∙ sym size;
         low = λ i h. absurd (omega arith);
         high = λ i h. List·getD-eq-default zeros 0 (let b : length zeros ≤ i = omega arith in b) ∙ sym (List·getD-eq-default v 0 (let b : length v ≤ i = omega arith in b));
-        fits = λ f i h. ap (fitsAt i) (getD-replicate 512 i 0 0 h) ∙ fits-zero i;
+        fits = λ f i h. ap (fitsAt i) (getD-replicate 423 i 0 0 h) ∙ fits-zero i;
       }
 
   module _ (w : List ℕ) (i : ℕ) (z : Zeroed v w i) (h : length w ≤ i) where
@@ -45,8 +45,8 @@ module _ (v : List ℕ) (size : length v ≡ 512) where
     pub blank-seen : cardIn w ≡ blankCard
     blank-seen = ap cardIn all-zero ∙ blank-read
 
-    pub blank-frame : Frame v w 0 512
-    blank-frame = subst (λ (u : List ℕ). Frame v u 0 512) (sym all-zero) zeros-frame
+    pub blank-frame : Frame v w 0 423
+    blank-frame = subst (λ (u : List ℕ). Frame v u 0 423) (sym all-zero) zeros-frame
 
 -- ---- down
 module _ (v w : List ℕ) (e : w ≡ cellsOf blankCard 0) where
@@ -56,11 +56,11 @@ module _ (v w : List ℕ) (e : w ≡ cellsOf blankCard 0) where
   pub down-seen : cardIn (set w 0 2) ≡ downCard
   down-seen = ap (λ (u : List ℕ). cardIn (set u 0 2)) (e ∙ blank-cells) ∙ down-read
 
-pub down-frame : (v w : List ℕ) → Frame v w 0 512 → Frame v (set w 0 2) 0 512
-down-frame v w f = frame-then w (set w 0 2) v 0 512 f (frame-set w 0 512 0 2 (omega arith) (omega arith) (fits-phase 2 (omega arith)))
+pub down-frame : (v w : List ℕ) → Frame v w 0 423 → Frame v (set w 0 2) 0 423
+down-frame v w f = frame-then w (set w 0 2) v 0 423 f (frame-set w 0 423 0 2 (omega arith) (omega arith) (fits-phase 2 (omega arith)))
 
 -- ---- up: phase and shape
-module _ (v : List ℕ) (size : length v ≡ 512) (a b j : ℕ) (p : a < 256) (q : b < 256) (r : j < 256) where
+module _ (v : List ℕ) (size : length v ≡ 423) (a b j : ℕ) (p : a < 256) (q : b < 256) (r : j < 256) where
   abbrev w₁ : List ℕ
   w₁ = set v 0 1
 
@@ -119,15 +119,15 @@ module _ {A B : Type 0} (f : A → B) where
 
 -- the first c cores begin at their tails
 abbrev pub begun : Card → List Tail → ℕ → Card
-begun x ts c = withLists x (filled (λ (t : Tail). t) c ts (x .tails)) (filled (λ (t : Tail). freshCore (t .number)) c ts (x .cores)) (x .holders)
+begun x ts c = withArrays x (filled (λ (t : Tail). t) c ts (x .tails)) (filled (λ (t : Tail). freshCore (t .number)) c ts (x .cores)) (x .holders)
 
 pub record Begins (v : List ℕ) (ts : List Tail) (w : List ℕ) (c : ℕ) : Type 0 where
   pub most : c ≤ 8
   pub long : length ts ≡ 8
   pub fresh : (cardIn v) .cores ≡ replicate 8 (freshCore 0)
-  pub size : length w ≡ 512
+  pub size : length w ≡ 423
   pub card : cardIn w ≡ begun (cardIn v) ts c
-  pub rest : Frame v w 0 512
+  pub rest : Frame v w 0 423
 
 tails-long : (v : List ℕ) → length ((cardIn v) .tails) ≡ 8
 unfolding cardIn
@@ -138,16 +138,16 @@ unfolding cardIn
 cores-long v = length-tabled _ 8
 
 module _ (v : List ℕ) (ts : List Tail) where
-  pub begins-none : length v ≡ 512 → (cardIn v) .cores ≡ replicate 8 (freshCore 0) → length ts ≡ 8 → Begins v ts v 0
+  pub begins-none : length v ≡ 423 → (cardIn v) .cores ≡ replicate 8 (freshCore 0) → length ts ≡ 8 → Begins v ts v 0
   begins-none n e l =
       record {
         most = omega arith;
         long = l;
         fresh = e;
         size = n;
-        card = ap (λ (us : List Tail). withLists (cardIn v) us ((cardIn v) .cores) ((cardIn v) .holders)) (filled-none (λ (t : Tail). t) ts ((cardIn v) .tails))
-            ∙ ap (λ (ks : List Core). withLists (cardIn v) (filled (λ (t : Tail). t) 0 ts ((cardIn v) .tails)) ks ((cardIn v) .holders)) (filled-none (λ (t : Tail). freshCore (t .number)) ts ((cardIn v) .cores));
-        rest = frame-same v 0 512;
+        card = ap (λ (us : List Tail). withArrays (cardIn v) us ((cardIn v) .cores) ((cardIn v) .holders)) (filled-none (λ (t : Tail). t) ts ((cardIn v) .tails))
+            ∙ ap (λ (ks : List Core). withArrays (cardIn v) (filled (λ (t : Tail). t) 0 ts ((cardIn v) .tails)) ks ((cardIn v) .holders)) (filled-none (λ (t : Tail). freshCore (t .number)) ts ((cardIn v) .cores));
+        rest = frame-same v 0 423;
       }
 
   module _ (w : List ℕ) (c : ℕ) (b : Begins v ts w c) where
@@ -173,22 +173,22 @@ module _ (v : List ℕ) (ts : List Tail) where
               g
               ∙ ap (λ (y : Card). withTail y c (getD ts c d)) (e ∙ ap (λ (y : Core). withCore (cardIn w) c (withNumbers y ((getD ts c d) .number) 0 0 0)) (still-fresh h))
               ∙ ap (λ (y : Card). withTail (withCore y c (freshCore ((getD ts c d) .number))) c (getD ts c d)) (b .card)
-              ∙ ap (λ (us : List Tail). withLists (cardIn v) us (set (filled (λ (t : Tail). freshCore (t .number)) c ts ((cardIn v) .cores)) c (freshCore ((getD ts c d) .number))) ((cardIn v) .holders))
+              ∙ ap (λ (us : List Tail). withArrays (cardIn v) us (set (filled (λ (t : Tail). freshCore (t .number)) c ts ((cardIn v) .cores)) c (freshCore ((getD ts c d) .number))) ((cardIn v) .holders))
               (filled-more (λ (t : Tail). t) c ts ((cardIn v) .tails) d (omega (arith, b .long)) (tails-long v ∙ sym (b .long)))
-              ∙ ap (λ (ks : List Core). withLists (cardIn v) (filled (λ (t : Tail). t) (c + 1) ts ((cardIn v) .tails)) ks ((cardIn v) .holders))
+              ∙ ap (λ (ks : List Core). withArrays (cardIn v) (filled (λ (t : Tail). t) (c + 1) ts ((cardIn v) .tails)) ks ((cardIn v) .holders))
               (filled-more (λ (t : Tail). freshCore (t .number)) c ts ((cardIn v) .cores) d (omega (arith, b .long)) (cores-long v ∙ sym (b .long)));
           rest =
-              frame-then u x v 0 512
-              (frame-then w u v 0 512 (b .rest) (frame-wider w u (corePlace c) 4 0 512 f (omega arith) (omega arith)))
-              (frame-wider u x (tailPlace c) 2 0 512 k (omega arith) (omega arith));
+              frame-then u x v 0 423
+              (frame-then w u v 0 423 (b .rest) (frame-wider w u (corePlace c) 4 0 423 f (omega arith) (omega arith)))
+              (frame-wider u x (tailPlace c) 2 0 423 k (omega arith) (omega arith));
         }
 
-    pub begins-all : 8 ≤ c → cardIn w ≡ withLists (cardIn v) ts (map (λ (t : Tail). freshCore (t .number)) ts) ((cardIn v) .holders)
+    pub begins-all : 8 ≤ c → cardIn w ≡ withArrays (cardIn v) ts (map (λ (t : Tail). freshCore (t .number)) ts) ((cardIn v) .holders)
     begins-all h =
         b .card
-        ∙ ap (λ (us : List Tail). withLists (cardIn v) us (filled (λ (t : Tail). freshCore (t .number)) c ts ((cardIn v) .cores)) ((cardIn v) .holders))
+        ∙ ap (λ (us : List Tail). withArrays (cardIn v) us (filled (λ (t : Tail). freshCore (t .number)) c ts ((cardIn v) .cores)) ((cardIn v) .holders))
         (filled-all (λ (t : Tail). t) c ts ((cardIn v) .tails) (tails-long v ∙ sym (b .long)) (omega (arith, b .long)) ∙ map-id ts)
-        ∙ ap (λ (ks : List Core). withLists (cardIn v) ts ks ((cardIn v) .holders))
+        ∙ ap (λ (ks : List Core). withArrays (cardIn v) ts ks ((cardIn v) .holders))
         (filled-all (λ (t : Tail). freshCore (t .number)) c ts ((cardIn v) .cores) (cores-long v ∙ sym (b .long)) (omega (arith, b .long)))
 
 -- ---- up
@@ -200,9 +200,9 @@ module _ (s : Shape) (u v : List ℕ) (e : cardIn u ≡ blankCard) (f : cardIn v
   unfolding blankCard emptyCard freshCard
   up-fresh = ap (λ (x : Card). x .cores) up-blank
 
-  pub up-seen : (ts : List Tail) (w : List ℕ) → cardIn w ≡ withLists (cardIn v) ts (map (λ (t : Tail). freshCore (t .number)) ts) ((cardIn v) .holders) → cardIn w ≡ freshCard Up s ts
+  pub up-seen : (ts : List Tail) (w : List ℕ) → cardIn w ≡ withArrays (cardIn v) ts (map (λ (t : Tail). freshCore (t .number)) ts) ((cardIn v) .holders) → cardIn w ≡ freshCard Up s ts
   unfolding blankCard emptyCard freshCard
-  up-seen ts w g = g ∙ ap (λ (x : Card). withLists x ts (map (λ (t : Tail). freshCore (t .number)) ts) (x .holders)) up-blank
+  up-seen ts w g = g ∙ ap (λ (x : Card). withArrays x ts (map (λ (t : Tail). freshCore (t .number)) ts) (x .holders)) up-blank
 
-pub up-frame : (t u v w : List ℕ) → Frame t u 0 512 → Frame u v 0 4 → Frame v w 0 512 → Frame t w 0 512
-up-frame t u v w e f g = frame-then v w t 0 512 (frame-then u v t 0 512 e (frame-wider u v 0 4 0 512 f (omega arith) (omega arith))) g
+pub up-frame : (t u v w : List ℕ) → Frame t u 0 423 → Frame u v 0 4 → Frame v w 0 423 → Frame t w 0 423
+up-frame t u v w e f g = frame-then v w t 0 423 (frame-then u v t 0 423 e (frame-wider u v 0 4 0 423 f (omega arith) (omega arith))) g

@@ -4,14 +4,14 @@ use Rattle.model.proofs.Base.{ℕ, _+_, _-_, _*_, _/_, _%_, _≤_, _<_, arith, 
 use Rattle.model.proofs.Base.{getD, set, length-set, length-map, getD-set-same, getD-set-other, ext-getD, eqb, ne-eqb, eqb-true}
 use Rattle.model.proofs.Base.{eqb-false, below}
 use Rattle.model.specs.Shape.{clamped}
-use Rattle.model.specs.Card.{newTail, newName, noHolder, newHolder, shapeOf, tailOf, taken, listed, coreOf, holderOf, freshCore}
+use Rattle.model.specs.Card.{newTail, newName, noHolder, newHolder, shapeOf, tailOf, taken, highestOf, coreOf, holderOf, freshCore}
 use Rattle.model.specs.declared.Phase.the-variants.{Blank, Up, Down}
 use Rattle.model.specs.declared.Shape.{Shape}
 use Rattle.model.specs.declared.Name.{Name}
 use Rattle.model.specs.declared.Transaction.{Transaction}
 use Rattle.model.specs.declared.Core.{Core}
 use Rattle.model.proofs.Lists.{cases, length-below, getD-map-below}
-use Rattle.cells.proofs.Parts.{took-all, took-some, named-all, named-some}
+use Rattle.cells.proofs.Parts.{took-all, took-some}
 use Rattle.cells.specs.Cells.{byteIn, numberIn, phaseIn, nameIn, holderIn, tailFrom, transactionIn, coreIn, cardIn, tailPlace, holderPlace, corePlace, runningPlace, closedPlace}
 
 -- ---- lists given by their index
@@ -62,23 +62,15 @@ module _ (w : List ℕ) (a : ℕ) where
   unfolding transactionIn
   count-read = refl
 
-  pub named-read : byteIn w (a + 3) ≡ (transactionIn w a) .named
-  unfolding transactionIn
-  named-read = refl
-
   pub blocks-long : length ((transactionIn w a) .blocks) ≡ 8
   unfolding transactionIn
   blocks-long = length-tabled _ 8
 
-  pub names-long : length ((transactionIn w a) .names) ≡ 12
-  unfolding transactionIn
-  names-long = length-tabled _ 12
+  pub highest-read : (c : ℕ) → c < 8 → highestOf (transactionIn w a) c ≡ numberIn w (a + 11 + c)
+  unfolding transactionIn highestOf
+  highest-read c h = getD-map-below _ 8 c 0 h
 
-  pub name-read : (i : ℕ) (d : Name) → i < 12 → getD ((transactionIn w a) .names) i d ≡ nameIn (getD w (a + 12 + i) 0)
-  unfolding transactionIn
-  name-read i d h = getD-map-below _ 12 i d h
-
-  pub block-read : (i d : ℕ) → i < 8 → getD ((transactionIn w a) .blocks) i d ≡ byteIn w (a + 4 + i)
+  pub block-read : (i d : ℕ) → i < 8 → getD ((transactionIn w a) .blocks) i d ≡ byteIn w (a + 3 + i)
   unfolding transactionIn
   block-read i d h = getD-map-below _ 8 i d h
 
@@ -89,14 +81,6 @@ module _ (w : List ℕ) (a : ℕ) where
   count-low n e h =
       let q : n ≡ (transactionIn w a) .count = e ∙ count-read in
       q ∙ took-some (transactionIn w a) blocks-long (omega arith)
-
-  pub named-high : (n : ℕ) → n ≡ byteIn w (a + 3) → 12 < n → 12 ≡ length (listed (transactionIn w a))
-  named-high n e h = named-all (transactionIn w a) names-long (let q : n ≡ (transactionIn w a) .named = e ∙ named-read in omega arith)
-
-  pub named-low : (n : ℕ) → n ≡ byteIn w (a + 3) → n ≤ 12 → n ≡ length (listed (transactionIn w a))
-  named-low n e h =
-      let q : n ≡ (transactionIn w a) .named = e ∙ named-read in
-      q ∙ named-some (transactionIn w a) names-long (omega arith)
 
 -- ---- names and holders in a cell
 name-cong : (a b c d : ℕ) → a ≡ b → c ≡ d → newName a c ≡ newName b d
@@ -144,7 +128,7 @@ module _ (w : List ℕ) (c : ℕ) (h : c < 8) where
   unfolding coreIn
   running-read = field-at (λ (k : Core). k .running)
 
-  pub closed-read : transactionIn w (corePlace c + 28) ≡ (coreOf (cardIn w) c) .closed
+  pub closed-read : transactionIn w (corePlace c + 23) ≡ (coreOf (cardIn w) c) .closed
   unfolding coreIn
   closed-read = field-at (λ (k : Core). k .closed)
 

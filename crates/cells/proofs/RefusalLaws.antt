@@ -4,7 +4,7 @@ use Rattle.model.proofs.Base.{ℕ, _<_, arith, _≡_, refl, sym, _∙_, Bool, c
 use Rattle.model.specs.Card.{isBlank, isUp, isDown}
 use Rattle.model.specs.Command.{World, Outcome, refusal, unless, notUp, wrongLength, Clear, refusedWith}
 use Rattle.model.specs.Layout.{isMaster}
-use Rattle.model.specs.Recovery.{cutConditions, recoverConditions}
+use Rattle.model.specs.Recovery.{cutConditions, recoverConditionsBy, recoverConditions}
 use Rattle.model.specs.Bytes.{blockAt}
 use Rattle.model.proofs.Lists.{cases}
 use Rattle.model.proofs.OneStore.{right-lengths}
@@ -99,7 +99,7 @@ module _ (w : World) where
 
   -- RECOVER looks at the first block last
   pub recover-numbers : firstOf (phaseRefusal w 20 23 0) (cond (not (isMaster (blockAt (w .disk) 0))) 8 0) ≡ refusal (recoverConditions w)
-  unfolding phaseRefusal recoverConditions
+  unfolding phaseRefusal recoverConditionsBy
   recover-numbers =
       rw (recover-by-phase (wrongLength w) (w .card .phase), ← refusal-one (not (isMaster (blockAt (w .disk) 0))) 8)
       (sym (refusal-joined ((wrongLength w, 1) ∷ (isBlank (w .card .phase), 20) ∷ (isUp (w .card .phase), 23) ∷ []) ((not (isMaster (blockAt (w .disk) 0)), 8) ∷ []) (omega arith, (omega arith, (omega arith, tt)))))

@@ -25,7 +25,7 @@ module _ (w : List ℕ) where
   tails-read out c f h = filled-all (tailOf (cardIn w)) 8 out c f h ∙ all-tails
 
 -- two cells put
-module _ (v : List ℕ) (c : ℕ) (size : length v ≡ 512) (h : c < 8) (n : ℕ) where
+module _ (v : List ℕ) (c : ℕ) (size : length v ≡ 423) (h : c < 8) (n : ℕ) where
   pub position-in : tailPlace c + 1 < length (set v (tailPlace c) n)
   position-in = rw (length-set v (tailPlace c) n) (omega arith)
 
@@ -69,5 +69,5 @@ module _ (v : List ℕ) (c : ℕ) (size : length v ≡ 512) (h : c < 8) (n : ℕ
         (map-below _ _ 8 (λ d q. coreIn-same v put (corePlace d) (λ i r s. other i (omega arith) (omega arith))))
         (map-below _ _ 64 (λ d q. ap holderIn (other (holderPlace d) (omega arith) (omega arith))))
       where
-        byte : (i : ℕ) → i < 16 → byteIn put i ≡ byteIn v i
+        byte : (i : ℕ) → i < 7 → byteIn put i ≡ byteIn v i
         byte i q = ap (λ (x : ℕ). x % 256) (other i (omega arith) (omega arith))

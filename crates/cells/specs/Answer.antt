@@ -24,14 +24,14 @@ outcomeIn r w d m = record { answer = r .number; world = worldIn w d m; stores =
 -- width appears, and a refusal leaves every cell as it was.
 pub record Meets (o : Outcome World) (v w : List ℕ) (d m : Bytes) (r : Answer) : Type 0 where
   pub outcome : outcomeIn r w d m ≡ o
-  pub size : length w ≡ 512
+  pub size : length w ≡ 423
   pub fits : AllFit v → AllFit w
   pub refused : (r .number ≡ 0 → ⊥) → w ≡ v
 
 -- One store of a command, over the cells v and the disk d: it left w and e. With any memory that is the outcome given.
 pub record Stores (f : World → Outcome World) (v w : List ℕ) (d e : Bytes) : Type 0 where
   pub outcome : (m : Bytes) → outcomeIn (newAnswer 0 1) w e m ≡ f (worldIn v d m)
-  pub frame : Frame v w 0 512
+  pub frame : Frame v w 0 423
 
 -- of the refusals of two stages, the one met first; 0 for none
 unfoldable pub firstOf : ℕ → ℕ → ℕ

@@ -1,4 +1,4 @@
--- The card's state in 512 cells of eight bytes that the caller lends: what each cell means (`cardIn`), and the cells of a card and its
+-- The card's state in 423 cells of eight bytes that the caller lends: what each cell means (`cardIn`), and the cells of a card and its
 -- count of stores (`cellsOf`).
 -- A field narrower than its cell is the cell modulo its width, so every value of a cell has a meaning.
 use Prim.Native.Nat.{ℕ, _+_, _-_, _*_, _/_, _%_}
@@ -10,7 +10,7 @@ use lib.ListN.{getD}
 use Rattle.model.specs.Lists.{below}
 use Rattle.model.specs.Bytes.{Bytes}
 use Rattle.model.specs.Command.{World}
-use Rattle.model.specs.Card.{newTail, newName, noHolder, newHolder, tailOf, coreOf, holderOf}
+use Rattle.model.specs.Card.{newTail, newName, noHolder, newHolder, highestOf, tailOf, coreOf, holderOf}
 use Rattle.model.specs.declared.Phase.{Phase}
 use Rattle.model.specs.declared.Phase.the-variants.{Blank, Up, Down}
 use Rattle.model.specs.declared.Tail.{Tail}
@@ -21,7 +21,7 @@ use Rattle.model.specs.declared.Holder.{Holder}
 use Rattle.model.specs.declared.Card.{Card}
 
 -- ---- where each part stands
--- A header of 16 cells; those from 7 on are unused.
+-- The header: phase, the shape's three numbers, closes, how far recovery is, the count of stores.
 abbrev pub phasePlace : ℕ
 phasePlace = 0
 
@@ -45,13 +45,13 @@ storesPlace = 6
 
 -- Eight tails, 64 holders, eight cores.
 abbrev pub firstTail : ℕ
-firstTail = 16
+firstTail = 7
 
 abbrev pub firstHolder : ℕ
-firstHolder = 32
+firstHolder = 23
 
 abbrev pub firstCore : ℕ
-firstCore = 96
+firstCore = 87
 
 -- A tail has two cells: its number, then its position.
 abbrev pub tailPlace : ℕ → ℕ
@@ -65,7 +65,7 @@ holderPlace b = firstHolder + b
 
 -- A core at a has its next number there, then used, stored, homed, its running transaction and its closed one.
 abbrev pub coreSize : ℕ
-coreSize = 52
+coreSize = 42
 
 abbrev pub corePlace : ℕ → ℕ
 corePlace c = firstCore + coreSize * c
@@ -83,23 +83,23 @@ abbrev pub runningPlace : ℕ → ℕ
 runningPlace c = corePlace c + 4
 
 abbrev pub closedPlace : ℕ → ℕ
-closedPlace c = corePlace c + 28
+closedPlace c = corePlace c + 23
 
--- A transaction at a has 24 cells: whether there is one, then its stamp, the counts of its blocks and names, the blocks, the names.
+-- A transaction at a: whether there is one, then its stamp, the count of its blocks, the blocks, the highest number of each core.
+abbrev pub transactionSize : ℕ
+transactionSize = 19
+
 abbrev pub stampPlace : ℕ → ℕ
 stampPlace a = a + 1
 
 abbrev pub countPlace : ℕ → ℕ
 countPlace a = a + 2
 
-abbrev pub namedPlace : ℕ → ℕ
-namedPlace a = a + 3
-
 abbrev pub blockPlace : ℕ → ℕ → ℕ
-blockPlace a i = a + 4 + i
+blockPlace a i = a + 3 + i
 
-abbrev pub namePlace : ℕ → ℕ → ℕ
-namePlace a i = a + 12 + i
+abbrev pub highestPlace : ℕ → ℕ → ℕ
+highestPlace a c = a + 11 + c
 
 -- ---- what the cells mean
 -- a field of one byte, and of four
@@ -131,8 +131,7 @@ transactionIn w a =
       stamp = getD w (stampPlace a) 0;
       count = byteIn w (countPlace a);
       blocks = map (λ (i : ℕ). byteIn w (blockPlace a i)) (below 8);
-      named = byteIn w (namedPlace a);
-      names = map (λ (i : ℕ). nameIn (getD w (namePlace a i) 0)) (below 12);
+      highest = map (λ (c : ℕ). numberIn w (highestPlace a c)) (below 8);
     }
 
 unfoldable pub coreIn : List ℕ → ℕ → Core
@@ -143,7 +142,7 @@ coreIn w a =
       stored = byteIn w (storedPlace a);
       homed = byteIn w (homedPlace a);
       running = transactionIn w (a + 4);
-      closed = transactionIn w (a + 28);
+      closed = transactionIn w (a + 23);
     }
 
 unfoldable pub cardIn : List ℕ → Card
@@ -188,13 +187,13 @@ headerCell x n i =
 
 unfoldable pub transactionCell : Transaction → ℕ → ℕ
 transactionCell t i =
-    cond (ltb i 4) (getD (cond (t .live) 1 0 ∷ t .stamp ∷ t .count ∷ t .named ∷ []) i 0)
-    (cond (ltb i 12) (getD (t .blocks) (i - 4) 0) (nameCell (getD (t .names) (i - 12) (newName 0 0))))
+    cond (ltb i 3) (getD (cond (t .live) 1 0 ∷ t .stamp ∷ t .count ∷ []) i 0)
+    (cond (ltb i 11) (getD (t .blocks) (i - 3) 0) (highestOf t (i - 11)))
 
 unfoldable pub coreCell : Core → ℕ → ℕ
 coreCell k i =
     cond (ltb i 4) (getD (k .next ∷ k .used ∷ k .stored ∷ k .homed ∷ []) i 0)
-    (cond (ltb i 28) (transactionCell (k .running) (i - 4)) (transactionCell (k .closed) (i - 28)))
+    (cond (ltb i 23) (transactionCell (k .running) (i - 4)) (transactionCell (k .closed) (i - 23)))
 
 unfoldable pub tailCell : Tail → ℕ → ℕ
 tailCell t i = cond (eqb i 0) (t .number) (t .position)
@@ -203,13 +202,13 @@ tailCell t i = cond (eqb i 0) (t .number) (t .position)
 unfoldable pub cellOf : Card → ℕ → ℕ → ℕ
 cellOf x n i =
     cond (ltb i firstTail) (headerCell x n i)
-    (cond (ltb i firstHolder) (tailCell (tailOf x ((i - firstTail) / 2)) (i % 2))
+    (cond (ltb i firstHolder) (tailCell (tailOf x ((i - firstTail) / 2)) ((i - firstTail) % 2))
     (cond (ltb i firstCore) (holderCell (holderOf x (i - firstHolder)))
     (coreCell (coreOf x ((i - firstCore) / coreSize)) ((i - firstCore) % coreSize))))
 
 unfoldable pub cellsOf : Card → ℕ → List ℕ
-cellsOf x n = map (cellOf x n) (below 512)
+cellsOf x n = map (cellOf x n) (below 423)
 
--- cells that are those of their card and count: nothing stands in an unused cell or above a field's width
+-- cells that are those of their card and count: nothing stands above a field's width
 unfoldable pub Exact : List ℕ → Type 0
 Exact w = w ≡ cellsOf (cardIn w) (storesIn w)

@@ -5,14 +5,14 @@ use mathlib.Core.List.{List}
 use mathlib.Core.Bool.{Bool, true, cond}
 use lib.Dec.{eqb, ltb, leb}
 use lib.ListN.{length, getD, set}
-use Rattle.model.specs.Card.{opened, withLists}
+use Rattle.model.specs.Card.{opened, withArrays}
 use Rattle.model.specs.declared.Phase.the-variants.{Up}
 use Rattle.model.specs.declared.Shape.{Shape}
 use Rattle.model.specs.declared.Tail.{Tail}
 use Rattle.model.specs.declared.Transaction.{Transaction}
 use Rattle.model.specs.declared.Core.{Core}
 use Rattle.model.specs.declared.Card.{Card}
-use Rattle.cells.specs.Cells.{transactionIn, cardIn}
+use Rattle.cells.specs.Cells.{firstTail, firstHolder, firstCore, coreSize, transactionSize, transactionIn, cardIn}
 
 -- ---- cells that are those of their card, cell by cell
 -- whether a value has no bit above its field's width: in a header, a transaction, a core
@@ -20,33 +20,32 @@ unfoldable pub fitsHeader : ℕ → ℕ → Bool
 fitsHeader i x =
     cond (eqb i 0) (ltb x 3)
     (cond (eqb i 4) true
-    (cond (eqb i 6) true
-    (cond (ltb i 7) (ltb x 256) (eqb x 0))))
+    (cond (eqb i 6) true (ltb x 256)))
 
 unfoldable pub fitsTransaction : ℕ → ℕ → Bool
 fitsTransaction i x =
     cond (eqb i 0) (ltb x 2)
     (cond (eqb i 1) true
-    (cond (ltb i 12) (ltb x 256) (ltb x 34359738368)))
+    (cond (ltb i 11) (ltb x 256) (ltb x 4294967296)))
 
 unfoldable pub fitsCore : ℕ → ℕ → Bool
 fitsCore i x =
     cond (eqb i 0) (ltb x 4294967296)
-    (cond (ltb i 4) (ltb x 256) (fitsTransaction ((i - 4) % 24) x))
+    (cond (ltb i 4) (ltb x 256) (fitsTransaction ((i - 4) % transactionSize) x))
 
 -- in cell i
 unfoldable pub fitsAt : ℕ → ℕ → Bool
 fitsAt i x =
-    cond (ltb i 16) (fitsHeader i x)
-    (cond (ltb i 32) (cond (eqb (i % 2) 0) (ltb x 4294967296) (ltb x 256))
-    (cond (ltb i 96) (leb x 34359738368) (fitsCore ((i - 96) % 52) x)))
+    cond (ltb i firstTail) (fitsHeader i x)
+    (cond (ltb i firstHolder) (cond (eqb ((i - firstTail) % 2) 0) (ltb x 4294967296) (ltb x 256))
+    (cond (ltb i firstCore) (leb x 34359738368) (fitsCore ((i - firstCore) % coreSize) x)))
 
 unfoldable pub AllFit : List ℕ → Type 0
-AllFit w = (i : ℕ) → i < 512 → fitsAt i (getD w i 0) ≡ true
+AllFit w = (i : ℕ) → i < 423 → fitsAt i (getD w i 0) ≡ true
 
 -- the place of a transaction: that of a core's running one, or of its closed one
 abbrev pub IsPlace : ℕ → Type 0
-IsPlace a = (96 ≤ a) × (a + 24 ≤ 512) × ((a - 96) % 52 % 24 ≡ 4)
+IsPlace a = (firstCore ≤ a) × (a + transactionSize ≤ 423) × ((a - firstCore) % coreSize % transactionSize ≡ 4)
 
 -- ---- a change of some cells
 -- w is v but for the n cells from a on, and what is put there fits
@@ -61,7 +60,7 @@ abbrev pub Changed : (Card → Card) → List ℕ → List ℕ → ℕ → ℕ �
 Changed f v w a n = (cardIn w ≡ f (cardIn v)) × Frame v w a n
 
 abbrev pub ChangedAt : ℕ → (Transaction → Transaction) → List ℕ → List ℕ → Type 0
-ChangedAt a f v w = (transactionIn w a ≡ f (transactionIn v a)) × Frame v w a 24
+ChangedAt a f v w = (transactionIn w a ≡ f (transactionIn v a)) × Frame v w a transactionSize
 
 -- the transaction, or one that opens
 unfoldable pub openedOr : Transaction → Transaction
@@ -82,7 +81,7 @@ withCloses x n =
 
 -- the card with core c's tail replaced
 abbrev pub withTail : Card → ℕ → Tail → Card
-withTail x c t = withLists x (set (x .tails) c t) (x .cores) (x .holders)
+withTail x c t = withArrays x (set (x .tails) c t) (x .cores) (x .holders)
 
 -- the card up, with this shape
 abbrev pub upWith : Card → Shape → Card

@@ -3,7 +3,7 @@ use Prim.Native.Nat.{ℕ, _<_}
 use mathlib.Core.Path.{_≡_}
 use mathlib.Core.Bool.{false}
 use lib.ListN.{length, getD}
-use Rattle.model.specs.Card.{newName, noHolder, tailOf, coreOf, holderOf}
+use Rattle.model.specs.Card.{noHolder, highestOf, tailOf, coreOf, holderOf}
 use Rattle.model.specs.declared.Tail.{Tail}
 use Rattle.model.specs.declared.Name.{Name}
 use Rattle.model.specs.declared.Transaction.{Transaction}
@@ -18,10 +18,9 @@ pub record SizedName (n : Name) : Type 0 where
 
 pub record SizedTransaction (t : Transaction) : Type 0 where
   pub count : t .count < 256
-  pub named : t .named < 256
-  pub lengths : (length (t .blocks) ≡ 8) × (length (t .names) ≡ 12)
+  pub lengths : (length (t .blocks) ≡ 8) × (length (t .highest) ≡ 8)
   pub block : (i : ℕ) → i < 8 → getD (t .blocks) i 0 < 256
-  pub name : (i : ℕ) → i < 12 → SizedName (getD (t .names) i (newName 0 0))
+  pub highest : (c : ℕ) → c < 8 → highestOf t c < 4294967296
 
 pub record SizedCore (k : Core) : Type 0 where
   pub next : k .next < 4294967296

@@ -13,7 +13,7 @@ use crate::fields::core_place;
 
 // Core c with these numbers.
 pub fn put_numbers(w: &mut [u64], c: u8, next: u32, used: u8, stored: u8, homed: u8)
-    requires { ⌜ (length (now w) ≡ 512) × (c < 8) ⌝ }
+    requires { ⌜ (length (now w) ≡ 423) × (c < 8) ⌝ }
     ensures { λ _. ⌜
         Changed (λ (x : Card). withCore x c (withNumbers (coreOf x c) next used stored homed))
         (now (w .entry)) (now (w .exit)) (corePlace c) 4

@@ -7,7 +7,7 @@ ghost use Rattle.cells.specs.Cells.{byteIn, numberIn, cardIn, corePlace,
 use model::Phase;
 use model::Shape;
 
-// The header: phase, the shape's three numbers, closes, how far recovery is, the count of stores; then unused cells.
+// The header: phase, the shape's three numbers, closes, how far recovery is, the count of stores.
 pub const PHASE: usize = 0;
 
 pub const SHAPE_CORES: usize = 1;
@@ -23,18 +23,18 @@ pub const RECOVERED: usize = 5;
 pub const STORES: usize = 6;
 
 // Eight tails, each its number and its position; 64 holders, eight cores.
-pub const TAILS: usize = 16;
+pub const TAILS: usize = 7;
 
 pub const TAIL_SIZE: usize = 2;
 
 pub const POSITION: usize = 1;
 
-pub const HOLDERS: usize = 32;
+pub const HOLDERS: usize = 23;
 
-pub const CORES: usize = 96;
+pub const CORES: usize = 87;
 
 // A core: its next number, then blocks used, stores and home stores done, then its two transactions.
-pub const CORE_SIZE: usize = 52;
+pub const CORE_SIZE: usize = 42;
 
 pub const USED: usize = 1;
 
@@ -44,24 +44,22 @@ pub const HOMED: usize = 3;
 
 pub const RUNNING: usize = 4;
 
-pub const CLOSED: usize = 28;
+pub const CLOSED: usize = 23;
 
-// A transaction: whether there is one, then its stamp, the counts of its blocks and names, the blocks, the names.
-pub const TRANSACTION_SIZE: usize = 24;
+// A transaction: whether there is one, then its stamp, the count of its blocks, the blocks, the highest number of each core.
+pub const TRANSACTION_SIZE: usize = 19;
 
 pub const STAMP: usize = 1;
 
 pub const COUNT: usize = 2;
 
-pub const NAMED: usize = 3;
+pub const BLOCKS: usize = 3;
 
-pub const BLOCKS: usize = 4;
-
-pub const NAMES: usize = 12;
+pub const HIGHEST: usize = 11;
 
 // The lowest byte of cell i.
 pub fn byte_in(w: &[u64], i: usize) -> u8
-    requires { ⌜ (length (now w) ≡ 512) × (i < 512) ⌝ }
+    requires { ⌜ (length (now w) ≡ 423) × (i < 423) ⌝ }
     ensures { λ r. ⌜ r ≡ byteIn (now (w .entry)) i ⌝ }
 {
     (w[i] % 256) as u8
@@ -69,7 +67,7 @@ pub fn byte_in(w: &[u64], i: usize) -> u8
 
 // The lowest four bytes of cell i.
 pub fn number_in(w: &[u64], i: usize) -> u32
-    requires { ⌜ (length (now w) ≡ 512) × (i < 512) ⌝ }
+    requires { ⌜ (length (now w) ≡ 423) × (i < 423) ⌝ }
     ensures { λ r. ⌜ r ≡ numberIn (now (w .entry)) i ⌝ }
 {
     (w[i] % 4294967296) as u32
@@ -77,7 +75,7 @@ pub fn number_in(w: &[u64], i: usize) -> u32
 
 // The disk's shape, within its limits.
 pub fn shape_of(w: &[u64]) -> Shape
-    requires { ⌜ length (now w) ≡ 512 ⌝ }
+    requires { ⌜ length (now w) ≡ 423 ⌝ }
     ensures { λ r. ⌜ r ≡ shapeOf (cardIn (now (w .entry))) ⌝ }
 {
     let s = Shape {
@@ -90,7 +88,7 @@ pub fn shape_of(w: &[u64]) -> Shape
 
 // Blank, up or down.
 pub fn phase_of(w: &[u64]) -> Phase
-    requires { ⌜ length (now w) ≡ 512 ⌝ }
+    requires { ⌜ length (now w) ≡ 423 ⌝ }
     ensures { λ r. ⌜ r ≡ (cardIn (now (w .entry))) .phase ⌝ }
 {
     let n = w[PHASE];

@@ -1,10 +1,10 @@
-// The card's state in 512 cells of eight bytes that the caller lends: fields read and put, the tails, transactions in place, the
+// The card's state in 423 cells of eight bytes that the caller lends: fields read and put, the tails, transactions in place, the
 // blocks' holders, the refusals that come first. No function here is a public entry of the library: each says in a `requires` what its
 // callers ensure.
 mod fields; // the header, and where each part stands
 mod cores; // a core's numbers
 mod transactions; // a transaction at its place
-mod holders; // the transaction that holds a block
+mod holders; // the transaction that holds a block, by its name
 mod stores; // the count of stores
 mod tails; // where each core's journal begins
 mod phases; // the card as each phase begins
@@ -16,10 +16,9 @@ pub use fields::CLOSES;
 pub use fields::CORE_SIZE;
 pub use fields::CORES;
 pub use fields::COUNT;
+pub use fields::HIGHEST;
 pub use fields::HOLDERS;
 pub use fields::HOMED;
-pub use fields::NAMED;
-pub use fields::NAMES;
 pub use fields::PHASE;
 pub use fields::RECOVERED;
 pub use fields::STAMP;
@@ -38,6 +37,8 @@ pub use fields::shape_of;
 pub use holders::hold;
 pub use holders::holder_at;
 pub use holders::is_held;
+pub use holders::name_of;
+pub use holders::same_name;
 pub use phases::blank;
 pub use phases::come_up;
 pub use phases::go_down;
@@ -53,13 +54,8 @@ pub use tails::put_tail;
 pub use tails::tail_at;
 pub use tails::tails_of;
 pub use transactions::block_count;
-pub use transactions::cell_of;
 pub use transactions::clear;
 pub use transactions::is_live;
-pub use transactions::lists_name;
-pub use transactions::name_count;
-pub use transactions::name_of;
-pub use transactions::same_name;
 
 // What a command answers: the number of its refusal, 0 if it is done, and the stores that it did.
 pub struct Answer {

@@ -2,7 +2,7 @@
 ghost use mathlib.Core.Path.{_≡_};
 ghost use mathlib.Core.List.{map};
 ghost use lib.ListN.{length, replicate};
-ghost use Rattle.model.specs.Card.{freshCore, freshCard, blankCard, downCard, withLists};
+ghost use Rattle.model.specs.Card.{freshCore, freshCard, blankCard, downCard, withArrays};
 ghost use Rattle.model.specs.declared.Phase.the-variants.{Up};
 ghost use Rattle.model.specs.declared.Card.{Card};
 ghost use Rattle.cells.specs.Cells.{cardIn, cellsOf};
@@ -18,11 +18,11 @@ use model::Tail;
 
 // Every cell zeroed: the card is blank.
 pub fn blank(w: &mut [u64])
-    requires { ⌜ length (now w) ≡ 512 ⌝ }
+    requires { ⌜ length (now w) ≡ 423 ⌝ }
     ensures { λ _. ⌜
         (now (w .exit) ≡ cellsOf blankCard 0)
         × (cardIn (now (w .exit)) ≡ blankCard)
-        × Frame (now (w .entry)) (now (w .exit)) 0 512
+        × Frame (now (w .entry)) (now (w .exit)) 0 423
         ⌝ }
 {
     let mut i: usize = 0;
@@ -34,11 +34,11 @@ pub fn blank(w: &mut [u64])
 
 // The card down: it keeps nothing else.
 pub fn go_down(w: &mut [u64])
-    requires { ⌜ length (now w) ≡ 512 ⌝ }
+    requires { ⌜ length (now w) ≡ 423 ⌝ }
     ensures { λ _. ⌜
         (now (w .exit) ≡ cellsOf downCard 0)
         × (cardIn (now (w .exit)) ≡ downCard)
-        × Frame (now (w .entry)) (now (w .exit)) 0 512
+        × Frame (now (w .entry)) (now (w .exit)) 0 423
         ⌝ }
 {
     blank(w);
@@ -47,7 +47,7 @@ pub fn go_down(w: &mut [u64])
 
 // The card up, with this shape.
 fn put_shape(w: &mut [u64], s: Shape)
-    requires { ⌜ length (now w) ≡ 512 ⌝ }
+    requires { ⌜ length (now w) ≡ 423 ⌝ }
     ensures { λ _. ⌜ Changed (λ (x : Card). upWith x s) (now (w .entry)) (now (w .exit)) 0 4 ⌝ }
 {
     w[PHASE] = 1;
@@ -58,10 +58,10 @@ fn put_shape(w: &mut [u64], s: Shape)
 
 // Each core that has nothing yet begins at its tail.
 fn begin_all(w: &mut [u64], tails: [Tail; 8])
-    requires { ⌜ (length (now w) ≡ 512) × ((cardIn (now w)) .cores ≡ replicate 8 (freshCore 0)) ⌝ }
+    requires { ⌜ (length (now w) ≡ 423) × ((cardIn (now w)) .cores ≡ replicate 8 (freshCore 0)) ⌝ }
     ensures { λ _. ⌜
-        Changed (λ (x : Card). withLists x tails (map (λ (t : Tail). freshCore (t .number)) tails) (x .holders))
-        (now (w .entry)) (now (w .exit)) 0 512
+        Changed (λ (x : Card). withArrays x tails (map (λ (t : Tail). freshCore (t .number)) tails) (x .holders))
+        (now (w .entry)) (now (w .exit)) 0 423
         ⌝ }
 {
     let mut c: u8 = 0;
@@ -75,10 +75,10 @@ fn begin_all(w: &mut [u64], tails: [Tail; 8])
 
 // The card up: empty journals that begin at these tails, no holder, no close counted.
 pub fn come_up(w: &mut [u64], s: Shape, tails: [Tail; 8])
-    requires { ⌜ length (now w) ≡ 512 ⌝ }
+    requires { ⌜ length (now w) ≡ 423 ⌝ }
     ensures { λ _. ⌜
         (cardIn (now (w .exit)) ≡ freshCard Up s tails)
-        × Frame (now (w .entry)) (now (w .exit)) 0 512
+        × Frame (now (w .entry)) (now (w .exit)) 0 423
         ⌝ }
 {
     blank(w);

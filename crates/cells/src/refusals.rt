@@ -26,7 +26,7 @@ pub fn wrong_length(disk: &[u8], memory: &[u8]) -> bool
 
 // What every command meets first: a wrong length, then its number for the card's phase, 0 where it goes on.
 pub fn phase_refusal(w: &[u64], disk: &[u8], memory: &[u8], blank: u8, up: u8, down: u8) -> u8
-    requires { ⌜ length (now w) ≡ 512 ⌝ }
+    requires { ⌜ length (now w) ≡ 423 ⌝ }
     ensures { λ r. ⌜ r ≡ phaseRefusal (worldIn (now (w .entry)) (now (disk .entry)) (now (memory .entry))) blank up down ⌝ }
 {
     if wrong_length(disk, memory) {
@@ -42,7 +42,7 @@ pub fn phase_refusal(w: &[u64], disk: &[u8], memory: &[u8], blank: u8, up: u8, d
 
 // What WRITE, CLOSE, STORE, CHECKPOINT and reading meet first: a wrong length, a card that is not up.
 pub fn state_refusal(w: &[u64], disk: &[u8], memory: &[u8]) -> u8
-    requires { ⌜ length (now w) ≡ 512 ⌝ }
+    requires { ⌜ length (now w) ≡ 423 ⌝ }
     ensures { λ r. ⌜ r ≡ refusal (notUp (worldIn (now (w .entry)) (now (disk .entry)) (now (memory .entry))) []) ⌝ }
 {
     phase_refusal(w, disk, memory, 20, 0, 22)
@@ -50,7 +50,7 @@ pub fn state_refusal(w: &[u64], disk: &[u8], memory: &[u8]) -> u8
 
 // Refusal 5, a core that the disk's shape has not.
 pub fn core_refusal(w: &[u64], c: u8) -> u8
-    requires { ⌜ length (now w) ≡ 512 ⌝ }
+    requires { ⌜ length (now w) ≡ 423 ⌝ }
     ensures { λ r. ⌜ r ≡ cond (leb ((shapeOf (cardIn (now (w .entry)))) .cores) c) 5 0 ⌝ }
 {
     let s = shape_of(w);
@@ -62,7 +62,7 @@ pub fn core_refusal(w: &[u64], c: u8) -> u8
 
 // What WRITE, CLOSE, STORE and CHECKPOINT meet first: a wrong length, a card that is not up, a core that the disk has not.
 pub fn entry_refusal(w: &[u64], c: u8, disk: &[u8], memory: &[u8]) -> u8
-    requires { ⌜ length (now w) ≡ 512 ⌝ }
+    requires { ⌜ length (now w) ≡ 423 ⌝ }
     ensures { λ r. ⌜
         r ≡ refusal (notUp (worldIn (now (w .entry)) (now (disk .entry)) (now (memory .entry)))
         ((noCore (worldIn (now (w .entry)) (now (disk .entry)) (now (memory .entry))) c, 5) ∷ []))
@@ -77,7 +77,7 @@ pub fn entry_refusal(w: &[u64], c: u8, disk: &[u8], memory: &[u8]) -> u8
 
 // Refusal 6, a block that the disk's shape has not.
 pub fn block_refusal(w: &[u64], b: u16) -> u8
-    requires { ⌜ length (now w) ≡ 512 ⌝ }
+    requires { ⌜ length (now w) ≡ 423 ⌝ }
     ensures { λ r. ⌜ r ≡ cond (leb ((shapeOf (cardIn (now (w .entry)))) .blocks) b) 6 0 ⌝ }
 {
     let s = shape_of(w);

@@ -5,14 +5,14 @@ ghost use Rattle.cells.specs.Cells.{storesPlace, storesIn};
 use crate::fields::STORES;
 
 pub fn stores_of(w: &[u64]) -> u64
-    requires { ⌜ length (now w) ≡ 512 ⌝ }
+    requires { ⌜ length (now w) ≡ 423 ⌝ }
     ensures { λ r. ⌜ r ≡ storesIn (now (w .entry)) ⌝ }
 {
     w[STORES]
 }
 
 pub fn put_stores(w: &mut [u64], n: u64)
-    requires { ⌜ length (now w) ≡ 512 ⌝ }
+    requires { ⌜ length (now w) ≡ 423 ⌝ }
     ensures { λ _. ⌜ now (w .exit) ≡ set (now (w .entry)) storesPlace n ⌝ }
 {
     w[STORES] = n;

@@ -15,7 +15,7 @@ use model::Tail;
 
 // Core c's tail.
 pub fn tail_at(w: &[u64], c: u8) -> Tail
-    requires { ⌜ (length (now w) ≡ 512) × (c < 8) ⌝ }
+    requires { ⌜ (length (now w) ≡ 423) × (c < 8) ⌝ }
     ensures { λ r. ⌜ r ≡ tailOf (cardIn (now (w .entry))) c ⌝ }
 {
     let at = TAILS + TAIL_SIZE * c as usize;
@@ -27,7 +27,7 @@ pub fn tail_at(w: &[u64], c: u8) -> Tail
 
 // The tails of all cores.
 pub fn tails_of(w: &[u64]) -> [Tail; 8]
-    requires { ⌜ length (now w) ≡ 512 ⌝ }
+    requires { ⌜ length (now w) ≡ 423 ⌝ }
     ensures { λ r. ⌜ r ≡ (cardIn (now (w .entry))) .tails ⌝ }
 {
     let mut tails = [Tail {
@@ -44,7 +44,7 @@ pub fn tails_of(w: &[u64]) -> [Tail; 8]
 
 // Core c's tail replaced.
 pub fn put_tail(w: &mut [u64], c: u8, t: Tail)
-    requires { ⌜ (length (now w) ≡ 512) × (c < 8) ⌝ }
+    requires { ⌜ (length (now w) ≡ 423) × (c < 8) ⌝ }
     ensures { λ _. ⌜
         Changed (λ (x : Card). withTail x c t) (now (w .entry)) (now (w .exit)) (tailPlace c) 2
         ⌝ }

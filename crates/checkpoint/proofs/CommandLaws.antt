@@ -21,6 +21,7 @@ use Rattle.oldest.proofs.SharedLaws.{core-low}
 use Rattle.oldest.proofs.OldestLaws.{whole-known, atTail, at-tail, tail-known}
 use Rattle.checkpoint.specs.NextStore.{nextStore, oldestOutcome}
 use Rattle.model.specs.declared.Card.{Card}
+use Rattle.model.specs.declared.CommitLayout.the-variants.{Numbers}
 use Rattle.model.specs.declared.Committed.{Committed}
 use Rattle.model.specs.declared.Found.{Found}
 use Rattle.model.specs.declared.Found.the-variants.{Whole, Miss}
@@ -41,15 +42,15 @@ module _ (x : Card) (d : Bytes) (c : ℕ) where
 
     -- those after it
     abbrev after : List Committed
-    after = recordsFrom (committedCount x c - 1) (shapeOf x) d c ((tailOf x c) .number + 1) (((tailOf x c) .position + (e .count + 2)) % (shapeOf x) .journal) ((shapeOf x) .journal - (e .count + 2))
+    after = recordsFrom (committedCount x c - 1) Numbers (shapeOf x) d c ((tailOf x c) .number + 1) (((tailOf x c) .position + (e .count + 2)) % (shapeOf x) .journal) ((shapeOf x) .journal - (e .count + 2))
 
     committed-first : (m : Bytes) → committedOf (world x d m) c ≡ e ∷ after
     unfolding committedOf journal countAt
     committed-first m =
         let n : min (committedCount x c) 12 ≡ 0 → ⊥ = eqb-false _ _ counted-one in
         let z : committedCount x c ≡ suc (committedCount x c - 1) = omega arith in
-        ap (λ (n : ℕ). recordsFrom n (shapeOf x) d c ((tailOf x c) .number) ((tailOf x c) .position) ((shapeOf x) .journal)) z
-        ∙ records-hit (shapeOf x) d c ((tailOf x c) .number) ((tailOf x c) .position) ((shapeOf x) .journal) (committedCount x c - 1) e (at-tail x d c e h)
+        ap (λ (n : ℕ). recordsFrom n Numbers (shapeOf x) d c ((tailOf x c) .number) ((tailOf x c) .position) ((shapeOf x) .journal)) z
+        ∙ records-hit Numbers (shapeOf x) d c ((tailOf x c) .number) ((tailOf x c) .position) ((shapeOf x) .journal) (committedCount x c - 1) e (at-tail x d c e h)
 
     is-oldest : (m : Bytes) → oldest (committedOf (world x d m) c) ≡ e
     unfolding oldest
@@ -66,7 +67,7 @@ module _ (x : Card) (d : Bytes) (c : ℕ) where
       let n : min (committedCount x c) 12 ≡ 0 = eqb-true _ _ t in
       let z : committedCount x c ≡ 0 = omega arith in
       rw (z, recordsFrom))
-      (λ t. records-miss (shapeOf x) d c ((tailOf x c) .number) ((tailOf x c) .position) ((shapeOf x) .journal) (committedCount x c) (rw t at h))
+      (λ t. records-miss Numbers (shapeOf x) d c ((tailOf x c) .number) ((tailOf x c) .position) ((shapeOf x) .journal) (committedCount x c) (rw t at h))
 
 module _ (x : Card) (d : Bytes) (c : ℕ) (most : List ℕ) (e : Committed) (h : IsOldest x d c most e) where
   pub number-low : e .number ≤ maxNumber
@@ -76,7 +77,7 @@ module _ (x : Card) (d : Bytes) (c : ℕ) (most : List ℕ) (e : Committed) (h :
   oldest-core = core-low x c (h .core)
 
 -- ---- the checkpoint of the oldest
-module _ (v : List ℕ) (size : length v ≡ 512) (c : ℕ) (e : Committed) (d : Bytes) (k : ℕ) (y : (m : Bytes) → k ≡ refusal (oldestConditions e (worldIn v d m))) where
+module _ (v : List ℕ) (size : length v ≡ 423) (c : ℕ) (e : Committed) (d : Bytes) (k : ℕ) (y : (m : Bytes) → k ≡ refusal (oldestConditions e (worldIn v d m))) where
   pub oldest-refused : (k ≡ 0 → ⊥) → (m : Bytes) → Meets (oldestOutcome c e (worldIn v d m)) v v d m (newAnswer k 0)
   unfolding oldestOutcome
   oldest-refused h m = meets-refused (oldestConditions e (worldIn v d m)) v d m (nextStore c e (worldIn v d m)) size k (y m) h
@@ -84,7 +85,7 @@ module _ (v : List ℕ) (size : length v ≡ 512) (c : ℕ) (e : Committed) (d :
   pub oldest-done : k ≡ 0 → (w : List ℕ) (d₂ : Bytes) → Stores (nextStore c e) v w d d₂ → (m : Bytes) → Meets (oldestOutcome c e (worldIn v d m)) v w d₂ m (newAnswer 0 1)
   unfolding oldestOutcome
   oldest-done h w d₂ s m =
-      meets-done (oldestConditions e (worldIn v d m)) v d m (nextStore c e (worldIn v d m)) size k (y m) h w d₂ m 1 (s .outcome m) 0 512 (s .frame)
+      meets-done (oldestConditions e (worldIn v d m)) v d m (nextStore c e (worldIn v d m)) size k (y m) h w d₂ m 1 (s .outcome m) 0 423 (s .frame)
 
 -- ---- the command
 pub oldest-found : (x : Card) (c : ℕ) (d m : Bytes) → Entered x c d m → (f : Found) → f ≡ oldestAt x d c → (e : Committed) → f ≡ Whole e
@@ -102,7 +103,7 @@ stages c w =
     ∙ ap (firstOf (refusal (entry c w))) (refusal-next (eqb (length es) 0) 31 rest (omega arith))
 
 module _ (v : List ℕ) (c : ℕ) (d m : Bytes) (n : ℕ) (e : n ≡ refusal (entry c (worldIn v d m))) where
-  pub first-refused : length v ≡ 512 → (n ≡ 0 → ⊥) → Meets (checkpoint in-sequence c (worldIn v d m)) v v d m (newAnswer n 0)
+  pub first-refused : length v ≡ 423 → (n ≡ 0 → ⊥) → Meets (checkpoint in-sequence c (worldIn v d m)) v v d m (newAnswer n 0)
   unfolding checkpoint
   first-refused size h =
       meets-refused (checkpointConditions in-sequence c (worldIn v d m)) v d m (checkpointed c (worldIn v d m)) size n (first-hit n _ _ e h ∙ sym (stages c (worldIn v d m))) h
@@ -112,7 +113,7 @@ module _ (v : List ℕ) (c : ℕ) (d m : Bytes) (n : ℕ) (e : n ≡ refusal (en
     first-passed = entered (cardIn v) c d m [] tt (sym e ∙ h)
 
     module _ (f : Found) (q : f ≡ oldestAt (cardIn v) d c) where
-      pub none-committed : length v ≡ 512 → f ≡ Miss → Meets (checkpoint in-sequence c (worldIn v d m)) v v d m (newAnswer 31 0)
+      pub none-committed : length v ≡ 423 → f ≡ Miss → Meets (checkpoint in-sequence c (worldIn v d m)) v v d m (newAnswer 31 0)
       unfolding checkpoint
       none-committed size z =
           let k : _≡_ {A = ℕ} 31 (cond (eqb (length (committedOf (worldIn v d m) c)) 0) 31 0) = rw (no-oldest (cardIn v) d c (sym q ∙ z) m) in

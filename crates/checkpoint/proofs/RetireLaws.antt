@@ -3,7 +3,7 @@
 use Rattle.model.proofs.Base.{ℕ, _+_, _-_, _≤_, _<_, arith, _≡_, refl, sym, ap, _∙_, Bool, true, false, List, length, getD, set}
 use Rattle.model.proofs.Base.{length-set, getD-set-same, getD-set-other, eqb, ne-eqb, eqb-true, eqb-false, below}
 use mathlib.Core.List.{map-map}
-use Rattle.model.specs.Card.{newName, sameName, newHolder, shapeOf, coreOf, withLists, withCore}
+use Rattle.model.specs.Card.{newName, sameName, newHolder, shapeOf, coreOf, withArrays, withCore}
 use Rattle.model.specs.Checkpoint.{homedCore, freed, released, movedTail, retiredCore, retiredCard}
 use Rattle.model.specs.declared.Name.{Name}
 use Rattle.model.specs.declared.Tail.{Tail}
@@ -11,7 +11,7 @@ use Rattle.model.specs.declared.Core.{Core}
 use Rattle.model.specs.declared.Card.{Card}
 use Rattle.model.specs.declared.Committed.{Committed}
 use Rattle.model.proofs.Lists.{cases, map-below}
-use Rattle.cells.specs.Cells.{byteIn, numberIn, nameIn, holderIn, cardIn, tailPlace, holderPlace, corePlace}
+use Rattle.cells.specs.Cells.{firstHolder, byteIn, numberIn, nameIn, holderIn, cardIn, tailPlace, holderPlace, corePlace}
 use Rattle.cells.specs.Changes.{fitsAt, AllFit, Frame, withNumbers, withTail}
 use Rattle.cells.proofs.FitsLaws.{fits-zero, fits-set, frame-then, frame-same, frame-wider}
 use Rattle.cells.proofs.ReadLaws.{next-there, used-there, stored-there}
@@ -40,12 +40,12 @@ module _ (n : Name) (x : ℕ) where
 -- the first i are done
 pub record Releasing (n : Name) (v w : List ℕ) (i : ℕ) : Type 0 where
   pub most : i ≤ 64
-  pub frame : Frame v w 32 64
+  pub frame : Frame v w firstHolder 64
   pub made : (b : ℕ) → b < i → holderIn (getD w (holderPlace b) 0) ≡ freed n (holderIn (getD v (holderPlace b) 0))
   pub left : (b : ℕ) → i ≤ b → getD w (holderPlace b) 0 ≡ getD v (holderPlace b) 0
 
 -- a cell replaced by a value that fits where the one before did
-frame-kept : (v : List ℕ) (a n j x : ℕ) → a ≤ j → j < a + n → j < 512 → (fitsAt j (getD v j 0) ≡ true → fitsAt j x ≡ true) → Frame v (set v j x) a n
+frame-kept : (v : List ℕ) (a n j x : ℕ) → a ≤ j → j < a + n → j < 423 → (fitsAt j (getD v j 0) ≡ true → fitsAt j x ≡ true) → Frame v (set v j x) a n
 unfolding AllFit
 frame-kept v a n j x p q h e =
     record {
@@ -64,15 +64,15 @@ holders-freed n v w e =
 
 module _ (n : Name) (v : List ℕ) where
   pub release-start : Releasing n v v 0
-  release-start = record { most = omega arith; frame = frame-same v 32 64; made = λ b h. absurd (omega arith); left = λ b h. refl }
+  release-start = record { most = omega arith; frame = frame-same v firstHolder 64; made = λ b h. absurd (omega arith); left = λ b h. refl }
 
   module _ (w : List ℕ) (i : ℕ) (s : Releasing n v w i) where
     pub release-end : 64 ≤ i → cardIn w ≡ withReleased (cardIn v) n
     release-end h =
         holders-put v w (s .frame)
-        ∙ ap (withLists (cardIn v) ((cardIn v) .tails) ((cardIn v) .cores)) (holders-freed n v w (λ b l. s .made b (omega (arith, s .most))))
+        ∙ ap (withArrays (cardIn v) ((cardIn v) .tails) ((cardIn v) .cores)) (holders-freed n v w (λ b l. s .made b (omega (arith, s .most))))
 
-    module _ (size : length v ≡ 512) (h : i < 64) where
+    module _ (size : length v ≡ 423) (h : i < 64) where
       pub release-in : holderPlace i < length w
       release-in = omega (arith, s .frame .size)
 
@@ -80,7 +80,7 @@ module _ (n : Name) (v : List ℕ) where
       release-more r f =
           record {
             most = omega arith;
-            frame = frame-then w (set w (holderPlace i) r) v 32 64 (s .frame) (frame-kept w 32 64 (holderPlace i) r (omega arith) (omega arith) (omega arith) (f .fits (holderPlace i)));
+            frame = frame-then w (set w (holderPlace i) r) v firstHolder 64 (s .frame) (frame-kept w firstHolder 64 (holderPlace i) r (omega arith) (omega arith) (omega arith) (f .fits (holderPlace i)));
             made = λ b l. cases (eqb b i)
                 (λ t. let z : b ≡ i = eqb-true b i t in
                 rw z (ap holderIn (getD-set-same w (holderPlace i) r 0 release-in) ∙ f .holder ∙ ap (λ (k : ℕ). freed n (holderIn k)) (s .left i (omega arith))))
@@ -120,8 +120,8 @@ module _ (v u y z : List ℕ) (c : ℕ) (h : c < 8) (e : Committed) (t : Tail) (
       → cardIn z ≡ withReleased (cardIn y) (newName (e .core) (e .number)) → cardIn z ≡ retiredCard c e (cardIn v)
   retired-card a b d = made-retired c e (cardIn v) t q (cardIn u) a (cardIn y) b (cardIn z) d
 
-pub retired-frame : (v u y z : List ℕ) (c : ℕ) → c < 8 → Frame v u (tailPlace c) 2 → Frame u y (corePlace c) 4 → Frame y z 32 64 → Frame v z 0 512
+pub retired-frame : (v u y z : List ℕ) (c : ℕ) → c < 8 → Frame v u (tailPlace c) 2 → Frame u y (corePlace c) 4 → Frame y z firstHolder 64 → Frame v z 0 423
 retired-frame v u y z c h a b d =
-    frame-then y z v 0 512
-    (frame-then u y v 0 512 (frame-wider v u (tailPlace c) 2 0 512 a (omega arith) (omega arith)) (frame-wider u y (corePlace c) 4 0 512 b (omega arith) (omega arith)))
-    (frame-wider y z 32 64 0 512 d (omega arith) (omega arith))
+    frame-then y z v 0 423
+    (frame-then u y v 0 423 (frame-wider v u (tailPlace c) 2 0 423 a (omega arith) (omega arith)) (frame-wider u y (corePlace c) 4 0 423 b (omega arith) (omega arith)))
+    (frame-wider y z firstHolder 64 0 423 d (omega arith) (omega arith))

@@ -3,7 +3,7 @@ use Prim.Native.Nat.{ℕ}
 use mathlib.Core.Path.{_≡_}
 use mathlib.Core.Bool.{true, cond}
 use lib.Dec.{ltb}
-use Rattle.model.specs.Card.{coreOf, withLists}
+use Rattle.model.specs.Card.{coreOf, withArrays}
 use Rattle.model.specs.Checkpoint.{freed, released, storedHome, storedMaster}
 use Rattle.model.specs.Command.{World, Outcome, unless}
 use Rattle.cells.specs.Cells.{holderIn}
@@ -23,7 +23,7 @@ oldestOutcome c e w = unless (oldestConditions e w) w (nextStore c e w)
 
 -- the card with no block held by the transaction of this name
 abbrev pub withReleased : Card → Name → Card
-withReleased x n = withLists x (x .tails) (x .cores) (released n (x .holders))
+withReleased x n = withArrays x (x .tails) (x .cores) (released n (x .holders))
 
 -- a holder's cell after the transaction of this name is retired: it tells of the holder, and still fits where it did
 pub record Freed (n : Name) (x r : ℕ) : Type 0 where

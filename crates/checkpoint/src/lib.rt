@@ -23,7 +23,7 @@ use oldest::oldest_refusal;
 
 // The checkpoint of core c's oldest transaction: refused, or its next store.
 fn checkpoint_oldest(w: &mut [u64], c: u8, most: [u8; 8], e: Committed, disk: &mut [u8]) -> Answer
-    requires { ⌜ (length (now w) ≡ 512)
+    requires { ⌜ (length (now w) ≡ 423)
         × IsOldest (cardIn (now w)) (now disk) c most e ⌝ }
     ensures { λ r. ⌜ ((m : Bytes) → Meets (oldestOutcome c e (worldIn (now (w .entry)) (now (disk .entry)) m))
         (now (w .entry)) (now (w .exit)) (now (disk .exit)) m r) ⌝ }
@@ -44,7 +44,7 @@ fn checkpoint_oldest(w: &mut [u64], c: u8, most: [u8; 8], e: Committed, disk: &m
 
 // CHECKPOINT.
 pub fn checkpoint(w: &mut [u64], c: u8, disk: &mut [u8], memory: &[u8]) -> Answer
-    requires { ⌜ length (now w) ≡ 512 ⌝ }
+    requires { ⌜ length (now w) ≡ 423 ⌝ }
     ensures { λ r. ⌜ Meets (checkpoint in-sequence c (worldIn (now (w .entry)) (now (disk .entry)) (now (memory .entry))))
         (now (w .entry)) (now (w .exit)) (now (disk .exit)) (now (memory .entry)) r ⌝ }
 {

@@ -7,7 +7,7 @@ ghost use Rattle.model.specs.Checkpoint.{movedTail, retiredCore, retiredCard};
 ghost use Rattle.model.specs.Limits.{maxNumber};
 ghost use Rattle.model.proofs.Limits.{InRange};
 ghost use Rattle.model.specs.declared.Card.{Card};
-ghost use Rattle.cells.specs.Cells.{cardIn, corePlace};
+ghost use Rattle.cells.specs.Cells.{firstHolder, cardIn, corePlace};
 ghost use Rattle.cells.specs.Changes.{Changed};
 ghost use Rattle.checkpoint.specs.NextStore.{withReleased, Freed};
 use cells::HOLDERS;
@@ -40,8 +40,8 @@ fn freed_cell(x: u64, n: Name) -> u64
 
 // No block held by the transaction of this name any more.
 fn release(w: &mut [u64], n: Name)
-    requires { ⌜ length (now w) ≡ 512 ⌝ }
-    ensures { λ _. ⌜ Changed (λ (x : Card). withReleased x n) (now (w .entry)) (now (w .exit)) 32 64 ⌝ }
+    requires { ⌜ length (now w) ≡ 423 ⌝ }
+    ensures { λ _. ⌜ Changed (λ (x : Card). withReleased x n) (now (w .entry)) (now (w .exit)) firstHolder 64 ⌝ }
 {
     let mut b: usize = 0;
     while b < 64 {
@@ -77,7 +77,7 @@ fn blocks_left(used: u8, n: usize) -> u8
 
 // Core c's numbers after its oldest transaction is retired.
 fn retire_core(w: &mut [u64], c: u8, e: Committed)
-    requires { ⌜ (length (now w) ≡ 512) × (c < 8) ⌝ }
+    requires { ⌜ (length (now w) ≡ 423) × (c < 8) ⌝ }
     ensures { λ _. ⌜
         Changed (λ (x : Card). withCore x c (retiredCore (coreOf x c) e))
         (now (w .entry)) (now (w .exit)) (corePlace c) 4
@@ -92,8 +92,8 @@ fn retire_core(w: &mut [u64], c: u8, e: Committed)
 
 // The card after core c's oldest transaction is retired, with the tail moved past it.
 pub fn retire(w: &mut [u64], c: u8, t: Tail, e: Committed)
-    requires { ⌜ (length (now w) ≡ 512) × (c < 8) × (t ≡ movedTail (shapeOf (cardIn (now w))) e) ⌝ }
-    ensures { λ _. ⌜ Changed (retiredCard c e) (now (w .entry)) (now (w .exit)) 0 512 ⌝ }
+    requires { ⌜ (length (now w) ≡ 423) × (c < 8) × (t ≡ movedTail (shapeOf (cardIn (now w))) e) ⌝ }
+    ensures { λ _. ⌜ Changed (retiredCard c e) (now (w .entry)) (now (w .exit)) 0 423 ⌝ }
 {
     let n = Name {
         core: e.core,

@@ -43,7 +43,7 @@ fn put_home(s: Shape, e: Committed, i: usize, disk: &mut [u8])
 
 // Core c after one more home store.
 fn count_home(w: &mut [u64], c: u8, homed: u8)
-    requires { ⌜ (length (now w) ≡ 512) × (c < 8) × (homed < 255) × (homed ≡ (coreOf (cardIn (now w)) c) .homed) ⌝ }
+    requires { ⌜ (length (now w) ≡ 423) × (c < 8) × (homed < 255) × (homed ≡ (coreOf (cardIn (now w)) c) .homed) ⌝ }
     ensures { λ _. ⌜
         Changed (λ (x : Card). withCore x c (homedCore (coreOf x c))) (now (w .entry)) (now (w .exit)) (corePlace c) 4
         ⌝ }
@@ -57,7 +57,7 @@ fn count_home(w: &mut [u64], c: u8, homed: u8)
 
 // A home store: the image of the next block of the transaction.
 fn stored_home(w: &mut [u64], c: u8, homed: u8, e: Committed, disk: &mut [u8])
-    requires { ⌜ (length (now w) ≡ 512) × (c < 8) × IsRead (shapeOf (cardIn (now w))) (now disk) e
+    requires { ⌜ (length (now w) ≡ 423) × (c < 8) × IsRead (shapeOf (cardIn (now w))) (now disk) e
         × (homed ≡ (coreOf (cardIn (now w)) c) .homed) × (homed < e .count) ⌝ }
     ensures { λ _. ⌜ Stores (storedHome c e) (now (w .entry)) (now (w .exit)) (now (disk .entry)) (now (disk .exit)) ⌝ }
 {
@@ -68,7 +68,7 @@ fn stored_home(w: &mut [u64], c: u8, homed: u8, e: Committed, disk: &mut [u8])
 
 // The last store of a checkpoint: the master with the tail moved past the transaction.
 fn stored_master(w: &mut [u64], c: u8, e: Committed, disk: &mut [u8])
-    requires { ⌜ (length (now w) ≡ 512) × (length (now disk) ≡ diskSize) × (c < 8) × (e .number ≤ maxNumber) ⌝ }
+    requires { ⌜ (length (now w) ≡ 423) × (length (now disk) ≡ diskSize) × (c < 8) × (e .number ≤ maxNumber) ⌝ }
     ensures { λ _. ⌜ Stores (storedMaster c e) (now (w .entry)) (now (w .exit)) (now (disk .entry)) (now (disk .exit)) ⌝ }
 {
     let s = shape_of(w);
@@ -81,7 +81,7 @@ fn stored_master(w: &mut [u64], c: u8, e: Committed, disk: &mut [u8])
 
 // The next store of the checkpoint of core c's oldest transaction.
 pub fn next_store(w: &mut [u64], c: u8, e: Committed, disk: &mut [u8])
-    requires { ⌜ (length (now w) ≡ 512) × (c < 8) × IsRead (shapeOf (cardIn (now w))) (now disk) e × (e .number ≤ maxNumber) ⌝ }
+    requires { ⌜ (length (now w) ≡ 423) × (c < 8) × IsRead (shapeOf (cardIn (now w))) (now disk) e × (e .number ≤ maxNumber) ⌝ }
     ensures { λ _. ⌜ Stores (nextStore c e) (now (w .entry)) (now (w .exit)) (now (disk .entry)) (now (disk .exit)) ⌝ }
 {
     let homed = byte_in(w, core_place(c) + HOMED);

@@ -34,10 +34,10 @@ module _ (v : List ℕ) (c : ℕ) (d m : Bytes) (n : ℕ) (e : n ≡ refusal (en
     few = (entered (cardIn v) c d m [] tt (sym e ∙ h)) .few
 
     -- the places stand within the cells
-    pub running-fits : (a : ℕ) → a ≡ runningPlace c → a + 24 ≤ 512
+    pub running-fits : (a : ℕ) → a ≡ runningPlace c → a + 19 ≤ 423
     running-fits a q = omega (arith, few)
 
-    pub closed-fits : (a : ℕ) → a ≡ closedPlace c → a + 24 ≤ 512
+    pub closed-fits : (a : ℕ) → a ≡ closedPlace c → a + 19 ≤ 423
     closed-fits a q = omega (arith, few)
 
     module _ (a : ℕ) (q : a ≡ runningPlace c) (g : Bool) (r : g ≡ (transactionIn v a) .live) where
@@ -79,7 +79,7 @@ copied-one c i bs m h =
     ∙ ap (λ (n : ℕ). copied c n (drop n bs) (store m (copyBlock c i) (blockAt m (getD bs i 0 % 64)))) (sym (add-one i))
 
 module _ (w : List ℕ) (a c i count : ℕ) (m₀ m : Bytes) (e : copied c i (drop i (taken (transactionIn w a))) m ≡ copied c 0 (taken (transactionIn w a)) m₀) (n : count ≡ length (taken (transactionIn w a))) where
-  pub copied-more : (b : ℕ) → b ≡ byteIn w (a + 4 + i) → (z : Bytes) → z ≡ store m (copyBlock c i) (blockAt m (b % 64)) → i < count → count ≤ 8
+  pub copied-more : (b : ℕ) → b ≡ byteIn w (a + 3 + i) → (z : Bytes) → z ≡ store m (copyBlock c i) (blockAt m (b % 64)) → i < count → count ≤ 8
       → copied c (i + 1) (drop (i + 1) (taken (transactionIn w a))) z ≡ copied c 0 (taken (transactionIn w a)) m₀
   copied-more b r z q h f =
       let l : i < length (taken (transactionIn w a)) = omega arith in
@@ -104,7 +104,7 @@ pub flag-read : (c : ℕ) (m : Bytes) (i : ℕ) (image : Bytes) → image ≡ bl
 flag-read c m i image e f q = q ∙ ap flagOf e
 
 -- ---- the command
-module _ (v : List ℕ) (size : length v ≡ 512) (c : ℕ) (d m : Bytes) (n : ℕ) (e : n ≡ refusal (closeConditions c (worldIn v d m))) where
+module _ (v : List ℕ) (size : length v ≡ 423) (c : ℕ) (d m : Bytes) (n : ℕ) (e : n ≡ refusal (closeConditions c (worldIn v d m))) where
   pub close-refused : (n ≡ 0 → ⊥) → Meets (close c (worldIn v d m)) v v d m (newAnswer n 0)
   unfolding close
   close-refused h = meets-refused (closeConditions c (worldIn v d m)) v d m (closed c (worldIn v d m)) size n e h
@@ -121,11 +121,11 @@ module _ (v : List ℕ) (size : length v ≡ 512) (c : ℕ) (d m : Bytes) (n : �
     close-core = close-entered .few
 
     module _ (a : ℕ) (q : a ≡ runningPlace c) where
-      pub close-place : a + 24 ≤ 512
+      pub close-place : a + 19 ≤ 423
       close-place = omega (arith, close-core)
 
-      pub close-done : (z : Bytes) → z ≡ copied c 0 (taken (transactionIn v a)) m → (w : List ℕ) → cardIn w ≡ closedCard (cardIn v) c → Frame v w 0 512 → Meets (close c (worldIn v d m)) v w d z (newAnswer 0 0)
+      pub close-done : (z : Bytes) → z ≡ copied c 0 (taken (transactionIn v a)) m → (w : List ℕ) → cardIn w ≡ closedCard (cardIn v) c → Frame v w 0 423 → Meets (close c (worldIn v d m)) v w d z (newAnswer 0 0)
       unfolding close closed
       close-done z r w s f =
           meets-done (closeConditions c (worldIn v d m)) v d m (closed c (worldIn v d m)) size n e h w d z 0
-          (rw (r, s, running-there v c close-core a q)) 0 512 f
+          (rw (r, s, running-there v c close-core a q)) 0 423 f

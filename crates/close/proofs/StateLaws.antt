@@ -6,7 +6,7 @@ use Rattle.model.specs.Card.{noTransaction, stamped, coreOf, withCore}
 use Rattle.model.specs.Commit.{closedCard}
 use Rattle.model.specs.declared.Transaction.{Transaction}
 use Rattle.model.proofs.Lists.{cases, map-below}
-use Rattle.cells.specs.Cells.{byteIn, numberIn, nameIn, transactionIn, cardIn, corePlace, runningPlace, closedPlace}
+use Rattle.cells.specs.Cells.{byteIn, numberIn, transactionIn, cardIn, corePlace, runningPlace, closedPlace}
 use Rattle.cells.specs.Changes.{withNumbers, withClosed, fitsAt, AllFit, Frame}
 use Rattle.cells.proofs.FitsLaws.{running-place, closed-place, fits-at, fits-stamp, fits-closes, fits-set, frame-same, frame-set, frame-then, frame-wider}
 use Rattle.cells.proofs.TransactionLaws.{transaction-cong}
@@ -16,31 +16,30 @@ use Rattle.close.specs.Frozen.{frozen, countedClose}
 use Rattle.cells.proofs.ReadLaws.{next-there, used-there, homed-there, running-there}
 
 -- ---- a transaction copied, cell by cell
-transaction-moved : (v w : List ℕ) (a b : ℕ) → ((k : ℕ) → k < 24 → getD w (b + k) 0 ≡ getD v (a + k) 0) → transactionIn w b ≡ transactionIn v a
+transaction-moved : (v w : List ℕ) (a b : ℕ) → ((k : ℕ) → k < 19 → getD w (b + k) 0 ≡ getD v (a + k) 0) → transactionIn w b ≡ transactionIn v a
 unfolding transactionIn
 transaction-moved v w a b e =
-    transaction-cong _ _ _ _ _ _ _ _ _ _ _ _
+    transaction-cong _ _ _ _ _ _ _ _ _ _
     (ap (λ (n : ℕ). not (eqb n 0)) (at 0 b a (omega arith) (omega arith) (omega arith)))
     (e 1 (omega arith))
     (ap (λ (n : ℕ). n % 256) (e 2 (omega arith)))
-    (map-below _ _ 8 (λ i h. ap (λ (n : ℕ). n % 256) (at (4 + i) (b + 4 + i) (a + 4 + i) (omega arith) (omega arith) (omega arith))))
-    (ap (λ (n : ℕ). n % 256) (e 3 (omega arith)))
-    (map-below _ _ 12 (λ i h. ap nameIn (at (12 + i) (b + 12 + i) (a + 12 + i) (omega arith) (omega arith) (omega arith))))
+    (map-below _ _ 8 (λ i h. ap (λ (n : ℕ). n % 256) (at (3 + i) (b + 3 + i) (a + 3 + i) (omega arith) (omega arith) (omega arith))))
+    (map-below _ _ 8 (λ i h. ap (λ (n : ℕ). n % 4294967296) (at (11 + i) (b + 11 + i) (a + 11 + i) (omega arith) (omega arith) (omega arith))))
   where
-    at : (k i j : ℕ) → i ≡ b + k → j ≡ a + k → k < 24 → getD w i 0 ≡ getD v j 0
+    at : (k i j : ℕ) → i ≡ b + k → j ≡ a + k → k < 19 → getD w i 0 ≡ getD v j 0
     at k i j p q h = rw (p, q) (e k h)
 
 -- w is v with the first i cells of core c's running transaction at the place of its closed one
 pub record Moved (v : List ℕ) (c : ℕ) (w : List ℕ) (i : ℕ) : Type 0 where
-  pub most : i ≤ 24
-  pub rest : Frame v w (closedPlace c) 24
+  pub most : i ≤ 19
+  pub rest : Frame v w (closedPlace c) 19
   pub same : (k : ℕ) → k < i → getD w (closedPlace c + k) 0 ≡ getD v (runningPlace c + k) 0
 
 pub moved-start : (v : List ℕ) (c : ℕ) → Moved v c v 0
-moved-start v c = record { most = omega arith; rest = frame-same v (closedPlace c) 24; same = λ k h. absurd (omega arith) }
+moved-start v c = record { most = omega arith; rest = frame-same v (closedPlace c) 19; same = λ k h. absurd (omega arith) }
 
 module _ (v : List ℕ) (c : ℕ) (w : List ℕ) (i : ℕ) (m : Moved v c w i) (from to : ℕ) (p : from ≡ runningPlace c) (q : to ≡ closedPlace c) where
-  module _ (size : length v ≡ 512) (h : c < 8) (l : i < 24) where
+  module _ (size : length v ≡ 423) (h : c < 8) (l : i < 19) where
     -- both cells stand within the array
     pub from-in : from + i < length w
     from-in = omega (arith, m .rest .size)
@@ -63,7 +62,7 @@ module _ (v : List ℕ) (c : ℕ) (w : List ℕ) (i : ℕ) (m : Moved v c w i) (
         ∙ sym (fits-at (runningPlace c) (r .0) (r .1) (r .2) i _ l)
         ∙ f (runningPlace c + i) (omega arith)
 
-    put-next : Frame v (set w (closedPlace c + i) (getD w (runningPlace c + i) 0)) (closedPlace c) 24
+    put-next : Frame v (set w (closedPlace c + i) (getD w (runningPlace c + i) 0)) (closedPlace c) 19
     put-next =
         record {
           size = length-set w (closedPlace c + i) (getD w (runningPlace c + i) 0) ∙ m .rest .size;
@@ -83,47 +82,46 @@ module _ (v : List ℕ) (c : ℕ) (w : List ℕ) (i : ℕ) (m : Moved v c w i) (
     pub moved-more : Moved v c (set w (to + i) (getD w (from + i) 0)) (i + 1)
     moved-more = rw (p, q) (record { most = omega arith; rest = put-next; same = same-next })
 
-  pub moved-all : 24 ≤ i → transactionIn w (closedPlace c) ≡ transactionIn v (runningPlace c)
+  pub moved-all : 19 ≤ i → transactionIn w (closedPlace c) ≡ transactionIn v (runningPlace c)
   moved-all l = transaction-moved v w (runningPlace c) (closedPlace c) (λ k z. m .same k (omega arith))
 
 -- ---- it is stamped, and none is running
-stamp-put : (w : List ℕ) (a s : ℕ) → a + 24 ≤ length w → transactionIn (set w (a + 1) s) a ≡ stamped (transactionIn w a) s
+stamp-put : (w : List ℕ) (a s : ℕ) → a + 19 ≤ length w → transactionIn (set w (a + 1) s) a ≡ stamped (transactionIn w a) s
 unfolding transactionIn
 stamp-put w a s f =
-    transaction-cong _ _ _ _ _ _ _ _ _ _ _ _
+    transaction-cong _ _ _ _ _ _ _ _ _ _
     (ap (λ (n : ℕ). not (eqb n 0)) (other a (omega arith)))
     (getD-set-same w (a + 1) s 0 (omega arith))
     (ap (λ (n : ℕ). n % 256) (other (a + 2) (omega arith)))
-    (map-below _ _ 8 (λ i h. ap (λ (n : ℕ). n % 256) (other (a + 4 + i) (omega arith))))
-    (ap (λ (n : ℕ). n % 256) (other (a + 3) (omega arith)))
-    (map-below _ _ 12 (λ i h. ap nameIn (other (a + 12 + i) (omega arith))))
+    (map-below _ _ 8 (λ i h. ap (λ (n : ℕ). n % 256) (other (a + 3 + i) (omega arith))))
+    (map-below _ _ 8 (λ i h. ap (λ (n : ℕ). n % 4294967296) (other (a + 11 + i) (omega arith))))
   where
     other : (m : ℕ) → (m ≡ a + 1 → ⊥) → getD (set w (a + 1) s) m 0 ≡ getD w m 0
     other m g = getD-set-other w (a + 1) m s 0 g
 
-module _ (v u : List ℕ) (c : ℕ) (size : length v ≡ 512) (h : c < 8) (f : Frame v u (closedPlace c) 24) (to : ℕ) (q : to ≡ closedPlace c) where
+module _ (v u : List ℕ) (c : ℕ) (size : length v ≡ 423) (h : c < 8) (f : Frame v u (closedPlace c) 19) (to : ℕ) (q : to ≡ closedPlace c) where
   pub stamp-in : to + 1 < length u
   stamp-in = omega (arith, f .size)
 
   module _ (s : ℕ) where
-    stamp-frame : Frame v (set u (closedPlace c + 1) s) (closedPlace c) 24
+    stamp-frame : Frame v (set u (closedPlace c + 1) s) (closedPlace c) 19
     stamp-frame =
         let r = closed-place c h in
-        frame-then u (set u (closedPlace c + 1) s) v (closedPlace c) 24 f
-        (frame-set u (closedPlace c) 24 (closedPlace c + 1) s (omega arith) (omega arith) (fits-stamp (closedPlace c) (r .0) (r .1) (r .2) s))
+        frame-then u (set u (closedPlace c + 1) s) v (closedPlace c) 19 f
+        (frame-set u (closedPlace c) 19 (closedPlace c + 1) s (omega arith) (omega arith) (fits-stamp (closedPlace c) (r .0) (r .1) (r .2) s))
 
-    pub stamp-long : length (set u (to + 1) s) ≡ 512
+    pub stamp-long : length (set u (to + 1) s) ≡ 423
     stamp-long = length-set u (to + 1) s ∙ f .size ∙ size
 
-    module _ (from : ℕ) (p : from ≡ runningPlace c) (w : List ℕ) (g : Frame (set u (to + 1) s) w from 24) where
-      cleared-frame : Frame (set u (closedPlace c + 1) s) w (runningPlace c) 24
+    module _ (from : ℕ) (p : from ≡ runningPlace c) (w : List ℕ) (g : Frame (set u (to + 1) s) w from 19) where
+      cleared-frame : Frame (set u (closedPlace c + 1) s) w (runningPlace c) 19
       cleared-frame = rw (q, p) at g
 
-      pub frozen-frame : Frame v w (corePlace c) 52
+      pub frozen-frame : Frame v w (corePlace c) 42
       frozen-frame =
-          frame-then (set u (closedPlace c + 1) s) w v (corePlace c) 52
-          (frame-wider v _ (closedPlace c) 24 (corePlace c) 52 stamp-frame (omega arith) (omega arith))
-          (frame-wider _ w (runningPlace c) 24 (corePlace c) 52 cleared-frame (omega arith) (omega arith))
+          frame-then (set u (closedPlace c + 1) s) w v (corePlace c) 42
+          (frame-wider v _ (closedPlace c) 19 (corePlace c) 42 stamp-frame (omega arith) (omega arith))
+          (frame-wider _ w (runningPlace c) 19 (corePlace c) 42 cleared-frame (omega arith) (omega arith))
 
       pub frozen-size : length w ≡ length v
       frozen-size = frozen-frame .size
@@ -151,8 +149,8 @@ closes-read : (w : List ℕ) → getD w 4 0 ≡ (cardIn w) .closes
 unfolding cardIn
 closes-read w = refl
 
-module _ (v u t : List ℕ) (c : ℕ) (size : length v ≡ 512) (h : c < 8) (g : Frame v u (corePlace c) 52) where
-  pub frozen-long : length u ≡ 512
+module _ (v u t : List ℕ) (c : ℕ) (size : length v ≡ 423) (h : c < 8) (g : Frame v u (corePlace c) 42) where
+  pub frozen-long : length u ≡ 423
   frozen-long = g .size ∙ size
 
   module _ (j : Frame u t (corePlace c) 4) where
@@ -160,16 +158,16 @@ module _ (v u t : List ℕ) (c : ℕ) (size : length v ≡ 512) (h : c < 8) (g :
     closes-in = omega (arith, g .size, j .size)
 
     module _ (s : ℕ) where
-      core-frame : Frame v t (corePlace c) 52
-      core-frame = frame-then u t v (corePlace c) 52 g (frame-wider u t (corePlace c) 4 (corePlace c) 52 j (omega arith) (omega arith))
+      core-frame : Frame v t (corePlace c) 42
+      core-frame = frame-then u t v (corePlace c) 42 g (frame-wider u t (corePlace c) 4 (corePlace c) 42 j (omega arith) (omega arith))
 
       closes-frame : Frame t (set t 4 s) 4 1
       closes-frame = frame-set t 4 1 4 s (omega arith) (omega arith) (fits-closes s)
 
-      pub closed-frame : Frame v (set t 4 s) 0 512
+      pub closed-frame : Frame v (set t 4 s) 0 423
       closed-frame =
-          frame-then t (set t 4 s) v 0 512 (frame-wider v t (corePlace c) 52 0 512 core-frame (omega arith) (omega arith))
-          (frame-wider t (set t 4 s) 4 1 0 512 closes-frame (omega arith) (omega arith))
+          frame-then t (set t 4 s) v 0 423 (frame-wider v t (corePlace c) 42 0 423 core-frame (omega arith) (omega arith))
+          (frame-wider t (set t 4 s) 4 1 0 423 closes-frame (omega arith) (omega arith))
 
       pub closed-size : length (set t 4 s) ≡ length v
       closed-size = closed-frame .size

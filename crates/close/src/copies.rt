@@ -9,7 +9,7 @@ ghost use Rattle.model.specs.Card.{taken};
 ghost use Rattle.model.specs.Layout.{flagOf};
 ghost use Rattle.model.specs.Commit.{copyBlock, copied};
 ghost use Rattle.model.specs.Limits.{memorySize, maxTaken};
-ghost use Rattle.cells.specs.Cells.{transactionIn};
+ghost use Rattle.cells.specs.Cells.{transactionSize, transactionIn};
 use cells::BLOCKS;
 use cells::block_count;
 use cells::byte_in;
@@ -39,7 +39,7 @@ fn copy_image(memory: &mut [u8], c: u8, i: usize, b: u8)
 
 // The images of the blocks of the transaction at a place, in the order taken, to the first of its core's copies onward.
 pub fn copy_images(w: &[u64], at: usize, c: u8, memory: &mut [u8])
-    requires { ⌜ (length (now w) ≡ 512) × (at + 24 ≤ 512) × (length (now memory) ≡ memorySize) × (c < 8) ⌝ }
+    requires { ⌜ (length (now w) ≡ 423) × (at + transactionSize ≤ 423) × (length (now memory) ≡ memorySize) × (c < 8) ⌝ }
     ensures { λ _. ⌜
         now (memory .exit) ≡ copied c 0 (taken (transactionIn (now (w .entry)) at)) (now (memory .entry))
         ⌝ }

@@ -5,7 +5,7 @@ ghost use lib.ListN.{length};
 ghost use Rattle.model.specs.Card.{coreOf, withCore};
 ghost use Rattle.model.specs.Commit.{closedCard};
 ghost use Rattle.model.specs.declared.Card.{Card};
-ghost use Rattle.cells.specs.Cells.{transactionIn, corePlace, runningPlace, closedPlace};
+ghost use Rattle.cells.specs.Cells.{coreSize, transactionSize, transactionIn, corePlace, runningPlace, closedPlace};
 ghost use Rattle.cells.specs.Changes.{Frame, Changed};
 ghost use Rattle.close.specs.Frozen.{frozen, countedClose};
 use cells::CLOSES;
@@ -23,10 +23,10 @@ use cells::running_place;
 
 // The cells of core c's running transaction copied to those of its closed one.
 fn copy_running(w: &mut [u64], c: u8)
-    requires { ⌜ (length (now w) ≡ 512) × (c < 8) ⌝ }
+    requires { ⌜ (length (now w) ≡ 423) × (c < 8) ⌝ }
     ensures { λ _. ⌜
         (transactionIn (now (w .exit)) (closedPlace c) ≡ transactionIn (now (w .entry)) (runningPlace c))
-        × Frame (now (w .entry)) (now (w .exit)) (closedPlace c) 24
+        × Frame (now (w .entry)) (now (w .exit)) (closedPlace c) transactionSize
         ⌝ }
 {
     let from = running_place(c);
@@ -40,10 +40,10 @@ fn copy_running(w: &mut [u64], c: u8)
 
 // The running transaction of core c frozen: it is the closed one under this stamp, and none is running.
 fn freeze(w: &mut [u64], c: u8, stamp: u64)
-    requires { ⌜ (length (now w) ≡ 512) × (c < 8) ⌝ }
+    requires { ⌜ (length (now w) ≡ 423) × (c < 8) ⌝ }
     ensures { λ _. ⌜
         Changed (λ (x : Card). withCore x c (frozen (coreOf x c) stamp))
-        (now (w .entry)) (now (w .exit)) (corePlace c) 52
+        (now (w .entry)) (now (w .exit)) (corePlace c) coreSize
         ⌝ }
 {
     let from = running_place(c);
@@ -55,7 +55,7 @@ fn freeze(w: &mut [u64], c: u8, stamp: u64)
 
 // The numbers of core c after a CLOSE. The next one counts round only on a card that no run made.
 fn count_close(w: &mut [u64], c: u8)
-    requires { ⌜ (length (now w) ≡ 512) × (c < 8) ⌝ }
+    requires { ⌜ (length (now w) ≡ 423) × (c < 8) ⌝ }
     ensures { λ _. ⌜
         Changed (λ (x : Card). withCore x c (countedClose (coreOf x c)))
         (now (w .entry)) (now (w .exit)) (corePlace c) 4
@@ -70,8 +70,8 @@ fn count_close(w: &mut [u64], c: u8)
 
 // The running transaction of core c closed. Its stamp is the count of closes, which goes round only on a card that no run made.
 pub fn close_running(w: &mut [u64], c: u8)
-    requires { ⌜ (length (now w) ≡ 512) × (c < 8) ⌝ }
-    ensures { λ _. ⌜ Changed (λ (x : Card). closedCard x c) (now (w .entry)) (now (w .exit)) 0 512 ⌝ }
+    requires { ⌜ (length (now w) ≡ 423) × (c < 8) ⌝ }
+    ensures { λ _. ⌜ Changed (λ (x : Card). closedCard x c) (now (w .entry)) (now (w .exit)) 0 423 ⌝ }
 {
     let stamp = std::num::wrapping_add_u64(w[CLOSES], 1);
     freeze(w, c, stamp);

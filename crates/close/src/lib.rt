@@ -20,7 +20,7 @@ use cells::running_place;
 
 // A core without a running transaction has none to close, and one is closed only when the one before is stored.
 fn close_refusal(w: &[u64], c: u8, disk: &[u8], memory: &[u8]) -> u8
-    requires { ⌜ length (now w) ≡ 512 ⌝ }
+    requires { ⌜ length (now w) ≡ 423 ⌝ }
     ensures { λ r. ⌜
         r ≡ refusal (closeConditions c (worldIn (now (w .entry)) (now (disk .entry)) (now (memory .entry))))
         ⌝ }
@@ -40,7 +40,7 @@ fn close_refusal(w: &[u64], c: u8, disk: &[u8], memory: &[u8]) -> u8
 
 // CLOSE: the core's running transaction is frozen, with copies of its images as they are now.
 pub fn close(w: &mut [u64], core: u8, disk: &[u8], memory: &mut [u8]) -> Answer
-    requires { ⌜ length (now w) ≡ 512 ⌝ }
+    requires { ⌜ length (now w) ≡ 423 ⌝ }
     ensures { λ r. ⌜
         Meets (close core (worldIn (now (w .entry)) (now (disk .entry)) (now (memory .entry))))
         (now (w .entry)) (now (w .exit)) (now (disk .entry)) (now (memory .exit)) r

@@ -58,7 +58,7 @@ none-stored t at w h =
     let p : 0 < (stepAt t at w) .answer = omega (arith, h) in
     ap (λ (o : Outcome World). o .stores) (decided-refused (command-decided in-sequence t at w) (read-answer in-sequence (readAt t at) w) p .1)
 
-module _ (t : Bytes) (at : ℕ) (v : List ℕ) (l : length v ≡ 512) (d₀ m₀ : Bytes) (n : ℕ) (e : n ≡ storesIn v) (u : List ℕ) (d m : Bytes) (a : Answer)
+module _ (t : Bytes) (at : ℕ) (v : List ℕ) (l : length v ≡ 423) (d₀ m₀ : Bytes) (n : ℕ) (e : n ≡ storesIn v) (u : List ℕ) (d m : Bytes) (a : Answer)
     (f : Meets (stepAt t at (worldIn v d₀ m₀)) v u d m a) (w : List ℕ) (q : w ≡ countedIn u n a) where
   abbrev o : Outcome World
   o = stepAt t at (worldIn v d₀ m₀)

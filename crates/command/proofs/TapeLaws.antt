@@ -120,7 +120,7 @@ pub record WholeCommand (t : Bytes) (at k next : ℕ) : Type 0 where
   pub operands : length (take (next - (at + 1)) (drop (at + 1) t)) ≡ operandLength k
 
 module _ (t : Bytes) (at : ℕ) (v : List ℕ) (d m : Bytes) (n : ℕ) (e : (y : Card) → n ≡ refusal (tapeConditions t at (world y d m))) where
-  pub at-refused : length v ≡ 512 → (n ≡ 0 → ⊥) → Meets (stepAt t at (worldIn v d m)) v v d m (newAnswer n 0)
+  pub at-refused : length v ≡ 423 → (n ≡ 0 → ⊥) → Meets (stepAt t at (worldIn v d m)) v v d m (newAnswer n 0)
   at-refused l h =
       subst (λ (o : Outcome World). Meets o v v d m (newAnswer n 0)) (sym (tape-unless in-sequence t at (worldIn v d m)))
       (meets-refused (tapeConditions t at (worldIn v d m)) v d m _ l n (e _) h)

@@ -55,7 +55,7 @@ fn tape_refusal(tape: &[u8], at: usize, disk: &[u8], memory: &[u8]) -> u8
 
 // WRITE with its operands: core, block of two bytes, offset, the four bytes.
 fn perform_write(w: &mut [u64], operands: &[u8], disk: &[u8], memory: &mut [u8]) -> Answer
-    requires { ⌜ (length (now w) ≡ 512) × (length (now operands) ≡ 8) ⌝ }
+    requires { ⌜ (length (now w) ≡ 423) × (length (now operands) ≡ 8) ⌝ }
     ensures { λ r. ⌜
         (let a = now (operands .entry) in
         Meets (write (getD a 0 0) (number 0 (part 1 2 a)) (getD a 3 0) (part 4 4 a) (worldIn (now (w .entry)) (now (disk .entry)) (now (memory .entry))))
@@ -71,7 +71,7 @@ fn perform_write(w: &mut [u64], operands: &[u8], disk: &[u8], memory: &mut [u8])
 
 // Command k with its operands, which are all there. The tape has no byte but 1 to 7 here, so the last case is 7.
 fn perform(w: &mut [u64], k: u8, operands: &[u8], disk: &mut [u8], memory: &mut [u8]) -> Answer
-    requires { ⌜ (length (now w) ≡ 512) × (length (now operands) ≡ operandLength k) ⌝ }
+    requires { ⌜ (length (now w) ≡ 423) × (length (now operands) ≡ operandLength k) ⌝ }
     ensures { λ r. ⌜
         ((x : Command) → decoded k (now (operands .entry)) ≡ some x
         → Meets (step x (worldIn (now (w .entry)) (now (disk .entry)) (now (memory .entry))))
@@ -99,7 +99,7 @@ fn perform(w: &mut [u64], k: u8, operands: &[u8], disk: &mut [u8], memory: &mut 
 
 // The command at an offset. Where none begins there, nothing is changed and the offset stays.
 fn command(w: &mut [u64], tape: &[u8], at: usize, disk: &mut [u8], memory: &mut [u8]) -> Performed
-    requires { ⌜ length (now w) ≡ 512 ⌝ }
+    requires { ⌜ length (now w) ≡ 423 ⌝ }
     ensures { λ r. ⌜
         Meets (stepAt (now (tape .entry)) at (worldIn (now (w .entry)) (now (disk .entry)) (now (memory .entry))))
         (now (w .entry)) (now (w .exit)) (now (disk .exit)) (now (memory .exit)) (r .answer)
@@ -135,7 +135,7 @@ fn counted(n: u64, k: u8) -> u64
 
 // The count of stores after a command, before it n; a refusal puts nothing.
 fn count(w: &mut [u64], n: u64, answer: Answer)
-    requires { ⌜ length (now w) ≡ 512 ⌝ }
+    requires { ⌜ length (now w) ≡ 423 ⌝ }
     ensures { λ _. ⌜ now (w .exit) ≡ countedIn (now (w .entry)) n answer ⌝ }
 {
     if answer.number != 0 {
@@ -153,7 +153,7 @@ pub fn counted_command(
     disk: &mut [u8],
     memory: &mut [u8],
 ) -> Performed
-    requires { ⌜ length (now w) ≡ 512 ⌝ }
+    requires { ⌜ length (now w) ≡ 423 ⌝ }
     ensures { λ r. ⌜
         Performs (stepAt (now (tape .entry)) at (worldIn (now (w .entry)) (now (disk .entry)) (now (memory .entry))))
         (now (w .entry)) (now (w .exit)) (now (disk .exit)) (now (memory .exit)) (r .answer .number)

@@ -5,23 +5,22 @@ use Rattle.model.proofs.Base.{_++_, map, length, take, drop, getD, length-take,
 use Rattle.model.proofs.Base.{below, Bytes}
 use Rattle.model.specs.Bytes.{blockAt}
 use Rattle.model.specs.Shape.{clamped, journalBlock}
-use Rattle.model.specs.Card.{taken, listed, shapeOf, tailOf, coreOf, withCore}
+use Rattle.model.specs.Card.{taken, highestOf, shapeOf, tailOf, coreOf, withCore}
 use Rattle.model.specs.Layout.{newTag, descriptorBlock, commitBlock, escaped}
 use Rattle.model.specs.Command.{refusal}
 use Rattle.model.specs.Commit.{copyBlock, copyTags, closedNumber, nextStored, nextPosition, coreStored, storeConditions, stored, storeNext}
 use Rattle.model.specs.declared.Shape.{Shape}
 use Rattle.model.specs.declared.Tail.{Tail}
-use Rattle.model.specs.declared.Name.{Name}
 use Rattle.model.specs.declared.Transaction.{Transaction}
 use Rattle.model.specs.declared.Card.{Card}
 use Rattle.model.proofs.Lists.{getD-map-below, map-below}
 use Rattle.model.proofs.Limits.{clamped-same}
 use Rattle.model.proofs.OneStore.{shape-limits, storePlace-low, position}
 use Rattle.layout.proofs.Blocks.{block-lent}
-use Rattle.cells.specs.Cells.{byteIn, numberIn, nameIn, transactionIn, cardIn, corePlace, closedPlace, worldIn}
+use Rattle.cells.specs.Cells.{byteIn, numberIn, transactionIn, cardIn, corePlace, closedPlace, worldIn}
 use Rattle.cells.specs.Changes.{Frame}
 use Rattle.cells.specs.Answer.{newAnswer, Meets}
-use Rattle.cells.proofs.ReadLaws.{stamp-read, count-read, named-read, blocks-long, next-there, used-there, stored-there, closed-there, closed-live}
+use Rattle.cells.proofs.ReadLaws.{stamp-read, count-read, blocks-long, next-there, used-there, stored-there, closed-there, closed-live}
 use Rattle.cells.proofs.EntryLaws.{entry, entry-hit, entry-pass, Entered, entered}
 use Rattle.cells.proofs.MeetLaws.{meets-refused, meets-done}
 use Rattle.close.proofs.CloseLaws.{taken-at, copyFlag}
@@ -50,19 +49,19 @@ module _ (v : List ℕ) (c : ℕ) (d m : Bytes) (n : ℕ) (e : n ≡ refusal (en
 
 -- ---- the arrays of a transaction, read out of its cells
 abbrev pub blockIn : List ℕ → ℕ → ℕ → ℕ
-blockIn w a = λ i. byteIn w (a + 4 + i)
+blockIn w a = λ i. byteIn w (a + 3 + i)
 
-abbrev pub listedIn : List ℕ → ℕ → ℕ → Name
-listedIn w a = λ i. nameIn (getD w (a + 12 + i) 0)
+abbrev pub numberCell : List ℕ → ℕ → ℕ → ℕ
+numberCell w a = λ c. numberIn w (a + 11 + c)
 
 module _ (w : List ℕ) (a : ℕ) where
   pub blocks-read : (bs : List ℕ) → bs ≡ map (blockIn w a) (below 8) → bs ≡ (transactionIn w a) .blocks
   unfolding transactionIn
   blocks-read bs e = e
 
-  pub names-read : (ns : List Name) → ns ≡ map (listedIn w a) (below 12) → ns ≡ (transactionIn w a) .names
+  pub highest-read : (ns : List ℕ) → ns ≡ map (numberCell w a) (below 8) → ns ≡ (transactionIn w a) .highest
   unfolding transactionIn
-  names-read ns e = e
+  highest-read ns e = e
 
 -- ---- what is stored next
 took : (t : Transaction) → length (t .blocks) ≡ 8 → length (taken t) ≡ min (t .count) 8
@@ -88,10 +87,10 @@ module _ (w : List ℕ) (a num : ℕ) where
       → b ≡ descriptorBlock num (copyTags c (taken (transactionIn w a)) m)
   first-written c m fs e bs p n q b r = r ∙ rw (p, q, count-read w a) (ap (descriptorBlock num) (same-held (transactionIn w a) c m fs e (blocks-long w a)))
 
-  pub last-written : (ns : List Name) → ns ≡ (transactionIn w a) .names → (n : ℕ) → n ≡ byteIn w (a + 3)
-      → (b : Bytes) → b ≡ commitBlock num (getD w (a + 1) 0) (take n ns) → b ≡ commitBlock num ((transactionIn w a) .stamp) (listed (transactionIn w a))
-  unfolding listed
-  last-written ns p n q b r = r ∙ rw (p, q, named-read w a, stamp-read w a)
+  pub last-written : (ns : List ℕ) → ns ≡ (transactionIn w a) .highest
+      → (b : Bytes) → b ≡ commitBlock num (getD w (a + 1) 0) (λ (c : ℕ). getD ns c 0) → b ≡ commitBlock num ((transactionIn w a) .stamp) (highestOf (transactionIn w a))
+  unfolding highestOf
+  last-written ns p b r = r ∙ rw (p, stamp-read w a)
 
 pub copy-written : (m : Bytes) (k : ℕ) (image : Bytes) → image ≡ blockAt m k → (b : Bytes) → b ≡ escaped image → b ≡ escaped (blockAt m k)
 copy-written m k image e b q = q ∙ ap escaped e
@@ -119,7 +118,7 @@ module _ (v : List ℕ) (c : ℕ) (h : c < 8) (m : Bytes) (p : ℕ) (i : p ≡ c
   unfolding nextStored
   next-data r n l z f = r ∙ rw (← at-stored, ← at-closed, ne-eqb done 0 z, le-leb done (length (taken (transactionIn v p))) (omega arith))
 
-  pub next-commit : b ≡ commitBlock num ((transactionIn v p) .stamp) (listed (transactionIn v p)) → (n : ℕ) → n ≡ length (taken (transactionIn v p)) → (done ≡ 0 → ⊥) → n < done → b ≡ nextStored c (coreOf (cardIn v) c) m
+  pub next-commit : b ≡ commitBlock num ((transactionIn v p) .stamp) (highestOf (transactionIn v p)) → (n : ℕ) → n ≡ length (taken (transactionIn v p)) → (done ≡ 0 → ⊥) → n < done → b ≡ nextStored c (coreOf (cardIn v) c) m
   unfolding nextStored
   next-commit r n l z f = r ∙ rw (← at-stored, ← at-closed, ne-eqb done 0 z, lt-leb done (length (taken (transactionIn v p))) (omega arith), q)
 
@@ -130,7 +129,7 @@ unfolding nextPosition
 position-is v c h t i a e u j s k = rw (i, used-there v c h a e u j, stored-there v c h a e s k)
 
 -- ---- the command
-module _ (v : List ℕ) (size : length v ≡ 512) (c : ℕ) (d m : Bytes) (n : ℕ) (e : n ≡ refusal (storeConditions c (worldIn v d m))) where
+module _ (v : List ℕ) (size : length v ≡ 423) (c : ℕ) (d m : Bytes) (n : ℕ) (e : n ≡ refusal (storeConditions c (worldIn v d m))) where
   pub store-refused : (n ≡ 0 → ⊥) → Meets (storeNext c (worldIn v d m)) v v d m (newAnswer n 0)
   unfolding storeNext
   store-refused h = meets-refused (storeConditions c (worldIn v d m)) v d m (stored c (worldIn v d m)) size n e h
@@ -158,9 +157,9 @@ module _ (v : List ℕ) (size : length v ≡ 512) (c : ℕ) (d m : Bytes) (n : �
       store-end = omega (arith, store-low, store-entered .disk)
 
       pub store-done : p ≡ nextPosition (cardIn v) c → (z : Bytes) → z ≡ nextStored c (coreOf (cardIn v) c) m
-          → (w : List ℕ) → cardIn w ≡ withCore (cardIn v) c (coreStored (coreOf (cardIn v) c)) → Frame v w (corePlace c) 52
+          → (w : List ℕ) → cardIn w ≡ withCore (cardIn v) c (coreStored (coreOf (cardIn v) c)) → Frame v w (corePlace c) 42
           → Meets (storeNext c (worldIn v d m)) v w (take (128 * j) d ++ (z ++ drop (128 * j + 128 - 128 * j) (drop (128 * j) d))) m (newAnswer 0 1)
       unfolding storeNext stored
       store-done i z k w l f =
           meets-done (storeConditions c (worldIn v d m)) v d m (stored c (worldIn v d m)) size n e h w _ m 1
-          (rw (block-lent d j z (nextStored c (coreOf (cardIn v) c) m) k, l, store-place, i)) (corePlace c) 52 f
+          (rw (block-lent d j z (nextStored c (coreOf (cardIn v) c) m) k, l, store-place, i)) (corePlace c) 42 f

@@ -5,7 +5,7 @@ ghost use lib.ListN.{length};
 ghost use Rattle.model.specs.Card.{coreOf, withCore};
 ghost use Rattle.model.specs.Commit.{coreStored};
 ghost use Rattle.model.specs.declared.Card.{Card};
-ghost use Rattle.cells.specs.Cells.{corePlace};
+ghost use Rattle.cells.specs.Cells.{coreSize, corePlace};
 ghost use Rattle.cells.specs.Changes.{Changed};
 use cells::HOMED;
 use cells::STORED;
@@ -20,10 +20,10 @@ use cells::put_numbers;
 
 // One more store of core c done; with the commit stored its transaction is committed, and its record counts as used.
 pub fn count_store(w: &mut [u64], c: u8)
-    requires { ⌜ (length (now w) ≡ 512) × (c < 8) ⌝ }
+    requires { ⌜ (length (now w) ≡ 423) × (c < 8) ⌝ }
     ensures { λ _. ⌜
         Changed (λ (x : Card). withCore x c (coreStored (coreOf x c)))
-        (now (w .entry)) (now (w .exit)) (corePlace c) 52
+        (now (w .entry)) (now (w .exit)) (corePlace c) coreSize
         ⌝ }
 {
     let at = core_place(c);

@@ -20,7 +20,7 @@ use model::Shape;
 
 // Only a core with a closed transaction that is not committed yet has something to store.
 fn store_refusal(w: &[u64], c: u8, disk: &[u8], memory: &[u8]) -> u8
-    requires { ⌜ length (now w) ≡ 512 ⌝ }
+    requires { ⌜ length (now w) ≡ 423 ⌝ }
     ensures { λ r. ⌜
         r ≡ refusal (storeConditions c (worldIn (now (w .entry)) (now (disk .entry)) (now (memory .entry))))
         ⌝ }
@@ -37,7 +37,7 @@ fn store_refusal(w: &[u64], c: u8, disk: &[u8], memory: &[u8]) -> u8
 
 // STORE: the next block of the core's closed transaction goes to its journal.
 pub fn store(w: &mut [u64], core: u8, disk: &mut [u8], memory: &[u8]) -> Answer
-    requires { ⌜ length (now w) ≡ 512 ⌝ }
+    requires { ⌜ length (now w) ≡ 423 ⌝ }
     ensures { λ r. ⌜
         Meets (storeNext core (worldIn (now (w .entry)) (now (disk .entry)) (now (memory .entry))))
         (now (w .entry)) (now (w .exit)) (now (disk .exit)) (now (memory .entry)) r

@@ -3,15 +3,14 @@ ghost use mathlib.Core.Path.{_≡_};
 ghost use Prim.Native.Nat.{_+_, _≤_, _<_};
 ghost use lib.ListN.{length};
 ghost use Rattle.model.specs.Bytes.{blockAt};
-ghost use Rattle.model.specs.Card.{taken, listed, coreOf};
+ghost use Rattle.model.specs.Card.{taken, highestOf, coreOf};
 ghost use Rattle.model.specs.Layout.{descriptorBlock, commitBlock, escaped};
 ghost use Rattle.model.specs.Commit.{copyBlock, copyTags, closedNumber, nextStored, nextPosition};
 ghost use Rattle.model.specs.Limits.{blockSize, memorySize, maxTaken};
-ghost use Rattle.cells.specs.Cells.{transactionIn, cardIn};
+ghost use Rattle.cells.specs.Cells.{transactionSize, transactionIn, cardIn};
 use cells::BLOCKS;
 use cells::COUNT;
-use cells::NAMED;
-use cells::NAMES;
+use cells::HIGHEST;
 use cells::STAMP;
 use cells::STORED;
 use cells::USED;
@@ -19,17 +18,15 @@ use cells::block_count;
 use cells::byte_in;
 use cells::closed_place;
 use cells::core_place;
-use cells::name_of;
 use cells::number_in;
 use cells::tail_at;
 use close::copy_at;
 use close::flags_of;
-use model::Name;
 use model::Shape;
 
 // The number of core c's closed transaction: CLOSE moved the count on. Only a card that no run made has the count at 0.
 fn closed_number(w: &[u64], c: u8) -> u32
-    requires { ⌜ (length (now w) ≡ 512) × (c < 8) ⌝ }
+    requires { ⌜ (length (now w) ≡ 423) × (c < 8) ⌝ }
     ensures { λ r. ⌜ r ≡ closedNumber (coreOf (cardIn (now (w .entry))) c) ⌝ }
 {
     let next = number_in(w, core_place(c));
@@ -41,7 +38,7 @@ fn closed_number(w: &[u64], c: u8) -> u32
 
 // The blocks of the transaction at a place, as a value.
 fn blocks_of(w: &[u64], at: usize) -> [u8; Shape::MAX_TAKEN]
-    requires { ⌜ (length (now w) ≡ 512) × (at + 24 ≤ 512) ⌝ }
+    requires { ⌜ (length (now w) ≡ 423) × (at + transactionSize ≤ 423) ⌝ }
     ensures { λ r. ⌜ r ≡ (transactionIn (now (w .entry)) at) .blocks ⌝ }
 {
     let mut blocks = [0u8; Shape::MAX_TAKEN];
@@ -53,24 +50,24 @@ fn blocks_of(w: &[u64], at: usize) -> [u8; Shape::MAX_TAKEN]
     blocks
 }
 
-// Its names, as a value.
-fn names_of(w: &[u64], at: usize) -> [Name; Shape::MAX_NAMES]
-    requires { ⌜ (length (now w) ≡ 512) × (at + 24 ≤ 512) ⌝ }
-    ensures { λ r. ⌜ r ≡ (transactionIn (now (w .entry)) at) .names ⌝ }
+// The highest number of each core that the transaction at a place names, as a value.
+fn highest_of(w: &[u64], at: usize) -> [u32; 8]
+    requires { ⌜ (length (now w) ≡ 423) × (at + transactionSize ≤ 423) ⌝ }
+    ensures { λ r. ⌜ r ≡ (transactionIn (now (w .entry)) at) .highest ⌝ }
 {
-    let mut names = [Name { core: 0, number: 0 }; Shape::MAX_NAMES];
-    let mut i: usize = 0;
-    while i < Shape::MAX_NAMES {
-        names[i] = name_of(w[at + NAMES + i]);
-        i += 1;
+    let mut highest = [0u32; 8];
+    let mut c: usize = 0;
+    while c < 8 {
+        highest[c] = number_in(w, at + HIGHEST + c);
+        c += 1;
     }
-    names
+    highest
 }
 
 // The descriptor of the closed transaction of core c, which stands at the place given.
 fn write_first(block: &mut [u8], w: &[u64], at: usize, number: u32, c: u8, memory: &[u8])
     requires { ⌜
-        (length (now block) ≡ blockSize) × (length (now w) ≡ 512) × (at + 24 ≤ 512) × (length (now memory) ≡ memorySize) × (c < 8)
+        (length (now block) ≡ blockSize) × (length (now w) ≡ 423) × (at + transactionSize ≤ 423) × (length (now memory) ≡ memorySize) × (c < 8)
         ⌝ }
     ensures { λ _. ⌜
         now (block .exit) ≡ descriptorBlock number (copyTags c (taken (transactionIn (now (w .entry)) at)) (now (memory .entry)))
@@ -93,21 +90,20 @@ fn write_copy(block: &mut [u8], c: u8, i: usize, memory: &[u8])
 
 // The commit of the transaction at a place.
 fn write_last(block: &mut [u8], w: &[u64], at: usize, number: u32)
-    requires { ⌜ (length (now block) ≡ blockSize) × (length (now w) ≡ 512) × (at + 24 ≤ 512) ⌝ }
+    requires { ⌜ (length (now block) ≡ blockSize) × (length (now w) ≡ 423) × (at + transactionSize ≤ 423) ⌝ }
     ensures { λ _. ⌜
         (let t = transactionIn (now (w .entry)) at in
-        now (block .exit) ≡ commitBlock number (t .stamp) (listed t))
+        now (block .exit) ≡ commitBlock number (t .stamp) (highestOf t))
         ⌝ }
 {
-    let names = names_of(w, at);
-    let named = byte_in(w, at + NAMED);
+    let highest = highest_of(w, at);
     let stamp = w[at + STAMP];
-    layout::write_commit(block, number, stamp, named, names);
+    layout::write_commit(block, number, stamp, highest);
 }
 
 // What is stored next: the descriptor, then the copies in the order taken, then the commit.
 pub fn write_next(block: &mut [u8], w: &[u64], c: u8, memory: &[u8])
-    requires { ⌜ (length (now block) ≡ blockSize) × (length (now w) ≡ 512) × (length (now memory) ≡ memorySize) × (c < 8) ⌝ }
+    requires { ⌜ (length (now block) ≡ blockSize) × (length (now w) ≡ 423) × (length (now memory) ≡ memorySize) × (c < 8) ⌝ }
     ensures { λ _. ⌜
         now (block .exit) ≡ nextStored c (coreOf (cardIn (now (w .entry))) c) (now (memory .entry))
         ⌝ }
@@ -128,7 +124,7 @@ pub fn write_next(block: &mut [u8], w: &[u64], c: u8, memory: &[u8])
 
 // The position of what is stored next: records follow one another from the tail.
 pub fn next_position(w: &[u64], c: u8) -> usize
-    requires { ⌜ (length (now w) ≡ 512) × (c < 8) ⌝ }
+    requires { ⌜ (length (now w) ≡ 423) × (c < 8) ⌝ }
     ensures { λ r. ⌜ r ≡ nextPosition (cardIn (now (w .entry))) c ⌝ }
 {
     let t = tail_at(w, c);

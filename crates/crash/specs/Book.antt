@@ -57,7 +57,7 @@ stageCount (closed n) = n
 stageCount (committed n) = n
 stageCount retired = 0
 
--- a transaction in the book: the blocks that it took, in order, the names in its list, how far it has come
+-- a transaction in the book: the blocks that it took, in order, all names in its list, how far it has come
 pub record Entry : Type 0 where
   pub blocks : List ℕ
   pub names : List Name

@@ -19,9 +19,10 @@ use Rattle.model.specs.Journal.{journal, nameOf, blocksOf, namesOf, imageOf}
 use Rattle.model.specs.Shrink.{Within, DependsOn}
 use Rattle.model.specs.Command.{Outcome, refusal, refusedWith, World}
 use Rattle.model.specs.Tape.{Command, RECOVER, whole, TapeStep, Point, run, heard}
-use Rattle.model.specs.Format.{formatted}
-use Rattle.model.specs.Recovery.{shapeOn, tailOn}
+use Rattle.model.specs.Format.{formattedDisk}
+use Rattle.model.specs.Recovery.{shapeOn, tailOn, layoutOn}
 use Rattle.model.specs.Reading.{Reader, readNumber}
+use Rattle.model.specs.declared.CommitLayout.{CommitLayout}
 use Rattle.model.specs.declared.Committed.{Committed}
 use Rattle.model.specs.declared.Shape.{Shape}
 use Rattle.model.specs.declared.Name.{Name}
@@ -37,19 +38,20 @@ IsBytes s = all (λ (x : ℕ). ltb x 256) s ≡ true
 abbrev pub OnRuns : {S W : Type 0} → (S → Type 0) → (S → W) → TapeStep W → (S → List (Point W) → Type 0) → Type 0
 OnRuns {S} Fits start f Holds = (tape : Bytes) → IsBytes tape → (s : S) → Fits s → Holds s (run f tape (start s))
 
--- the starts: a blank card over disk and memory, and a card that is down over a disk as FORMAT leaves it, and memory
+-- three starts: a blank card over disk and memory; a card that is down over a disk as FORMAT leaves it, and over one as it left it before
+-- request (d), with 0 in bytes 8 to 11 of the master, and memory
 pub data Start : Type 0 where
   from-blank : Bytes → Bytes → Start
-  from-down : Shape → Bytes → Start
+  from-down : CommitLayout → Shape → Bytes → Start
 
 unfoldable pub startWorld : Start → World
 startWorld (from-blank d m) = record { card = blankCard; disk = d; memory = m }
-startWorld (from-down s m) = record { card = downCard; disk = (formatted s) .world .disk; memory = m }
+startWorld (from-down y s m) = record { card = downCard; disk = formattedDisk y s; memory = m }
 
 -- 'over slices of the stated lengths'; a shape that FORMAT takes
 abbrev pub Stated : Start → Type 0
 Stated (from-blank d m) = (length d ≡ diskSize) × (length m ≡ memorySize)
-Stated (from-down s m) = (inRange (s .cores) (s .blocks) (s .journal) ≡ true) × (length m ≡ memorySize)
+Stated (from-down y s m) = (inRange (s .cores) (s .blocks) (s .journal) ≡ true) × (length m ≡ memorySize)
 
 -- 'and any content'
 pub record StartFits (s : Start) : Type 0 where
@@ -60,11 +62,11 @@ pub record StartFits (s : Start) : Type 0 where
 -- the service book and the ledger there; a card down over a formatted disk is as after a cut
 unfoldable pub startService : Order → Start → Service
 startService o (from-blank d m) = emptyService o 0
-startService o (from-down s m) = emptyService o (s .blocks)
+startService o (from-down y s m) = emptyService o (s .blocks)
 
 unfoldable pub startLedger : Order → Start → Ledger
 startLedger o (from-blank d m) = blankLedger o
-startLedger o (from-down s m) = cutLedger (freshLedger o s [] (λ (c : ℕ). 1))
+startLedger o (from-down y s m) = cutLedger (freshLedger o s [] (λ (c : ℕ). 1))
 
 -- ---- demand 3
 -- 'every RECOVER that is carried out and leaves the card up (reading met 22 before it and no longer does)'
@@ -87,7 +89,8 @@ AreaKept v [] = Unit {0}
 AreaKept v (p ∷ ps) =
     (ComesUp p → homeArea (v .blocks) (p .outcome .world) ≡ bookArea (fedPoint p v)) × AreaKept (fedPoint p v) ps
 
--- Demand 3. 'What a cut brings back is claimed for tapes run under one of the two rules throughout.'
+-- Demand 3. 'What a cut brings back is claimed for tapes run under one of the two rules throughout.' Since request (d) it is shown for
+-- `in-sequence` alone
 abbrev pub Claim : Order → TapeStep World → Type 0
 Claim o f = OnRuns StartFits startWorld f (λ (s : Start) (ps : List (Point World)). AreaKept (startService o s) ps)
 
@@ -96,15 +99,16 @@ unfoldable pub enteredPoint : Point World → Ledger → Ledger
 enteredPoint p l = heard entered (p .read) (p .outcome .answer) l
 
 -- a record as it is read
-unfoldable pub readAs : Shape → Bytes → Committed → Stored
-readAs s d e =
-    record { name = nameOf e; blocks = blocksOf s d e; images = map (imageOf s d e) (below (e .count)); stamp = e .stamp; names = namesOf s d e }
+unfoldable pub readAs : CommitLayout → Shape → Bytes → Committed → Stored
+readAs y s d e =
+    record { name = nameOf e; blocks = blocksOf s d e; images = map (imageOf s d e) (below (e .count)); stamp = e .stamp; names = namesOf y s d e }
 
--- demand 2: a journal is read as exactly the transactions stored whole since its tail
+-- demand 2: a journal is read as exactly the transactions stored whole since its tail, with their highest names. (Where the disk is of the
+-- older layout, none is stored yet.)
 pub record JournalsRead (l : Ledger) (d : Bytes) : Type 0 where
   pub shape : shapeOn d ≡ l .shape
   pub tails : (c : ℕ) → c < l .shape .cores → (tailOn d c) .number ≡ l .book .oldest c
-  pub records : (c : ℕ) → c < l .shape .cores → map (readAs (l .shape) d) (journal (l .shape) d c (tailOn d c) (l .shape .journal)) ≡ storedSince l c
+  pub records : (c : ℕ) → c < l .shape .cores → map (readAs (layoutOn d) (l .shape) d) (journal (layoutOn d) (l .shape) d c (tailOn d c) (l .shape .journal)) ≡ storedSince l c
 
 -- what holds before every command and after the last; so the card comes up 'with the one master store that RECOVER's rule above
 -- puts next after the last home store'

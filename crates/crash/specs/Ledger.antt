@@ -1,21 +1,22 @@
 -- The ledger: the history of transactions with the card's own numbers, kept from commands and answers alone. It is no
--- part of paper 01; in its words the conditions 24 to 33, the content of the journals and the course of recovery are
+-- part of paper 01; in its words the conditions 25 to 33, the content of the journals and the course of recovery are
 -- stated without the card's state.
 use Prim.Native.Nat.{ℕ, zero, suc, _+_, _-_, _%_, min}
 use mathlib.Core.List.{List, [], _∷_, _++_, map}
 use mathlib.Core.Bool.{Bool, cond, not, _&&_, _||_}
 use lib.ListN.{length, getD}
 use lib.Dec.{ltb, leb, eqb}
-use Rattle.model.specs.Limits.{maxNames, maxTaken, maxNumber, maxOffset}
+use Rattle.model.specs.Limits.{maxTaken, maxNumber, maxOffset}
 use Rattle.model.specs.Lists.{below, all, any, select}
-use Rattle.model.specs.Bytes.{Bytes, store, zeroDisk, replaced, zeroMemory}
+use Rattle.model.specs.Bytes.{Bytes, store, replaced, zeroMemory}
 use Rattle.model.specs.Card.{newTail, newName, sameName, isBlank, isUp, isDown}
 use Rattle.model.specs.Shape.{inRange, homeBlock, journalBlock, newShape}
 use Rattle.model.specs.Checkpoint.{share}
-use Rattle.model.specs.Layout.{masterBlock, Tag, newTag, descriptorBlock, commitBlock, flagOf, escaped}
+use Rattle.model.specs.Layout.{masterBlock, Tag, newTag, descriptorBlock, commitBlock, highestIn, namesFrom, flagOf, escaped}
+use Rattle.model.specs.Format.{formattedDisk}
 use Rattle.model.specs.Recovery.{tailOn}
 use Rattle.model.specs.Shrink.{shrink}
-use Rattle.crash.specs.Book.{Book, Write, isClosed, isCommitted, isRetired, stageCount, emptyBook, requiredIn, hasRunning, hasClosed, hasCommitted, bookHolder, Meeting, no-holder, own, running-holder, closed-holder, meets, writeBook, closeBook, keptWrites, image, blank}
+use Rattle.crash.specs.Book.{Book, Write, isClosed, isCommitted, isRetired, stageCount, emptyBook, requiredIn, hasRunning, hasClosed, hasCommitted, writeBook, closeBook, keptWrites, image, blank}
 use Rattle.crash.specs.Service.{noted}
 use Rattle.model.specs.Tape.{CHECKPOINT, CLOSE, CUT, Command, FORMAT, RECOVER, Read, STORE, WRITE, early, unknown, whole}
 use Rattle.model.specs.Commit.{copyBlock}
@@ -26,6 +27,7 @@ use Rattle.model.specs.declared.Name.{Name}
 use Rattle.model.specs.declared.Phase.{Phase}
 use Rattle.model.specs.declared.Phase.the-variants.{Blank, Up, Down}
 use Rattle.model.specs.declared.Shape.{Shape}
+use Rattle.model.specs.declared.CommitLayout.the-variants.{Numbers}
 
 pub record Ledger : Type 0 where
   pub shape : Shape
@@ -159,7 +161,7 @@ entered k zero l = carriedOut k l
 entered k (suc n) l = l
 
 -- ---- what the journals hold
--- a transaction stored whole
+-- a transaction stored whole: paper 02, (d), of its list the highest number of each core
 pub record Stored : Type 0 where
   pub name : Name
   pub blocks : List ℕ
@@ -170,7 +172,7 @@ pub record Stored : Type 0 where
 unfoldable pub storedOf : Ledger → Name → Stored
 storedOf l t =
     let e = l .book .entry t in
-    record { name = t; blocks = e .blocks; images = l .images t; stamp = l .stamp t; names = e .names }
+    record { name = t; blocks = e .blocks; images = l .images t; stamp = l .stamp t; names = namesFrom (highestIn (e .names)) }
 
 -- core c's transactions stored whole since its tail, in order of number
 unfoldable pub storedSince : Ledger → ℕ → List Stored
@@ -178,7 +180,7 @@ storedSince l c = map (λ (i : ℕ). storedOf l (newName c (l .book .oldest c + 
 
 -- ---- the bytes that a command carried out stores
 -- a transaction's blocks with their flags, and the blocks of its record in the order stored: 'descriptor, data in the
--- order taken, commit'
+-- order taken, commit', which has the highest number named of each core
 unfoldable pub recordTags : Ledger → Name → List Tag
 recordTags l t =
     let bs = (l .book .entry t) .blocks in
@@ -187,7 +189,7 @@ recordTags l t =
 unfoldable pub recordOf : Ledger → Name → List Bytes
 recordOf l t =
     descriptorBlock (t .number) (recordTags l t)
-    ∷ (map escaped (l .images t) ++ (commitBlock (t .number) (l .stamp t) ((l .book .entry t) .names) ∷ []))
+    ∷ (map escaped (l .images t) ++ (commitBlock (t .number) (l .stamp t) (highestIn ((l .book .entry t) .names)) ∷ []))
 
 -- 'blocks of the records of .. transactions': of n of core c, from number i on
 unfoldable pub recordBlocks : Book → ℕ → ℕ → ℕ → ℕ
@@ -213,17 +215,17 @@ checkpointStored c l d =
     let t = newName c (l .book .oldest c) in
     let e = l .book .entry t in
     let m = stageCount (e .stage) in
-    cond (ltb m (length (e .blocks))) (store d (homeBlock (getD (e .blocks) m 0)) (getD (l .images t) m [])) (store d 0 (masterBlock (l .shape) (tailsPast c l d)))
+    cond (ltb m (length (e .blocks))) (store d (homeBlock (getD (e .blocks) m 0)) (getD (l .images t) m [])) (store d 0 (masterBlock Numbers (l .shape) (tailsPast c l d)))
 
 -- RECOVER: the lowest block left gets the bytes that the kept writes give it; where none is left, 'one master store
 -- empties all journals'
 unfoldable pub recoverStored : List ℕ → Ledger → Bytes → Bytes
-recoverStored [] l d = store d 0 (masterBlock (l .shape) (λ (c : ℕ). newTail (firstNumber l c) 0))
+recoverStored [] l d = store d 0 (masterBlock Numbers (l .shape) (λ (c : ℕ). newTail (firstNumber l c) 0))
 recoverStored (b ∷ bs) l d = store d (homeBlock b) (image blank (keptWrites (l .book) ++ l .saved) b)
 
 -- the disk after a command carried out
 unfoldable pub diskAfter : Command → Ledger → Bytes → Bytes
-diskAfter (FORMAT c b j) l d = store zeroDisk 0 (masterBlock (newShape c b j) (λ (i : ℕ). newTail 1 0))
+diskAfter (FORMAT c b j) l d = formattedDisk Numbers (newShape c b j)
 diskAfter (WRITE c b o v) l d = d
 diskAfter (CLOSE c) l d = d
 diskAfter (STORE c) l d = recordStored c l d
@@ -258,16 +260,6 @@ memoryAfter CUT l m = zeroMemory
 memoryAfter RECOVER l m = m
 
 -- ---- the conditions of the refusals, in the order of section 'Refusals'
--- '24 a list, the writer's or the holder's, would pass 12 names'
-unfoldable pub namesCount : Book → Name → ℕ
-namesCount k t = length ((k .entry t) .names)
-
-unfoldable pub holderNames : Book → Meeting → ℕ
-holderNames k no-holder = 0
-holderNames k own = 0
-holderNames k (running-holder u) = namesCount k u
-holderNames k (closed-holder u) = 0
-
 -- '20 blank', '22 down', '5 core not below C'
 abbrev pub notUpFor : ℕ → Ledger → List (Bool × ℕ) → List (Bool × ℕ)
 notUpFor c l rest = (isBlank (l .phase), 20) ∷ (isDown (l .phase), 22) ∷ (leb (l .shape .cores) c, 5) ∷ rest
@@ -275,13 +267,7 @@ notUpFor c l rest = (isBlank (l .phase), 20) ∷ (isDown (l .phase), 22) ∷ (le
 unfoldable pub formatRefusals : ℕ → ℕ → ℕ → Ledger → List (Bool × ℕ)
 formatRefusals c b j l = (not (isBlank (l .phase)), 21) ∷ (not (inRange c b j), 4) ∷ []
 
--- of a WRITE by core c into block b, which makes the book k the book after
-unfoldable pub namesPass : ℕ → ℕ → Book → Book → Bool
-namesPass c b k after =
-    let t = newName c (k .next c) in
-    ltb maxNames (namesCount after t) || ltb maxNames (holderNames after (meets k t (bookHolder k b (k .writes))))
-
--- the blocks that its transaction then has
+-- the blocks that core c's transaction has after a WRITE, which makes the book k the book after
 unfoldable pub blocksAfter : ℕ → Book → Book → ℕ
 blocksAfter c k after = length ((after .entry (newName c (k .next c))) .blocks)
 
@@ -294,6 +280,7 @@ journalPasses c s k after = ltb (s .journal) (recordBlocks k c (k .oldest c) (k 
 unfoldable pub numberPasses : ℕ → Book → Bool
 numberPasses c k = not (hasRunning k c) && ltb maxNumber (k .next c)
 
+-- paper 02, (d): 'Refusal 24 can no longer occur'; a list may pass 12 names
 unfoldable pub writeRefusals : ℕ → ℕ → ℕ → Bytes → Ledger → List (Bool × ℕ)
 writeRefusals c b o v l =
     let k = l .book in
@@ -301,7 +288,6 @@ writeRefusals c b o v l =
     notUpFor c l
     ((leb (l .shape .blocks) b, 6)
     ∷ (ltb maxOffset o, 7)
-    ∷ (namesPass c b k after, 24)
     ∷ (ltb maxTaken (blocksAfter c k after), 25)
     ∷ (journalPasses c (l .shape) k after, 26)
     ∷ (numberPasses c k, 27)

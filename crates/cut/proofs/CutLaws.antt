@@ -15,7 +15,7 @@ use Rattle.cells.proofs.MeetLaws.{meets-refused, meets-done}
 pub cut-first : (w : World) (n : ℕ) → n ≡ phaseRefusal w 20 0 0 → n ≡ refusal (cutConditions w)
 cut-first w n e = e ∙ cut-numbers w
 
-module _ (v : List ℕ) (d m : Bytes) (l : length v ≡ 512) (n : ℕ) (e : n ≡ refusal (cutConditions (worldIn v d m))) where
+module _ (v : List ℕ) (d m : Bytes) (l : length v ≡ 423) (n : ℕ) (e : n ≡ refusal (cutConditions (worldIn v d m))) where
   pub cut-refused : (n ≡ 0 → ⊥) → Meets (cut (worldIn v d m)) v v d m (newAnswer n 0)
   unfolding cut
   cut-refused h = meets-refused (cutConditions (worldIn v d m)) v d m _ l n e h
@@ -26,9 +26,9 @@ module _ (v : List ℕ) (d m : Bytes) (l : length v ≡ 512) (n : ℕ) (e : n �
       let c = none-held (cutConditions (worldIn v d m)) (worldIn v d m) (unstored (worldIn v d m) downCard zeroMemory) n e h (omega arith, (omega arith, tt)) in
       right-lengths (worldIn v d m) (c .0) .1
 
-  pub cut-done : n ≡ 0 → (k : Bytes) → k ≡ replicate (length m) 0 → (w : List ℕ) → cardIn w ≡ downCard → Frame v w 0 512 → Meets (cut (worldIn v d m)) v w d k (newAnswer 0 0)
+  pub cut-done : n ≡ 0 → (k : Bytes) → k ≡ replicate (length m) 0 → (w : List ℕ) → cardIn w ≡ downCard → Frame v w 0 423 → Meets (cut (worldIn v d m)) v w d k (newAnswer 0 0)
   unfolding cut
   cut-done h k q w p f =
       meets-done (cutConditions (worldIn v d m)) v d m (unstored (worldIn v d m) downCard zeroMemory) l n e h w d k 0
       (rw (p, q, zero-memory m (memory-long h)))
-      0 512 f
+      0 423 f

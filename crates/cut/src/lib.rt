@@ -12,7 +12,7 @@ use layout::zero_all;
 
 // A card that is down is cut like one that is up.
 fn cut_refusal(w: &[u64], disk: &[u8], memory: &[u8]) -> u8
-    requires { ⌜ length (now w) ≡ 512 ⌝ }
+    requires { ⌜ length (now w) ≡ 423 ⌝ }
     ensures { λ r. ⌜ r ≡ refusal (cutConditions (worldIn (now (w .entry)) (now (disk .entry)) (now (memory .entry)))) ⌝ }
 {
     phase_refusal(w, disk, memory, 20, 0, 0)
@@ -20,7 +20,7 @@ fn cut_refusal(w: &[u64], disk: &[u8], memory: &[u8]) -> u8
 
 // CUT.
 pub fn cut(w: &mut [u64], disk: &[u8], memory: &mut [u8]) -> Answer
-    requires { ⌜ length (now w) ≡ 512 ⌝ }
+    requires { ⌜ length (now w) ≡ 423 ⌝ }
     ensures { λ r. ⌜
         Meets (cut (worldIn (now (w .entry)) (now (disk .entry)) (now (memory .entry))))
         (now (w .entry)) (now (w .exit)) (now (disk .entry)) (now (memory .exit)) r

@@ -19,7 +19,9 @@ use Rattle.model.specs.Write.{written}
 use Rattle.model.specs.Commit.{closed, stored}
 use Rattle.model.specs.Checkpoint.{committedOf, oldest, storedHome, storedMaster, checkpointed}
 use Rattle.model.specs.Valid.{in-sequence}
-use Rattle.model.specs.Recovery.{blocksLeft, recoverStep, recovered}
+use Rattle.model.specs.Recovery.{layoutOn, blocksLeft, recoverStep, recoveredBy, recovered}
+use Rattle.model.specs.declared.CommitLayout.{CommitLayout}
+use Rattle.model.specs.declared.CommitLayout.the-variants.{Numbers}
 use Rattle.model.proofs.Command.{command-decided}
 use Rattle.model.specs.Lists.{all}
 use Rattle.model.specs.Step.{doneBy, doneOn, stepAt}
@@ -78,10 +80,10 @@ module _ (t : Bytes) where
   ended (one-more k e r) l = absurd (omega arith)
 
 -- ---- no run reaches the largest count: a command stores one block at most, and takes one byte of the tape at least
-recoverStep-stores : (bs : List ℕ) (w : World) → (recoverStep in-sequence bs w) .stores ≤ 1
+recoverStep-stores : (y z : CommitLayout) (bs : List ℕ) (w : World) → (recoverStep in-sequence y z bs w) .stores ≤ 1
 unfolding recoverStep
-recoverStep-stores [] w = omega arith
-recoverStep-stores (b ∷ bs) w = omega arith
+recoverStep-stores y z [] w = omega arith
+recoverStep-stores y z (b ∷ bs) w = omega arith
 
 checkpointed-stores : (c : ℕ) (w : World) → (checkpointed c w) .stores ≤ 1
 unfolding checkpointed storedHome storedMaster
@@ -90,14 +92,14 @@ checkpointed-stores c w =
     cases (ltb ((coreOf (w .card) c) .homed) (e .count)) (λ h. rw h (omega arith)) (λ h. rw h (omega arith))
 
 done-stores : (k : Command) (w : World) → (doneBy in-sequence k w) .stores ≤ 1
-unfolding doneBy formatted written closed stored recovered
+unfolding doneBy formatted written closed stored recovered recoveredBy
 done-stores (FORMAT c b j) w = omega arith
 done-stores (WRITE c b o v) w = omega arith
 done-stores (CLOSE c) w = omega arith
 done-stores (STORE c) w = omega arith
 done-stores (CHECKPOINT c) w = checkpointed-stores c w
 done-stores CUT w = omega arith
-done-stores RECOVER w = recoverStep-stores (blocksLeft in-sequence w) w
+done-stores RECOVER w = recoverStep-stores (layoutOn (w .disk)) Numbers (blocksLeft in-sequence (layoutOn (w .disk)) w) w
 
 read-stores : (r : Read) (w : World) → (doneOn in-sequence r w) .stores ≤ 1
 unfolding doneOn
@@ -203,9 +205,9 @@ module _ (t : Bytes) (w : World) (tape-bytes : IsBytes t) (disk-bytes : IsBytes 
   pub demands-met : DemandsMet t w
   demands-met =
       record {
-        claim = from-start (λ (s : Start) (w : World) (ps : List (Point World)). AreaKept (startService in-sequence s) ps) (claim in-sequence);
-        demands = from-start (λ (s : Start) (w : World) (ps : List (Point World)). LedgerKept (startLedger in-sequence s) w ps) (demands in-sequence);
-        readings = from-start (λ (s : Start) (w : World) (ps : List (Point World)). ReadingsKept blockReader (startLedger in-sequence s) w ps) (readings in-sequence);
+        claim = from-start (λ (s : Start) (w : World) (ps : List (Point World)). AreaKept (startService in-sequence s) ps) claim;
+        demands = from-start (λ (s : Start) (w : World) (ps : List (Point World)). LedgerKept (startLedger in-sequence s) w ps) demands;
+        readings = from-start (λ (s : Start) (w : World) (ps : List (Point World)). ReadingsKept blockReader (startLedger in-sequence s) w ps) readings;
         largest = largest-kept;
         begins = λ s. kept-begins s (run stepAt t w);
       }

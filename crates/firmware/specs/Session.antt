@@ -48,8 +48,8 @@ unfoldable pub partIn : ℕ → World → Part
 partIn b w = let p = partOf b w in record { number = p .number; slice = p .slice; from = p .from; length = p .length }
 
 -- The demands, of the run of a tape from a world that is one of the starts: a blank card over slices of their lengths, or a card
--- that is down over a disk as FORMAT leaves it. Kept is the largest such set of every book, and at every point a
--- beginning of each core's run.
+-- that is down over a disk as FORMAT leaves it, or left it before request (d). Kept is the largest such set of every book, and at every
+-- point a beginning of each core's run.
 pub record DemandsMet (t : Bytes) (w : World) : Type 0 where
   pub claim : (s : Start) → Stated s → w ≡ startWorld s → AreaKept (startService in-sequence s) (run stepAt t w)
   pub demands : (s : Start) → Stated s → w ≡ startWorld s → LedgerKept (startLedger in-sequence s) w (run stepAt t w)

@@ -14,7 +14,7 @@ use model::Shape;
 
 // A card before its FORMAT.
 #[no_mangle]
-pub extern "C" fn rev_d_blank(w: &mut [u64; 512])
+pub extern "C" fn rev_d_blank(w: &mut [u64; 423])
     ensures { λ _. ⌜ now (w .exit) ≡ cellsOf blankCard 0 ⌝ }
 {
     crate::session::blank(w);
@@ -22,7 +22,7 @@ pub extern "C" fn rev_d_blank(w: &mut [u64; 512])
 
 // A card that is down, over a disk written elsewhere.
 #[no_mangle]
-pub extern "C" fn rev_d_down(w: &mut [u64; 512])
+pub extern "C" fn rev_d_down(w: &mut [u64; 423])
     ensures { λ _. ⌜ now (w .exit) ≡ cellsOf downCard 0 ⌝ }
 {
     crate::session::down(w);
@@ -31,7 +31,7 @@ pub extern "C" fn rev_d_down(w: &mut [u64; 512])
 // The command at an offset of a tape.
 #[no_mangle]
 pub extern "C" fn rev_d_command(
-    w: &mut [u64; 512],
+    w: &mut [u64; 423],
     tape: &[u8],
     at: usize,
     disk: &mut [u8],
@@ -48,7 +48,7 @@ pub extern "C" fn rev_d_command(
 // Every command of a tape.
 #[no_mangle]
 pub extern "C" fn rev_d_tape(
-    w: &mut [u64; 512],
+    w: &mut [u64; 423],
     tape: &[u8],
     disk: &mut [u8],
     memory: &mut [u8],
@@ -63,7 +63,7 @@ pub extern "C" fn rev_d_tape(
 
 // The number that reading block b answers, 0 for none.
 #[no_mangle]
-pub extern "C" fn rev_d_read_number(w: &[u64; 512], b: u16, disk: &[u8], memory: &[u8]) -> u8
+pub extern "C" fn rev_d_read_number(w: &[u64; 423], b: u16, disk: &[u8], memory: &[u8]) -> u8
     ensures { λ r. ⌜ r ≡ readNumber b (worldIn (now (w .entry)) (now (disk .entry)) (now (memory .entry))) ⌝ }
 {
     crate::session::read_number(w, b, disk, memory)
@@ -71,7 +71,7 @@ pub extern "C" fn rev_d_read_number(w: &[u64; 512], b: u16, disk: &[u8], memory:
 
 // Where the bytes of block b stand.
 #[no_mangle]
-pub extern "C" fn rev_d_read_part(w: &[u64; 512], b: u16, disk: &[u8], memory: &[u8]) -> Part
+pub extern "C" fn rev_d_read_part(w: &[u64; 423], b: u16, disk: &[u8], memory: &[u8]) -> Part
     ensures { λ r. ⌜ r ≡ partIn b (worldIn (now (w .entry)) (now (disk .entry)) (now (memory .entry))) ⌝ }
 {
     crate::session::read_part(w, b, disk, memory)
@@ -80,7 +80,7 @@ pub extern "C" fn rev_d_read_part(w: &[u64; 512], b: u16, disk: &[u8], memory: &
 // Block b copied into a lent buffer; a refusal touches no byte of it.
 #[no_mangle]
 pub extern "C" fn rev_d_read_block<'a>(
-    w: &[u64; 512],
+    w: &[u64; 423],
     b: u16,
     disk: &'a [u8],
     memory: &'a [u8],

@@ -1,4 +1,4 @@
-// The card's state in 512 lent cells, over the lent disk and memory. The type fixes the count of the cells, so nothing is asked for
+// The card's state in 423 lent cells, over the lent disk and memory. The type fixes the count of the cells, so nothing is asked for
 // and no refusal is new.
 ghost use mathlib.Core.Path.{_≡_};
 ghost use Rattle.model.specs.Card.{blankCard, downCard};
@@ -34,21 +34,21 @@ pub struct Part {
 }
 
 // A card before its FORMAT.
-pub fn blank(w: &mut [u64; 512])
+pub fn blank(w: &mut [u64; 423])
     ensures { λ _. ⌜ now (w .exit) ≡ cellsOf blankCard 0 ⌝ }
 {
     cells::blank(w);
 }
 
 // A card that is down, over a disk written elsewhere.
-pub fn down(w: &mut [u64; 512])
+pub fn down(w: &mut [u64; 423])
     ensures { λ _. ⌜ now (w .exit) ≡ cellsOf downCard 0 ⌝ }
 {
     cells::go_down(w);
 }
 
 // The stores counted so far.
-pub fn stores(w: &[u64; 512]) -> u64
+pub fn stores(w: &[u64; 423]) -> u64
     ensures { λ r. ⌜ r ≡ storesIn (now (w .entry)) ⌝ }
 {
     cells::stores_of(w)
@@ -56,7 +56,7 @@ pub fn stores(w: &[u64; 512]) -> u64
 
 // The command at an offset of a tape.
 pub fn command(
-    w: &mut [u64; 512],
+    w: &mut [u64; 423],
     tape: &[u8],
     at: usize,
     disk: &mut [u8],
@@ -77,21 +77,21 @@ pub fn command(
 }
 
 // The number that reading block b answers, 0 for none.
-pub fn read_number(w: &[u64; 512], b: u16, disk: &[u8], memory: &[u8]) -> u8
+pub fn read_number(w: &[u64; 423], b: u16, disk: &[u8], memory: &[u8]) -> u8
     ensures { λ r. ⌜ r ≡ readNumber b (worldIn (now (w .entry)) (now (disk .entry)) (now (memory .entry))) ⌝ }
 {
     reading::read_number(w, b, disk, memory)
 }
 
 // Block b handed on as a part of a lent slice, without copying.
-pub fn read_block<'a>(w: &[u64; 512], b: u16, disk: &'a [u8], memory: &'a [u8]) -> &'a [u8]
+pub fn read_block<'a>(w: &[u64; 423], b: u16, disk: &'a [u8], memory: &'a [u8]) -> &'a [u8]
     ensures { λ r. ⌜ now r ≡ readBlock b (worldIn (now (w .entry)) (now (disk .entry)) (now (memory .entry))) ⌝ }
 {
     reading::read_block(w, b, disk, memory)
 }
 
 // Where its bytes stand.
-pub fn read_part(w: &[u64; 512], b: u16, disk: &[u8], memory: &[u8]) -> Part
+pub fn read_part(w: &[u64; 423], b: u16, disk: &[u8], memory: &[u8]) -> Part
     ensures { λ r. ⌜ r ≡ partIn b (worldIn (now (w .entry)) (now (disk .entry)) (now (memory .entry))) ⌝ }
 {
     let p = reading::read_part(w, b, disk, memory);
@@ -105,7 +105,7 @@ pub fn read_part(w: &[u64; 512], b: u16, disk: &[u8], memory: &[u8]) -> Part
 
 // Block b copied into a lent buffer; a refusal touches no byte of it.
 pub fn copy_block<'a>(
-    w: &[u64; 512],
+    w: &[u64; 423],
     b: u16,
     disk: &'a [u8],
     memory: &'a [u8],
@@ -126,7 +126,7 @@ pub fn copy_block<'a>(
 }
 
 // Every command of a tape.
-pub fn run(w: &mut [u64; 512], tape: &[u8], disk: &mut [u8], memory: &mut [u8]) -> Stop
+pub fn run(w: &mut [u64; 423], tape: &[u8], disk: &mut [u8], memory: &mut [u8]) -> Stop
     ensures { λ r. ⌜
         RunsTape (now (tape .entry)) (now (w .entry)) (now (disk .entry)) (now (memory .entry))
         (now (w .exit)) (now (disk .exit)) (now (memory .exit)) r

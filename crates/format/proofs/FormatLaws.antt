@@ -7,9 +7,10 @@ use Rattle.model.specs.Shape.{inRange, checked, checkedAnswer, clamped}
 use Rattle.model.specs.Card.{isBlank, newTail, freshCard}
 use Rattle.model.specs.Layout.{masterBlock}
 use Rattle.model.specs.Command.{World, refusal, wrongLength}
-use Rattle.model.specs.Format.{formatConditions, formatted, format}
+use Rattle.model.specs.Format.{formatConditions, formattedDisk, formatted, format}
 use Rattle.model.specs.declared.Tail.{Tail}
 use Rattle.model.specs.declared.Shape.{Shape}
+use Rattle.model.specs.declared.CommitLayout.the-variants.{Numbers}
 use Rattle.model.specs.declared.Checked.{Checked}
 use Rattle.model.specs.declared.Checked.the-variants.{Fits, OutOfRange}
 use Rattle.model.specs.declared.Phase.the-variants.{Up}
@@ -61,22 +62,22 @@ firstTails = replicate 8 (newTail 1 0)
 first-tail : (i : ℕ) → i < 8 → getD firstTails i (newTail 0 0) ≡ newTail 1 0
 first-tail i h = getD-replicate 8 i (newTail 1 0) (newTail 0 0) h
 
-first-master : (s : Shape) → clamped s ≡ s → masterBlock (clamped s) (λ (c : ℕ). getD firstTails c (newTail 0 0)) ≡ masterBlock s (λ (c : ℕ). newTail 1 0)
+first-master : (s : Shape) → clamped s ≡ s → masterBlock Numbers (clamped s) (λ (c : ℕ). getD firstTails c (newTail 0 0)) ≡ masterBlock Numbers s (λ (c : ℕ). newTail 1 0)
 first-master s e =
     let r : InRange s = subst InRange e (clamped-range s) in
-    rw e (master-same s _ (λ (c : ℕ). newTail 1 0) (λ i h. first-tail i (omega arith)))
+    rw e (master-same Numbers s _ (λ (c : ℕ). newTail 1 0) (λ i h. first-tail i (omega arith)))
 
 -- what the code leaves: both slices zeroed, the master in block 0
 pub format-left : (s : Shape) → clamped s ≡ s
     → (d m : Bytes) → length d ≡ 32896 → length m ≡ 16384
-    → (d′ m′ b : Bytes) → d′ ≡ replicate (length d) 0 → m′ ≡ replicate (length m) 0 → b ≡ store d′ 0 (masterBlock (clamped s) (λ (c : ℕ). getD firstTails c (newTail 0 0)))
+    → (d′ m′ b : Bytes) → d′ ≡ replicate (length d) 0 → m′ ≡ replicate (length m) 0 → b ≡ store d′ 0 (masterBlock Numbers (clamped s) (λ (c : ℕ). getD firstTails c (newTail 0 0)))
     → (w : List ℕ) → cardIn w ≡ freshCard Up s firstTails
     → outcomeIn (newAnswer 0 0) w b m′ ≡ formatted s
-unfolding formatted
+unfolding formatted formattedDisk
 format-left s e d m dl ml d′ m′ b p q r w y = rw (r, p, q, y, zero-disk d dl, zero-memory m ml, first-master s e)
 
 -- ---- the command
-module _ (c b j : ℕ) (v : List ℕ) (d m : Bytes) (l : length v ≡ 512) (n : ℕ) (e : n ≡ refusal (notBlank (worldIn v d m))) where
+module _ (c b j : ℕ) (v : List ℕ) (d m : Bytes) (l : length v ≡ 423) (n : ℕ) (e : n ≡ refusal (notBlank (worldIn v d m))) where
   pub not-blank : (n ≡ 0 → ⊥) → Meets (format c b j (worldIn v d m)) v v d m (newAnswer n 0)
   unfolding format
   not-blank h = meets-refused (formatConditions c b j (worldIn v d m)) v d m _ l n (first-hit n _ _ e h ∙ format-stages c b j (worldIn v d m)) h
@@ -99,10 +100,10 @@ module _ (c b j : ℕ) (v : List ℕ) (d m : Bytes) (l : length v ≡ 512) (n : 
           meets-refused (formatConditions c b j (worldIn v d m)) v d m _ l 4
           (first-pass n 4 _ _ e h (rw (← q, o)) ∙ format-stages c b j (worldIn v d m)) (omega arith)
 
-      pub format-done : (s : Shape) → made ≡ Fits s → (w : List ℕ) (k a : Bytes) → outcomeIn (newAnswer 0 0) w k a ≡ formatted s → Frame v w 0 512
+      pub format-done : (s : Shape) → made ≡ Fits s → (w : List ℕ) (k a : Bytes) → outcomeIn (newAnswer 0 0) w k a ≡ formatted s → Frame v w 0 423
           → Meets (format c b j (worldIn v d m)) v w k a (newAnswer 0 0)
       unfolding format
       format-done s f w k a r g =
           meets-done (formatConditions c b j (worldIn v d m)) v d m _ l 0
           (first-pass n 0 _ _ e h (rw (← q, f)) ∙ format-stages c b j (worldIn v d m)) refl w k a 0
-          (r ∙ ap formatted (fits-range c b j s (sym f ∙ q) .1)) 0 512 g
+          (r ∙ ap formatted (fits-range c b j s (sym f ∙ q) .1)) 0 423 g

@@ -22,7 +22,7 @@ use model::Tail;
 
 // What FORMAT meets before its operands: a wrong length, a card that is not blank.
 fn blank_refusal(w: &[u64], disk: &[u8], memory: &[u8]) -> u8
-    requires { ⌜ length (now w) ≡ 512 ⌝ }
+    requires { ⌜ length (now w) ≡ 423 ⌝ }
     ensures { λ r. ⌜
         r ≡ refusal ((wrongLength (worldIn (now (w .entry)) (now (disk .entry)) (now (memory .entry))), 1)
         ∷ (not (isBlank ((cardIn (now (w .entry))) .phase)), 21) ∷ [])
@@ -33,10 +33,10 @@ fn blank_refusal(w: &[u64], disk: &[u8], memory: &[u8]) -> u8
 
 // The card comes up over zeroed slices and a master with empty journals. The shape is within its limits.
 fn set_up(w: &mut [u64], s: Shape, disk: &mut [u8], memory: &mut [u8])
-    requires { ⌜ (length (now w) ≡ 512) × (clamped s ≡ s) × (length (now disk) ≡ diskSize) × (length (now memory) ≡ memorySize) ⌝ }
+    requires { ⌜ (length (now w) ≡ 423) × (clamped s ≡ s) × (length (now disk) ≡ diskSize) × (length (now memory) ≡ memorySize) ⌝ }
     ensures { λ _. ⌜
         (outcomeIn (newAnswer 0 0) (now (w .exit)) (now (disk .exit)) (now (memory .exit)) ≡ formatted s)
-        × Frame (now (w .entry)) (now (w .exit)) 0 512
+        × Frame (now (w .entry)) (now (w .exit)) 0 423
         ⌝ }
 {
     zero_all(disk);
@@ -58,7 +58,7 @@ pub fn format(
     disk: &mut [u8],
     memory: &mut [u8],
 ) -> Answer
-    requires { ⌜ length (now w) ≡ 512 ⌝ }
+    requires { ⌜ length (now w) ≡ 423 ⌝ }
     ensures { λ r. ⌜
         Meets (format cores blocks journal (worldIn (now (w .entry)) (now (disk .entry)) (now (memory .entry))))
         (now (w .entry)) (now (w .exit)) (now (disk .exit)) (now (memory .exit)) r

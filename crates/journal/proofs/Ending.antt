@@ -10,6 +10,7 @@ use Rattle.model.specs.Bytes.{Bytes}
 use Rattle.model.specs.JournalEnds.{readRecord, endFrom, journalEnd}
 use Rattle.model.specs.declared.Shape.{Shape}
 use Rattle.model.specs.declared.Tail.{Tail}
+use Rattle.model.specs.declared.CommitLayout.{CommitLayout}
 use Rattle.model.specs.declared.Committed.{Committed}
 use Rattle.model.specs.declared.Found.the-variants.{Whole, Miss}
 use Rattle.model.specs.declared.RecordRead.{RecordRead}
@@ -37,28 +38,28 @@ end-found NoCommit h = refl
 
 -- ---- the walk to the end
 -- from both places the same end is found
-unfoldable pub SameEnd : Shape → Bytes → ℕ → Walk → Walk → Type 0
-SameEnd s d c v w = endFrom (w .most) s d c (w .number) (w .at) (w .left) ≡ endFrom (v .most) s d c (v .number) (v .at) (v .left)
+unfoldable pub SameEnd : CommitLayout → Shape → Bytes → ℕ → Walk → Walk → Type 0
+SameEnd y s d c v w = endFrom (w .most) y s d c (w .number) (w .at) (w .left) ≡ endFrom (v .most) y s d c (v .number) (v .at) (v .left)
 
-pub same-first : (s : Shape) (d : Bytes) (c : ℕ) (w : Walk) → SameEnd s d c w w
+pub same-first : (y : CommitLayout) (s : Shape) (d : Bytes) (c : ℕ) (w : Walk) → SameEnd y s d c w w
 unfolding SameEnd
-same-first s d c w = refl
+same-first y s d c w = refl
 
-module _ (s : Shape) (d : Bytes) (c : ℕ) (t : Tail) where
-  module _ (w : Walk) (a : SameEnd s d c (start s t (s .journal)) w) (r : RecordRead) (e : r ≡ readRecord s d c (w .number) (w .at) (w .left)) where
-    pub ends-here : foundBy r ≡ Miss → r ≡ journalEnd s d c t
+module _ (y : CommitLayout) (s : Shape) (d : Bytes) (c : ℕ) (t : Tail) where
+  module _ (w : Walk) (a : SameEnd y s d c (start s t (s .journal)) w) (r : RecordRead) (e : r ≡ readRecord y s d c (w .number) (w .at) (w .left)) where
+    pub ends-here : foundBy r ≡ Miss → r ≡ journalEnd y s d c t
     unfolding SameEnd journalEnd start
-    ends-here h = e ∙ sym (end-here s d c (w .number) (w .at) (w .left) (w .most) (sym (found-as s d c (w .number) (w .at) (w .left) r e) ∙ h)) ∙ a
+    ends-here h = e ∙ sym (end-here y s d c (w .number) (w .at) (w .left) (w .most) (sym (found-as y s d c (w .number) (w .at) (w .left) r e) ∙ h)) ∙ a
 
-    pub ends-last : w .most ≤ 0 → r ≡ journalEnd s d c t
+    pub ends-last : w .most ≤ 0 → r ≡ journalEnd y s d c t
     unfolding SameEnd journalEnd start endFrom
     ends-last h = let z : w .most ≡ 0 = omega arith in e ∙ (rw (z, endFrom) at a)
 
-    pub same-next : 0 < w .most → (x : Committed) → r ≡ Read x → (y : WalkStep) → y ≡ stepOf s w (Whole x) → SameEnd s d c (start s t (s .journal)) (y .next)
+    pub same-next : 0 < w .most → (x : Committed) → r ≡ Read x → (v : WalkStep) → v ≡ stepOf s w (Whole x) → SameEnd y s d c (start s t (s .journal)) (v .next)
     unfolding SameEnd stepOf
-    same-next h x z y q =
+    same-next h x z v q =
         let m : w .most ≡ suc (w .most - 1) = omega arith in
-        rw q (sym (ap (λ (n : ℕ). endFrom n s d c (w .number) (w .at) (w .left)) m ∙ end-on s d c (w .number) (w .at) (w .left) (w .most - 1) x (read-whole s d c (w .number) (w .at) (w .left) x (sym e ∙ z))) ∙ a)
+        rw q (sym (ap (λ (n : ℕ). endFrom n y s d c (w .number) (w .at) (w .left)) m ∙ end-on y s d c (w .number) (w .at) (w .left) (w .most - 1) x (read-whole y s d c (w .number) (w .at) (w .left) x (sym e ∙ z))) ∙ a)
 
 pub fewer : (s : Shape) (w : Walk) (x : Committed) (y : WalkStep) → y ≡ stepOf s w (Whole x) → 0 < w .most → y .next .most < w .most
 unfolding stepOf

@@ -3,7 +3,7 @@
 use Rattle.model.proofs.Base.{ℕ, zero, suc, _+_, _-_, _/_, _%_, _≤_, _<_, min, arith, decLt, add-one, add-zero, _≡_, refl, sym}
 use Rattle.model.proofs.Base.{ap, _∙_, Bool, true, false, cond, not, true≢false, List, [], _∷_, map, length, getD, length-map}
 use Rattle.model.proofs.Base.{List·getD-map, eqb, ltb, eq-eqb, ne-eqb, lt-ltb, le-ltb, ltb-true, below, any, Bytes}
-use Rattle.model.specs.Layout.{Tag, newTag, pairAt, pairsIn, tagsIn, blockCount, nameCount, stampIn}
+use Rattle.model.specs.Layout.{Tag, newTag, pairAt, pairsIn, tagsIn, blockCount, stampIn}
 use Rattle.model.specs.Journal.{journalAt, tagsOf, blocksOf, took}
 use Rattle.model.specs.Recovery.{placeOf}
 use Rattle.model.specs.declared.Shape.{Shape}
@@ -66,14 +66,14 @@ pub count-all : (s : Shape) (set : List ℕ) (a i n r : ℕ) → r ≡ filledFro
 count-all s set a i n r e p q = let z : i ≡ n = omega arith in e ∙ rw z
 
 -- ---- a transaction read
-pub entry-is : (s : Shape) (d : Bytes) (c k v n m x y st : ℕ) (b f : Bytes) → b ≡ journalAt s d c (v - 1) → x ≡ blockCount b → n ≡ min x 8
-    → f ≡ journalAt s d c (v - 1 + (n + 1)) → st ≡ stampIn f → y ≡ nameCount f → m ≡ min y 12
-    → _≡_ {A = Committed} (record { core = c; number = k; position = v - 1; count = n; stamp = st; named = m }) (entry s d c k v)
+pub entry-is : (s : Shape) (d : Bytes) (c k v n x st : ℕ) (b f : Bytes) → b ≡ journalAt s d c (v - 1) → x ≡ blockCount b → n ≡ min x 8
+    → f ≡ journalAt s d c (v - 1 + (n + 1)) → st ≡ stampIn f
+    → _≡_ {A = Committed} (record { core = c; number = k; position = v - 1; count = n; stamp = st }) (entry s d c k v)
 unfolding entry
-entry-is s d c k v n m x y st b f eb ex en ef es ey em =
+entry-is s d c k v n x st b f eb ex en ef es =
     let h : n ≡ min (blockCount (journalAt s d c (v - 1))) 8 = en ∙ rw (ex, eb) in
     let g : f ≡ journalAt s d c (v - 1 + (min (blockCount (journalAt s d c (v - 1))) 8 + 1)) = rw h at ef in
-    rw (em, ey, es, g, h)
+    rw (es, g, h)
 
 module _ (s : Shape) (d : Bytes) (set : List ℕ) (i v : ℕ) (e : v ≡ slotOf s set i) where
   pub found-none : v ≡ 0 → Miss ≡ foundAt s d [] set i
@@ -95,7 +95,7 @@ found-sized s d ks set i r e q h =
     let v = slotOf s set i in
     let w = whole-known (eqb v 0) (entry s d (i / 12) (getD ks (i / 12) 0 + i % 12) v) e (sym q ∙ h) in
     rw (← (w .1))
-    (record { core = slot-core s set i v refl (λ z. let y : _≡_ {A = Bool} true false = sym (eq-eqb v 0 z) ∙ w .0 in absurd (true≢false y)); few = omega arith; short = omega arith })
+    (record { core = slot-core s set i v refl (λ z. let y : _≡_ {A = Bool} true false = sym (eq-eqb v 0 z) ∙ w .0 in absurd (true≢false y)); few = omega arith })
 
 -- ---- the place of a block
 -- none of the first j is block b

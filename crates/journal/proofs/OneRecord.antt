@@ -4,15 +4,16 @@ use Rattle.model.proofs.Base.{ℕ, _+_, _-_, _*_, _≤_, _<_, arith, _≡_, ref
 use Rattle.model.proofs.Base.{drop, not, eq-eqb, ne-eqb, lt-ltb, le-ltb, ltb-false, Bytes}
 use Rattle.model.specs.Bytes.{blockAt, part}
 use Rattle.model.specs.Shape.{clamped, journalBlock}
-use Rattle.model.specs.Layout.{hasHead, blockCount, isCommit, stampIn, nameCount}
+use Rattle.model.specs.Layout.{hasHead, blockCount, isCommit, stampIn}
 use Rattle.model.specs.Journal.{journalAt}
 use Rattle.model.specs.JournalEnds.{lacksDescriptor, hasBadField, readRecord}
 use Rattle.model.specs.Limits.{maxTaken, maxNumber}
 use Rattle.model.specs.declared.Shape.{Shape}
+use Rattle.model.specs.declared.CommitLayout.{CommitLayout}
 use Rattle.model.specs.declared.RecordRead.the-variants.{Read, NoDescriptor, BadDescriptor, TooFewBlocks, NoCommit}
 use Rattle.model.proofs.Limits.{InRange, clamped-same}
 use Rattle.model.proofs.Lists.{or-none}
-use Rattle.model.proofs.Journal.{journal-low, commit-short}
+use Rattle.model.proofs.Journal.{journal-low}
 use Rattle.model.proofs.Records.{length-journalAt}
 use Rattle.journal.specs.declared.record.DescriptorRead.{DescriptorRead}
 use Rattle.journal.specs.declared.record.DescriptorRead.the-variants.{Blocks, BadField}
@@ -66,15 +67,12 @@ module _ (s : Shape) (b : Bytes) (r : Bool) (e : r ≡ hasBadField s b) where
     unfolding descriptorOf
     descriptor-is = rw (← e, h, q)
 
-module _ (s : Shape) (k : ℕ) (b : Bytes) (r : Bool) (e : r ≡ isCommit s k b) where
-  pub commit-fits : (n : ℕ) → r ≡ true → n ≡ nameCount b → n < 256
-  commit-fits n h q = omega (arith, commit-short s k b (sym e ∙ h))
-
-  pub commit-is : (x n : ℕ) → r ≡ true → x ≡ stampIn b → n ≡ nameCount b → Stamped x n ≡ commitOf s k b
+module _ (y : CommitLayout) (s : Shape) (k : ℕ) (b : Bytes) (r : Bool) (e : r ≡ isCommit y s k b) where
+  pub commit-is : (x : ℕ) → r ≡ true → x ≡ stampIn b → Stamped x ≡ commitOf y s k b
   unfolding commitOf
-  commit-is x n h p q = rw (← e, h, p, q)
+  commit-is x h p = rw (← e, h, p)
 
-  pub commit-none : r ≡ false → Unfit ≡ commitOf s k b
+  pub commit-none : r ≡ false → Unfit ≡ commitOf y s k b
   unfolding commitOf
   commit-none h = rw (← e, h)
 
@@ -87,49 +85,49 @@ bad-known : (t : Bool) (m : ℕ) → cond t BadField (Blocks m) ≡ BadField →
 bad-known false m e = let z : _≡_ {A = ℕ} 0 1 = cc in absurd (omega arith)
 bad-known true m e = refl
 
-stamped-known : (t : Bool) (m n x y : ℕ) → cond t (Stamped m n) Unfit ≡ Stamped x y → (t ≡ true) × (m ≡ x) × (n ≡ y)
-stamped-known true m n x y e = (refl, (cc), (cc))
-stamped-known false m n x y e = let z : _≡_ {A = ℕ} 0 1 = cc in absurd (omega arith)
+stamped-known : (t : Bool) (m x : ℕ) → cond t (Stamped m) Unfit ≡ Stamped x → (t ≡ true) × (m ≡ x)
+stamped-known true m x e = (refl, (cc))
+stamped-known false m x e = let z : _≡_ {A = ℕ} 0 1 = cc in absurd (omega arith)
 
-unfit-known : (t : Bool) (m n : ℕ) → cond t (Stamped m n) Unfit ≡ Unfit → t ≡ false
-unfit-known true m n e = let z : _≡_ {A = ℕ} 0 1 = cc in absurd (omega arith)
-unfit-known false m n e = refl
+unfit-known : (t : Bool) (m : ℕ) → cond t (Stamped m) Unfit ≡ Unfit → t ≡ false
+unfit-known true m e = let z : _≡_ {A = ℕ} 0 1 = cc in absurd (omega arith)
+unfit-known false m e = refl
 
 -- each return is one case of `readRecord`, from what the calls answered
-module _ (s : Shape) (d : Bytes) (c k p left : ℕ) (b : Bytes) (r : Bool) (q : b ≡ journalAt s d c p) (e : r ≡ lacksDescriptor k left b) where
+module _ (y : CommitLayout) (s : Shape) (d : Bytes) (c k p left : ℕ) (b : Bytes) (r : Bool) (q : b ≡ journalAt s d c p) (e : r ≡ lacksDescriptor k left b) where
   lacking : r ≡ lacksDescriptor k left (journalAt s d c p)
   lacking = rw q at e
 
-  pub end-descriptor : r ≡ true → NoDescriptor ≡ readRecord s d c k p left
+  pub end-descriptor : r ≡ true → NoDescriptor ≡ readRecord y s d c k p left
   unfolding readRecord
   end-descriptor z = rw (← lacking, z)
 
   module _ (z : r ≡ false) (f : DescriptorRead) (e₁ : f ≡ descriptorOf s b) where
-    pub end-fields : f ≡ BadField → BadDescriptor ≡ readRecord s d c k p left
+    pub end-fields : f ≡ BadField → BadDescriptor ≡ readRecord y s d c k p left
     unfolding readRecord descriptorOf
-    end-fields y =
-        let u : hasBadField s (journalAt s d c p) ≡ true = rw q at (bad-known (hasBadField s b) (blockCount b) (sym e₁ ∙ y)) in
+    end-fields x =
+        let u : hasBadField s (journalAt s d c p) ≡ true = rw q at (bad-known (hasBadField s b) (blockCount b) (sym e₁ ∙ x)) in
         rw (← lacking, z, u)
 
-    module _ (n : ℕ) (y : f ≡ Blocks n) where
+    module _ (n : ℕ) (x : f ≡ Blocks n) where
       known : (hasBadField s (journalAt s d c p) ≡ false) × (blockCount (journalAt s d c p) ≡ n)
       unfolding descriptorOf
-      known = rw q at (blocks-known (hasBadField s b) (blockCount b) n (sym e₁ ∙ y))
+      known = rw q at (blocks-known (hasBadField s b) (blockCount b) n (sym e₁ ∙ x))
 
-      pub end-room : left < n + 2 → TooFewBlocks ≡ readRecord s d c k p left
+      pub end-room : left < n + 2 → TooFewBlocks ≡ readRecord y s d c k p left
       unfolding readRecord
       end-room h = rw (← lacking, z, known .0, known .1, lt-ltb left (n + 2) h)
 
-      module _ (b₂ : Bytes) (g : CommitRead) (h : n + 2 ≤ left) (q₂ : b₂ ≡ journalAt s d c (p + (n + 1))) (e₂ : g ≡ commitOf s k b₂) where
-        pub end-commit : g ≡ Unfit → NoCommit ≡ readRecord s d c k p left
+      module _ (b₂ : Bytes) (g : CommitRead) (h : n + 2 ≤ left) (q₂ : b₂ ≡ journalAt s d c (p + (n + 1))) (e₂ : g ≡ commitOf y s k b₂) where
+        pub end-commit : g ≡ Unfit → NoCommit ≡ readRecord y s d c k p left
         unfolding readRecord commitOf
-        end-commit x =
-            let u : isCommit s k (journalAt s d c (p + (n + 1))) ≡ false = rw q₂ at (unfit-known (isCommit s k b₂) (stampIn b₂) (nameCount b₂) (sym e₂ ∙ x)) in
+        end-commit v =
+            let u : isCommit y s k (journalAt s d c (p + (n + 1))) ≡ false = rw q₂ at (unfit-known (isCommit y s k b₂) (stampIn b₂) (sym e₂ ∙ v)) in
             rw (← lacking, z, known .0, known .1, le-ltb left (n + 2) h, u)
 
-        pub whole-record : (x m : ℕ) → g ≡ Stamped x m
-            → Read (record { core = c; number = k; position = p; count = n; stamp = x; named = m }) ≡ readRecord s d c k p left
+        pub whole-record : (m : ℕ) → g ≡ Stamped m
+            → Read (record { core = c; number = k; position = p; count = n; stamp = m }) ≡ readRecord y s d c k p left
         unfolding readRecord commitOf
-        whole-record x m w =
-            let u = rw q₂ at (stamped-known (isCommit s k b₂) (stampIn b₂) (nameCount b₂) x m (sym e₂ ∙ w)) in
-            rw (← lacking, z, known .0, known .1, le-ltb left (n + 2) h, u .0, u .1, u .2)
+        whole-record m w =
+            let u = rw q₂ at (stamped-known (isCommit y s k b₂) (stampIn b₂) m (sym e₂ ∙ w)) in
+            rw (← lacking, z, known .0, known .1, le-ltb left (n + 2) h, u .0, u .1)

@@ -9,6 +9,7 @@ use Rattle.model.specs.Journal.{recordAt, recordsFrom, journal}
 use Rattle.model.specs.JournalEnds.{readRecord}
 use Rattle.model.specs.declared.Shape.{Shape}
 use Rattle.model.specs.declared.Tail.{Tail}
+use Rattle.model.specs.declared.CommitLayout.{CommitLayout}
 use Rattle.model.specs.declared.Committed.{Committed}
 use Rattle.model.specs.declared.Found.{Found}
 use Rattle.model.specs.declared.Found.the-variants.{Whole, Miss}
@@ -28,12 +29,12 @@ none-left : (l : List Committed) → 2 * length l ≤ 0 → l ≡ []
 none-left [] h = refl
 none-left (x ∷ l) h = absurd (omega arith)
 
-module _ (s : Shape) (d : Bytes) (ts : List Tail) (most : List ℕ) where
+module _ (y : CommitLayout) (s : Shape) (d : Bytes) (ts : List Tail) (most : List ℕ) where
   abbrev rest : ℕ → Walk → List Committed
-  rest c w = recordsFrom (w .most) s d c (w .number) (w .at) (w .left)
+  rest c w = recordsFrom (w .most) y s d c (w .number) (w .at) (w .left)
 
   abbrev whole : ℕ → List Committed
-  whole c = journal s d c (tailFor ts c) (getD most c 0)
+  whole c = journal y s d c (tailFor ts c) (getD most c 0)
 
   -- before core c's j-th slot: the slots filled and what the walk reads on are its journal; each slot takes two blocks
   pub record CoreReading (out : List ℕ) (w : Walk) (c j : ℕ) : Type 0 where
@@ -42,13 +43,13 @@ module _ (s : Shape) (d : Bytes) (ts : List Tail) (most : List ℕ) where
     pub same : c < s .cores → entriesOf s d (numbersOf ts) out c j ++ rest c w ≡ whole c
 
   empty-rest : (c : ℕ) (w : Walk) → w .left ≡ 0 → rest c w ≡ []
-  empty-rest c w h = none-left (rest c w) (omega (arith, records-length s d c (w .most) (w .number) (w .at) (w .left)))
+  empty-rest c w h = none-left (rest c w) (omega (arith, records-length y s d c (w .most) (w .number) (w .at) (w .left)))
 
-  missed-rest : (c : ℕ) (w : Walk) → c < s .cores → walkRecord s d c w ≡ Miss → rest c w ≡ []
+  missed-rest : (c : ℕ) (w : Walk) → c < s .cores → walkRecord y s d c w ≡ Miss → rest c w ≡ []
   unfolding walkRecord recordsFrom
   missed-rest c w l h =
       cases (leb 1 (w .most))
-      (λ t. records-miss s d c (w .number) (w .at) (w .left) (w .most) (rw (lt-ltb c (s .cores) l, t) at h))
+      (λ t. records-miss y s d c (w .number) (w .at) (w .left) (w .most) (rw (lt-ltb c (s .cores) l, t) at h))
       (λ f. let z : w .most ≡ 0 = omega (arith, leb-false 1 (w .most) f) in rw (z, recordsFrom))
 
   -- ---- a step
@@ -64,7 +65,7 @@ module _ (s : Shape) (d : Bytes) (ts : List Tail) (most : List ℕ) where
         let q : (12 * c + j) / 12 ≡ c = omega arith in
         rw (q, lt-ltb c (s .cores) h, getD-set-same out (12 * c + j) x 0 size) (omega arith)
 
-    missed : walkRecord s d c w ≡ Miss → CoreReading (set out (12 * c + j) 0) ((ended w) .next) c (suc j)
+    missed : walkRecord y s d c w ≡ Miss → CoreReading (set out (12 * c + j) 0) ((ended w) .next) c (suc j)
     unfolding listOf
     missed h =
         record {
@@ -76,11 +77,11 @@ module _ (s : Shape) (d : Bytes) (ts : List Tail) (most : List ℕ) where
               (rw (missed-rest c w g h) at (u .same g));
         }
 
-    hit : (e : Committed) → c < s .cores → 1 ≤ w .most → recordAt s d c (w .number) (w .at) (w .left) ≡ Whole e
+    hit : (e : Committed) → c < s .cores → 1 ≤ w .most → recordAt y s d c (w .number) (w .at) (w .left) ≡ Whole e
         → CoreReading (set out (12 * c + j) (w .at + 1)) ((stepOf s w (Whole e)) .next) c (suc j)
     unfolding listOf stepOf
     hit e g m h =
-        let known = record-known s d c (w .number) (w .at) (w .left) e h in
+        let known = record-known y s d c (w .number) (w .at) (w .left) e h in
         let number : w .number ≡ (tailFor ts c) .number + j = u .number (omega (arith, known .2)) in
         let q : (12 * c + j) / 12 ≡ c = omega arith in
         let r : (12 * c + j) % 12 ≡ j = omega arith in
@@ -88,17 +89,17 @@ module _ (s : Shape) (d : Bytes) (ts : List Tail) (most : List ℕ) where
         let z : w .most ≡ suc (w .most - 1) = omega arith in
         let found : foundAt s d (numbersOf ts) (set out (12 * c + j) (w .at + 1)) (12 * c + j) ≡ Whole e =
         filled-slot s d (numbersOf ts) (set out (12 * c + j) (w .at + 1)) (12 * c + j) (w .at + 1) (stored-slot (w .at + 1) (omega arith) g) (omega arith)
-        ∙ rw (q, r, number-at ts c (omega (arith, lim .few-cores)), k, entry-read s d c (w .number) (w .at) (w .left) e h) in
+        ∙ rw (q, r, number-at ts c (omega (arith, lim .few-cores)), k, entry-read y s d c (w .number) (w .at) (w .left) e h) in
         let on : rest c w ≡ e ∷ rest c ((stepOf s w (Whole e)) .next) =
-        ap (λ (n : ℕ). recordsFrom n s d c (w .number) (w .at) (w .left)) z
-        ∙ records-hit s d c (w .number) (w .at) (w .left) (w .most - 1) e h in
+        ap (λ (n : ℕ). recordsFrom n y s d c (w .number) (w .at) (w .left)) z
+        ∙ records-hit y s d c (w .number) (w .at) (w .left) (w .most - 1) e h in
         record {
           few = omega (arith, u .few, known .2);
           number = λ p. omega arith;
           same = λ p. rw (more-entries (w .at + 1), found, append-assoc) (rw on at (u .same g));
         }
 
-    stepped : (f : Found) → walkRecord s d c w ≡ f → CoreReading (set out (12 * c + j) ((stepOf s w f) .slot)) ((stepOf s w f) .next) c (suc j)
+    stepped : (f : Found) → walkRecord y s d c w ≡ f → CoreReading (set out (12 * c + j) ((stepOf s w f) .slot)) ((stepOf s w f) .next) c (suc j)
     unfolding stepOf walkRecord
     stepped Miss h = missed h
     stepped (Whole e) h =
@@ -131,11 +132,11 @@ module _ (s : Shape) (d : Bytes) (ts : List Tail) (most : List ℕ) where
           | no z ↦ rw (e, ne-eqb (i % 12) 0 z) (v .under z)
         ]
 
-    module _ (x : WalkStep) (q : x ≡ stepOf s r (walkRecord s d (i / 12) r)) where
+    module _ (x : WalkStep) (q : x ≡ stepOf s r (walkRecord y s d (i / 12) r)) where
       next-under : CoreReading (set out i (x .slot)) (x .next) (i / 12) (suc (i % 12))
       next-under =
           let z : 12 * (i / 12) + i % 12 ≡ i = omega arith in
-          rw (q) (rw z at (stepped out r (i / 12) (i % 12) resumed-under (omega arith) (omega (arith, v .size)) low l (walkRecord s d (i / 12) r) refl))
+          rw (q) (rw z at (stepped out r (i / 12) (i % 12) resumed-under (omega arith) (omega (arith, v .size)) low l (walkRecord y s d (i / 12) r) refl))
 
       last-slot : (c : ℕ) → 12 * c + 12 ≡ i + 1 → c < s .cores → entriesOf s d (numbersOf ts) (set out i (x .slot)) c 12 ≡ whole c
       last-slot c z g =
@@ -163,41 +164,41 @@ module _ (s : Shape) (d : Bytes) (ts : List Tail) (most : List ℕ) where
                 rw (a, b) next-under;
           }
 
-  pub reading-all : InRange s → (out : List ℕ) (w : Walk) (i : ℕ) → Reading out w i → 96 ≤ i → Reads s d ts most out
+  pub reading-all : InRange s → (out : List ℕ) (w : Walk) (i : ℕ) → Reading out w i → 96 ≤ i → Reads y s d ts most out
   unfolding Reads
   reading-all l out w i v h c g = v .done c (omega (arith, l .few-cores)) g
 
 -- ---- one step of the code
-module _ (s : Shape) (d : Bytes) (c : ℕ) (w : Walk) where
-  nothing-read : walkRecord s d c w ≡ Miss → ended w ≡ stepOf s w (walkRecord s d c w)
+module _ (y : CommitLayout) (s : Shape) (d : Bytes) (c : ℕ) (w : Walk) where
+  nothing-read : walkRecord y s d c w ≡ Miss → ended w ≡ stepOf s w (walkRecord y s d c w)
   unfolding stepOf
   nothing-read h = rw h
 
-  pub step-absent : s .cores ≤ c → ended w ≡ stepOf s w (walkRecord s d c w)
+  pub step-absent : s .cores ≤ c → ended w ≡ stepOf s w (walkRecord y s d c w)
   step-absent h = nothing-read (unfold walkRecord in rw (le-ltb c (s .cores) h))
 
-  pub step-counted : c < s .cores → w .most < 1 → ended w ≡ stepOf s w (walkRecord s d c w)
+  pub step-counted : c < s .cores → w .most < 1 → ended w ≡ stepOf s w (walkRecord y s d c w)
   step-counted h m = nothing-read (unfold walkRecord in rw (lt-ltb c (s .cores) h, lt-leb 1 (w .most) m))
 
   module _ (h : c < s .cores) (m : 1 ≤ w .most) where
-    reads-record : walkRecord s d c w ≡ recordAt s d c (w .number) (w .at) (w .left)
+    reads-record : walkRecord y s d c w ≡ recordAt y s d c (w .number) (w .at) (w .left)
     unfolding walkRecord
     reads-record = rw (lt-ltb c (s .cores) h, le-leb 1 (w .most) m)
 
-    pub step-full : w .left < 2 → ended w ≡ stepOf s w (walkRecord s d c w)
-    step-full l = nothing-read (reads-record ∙ no-room s d c (w .number) (w .at) (w .left) l)
+    pub step-full : w .left < 2 → ended w ≡ stepOf s w (walkRecord y s d c w)
+    step-full l = nothing-read (reads-record ∙ no-room y s d c (w .number) (w .at) (w .left) l)
 
-    module _ (r : RecordRead) (e : r ≡ readRecord s d c (w .number) (w .at) (w .left)) where
-      pub step-end : foundBy r ≡ Miss → ended w ≡ stepOf s w (walkRecord s d c w)
-      step-end z = nothing-read (reads-record ∙ sym (found-as s d c (w .number) (w .at) (w .left) r e) ∙ z)
+    module _ (r : RecordRead) (e : r ≡ readRecord y s d c (w .number) (w .at) (w .left)) where
+      pub step-end : foundBy r ≡ Miss → ended w ≡ stepOf s w (walkRecord y s d c w)
+      step-end z = nothing-read (reads-record ∙ sym (found-as y s d c (w .number) (w .at) (w .left) r e) ∙ z)
 
-      pub step-hit : (x : Committed) (y : WalkStep) → r ≡ Read x → y ≡ stepOf s w (Whole x) → y ≡ stepOf s w (walkRecord s d c w)
-      step-hit x y z q = q ∙ rw (reads-record, read-whole s d c (w .number) (w .at) (w .left) x (sym e ∙ z))
+      pub step-hit : (x : Committed) (v : WalkStep) → r ≡ Read x → v ≡ stepOf s w (Whole x) → v ≡ stepOf s w (walkRecord y s d c w)
+      step-hit x v z q = q ∙ rw (reads-record, read-whole y s d c (w .number) (w .at) (w .left) x (sym e ∙ z))
 
 -- what is known of a record just read
-module _ (s : Shape) (d : Bytes) (c k p left : ℕ) (r : RecordRead) (e : r ≡ readRecord s d c k p left) (x : Committed) (z : r ≡ Read x) where
-  hit-known : KnownRecord s d c k x × (x .position ≡ p) × (x .count + 2 ≤ left)
-  hit-known = record-known s d c k p left x (read-whole s d c k p left x (sym e ∙ z))
+module _ (y : CommitLayout) (s : Shape) (d : Bytes) (c k p left : ℕ) (r : RecordRead) (e : r ≡ readRecord y s d c k p left) (x : Committed) (z : r ≡ Read x) where
+  hit-known : KnownRecord y s d c k x × (x .position ≡ p) × (x .count + 2 ≤ left)
+  hit-known = record-known y s d c k p left x (read-whole y s d c k p left x (sym e ∙ z))
 
   pub hit-fits : x .count + 2 ≤ left
   hit-fits = hit-known .2

@@ -3,10 +3,11 @@
 use Rattle.model.proofs.Base.{ℕ, zero, suc, _+_, _-_, _*_, _/_, _%_, _≤_, _<_, min, arith, add-zero, _≡_, refl, _≢_, List, []}
 use Rattle.model.proofs.Base.{_++_, append-assoc, append-nil, getD, set, getD-set-other, eq-eqb, ne-eqb, le-ltb, flatMap, below}
 use Rattle.model.proofs.Base.{Bytes}
-use Rattle.model.specs.Layout.{blockCount, nameCount}
+use Rattle.model.specs.Layout.{blockCount}
 use Rattle.model.specs.Journal.{journalAt, recordAt, journal, journals}
 use Rattle.model.specs.declared.Shape.{Shape}
 use Rattle.model.specs.declared.Tail.{Tail}
+use Rattle.model.specs.declared.CommitLayout.{CommitLayout}
 use Rattle.model.specs.declared.Committed.{Committed}
 use Rattle.model.specs.declared.Found.the-variants.{Whole, Miss}
 use Rattle.model.proofs.Lists.{flatMap-append, getD-map-below}
@@ -21,14 +22,13 @@ number-at ts c h = getD-map-below (λ (c : ℕ). (tailFor ts c) .number) 8 c 0 h
 
 -- ---- one slot
 -- a record that was read is what its slot gives
-pub entry-read : (s : Shape) (d : Bytes) (c k p left : ℕ) (e : Committed) → recordAt s d c k p left ≡ Whole e → entry s d c k (p + 1) ≡ e
+pub entry-read : (y : CommitLayout) (s : Shape) (d : Bytes) (c k p left : ℕ) (e : Committed) → recordAt y s d c k p left ≡ Whole e → entry s d c k (p + 1) ≡ e
 unfolding entry
-entry-read s d c k p left e h =
-    let r = record-known s d c k p left e h in
+entry-read y s d c k p left e h =
+    let r = record-known y s d c k p left e h in
     let z : p + 1 - 1 ≡ e .position = omega (arith, r .1) in
     let n : min (blockCount (journalAt s d c (e .position))) 8 ≡ e .count = omega (arith, r .0 .few, r .0 .count) in
-    let m : min (nameCount (journalAt s d c (e .position + (e .count + 1)))) 12 ≡ e .named = omega (arith, r .0 .short, r .0 .named) in
-    rw (z, n, m, r .0 .stamp, ← r .0 .core, ← r .0 .number)
+    rw (z, n, r .0 .stamp, ← r .0 .core, ← r .0 .number)
 
 module _ (s : Shape) (d : Bytes) (ks : List ℕ) where
   pub empty-slot : (set : List ℕ) (i : ℕ) → slotOf s set i ≡ 0 → foundAt s d ks set i ≡ Miss
@@ -77,16 +77,16 @@ module _ (s : Shape) (d : Bytes) (ks : List ℕ) where
       rw (e, entries-split set (s .cores + m) 12, absent-core set (s .cores + m) 12 (omega arith), append-nil) (absent-cores set m)
 
 -- ---- the slots read are the journals
-module _ (s : Shape) (d : Bytes) (ts : List Tail) (most : List ℕ) (set : List ℕ) (r : Reads s d ts most set) where
+module _ (y : CommitLayout) (s : Shape) (d : Bytes) (ts : List Tail) (most : List ℕ) (set : List ℕ) (r : Reads y s d ts most set) where
   cores-read : (n : ℕ) → n ≤ s .cores
-      → entriesTo s d (numbersOf ts) set (12 * n) ≡ flatMap (λ (c : ℕ). journal s d c (tailFor ts c) (getD most c 0)) (below n)
+      → entriesTo s d (numbersOf ts) set (12 * n) ≡ flatMap (λ (c : ℕ). journal y s d c (tailFor ts c) (getD most c 0)) (below n)
   unfolding entriesTo below flatMap Reads
   cores-read zero h = refl
   cores-read (suc n) h =
       let e : 12 * suc n ≡ 12 * n + 12 = omega arith in
       rw (e, entries-split s d (numbersOf ts) set n 12, cores-read n (omega arith), r n (omega arith), flatMap-append, append-nil)
 
-  pub reads-journals : InRange s → entries s d (numbersOf ts) set ≡ journals s d (tailFor ts) (λ (c : ℕ). getD most c 0)
+  pub reads-journals : InRange s → entries s d (numbersOf ts) set ≡ journals y s d (tailFor ts) (λ (c : ℕ). getD most c 0)
   unfolding entries journals
   reads-journals l =
       let e : 96 ≡ 12 * (s .cores + (8 - s .cores)) = omega (arith, l .few-cores) in

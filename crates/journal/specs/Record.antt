@@ -2,9 +2,10 @@
 use Prim.Native.Nat.{ℕ}
 use mathlib.Core.Bool.{cond}
 use Rattle.model.specs.Bytes.{Bytes}
-use Rattle.model.specs.Layout.{blockCount, isCommit, stampIn, nameCount}
+use Rattle.model.specs.Layout.{blockCount, isCommit, stampIn}
 use Rattle.model.specs.JournalEnds.{hasBadField}
 use Rattle.model.specs.declared.Shape.{Shape}
+use Rattle.model.specs.declared.CommitLayout.{CommitLayout}
 use Rattle.journal.specs.declared.record.DescriptorRead.{DescriptorRead}
 use Rattle.journal.specs.declared.record.DescriptorRead.the-variants.{Blocks, BadField}
 use Rattle.journal.specs.declared.record.CommitRead.{CommitRead}
@@ -13,5 +14,5 @@ use Rattle.journal.specs.declared.record.CommitRead.the-variants.{Stampe
 unfoldable pub descriptorOf : Shape → Bytes → DescriptorRead
 descriptorOf s b = cond (hasBadField s b) BadField (Blocks (blockCount b))
 
-unfoldable pub commitOf : Shape → ℕ → Bytes → CommitRead
-commitOf s k b = cond (isCommit s k b) (Stamped (stampIn b) (nameCount b)) Unfit
+unfoldable pub commitOf : CommitLayout → Shape → ℕ → Bytes → CommitRead
+commitOf y s k b = cond (isCommit y s k b) (Stamped (stampIn b)) Unfit

@@ -8,7 +8,7 @@ use lib.Dec.{ltb, eqb}
 use Rattle.model.specs.Lists.{below}
 use Rattle.model.specs.Bytes.{Bytes}
 use Rattle.model.specs.Card.{newTail}
-use Rattle.model.specs.Layout.{Tag, blockCount, tagsIn, stampIn, nameCount}
+use Rattle.model.specs.Layout.{Tag, blockCount, tagsIn, stampIn}
 use Rattle.model.specs.Journal.{journalAt}
 use Rattle.model.specs.declared.Shape.{Shape}
 use Rattle.model.specs.declared.Tail.{Tail}
@@ -32,13 +32,13 @@ slotOf s set i = cond (ltb (i / 12) (s .cores)) (min (getD set i 0) 256) 0
 unfoldable pub isFilled : Shape → List ℕ → ℕ → Bool
 isFilled s set i = not (eqb (slotOf s set i) 0)
 
--- transaction k of core c, with v the position after its descriptor, read again from the disk. The counts are no higher
--- than a record has them, so that this is one for any v.
+-- transaction k of core c, with v the position after its descriptor, read again from the disk. The count is no higher
+-- than a record has it, so that this is one for any v.
 unfoldable pub entry : Shape → Bytes → ℕ → ℕ → ℕ → Committed
 entry s d c k v =
     let n = min (blockCount (journalAt s d c (v - 1))) 8 in
     let f = journalAt s d c (v - 1 + (n + 1)) in
-    record { core = c; number = k; position = v - 1; count = n; stamp = stampIn f; named = min (nameCount f) 12 }
+    record { core = c; number = k; position = v - 1; count = n; stamp = stampIn f }
 
 -- the transaction in a slot, where it is not empty; ks are the tail numbers
 unfoldable pub foundAs : Shape → Bytes → List ℕ → ℕ → ℕ → Found
@@ -65,11 +65,10 @@ unfoldable pub entriesOf : Shape → Bytes → List ℕ → List ℕ → ℕ →
 entriesOf s d ks set c zero = []
 entriesOf s d ks set c (suc n) = entriesOf s d ks set c n ++ listOf (foundAt s d ks set (12 * c + n))
 
--- what functions over a transaction ask of it: a core that the disk has, and counts that a record can have
+-- what functions over a transaction ask of it: a core that the disk has, and a count that a record can have
 pub record SizedCommitted (s : Shape) (e : Committed) : Type 0 where
   pub core : e .core < s .cores
   pub few : e .count ≤ 8
-  pub short : e .named ≤ 12
 
 -- how many of the n slots from a on are not empty
 unfoldable pub filledFrom : Shape → List ℕ → ℕ → ℕ → ℕ

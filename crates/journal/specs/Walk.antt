@@ -9,6 +9,7 @@ use Rattle.model.specs.Bytes.{Bytes}
 use Rattle.model.specs.Journal.{recordAt, journal}
 use Rattle.model.specs.declared.Shape.{Shape}
 use Rattle.model.specs.declared.Tail.{Tail}
+use Rattle.model.specs.declared.CommitLayout.{CommitLayout}
 use Rattle.model.specs.declared.Found.{Found}
 use Rattle.model.specs.declared.Found.the-variants.{Whole, Miss}
 use Rattle.journal.specs.declared.walk.Walk.{Walk}
@@ -16,8 +17,8 @@ use Rattle.journal.specs.declared.walk.WalkStep.{WalkStep}
 use Rattle.journal.specs.Slots.{tailFor, numbersOf, entriesOf}
 
 -- the record where the walk of core c stands, if more of them count
-unfoldable pub walkRecord : Shape → Bytes → ℕ → Walk → Found
-walkRecord s d c w = cond (ltb c (s .cores) && leb 1 (w .most)) (recordAt s d c (w .number) (w .at) (w .left)) Miss
+unfoldable pub walkRecord : CommitLayout → Shape → Bytes → ℕ → Walk → Found
+walkRecord y s d c w = cond (ltb c (s .cores) && leb 1 (w .most)) (recordAt y s d c (w .number) (w .at) (w .left)) Miss
 
 -- a miss leaves no blocks, so that nothing more is read
 abbrev pub ended : Walk → WalkStep
@@ -39,5 +40,5 @@ unfoldable pub resumed : Shape → Tail → ℕ → ℕ → Walk → Walk
 resumed s t most j w = cond (eqb j 0) (start s t most) w
 
 -- each core's slots give its journal, as far as it counts
-unfoldable pub Reads : Shape → Bytes → List Tail → List ℕ → List ℕ → Type 0
-Reads s d ts most set = (c : ℕ) → c < s .cores → entriesOf s d (numbersOf ts) set c 12 ≡ journal s d c (tailFor ts c) (getD most c 0)
+unfoldable pub Reads : CommitLayout → Shape → Bytes → List Tail → List ℕ → List ℕ → Type 0
+Reads y s d ts most set = (c : ℕ) → c < s .cores → entriesOf s d (numbersOf ts) set c 12 ≡ journal y s d c (tailFor ts c) (getD most c 0)

@@ -93,14 +93,12 @@ fn read_entry(s: Shape, disk: &[u8], c: u8, number: u32, v: usize) -> Committed
     );
     let commit = journal_part(s, disk, c, at + (count + 1));
     let stamp = layout::stamp_in(commit);
-    let named = at_most(layout::name_count(commit), Shape::MAX_NAMES);
     Committed {
         core: c,
         number,
         position: at as u8,
         count: count as u8,
         stamp,
-        named: named as u8,
     }
 }
 

@@ -7,6 +7,7 @@ ghost use Rattle.model.specs.Journal.{journalAt};
 ghost use Rattle.model.specs.JournalEnds.{lacksDescriptor, readRecord, recordAnswer};
 ghost use Rattle.model.specs.Limits.{blockSize, diskSize};
 ghost use Rattle.journal.specs.Record.{descriptorOf, commitOf};
+use model::CommitLayout;
 use model::Committed;
 use model::RecordRead;
 use model::Shape;
@@ -17,9 +18,9 @@ pub enum DescriptorRead {
     BadField,
 }
 
-// A block read as a commit: its stamp, and how many names it lists.
+// A block read as a commit: its stamp.
 pub enum CommitRead {
-    Stamped(u64, u8),
+    Stamped(u64),
     Unfit,
 }
 
@@ -60,22 +61,29 @@ fn read_descriptor(s: Shape, block: &[u8]) -> DescriptorRead
 }
 
 // The block as a commit with this number.
-fn read_commit(s: Shape, number: u32, block: &[u8]) -> CommitRead
+fn read_commit(y: CommitLayout, s: Shape, number: u32, block: &[u8]) -> CommitRead
     requires { ⌜ length (now block) ≡ blockSize ⌝ }
-    ensures { λ r. ⌜ r ≡ commitOf s number (now (block .entry)) ⌝ }
+    ensures { λ r. ⌜ r ≡ commitOf y s number (now (block .entry)) ⌝ }
 {
-    if layout::is_commit(s, number, block) {
-        let stamp = layout::stamp_in(block);
-        return CommitRead::Stamped(stamp, layout::name_count(block) as u8);
+    if layout::is_commit(y, s, number, block) {
+        return CommitRead::Stamped(layout::stamp_in(block));
     }
     CommitRead::Unfit
 }
 
 // Core c's record with this number at a position, of no more blocks than are left, or the first end that fits. No public
 // entry.
-pub fn read_record(s: Shape, disk: &[u8], c: u8, number: u32, position: u8, left: u8) -> RecordRead
+pub fn read_record(
+    y: CommitLayout,
+    s: Shape,
+    disk: &[u8],
+    c: u8,
+    number: u32,
+    position: u8,
+    left: u8,
+) -> RecordRead
     requires { ⌜ InRange s × (length (now disk) ≡ diskSize) × (c < s .cores) ⌝ }
-    ensures { λ r. ⌜ r ≡ readRecord s (now (disk .entry)) c number position left ⌝ }
+    ensures { λ r. ⌜ r ≡ readRecord y s (now (disk .entry)) c number position left ⌝ }
 {
     let at = position as usize;
     let block = journal_part(s, disk, c, at);
@@ -89,7 +97,8 @@ pub fn read_record(s: Shape, disk: &[u8], c: u8, number: u32, position: u8, left
     if (left as usize) < n + 2 {
         return RecordRead::TooFewBlocks;
     }
-    let CommitRead::Stamped(stamp, named) = read_commit(
+    let CommitRead::Stamped(stamp) = read_commit(
+        y,
         s,
         number,
         journal_part(s, disk, c, at + (n + 1)),
@@ -102,7 +111,6 @@ pub fn read_record(s: Shape, disk: &[u8], c: u8, number: u32, position: u8, left
         position,
         count,
         stamp,
-        named,
     })
 }
 

@@ -8,6 +8,7 @@ ghost use Rattle.model.specs.declared.Found.the-variants.{Whole};
 ghost use Rattle.journal.specs.Walk.{walkRecord, stepOf, resumed, Reads};
 ghost use Rattle.model.specs.Limits.{diskSize, maxNumber};
 use crate::record::read_record;
+use model::CommitLayout;
 use model::Committed;
 use model::RecordRead;
 use model::Shape;
@@ -48,9 +49,9 @@ fn advance(s: Shape, w: Walk, e: Committed) -> WalkStep
 
 // One slot of core c. An end, whichever it is, leaves no blocks, so that nothing more of this journal is read. A record has two blocks
 // or more: with fewer left none is looked for.
-fn read_step(s: Shape, disk: &[u8], c: u8, w: Walk) -> WalkStep
+fn read_step(y: CommitLayout, s: Shape, disk: &[u8], c: u8, w: Walk) -> WalkStep
     requires { ⌜ InRange s × (length (now disk) ≡ diskSize) ⌝ }
-    ensures { λ r. ⌜ r ≡ stepOf s w (walkRecord s (now (disk .entry)) c w) ⌝ }
+    ensures { λ r. ⌜ r ≡ stepOf s w (walkRecord y s (now (disk .entry)) c w) ⌝ }
 {
     let end = WalkStep {
         slot: 0,
@@ -70,7 +71,7 @@ fn read_step(s: Shape, disk: &[u8], c: u8, w: Walk) -> WalkStep
     if w.left < 2 {
         return end;
     }
-    let RecordRead::Read(e) = read_record(s, disk, c, w.number, w.at, w.left) else {
+    let RecordRead::Read(e) = read_record(y, s, disk, c, w.number, w.at, w.left) else {
         return end;
     };
     advance(s, w, e)
@@ -93,9 +94,15 @@ fn resume(s: Shape, t: Tail, most: u8, j: usize, w: Walk) -> Walk
 
 // All journals, each from its tail and up to so many records. A slot has two bytes: the tail of a card that no run made
 // may stand at position 255. No public entry: callers give a shape within its limits and a whole disk.
-pub fn read_journals(s: Shape, disk: &[u8], tails: [Tail; 8], most: [u8; 8]) -> [u16; 96]
+pub fn read_journals(
+    y: CommitLayout,
+    s: Shape,
+    disk: &[u8],
+    tails: [Tail; 8],
+    most: [u8; 8],
+) -> [u16; 96]
     requires { ⌜ InRange s × (length (now disk) ≡ diskSize) ⌝ }
-    ensures { λ r. ⌜ Reads s (now (disk .entry)) tails most r ⌝ }
+    ensures { λ r. ⌜ Reads y s (now (disk .entry)) tails most r ⌝ }
 {
     let mut slots = [0u16; 96];
     let mut w = Walk {
@@ -109,7 +116,7 @@ pub fn read_journals(s: Shape, disk: &[u8], tails: [Tail; 8], most: [u8; 8]) -> 
         let c = i / 12;
         let t = tails[c];
         let from = resume(s, t, most[c], i % 12, w);
-        let step = read_step(s, disk, c as u8, from);
+        let step = read_step(y, s, disk, c as u8, from);
         slots[i] = step.slot;
         w = step.next;
         i += 1;
@@ -120,9 +127,9 @@ pub fn read_journals(s: Shape, disk: &[u8], tails: [Tail; 8], most: [u8; 8]) -> 
 // Why the reading of core c's journal from this tail ends. Unlike the slots it asks at every count of blocks left: a descriptor in the
 // last block is told apart from none. A record has two blocks or more, so the end comes before J of them are read; the reading behind the
 // loop makes the function total. No public entry.
-pub fn journal_end(s: Shape, disk: &[u8], c: u8, t: Tail) -> RecordRead
+pub fn journal_end(y: CommitLayout, s: Shape, disk: &[u8], c: u8, t: Tail) -> RecordRead
     requires { ⌜ InRange s × (length (now disk) ≡ diskSize) × (c < s .cores) ⌝ }
-    ensures { λ r. ⌜ r ≡ journalEnd s (now (disk .entry)) c t ⌝ }
+    ensures { λ r. ⌜ r ≡ journalEnd y s (now (disk .entry)) c t ⌝ }
 {
     let mut w = Walk {
         number: t.number,
@@ -131,12 +138,12 @@ pub fn journal_end(s: Shape, disk: &[u8], c: u8, t: Tail) -> RecordRead
         most: s.journal,
     };
     while 0 < w.most {
-        let read = read_record(s, disk, c, w.number, w.at, w.left);
+        let read = read_record(y, s, disk, c, w.number, w.at, w.left);
         let RecordRead::Read(e) = read else {
             return read;
         };
         let step = advance(s, w, e);
         w = step.next;
     }
-    read_record(s, disk, c, w.number, w.at, w.left)
+    read_record(y, s, disk, c, w.number, w.at, w.left)
 }

@@ -7,15 +7,16 @@ use lib.ListN.{List·getD-eq-default}
 use Rattle.model.specs.Limits.{diskSize}
 use Rattle.model.specs.Bytes.{blockAt}
 use Rattle.model.specs.Card.{newTail}
-use Rattle.model.specs.Layout.{isMaster}
-use Rattle.model.specs.Journal.{nameOf}
+use Rattle.model.specs.Layout.{isMaster, namesIn, coresNamed}
+use Rattle.model.specs.Journal.{nameOf, journalAt, namesOf}
 use Rattle.model.specs.Valid.{isIn}
-use Rattle.model.specs.Recovery.{shapeOn, tailOn, committedOn, validOn}
+use Rattle.model.specs.Recovery.{shapeOn, tailOn, layoutOn, committedOn, validOn}
 use Rattle.model.specs.JournalEnds.{recordAnswer, journalEnd}
 use Rattle.model.specs.JournalPage.{headFields, transactionFields, endFields, refusalFields, pageRefusal, transactionLine, endOn, endLine, bodyLines, pageOf, lineAt}
 use Rattle.model.specs.JournalPage as page
 use Rattle.model.specs.declared.Shape.{Shape}
 use Rattle.model.specs.declared.Tail.{Tail}
+use Rattle.model.specs.declared.CommitLayout.{CommitLayout}
 use Rattle.model.specs.declared.Committed.{Committed}
 use Rattle.model.specs.declared.Found.{Found}
 use Rattle.model.specs.declared.Found.the-variants.{Whole, Miss}
@@ -30,7 +31,7 @@ use Rattle.valid.specs.Sets.{tailNumber, isHere}
 use Rattle.valid.proofs.Sets.{holds-found, entries-length, in-slot}
 use Rattle.recovery.specs.Recovering.{numbersOn, Shaped, OnDisk, IsValid}
 use Rattle.recovery.proofs.JournalLaws.{all-committed, same-tail, same-numbers}
-use Rattle.journal_page.specs.Fields.{refusedLine, IsNth, withNumber}
+use Rattle.journal_page.specs.Fields.{fieldsOf, refusedLine, IsNth, withNumber}
 
 -- ---- a disk that recovery would refuse
 module _ (d : Bytes) where
@@ -143,9 +144,16 @@ module _ (s : Shape) (d : Bytes) (set : List ℕ) where
           let z : e ≡ entry s d (i / 12) (getD [] (i / 12) 0 + i % 12) (slotOf s set i) = cc in
           rw z
 
-      pub slot-shown : (e : Committed) → r ≡ Whole e → (kept : Bool) (k : ℕ) (fs : List page.Field) → fs ≡ transactionFields kept (withNumber k e)
-          → fs ≡ transactionFields kept (entry s d (i / 12) k (slotOf s set i))
-      slot-shown e m kept k fs y = y ∙ ap (transactionFields kept) (entry-numbered e m k)
+      pub slot-shown : (y : CommitLayout) (e : Committed) → r ≡ Whole e → (named : ℕ) → named ≡ coresNamed (namesOf y s d e) → (kept : Bool) (k : ℕ) (fs : List page.Field)
+          → fs ≡ transactionFields kept named (withNumber k e) → fs ≡ fieldsOf y s d kept (entry s d (i / 12) k (slotOf s set i))
+      unfolding fieldsOf namesOf
+      slot-shown y e m named q kept k fs p = p ∙ rw q (ap (fieldsOf y s d kept) (entry-numbered e m k))
+
+-- the cores that it names are read of its commit
+pub cores-counted : (y : CommitLayout) (s : Shape) (d : Bytes) (e : Committed) (f : Bytes) (n : ℕ) → f ≡ journalAt s d (e .core) (e .position + (e .count + 1)) → n ≡ coresNamed (namesIn y f)
+    → n ≡ coresNamed (namesOf y s d e)
+unfolding namesOf
+cores-counted y s d e f n p q = q ∙ rw p
 
 -- it is in a set where that set's slot is filled
 in-same-slot : (s : Shape) (d : Bytes) (ks set v : List ℕ) → InRange s → (i : ℕ) → isFilled s set i ≡ true
@@ -160,10 +168,10 @@ in-same-slot s d ks set v l i h =
     ∙ rw (lt-ltb (i / 12) (s .cores) c, k, lt-ltb (i % 12) 12 (omega arith), z)
 
 -- ---- the lines of a disk that recovery would not refuse
-module _ (d : Bytes) (s : Shape) (g : Shaped s d) (ts : List Tail) (set : List ℕ) (r : OnDisk s d ts set) where
+module _ (d : Bytes) (s : Shape) (g : Shaped s d) (y : CommitLayout) (ts : List Tail) (set : List ℕ) (r : OnDisk s d y ts set) where
   committed-count : length (committedOn d) ≡ filledFrom s set 0 96
   unfolding entries
-  committed-count = ap length (sym (all-committed d s g ts set r)) ∙ entries-length s d (numbersOf ts) set 96
+  committed-count = ap length (sym (all-committed d s g y ts set r)) ∙ entries-length s d (numbersOf ts) set 96
 
   same-cores : s .cores ≡ (shapeOn d) .cores
   same-cores = ap (λ (s : Shape). s .cores) (g .shape)
@@ -178,12 +186,12 @@ module _ (d : Bytes) (s : Shape) (g : Shaped s d) (ts : List Tail) (set : List �
         let l : length (map (endLine d) (below (s .cores))) ≤ c = omega (arith, length-map (below (s .cores)) (endLine d), length-below (s .cores)) in
         e ∙ sym (List·getD-eq-default (map (endLine d) (below (s .cores))) [] l)
 
-    pub end-shown : c < s .cores → (t : Tail) → t ≡ getD ts c (newTail 0 0) → (a : RecordRead) → a ≡ journalEnd s d c t → (n : ℕ) → n ≡ (recordAnswer a) .0
+    pub end-shown : c < s .cores → (t : Tail) → t ≡ getD ts c (newTail 0 0) → (a : RecordRead) → a ≡ journalEnd y s d c t → (n : ℕ) → n ≡ (recordAnswer a) .0
         → (fs : List page.Field) → fs ≡ endFields c n → fs ≡ getD (map (endLine d) (below (s .cores))) c []
     unfolding endLine endOn
-    end-shown h t y a q n k fs e =
-        let read : a ≡ journalEnd (shapeOn d) d c (tailOn d c) =
-        q ∙ ap (journalEnd s d c) (y ∙ same-tail d s g ts set r c h) ∙ ap (λ (s : Shape). journalEnd s d c (tailOn d c)) (g .shape) in
+    end-shown h t p a q n k fs e =
+        let read : a ≡ journalEnd (layoutOn d) (shapeOn d) d c (tailOn d c) =
+        q ∙ ap (λ (z : CommitLayout). journalEnd z s d c t) (r .layout) ∙ ap (journalEnd (layoutOn d) s d c) (p ∙ same-tail d s g y ts set r c h) ∙ ap (λ (s : Shape). journalEnd (layoutOn d) s d c (tailOn d c)) (g .shape) in
         e ∙ ap (endFields c) (k ∙ ap (λ (a : RecordRead). (recordAnswer a) .0) read) ∙ sym (getD-map-below (endLine d) (s .cores) c [] h)
 
   module _ (n i : ℕ) (w : IsNth s set n i) where
@@ -202,22 +210,24 @@ module _ (d : Bytes) (s : Shape) (g : Shaped s d) (ts : List Tail) (set : List �
           ∙ ap (λ (j : ℕ). getD (bodyLines d) j []) place
 
     pub nth-shown : (t : Tail) (kept : Bool) (fs : List page.Field)
-        → fs ≡ transactionFields kept (entry s d (i / 12) (t .number + i % 12) (slotOf s set i))
+        → fs ≡ fieldsOf y s d kept (entry s d (i / 12) (t .number + i % 12) (slotOf s set i))
         → (v : List ℕ) → kept ≡ isFilled s v i → IsValid s d v → t ≡ getD ts (i / 12) (newTail 0 0) → i < 96
         → fs ≡ getD (bodyLines d) n []
-    unfolding transactionLine bodyLines
-    nth-shown t kept fs e v q valid y h =
+    unfolding transactionLine bodyLines fieldsOf
+    nth-shown t kept fs e v q valid p h =
         let ks = numbersOn d in
         let ends = map (endLine d) (below ((shapeOn d) .cores)) in
-        let same : numbersOf ts ≡ ks = same-numbers d s g ts set r in
+        let same : numbersOf ts ≡ ks = same-numbers d s g y ts set r in
         let c : i / 12 < 8 = omega arith in
-        let k : t .number ≡ getD ks (i / 12) 0 = ap (λ (t : Tail). t .number) y ∙ sym (number-at ts (i / 12) c) ∙ ap (λ (l : List ℕ). getD l (i / 12) 0) same in
+        let k : t .number ≡ getD ks (i / 12) 0 = ap (λ (t : Tail). t .number) p ∙ sym (number-at ts (i / 12) c) ∙ ap (λ (l : List ℕ). getD l (i / 12) 0) same in
         let x = entry s d (i / 12) (getD ks (i / 12) 0 + i % 12) (slotOf s set i) in
-        let read : entries s d ks set ≡ committedOn d = ap (λ (l : List ℕ). entries s d l set) (sym same) ∙ all-committed d s g ts set r in
+        let read : entries s d ks set ≡ committedOn d = ap (λ (l : List ℕ). entries s d l set) (sym same) ∙ all-committed d s g y ts set r in
         let m : kept ≡ isIn (validOn d) (nameOf x) =
         q ∙ sym (in-same-slot s d ks set v (g .range) i (w .filled h)) ∙ ap (λ (es : List Committed). isIn es (nameOf x)) (valid .valid) in
-        e ∙ ap (λ (a : ℕ). transactionFields kept (entry s d (i / 12) (a + i % 12) (slotOf s set i))) k
-        ∙ ap (λ (b : Bool). transactionFields b x) m
+        e ∙ ap (λ (a : ℕ). fieldsOf y s d kept (entry s d (i / 12) (a + i % 12) (slotOf s set i))) k
+        ∙ ap (λ (z : CommitLayout). fieldsOf z s d kept x) (r .layout)
+        ∙ ap (λ (z : Shape). fieldsOf (layoutOn d) z d kept x) (g .shape)
+        ∙ ap (λ (b : Bool). fieldsOf (layoutOn d) (shapeOn d) d b x) m
         ∙ sym (nth-entry s d set (transactionLine d) [] ks i n h (w .filled h) (w .before h) ends)
         ∙ ap (λ (es : List Committed). getD (map (transactionLine d) es ++ ends) n []) read
 

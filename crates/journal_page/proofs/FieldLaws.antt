@@ -31,9 +31,9 @@ unfolding bytes keptOrLeft
 letters true = refl
 letters false = refl
 
-pub transaction-is : (t : Committed) (number : ℕ) (kept : Bool) (a b c d e f : Field)
+pub transaction-is : (t : Committed) (number named : ℕ) (kept : Bool) (a b c d e f : Field)
     → a ≡ newField 1 2 false (t .core) → b ≡ newField 4 10 false number → c ≡ newField 15 20 false (t .stamp)
-    → d ≡ newField 36 2 false (t .count) → e ≡ newField 39 2 false (t .named) → f ≡ newField 42 4 true (lettersOf kept)
-    → fieldsIn (a ∷ b ∷ c ∷ d ∷ e ∷ f ∷ []) ≡ transactionFields kept (withNumber number t)
+    → d ≡ newField 36 2 false (t .count) → e ≡ newField 39 2 false named → f ≡ newField 42 4 true (lettersOf kept)
+    → fieldsIn (a ∷ b ∷ c ∷ d ∷ e ∷ f ∷ []) ≡ transactionFields kept named (withNumber number t)
 unfolding fieldsIn select fieldIn transactionFields
-transaction-is t number kept a b c d e f p q r x y z = rw (p, q, r, x, y, z, letters kept)
+transaction-is t number named kept a b c d e f p q r x y z = rw (p, q, r, x, y, z, letters kept)

@@ -1,4 +1,4 @@
--- The journal page of paper 02, requests (a) and (b): the bytes of its lines column by column, which disk has a page of one line,
+-- The journal page of paper 02, requests (a), (b) and (d): the bytes of its lines column by column, which disk has a page of one line,
 -- which lines the page of any other has, and which word each of its transactions has.
 use mathlib.Core.Logic.{_↔_}
 use lib.ListN.{List·getD-eq-default}
@@ -7,12 +7,12 @@ use Rattle.model.specs.Limits.{diskSize, memorySize}
 use Rattle.model.specs.Lists.{Each}
 use Rattle.model.specs.Bytes.{blockAt, zeroMemory}
 use Rattle.model.specs.Card.{isBlank, isUp, sameName, freshCard, emptyCard, downCard}
-use Rattle.model.specs.Layout.{isMaster}
-use Rattle.model.specs.Journal.{nameOf, journal, journals}
+use Rattle.model.specs.Layout.{isMaster, coresNamed}
+use Rattle.model.specs.Journal.{nameOf, journal, journals, namesOf}
 use Rattle.model.specs.Valid.{Order, in-sequence, isIn}
 use Rattle.model.specs.Checkpoint.{oldest}
 use Rattle.model.specs.Command.{World, refusal, wrongLength}
-use Rattle.model.specs.Recovery.{shapeOn, tailOn, committedOn, validOnBy, validOn, recoverConditions, recovered, recover}
+use Rattle.model.specs.Recovery.{shapeOn, tailOn, layoutOn, committedBy, committedOn, validOnBy, validOn, recoverConditionsBy, recoverConditions, recovered, recover}
 use Rattle.model.specs.Tape.{RECOVER}
 use Rattle.model.specs.Step.{doneBy}
 use Rattle.model.specs.JournalPage.{Field, lineSize, space, lineFeed, digitAt, numeral, covers, shownAt, byteAt, lineBytes}
@@ -22,6 +22,7 @@ use Rattle.model.specs.declared.Phase.{Phase}
 use Rattle.model.specs.declared.Phase.the-variants.{Down}
 use Rattle.model.specs.declared.Shape.{Shape}
 use Rattle.model.specs.declared.Tail.{Tail}
+use Rattle.model.specs.declared.CommitLayout.{CommitLayout}
 use Rattle.model.specs.declared.Committed.{Committed}
 use Rattle.model.proofs.Base.{ℕ, zero, suc, _+_, _≤_, _<_, arith, add-one, _≡_, refl, sym, ap, _∙_, _≢_}
 use Rattle.model.proofs.Base.{Bool, true, false, true≢false, cond, not, List, [], _∷_, _++_, map, length, getD, replicate}
@@ -58,12 +59,12 @@ unfolding lineBytes byteAt shownAt covers numeral headFields below
 head-columns s = refl
 
 -- a transaction's line by its columns: core 1-2, number 4-13, stamp 15-34, block count 36-37, name count 39-40, word 42-45
-pub transaction-columns : (kept : Bool) (e : Committed) → lineBytes (transactionFields kept e)
+pub transaction-columns : (kept : Bool) (named : ℕ) (e : Committed) → lineBytes (transactionFields kept named e)
     ≡ setRight 2 (e .core) ++ blanks 1 ++ setRight 10 (e .number) ++ blanks 1 ++ setRight 20 (e .stamp) ++ blanks 1
-    ++ setRight 2 (e .count) ++ blanks 1 ++ setRight 2 (e .named) ++ blanks 1 ++ keptOrLeft kept ++ blanks 19 ++ lineFeed ∷ []
+    ++ setRight 2 (e .count) ++ blanks 1 ++ setRight 2 named ++ blanks 1 ++ keptOrLeft kept ++ blanks 19 ++ lineFeed ∷ []
 unfolding lineBytes byteAt shownAt covers numeral transactionFields keptOrLeft below
-transaction-columns true e = refl
-transaction-columns false e = refl
+transaction-columns true named e = refl
+transaction-columns false named e = refl
 
 -- the line of a journal's end by its columns: core 1-2, end 4-5
 pub end-columns : (c end : ℕ) → lineBytes (endFields c end) ≡ setRight 2 c ++ blanks 1 ++ setRight 2 end ++ blanks 59 ++ lineFeed ∷ []
@@ -95,7 +96,7 @@ refusal-from w p q h =
     (λ t. rw t refl)
 
 refusal-down : (w : World) → w .card .phase ≡ Down → length (w .memory) ≡ memorySize → refusal (recoverConditions w) ≡ diskRefusal (w .disk)
-unfolding recoverConditions
+unfolding recoverConditionsBy
 refusal-down w q h = refusal-from w (w .card .phase) q h
 
 -- the card as a cut leaves it is down
@@ -270,9 +271,9 @@ getD-ascending (e ∷ es) z h = (
   getD-ascending es z (λ i j k l. h (suc i) (suc j) (omega arith) (omega arith)),
 )
 
-module _ (s : Shape) (d : Bytes) (tailAt : ℕ → Tail) (most : ℕ → ℕ) where
+module _ (y : CommitLayout) (s : Shape) (d : Bytes) (tailAt : ℕ → Tail) (most : ℕ → ℕ) where
   abbrev one : ℕ → List Committed
-  one c = journal s d c (tailAt c) (most c)
+  one c = journal y s d c (tailAt c) (most c)
 
   -- the numbers of one core's journal follow one another
   one-ascending : (c : ℕ) → Ascending (one c)
@@ -280,8 +281,8 @@ module _ (s : Shape) (d : Bytes) (tailAt : ℕ → Tail) (most : ℕ → ℕ) wh
   one-ascending c =
       getD-ascending (one c) (oldest [])
       (λ i j h l.
-      let known : (n : ℕ) → n < length (one c) → KnownRecord s d c ((tailAt c) .number + n) (getD (one c) n (oldest [])) =
-      λ n k. records-known s d c (most c) ((tailAt c) .number) ((tailAt c) .position) (s .journal) n (oldest []) k .0 in
+      let known : (n : ℕ) → n < length (one c) → KnownRecord y s d c ((tailAt c) .number + n) (getD (one c) n (oldest [])) =
+      λ n k. records-known y s d c (most c) ((tailAt c) .number) ((tailAt c) .position) (s .journal) n (oldest []) k .0 in
       let a = known i (omega arith) in
       let b = known j l in
       inr (a .core ∙ sym (b .core), omega (arith, a .number, b .number)))
@@ -293,17 +294,17 @@ module _ (s : Shape) (d : Bytes) (tailAt : ℕ → Tail) (most : ℕ → ℕ) wh
       subst Ascending (sym (flatMap-append one (below n) (n ∷ [])))
       (ascending-append (flatMap one (below n)) (one n ++ []) (cores-ascending n) (subst Ascending (sym (append-nil (one n))) (one-ascending n)) between)
     where
-      between : (x y : Committed) → List·Memᴰ x (flatMap one (below n)) → List·Memᴰ y (one n ++ []) → Before x y
-      between x y m l =
+      between : (x z : Committed) → List·Memᴰ x (flatMap one (below n)) → List·Memᴰ z (one n ++ []) → Before x z
+      between x z m l =
           let r = mem-flatMap one (below n) m in
-          let a = journal-known s d (r .0) (tailAt (r .0)) (most (r .0)) x (r .2) in
-          let b = journal-known s d n (tailAt n) (most n) y (subst (λ (es : List Committed). List·Memᴰ y es) (append-nil (one n)) l) in
+          let a = journal-known y s d (r .0) (tailAt (r .0)) (most (r .0)) x (r .2) in
+          let b = journal-known y s d n (tailAt n) (most n) z (subst (λ (es : List Committed). List·Memᴰ z es) (append-nil (one n)) l) in
           inl (omega (arith, a .1 .core, b .1 .core, mem-below n (r .1)))
 
 -- what is read of a disk is in order of core and number, strictly
 pub committed-ascending : (d : Bytes) → Ascending (committedOn d)
-unfolding committedOn journals
-committed-ascending d = cores-ascending (shapeOn d) d (tailOn d) (λ (c : ℕ). (shapeOn d) .journal) ((shapeOn d) .cores)
+unfolding committedBy journals
+committed-ascending d = cores-ascending (layoutOn d) (shapeOn d) d (tailOn d) (λ (c : ℕ). (shapeOn d) .journal) ((shapeOn d) .cores)
 
 -- the same by index: of two lines the earlier has a lower core, or the same core and a lower number
 pub order : (d : Bytes) (i j : ℕ) (z : Committed) → i < j → j < length (committedOn d) → Before (getD (committedOn d) i z) (getD (committedOn d) j z)
@@ -311,8 +312,8 @@ order d = ascending-getD (committedOn d) (committed-ascending d)
 
 -- no two of them have one name
 pub committed-distinct : (d : Bytes) → Distinct nameOf (committedOn d)
-unfolding committedOn
-committed-distinct d = journals-distinct (shapeOn d) d (tailOn d) (λ (c : ℕ). (shapeOn d) .journal)
+unfolding committedBy
+committed-distinct d = journals-distinct (layoutOn d) (shapeOn d) d (tailOn d) (λ (c : ℕ). (shapeOn d) .journal)
 
 -- the word is kept exactly for those in the valid set
 pub kept-valid : (d : Bytes) (e : Committed) → List·Memᴰ e (committedOn d) → (isIn (validOn d) (nameOf e) ≡ true ↔ List·Memᴰ e (validOn d))
@@ -322,15 +323,19 @@ kept-valid d e m = (there, λ v. mem-any (λ (u : Committed). sameName (nameOf e
     there : any (λ (u : Committed). sameName (nameOf e) (nameOf u)) (validOn d) ≡ true → List·Memᴰ e (validOn d)
     there h =
         let r = any-mem (λ (u : Committed). sameName (nameOf e) (nameOf u)) (validOn d) h in
-        let within : List·Memᴰ (r .0) (committedOn d) = unfold validOnBy in valid-within in-sequence (shapeOn d) d (tailOn d) (committedOn d) (r .0) (r .1) in
+        let within : List·Memᴰ (r .0) (committedOn d) = unfold validOnBy in valid-within in-sequence (layoutOn d) (shapeOn d) d (tailOn d) (committedOn d) (r .0) (r .1) in
         Memᴰ·cast (committed-distinct d e (r .0) m within (sameName-true (nameOf e) (nameOf (r .0)) (r .2))) (r .1)
 
+-- paper 02, (d): 'the page counts the cores named', by the disk's layout
+abbrev pub coresOn : Bytes → Committed → ℕ
+coresOn d e = coresNamed (namesOf (layoutOn d) (shapeOn d) d e)
+
 -- the line of one in the valid set, and of one that is not
-pub kept-line : (d : Bytes) (e : Committed) → List·Memᴰ e (committedOn d) → List·Memᴰ e (validOn d) → transactionLine d e ≡ transactionFields true e
+pub kept-line : (d : Bytes) (e : Committed) → List·Memᴰ e (committedOn d) → List·Memᴰ e (validOn d) → transactionLine d e ≡ transactionFields true (coresOn d e) e
 unfolding transactionLine
 kept-line d e m v = rw (kept-valid d e m .1 v) refl
 
-pub left-line : (d : Bytes) (e : Committed) → List·Memᴰ e (committedOn d) → (List·Memᴰ e (validOn d) → ⊥) → transactionLine d e ≡ transactionFields false e
+pub left-line : (d : Bytes) (e : Committed) → List·Memᴰ e (committedOn d) → (List·Memᴰ e (validOn d) → ⊥) → transactionLine d e ≡ transactionFields false (coresOn d e) e
 unfolding transactionLine
 left-line d e m v =
     cases (isIn (validOn d) (nameOf e)) (λ t. absurd (v (kept-valid d e m .0 t))) (λ t. rw t refl)

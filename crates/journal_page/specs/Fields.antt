@@ -6,10 +6,13 @@ use mathlib.Core.Bool.{Bool, true, false, cond, not}
 use lib.ListN.{getD}
 use lib.Dec.{eqb}
 use Rattle.model.specs.Lists.{select}
-use Rattle.model.specs.Bytes.{bytes}
-use Rattle.model.specs.JournalPage.{space, numeral, word, refusalFields}
+use Rattle.model.specs.Bytes.{Bytes, bytes}
+use Rattle.model.specs.Layout.{coresNamed}
+use Rattle.model.specs.Journal.{namesOf}
+use Rattle.model.specs.JournalPage.{space, numeral, word, transactionFields, refusalFields}
 use Rattle.model.specs.JournalPage as page
 use Rattle.model.specs.declared.Shape.{Shape}
+use Rattle.model.specs.declared.CommitLayout.{CommitLayout}
 use Rattle.model.specs.declared.Committed.{Committed}
 use Rattle.journal.specs.Slots.{isFilled, filledFrom}
 use Rattle.journal_page.specs.declared.line.Field.{Field}
@@ -38,7 +41,11 @@ fieldByte f k = getD (f .text) (k - f .first) space
 
 -- a transaction with another number: a slot's is counted from its core's tail
 abbrev pub withNumber : ℕ → Committed → Committed
-withNumber k e = record { core = e .core; number = k; position = e .position; count = e .count; stamp = e .stamp; named = e .named }
+withNumber k e = record { core = e .core; number = k; position = e .position; count = e .count; stamp = e .stamp }
+
+-- the fields of a transaction, with the cores that its commit names counted
+unfoldable pub fieldsOf : CommitLayout → Shape → Bytes → Bool → Committed → List page.Field
+fieldsOf y s d kept e = transactionFields kept (coresNamed (namesOf y s d e)) e
 
 -- the letters of the word kept, or of the word left
 abbrev pub lettersOf : Bool → ℕ

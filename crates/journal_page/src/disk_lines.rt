@@ -7,10 +7,12 @@ ghost use lib.ListN.{length, getD};
 ghost use Rattle.model.proofs.Limits.{InRange};
 ghost use Rattle.model.specs.Limits.{diskSize};
 ghost use Rattle.model.specs.Lists.{below};
-ghost use Rattle.model.specs.JournalPage.{transactionFields, pageRefusal, endLine, bodyLines, pageOf, lineAt, layNumber, laid};
-ghost use Rattle.journal.specs.Slots.{slotOf, isFilled, entry};
+ghost use Rattle.model.specs.JournalPage.{pageRefusal, endLine, bodyLines, pageOf, lineAt, layNumber, laid};
+ghost use Rattle.model.specs.Layout.{coresNamed};
+ghost use Rattle.model.specs.Journal.{namesOf};
+ghost use Rattle.journal.specs.Slots.{slotOf, isFilled, entry, SizedCommitted};
 ghost use Rattle.recovery.specs.Recovering.{Shaped, OnDisk};
-ghost use Rattle.journal_page.specs.Fields.{maxLines, fieldsIn, refusedLine, IsNth};
+ghost use Rattle.journal_page.specs.Fields.{maxLines, fieldsIn, fieldsOf, refusedLine, IsNth};
 use crate::fields::end_fields;
 use crate::fields::head_fields;
 use crate::fields::no_fields;
@@ -23,6 +25,9 @@ use journal::end_number;
 use journal::entry_at;
 use journal::is_filled;
 use journal::journal_end;
+use journal::journal_part;
+use model::CommitLayout;
+use model::Committed;
 use model::Found;
 use model::Shape;
 use model::Tail;
@@ -75,31 +80,50 @@ fn nth_slot(s: Shape, set: &[u16; 96], n: usize) -> usize
     96
 }
 
+// How many cores a transaction names.
+fn cores_named(y: CommitLayout, s: Shape, disk: &[u8], e: Committed) -> u8
+    requires { ⌜ InRange s × (length (now disk) ≡ diskSize) × SizedCommitted s e ⌝ }
+    ensures { λ r. ⌜ r ≡ coresNamed (namesOf y s (now (disk .entry)) e) ⌝ }
+{
+    let at = e.position as usize + (e.count as usize + 1);
+    layout::cores_named(y, journal_part(s, disk, e.core, at))
+}
+
 // The fields of the transaction in slot i of the core whose tail is t.
-fn slot_fields(s: Shape, disk: &[u8], t: Tail, set: &[u16; 96], i: usize, kept: bool) -> [Field; 6]
+fn slot_fields(
+    y: CommitLayout,
+    s: Shape,
+    disk: &[u8],
+    t: Tail,
+    set: &[u16; 96],
+    i: usize,
+    kept: bool,
+) -> [Field; 6]
     requires { ⌜ InRange s × (length (now disk) ≡ diskSize) × (i < 96) × (isFilled s (now set) i ≡ true) ⌝ }
     ensures { λ r. ⌜
-        fieldsIn r ≡ transactionFields kept
+        fieldsIn r ≡ fieldsOf y s (now (disk .entry)) kept
         (entry s (now (disk .entry)) (i / 12) (t .number + i % 12) (slotOf s (now (set .entry)) i))
         ⌝ }
 {
     let Found::Whole(e) = entry_at(s, disk, set, i) else {
         return no_fields();
     };
-    transaction_fields(e, t.number as u64 + (i % 12) as u64, kept)
+    let named = cores_named(y, s, disk, e);
+    transaction_fields(e, t.number as u64 + (i % 12) as u64, named, kept)
 }
 
 // The fields of the end of core c's journal; none for a core that the disk has not.
 fn end_line(s: Shape, disk: &[u8], all: Journals, c: usize) -> [Field; 6]
-    requires { ⌜ Shaped s (now disk) × OnDisk s (now disk) (all .tails) (all .committed) ⌝ }
+    requires { ⌜ Shaped s (now disk) × OnDisk s (now disk) (all .layout) (all .tails) (all .committed) ⌝ }
     ensures { λ r. ⌜ fieldsIn r ≡ getD (map (endLine (now (disk .entry))) (below (s .cores))) c [] ⌝ }
 {
     if s.cores as usize <= c {
         return no_fields();
     }
+    let y = all.layout;
     let tails = all.tails;
     let t = tails[c];
-    let read = journal_end(s, disk, c as u8, t);
+    let read = journal_end(y, s, disk, c as u8, t);
     let end = end_number(read);
     end_fields(c as u8, end)
 }
@@ -119,8 +143,9 @@ fn nth_line(s: Shape, disk: &[u8], n: usize) -> [Field; 6]
     }
     let valid = valid_set(s, disk, all);
     let kept = is_filled(s, &valid, i);
+    let y = all.layout;
     let t = tails[i / 12];
-    slot_fields(s, disk, t, &committed, i, kept)
+    slot_fields(y, s, disk, t, &committed, i, kept)
 }
 
 // The fields of line i where recovery would refuse the disk with n: none past the first.

@@ -93,16 +93,16 @@ fn kept_or_left(kept: bool) -> Field
     }
 }
 
-// A transaction: core, number, stamp, how many blocks and names, and whether it is in the valid set.
-pub fn transaction_fields(e: Committed, number: u64, kept: bool) -> [Field; 6]
-    ensures { λ r. ⌜ fieldsIn r ≡ transactionFields kept (withNumber number e) ⌝ }
+// A transaction: core, number, stamp, how many blocks and cores named, and whether it is in the valid set.
+pub fn transaction_fields(e: Committed, number: u64, named: u8, kept: bool) -> [Field; 6]
+    ensures { λ r. ⌜ fieldsIn r ≡ transactionFields kept named (withNumber number e) ⌝ }
 {
     [
         numeral(1, 2, e.core as u64),
         numeral(4, 10, number),
         numeral(15, 20, e.stamp),
         numeral(36, 2, e.count as u64),
-        numeral(39, 2, e.named as u64),
+        numeral(39, 2, named as u64),
         kept_or_left(kept),
     ]
 }

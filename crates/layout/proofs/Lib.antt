@@ -4,4 +4,5 @@ pub mod Tests
 pub mod Blocks
 pub mod Pairs
 pub mod Readers
+pub mod Counting
 pub mod DiskLaws

@@ -1,13 +1,11 @@
--- Word i of a descriptor or a commit is one of its head, one of its pairs, or 0 past them, as the writers compute it; and
+-- Word i of a descriptor or a commit is one of its head, one of its pairs or numbers, or 0 past them, as the writers compute it; and
 -- both have at most 32 words.
 use Rattle.model.proofs.Base.{ℕ, zero, suc, _+_, _-_, _/_, _%_, _^_, _≤_, _<_, min, arith, _≡_, refl, sym, ap, _∙_, List, [], _∷_}
-use Rattle.model.proofs.Base.{_++_, map, length, take, getD, length-map, length-take, List·getD-append, getD-take, eq-eqb, ne-eqb}
+use Rattle.model.proofs.Base.{_++_, map, length, getD, length-map, List·getD-append, eq-eqb, ne-eqb}
 use Rattle.model.proofs.Base.{flatMap, below}
 use lib.ListN.{List·getD-eq-default}
 use lib.Seq.{getD-append-add}
-use Rattle.model.specs.Card.{newName}
 use Rattle.model.specs.Layout.{mark, pairWords, Tag, newTag, descriptorWords, commitWords}
-use Rattle.model.specs.declared.Name.{Name}
 use Rattle.model.proofs.Lists.{length-below, getD-map-below}
 use Rattle.model.proofs.Encoding.{length-pairs}
 use Rattle.layout.specs.Words.{pairWord, tagsFrom, descriptorFrom}
@@ -89,32 +87,38 @@ module _ (k n m : ℕ) (e : m ≡ n) (bs fs : List ℕ) (i : ℕ) where
       ∙ word-pair (λ (h : Tag). h .block) (λ (h : Tag). h .flag) descriptorHead 4 refl (tagsFrom n bs fs) i (newTag 0 0) h (omega (arith, length-tagsFrom n bs fs)))
 
 -- ---- commit
-pub length-commit : (k stamp n : ℕ) (ns : List Name) → length ns ≡ 12 → length (commitWords k stamp (take n ns)) ≤ 32
-unfolding commitWords
-length-commit k stamp n ns l = omega (arith, length-pairs (λ (n : Name). n .core) (λ (n : Name). n .number) (take n ns), length-take n ns)
+module _ (k stamp : ℕ) (named : ℕ → ℕ) where
+  abbrev words-of : List ℕ
+  words-of = commitWords k stamp (0 ∷ map named (below 8))
 
--- the count that the code has is that of the names listed
-module _ (k stamp n m : ℕ) (e : m ≡ min n 12) (ns : List Name) (l : length ns ≡ 12) (i : ℕ) where
-  length-listed : length (take n ns) ≡ m
-  length-listed = length-take n ns ∙ ap (min n) l ∙ sym e
+  length-numbers : length (map named (below 8)) ≡ 8
+  length-numbers = length-map (below 8) named ∙ length-below 8
 
-  commitHead : List ℕ
-  commitHead = mark ∷ 2 ∷ k ∷ stamp / 2 ^ 32 ∷ stamp % 2 ^ 32 ∷ length (take n ns) ∷ []
+  pub length-commit : length words-of ≤ 32
+  unfolding commitWords
+  length-commit = omega (arith, length-numbers)
 
-  pub commit-head : i < 6 → getD (mark ∷ 2 ∷ k ∷ stamp / 4294967296 ∷ stamp % 4294967296 ∷ m ∷ []) i 0 ≡ getD (commitWords k stamp (take n ns)) i 0
-  unfolding commitWords commitHead
-  commit-head h = rw (sym length-listed) (word-head (λ (n : Name). n .core) (λ (n : Name). n .number) commitHead 6 refl (take n ns) i h)
+  module _ (i : ℕ) where
+    commitHead : List ℕ
+    commitHead = mark ∷ 2 ∷ k ∷ stamp / 2 ^ 32 ∷ stamp % 2 ^ 32 ∷ 0 ∷ []
 
-  pub commit-rest : 6 ≤ i → m ≤ (i - 6) / 2 → 0 ≡ getD (commitWords k stamp (take n ns)) i 0
-  unfolding commitWords commitHead
-  commit-rest h q = word-rest (λ (n : Name). n .core) (λ (n : Name). n .number) commitHead 6 refl (take n ns) i h (omega (arith, length-listed))
+    pub commit-head : i < 6 → getD (mark ∷ 2 ∷ k ∷ stamp / 4294967296 ∷ stamp % 4294967296 ∷ 0 ∷ []) i 0 ≡ getD words-of i 0
+    unfolding commitWords commitHead
+    commit-head h = sym (List·getD-append commitHead (map named (below 8)) 0 i h)
 
-  pub commit-pair : (x : ℕ) → x ≡ pairWord ((getD ns ((i - 6) / 2) (newName 0 0)) .core) ((getD ns ((i - 6) / 2) (newName 0 0)) .number) (i - 6)
-      → 6 ≤ i → (i - 6) / 2 < m → x ≡ getD (commitWords k stamp (take n ns)) i 0
-  unfolding commitWords commitHead
-  commit-pair x v h q =
-      let j = (i - 6) / 2 in
-      let t : getD (take n ns) j (newName 0 0) ≡ getD ns j (newName 0 0) = getD-take n ns j (newName 0 0) (omega (arith, length-listed, length-take n ns)) in
-      v
-      ∙ ap (λ (x : Name). pairWord (x .core) (x .number) (i - 6)) (sym t)
-      ∙ word-pair (λ (n : Name). n .core) (λ (n : Name). n .number) commitHead 6 refl (take n ns) i (newName 0 0) h (omega (arith, length-listed))
+    commit-tail : 6 ≤ i → getD (map named (below 8)) (i - 6) 0 ≡ getD words-of i 0
+    unfolding commitWords commitHead
+    commit-tail h =
+        let e : i ≡ 6 + (i - 6) = omega arith in
+        sym (ap (λ (j : ℕ). getD words-of j 0) e ∙ getD-append-add commitHead (map named (below 8)) (i - 6) 0)
+
+    commit-named : 6 ≤ i → i < 14 → named (i - 6) ≡ getD words-of i 0
+    commit-named h l = sym (getD-map-below named 8 (i - 6) 0 (omega arith)) ∙ commit-tail h
+
+    pub commit-rest : 14 ≤ i → 0 ≡ getD words-of i 0
+    commit-rest h = sym (List·getD-eq-default (map named (below 8)) 0 (omega (arith, length-numbers))) ∙ commit-tail (omega arith)
+
+-- of an array
+pub commit-number : (k stamp : ℕ) (ns : List ℕ) (i : ℕ) → 6 ≤ i → i < 14
+    → getD ns (i - 6) 0 ≡ getD (commitWords k stamp (0 ∷ map (λ (c : ℕ). getD ns c 0) (below 8))) i 0
+commit-number k stamp ns = commit-named k stamp (λ (c : ℕ). getD ns c 0)

@@ -1,16 +1,23 @@
--- What the readers answer is what the definitions ask: all pairs of a descriptor in range and distinct, all names of a
--- commit listable, the stamp of its two words.
-use Rattle.model.proofs.Base.{ℕ, zero, suc, _+_, _*_, _≤_, _<_, arith, _≡_, refl, sym, ap, ap₂, _∙_, Bool, true, false, not, _&&_, List}
-use Rattle.model.proofs.Base.{[], _∷_, _++_, map-append, eqb, eq-eqb, ne-eqb, lt-ltb, le-ltb, not-true, not-false, below, all, Bytes}
+-- What the readers answer is what the definitions ask: all pairs of a descriptor in range and distinct, the stamp of a commit of its
+-- two words, all that it names in range, in either layout.
+use Rattle.model.proofs.Base.{ℕ, zero, suc, _+_, _*_, _≤_, _<_, min, arith, _≡_, refl, sym, ap, ap₂, _∙_, Bool, true, false, false≢true, not, _&&_, List}
+use Rattle.model.proofs.Base.{[], _∷_, _++_, map-append, eqb, leb, eq-eqb, ne-eqb, lt-ltb, le-ltb, le-leb, lt-leb, not-true, not-false, below, all, Bytes}
+use native.Mathlib.Decide.{decLt}
+use borrow.Author.Tests.{eqb-true}
 use Rattle.model.specs.Bytes.{be4}
 use Rattle.model.specs.Card.{newName}
-use Rattle.model.specs.Layout.{Tag, newTag, pairAt, pairsIn, tagsIn, distinct, isTag, blockCount, isListable, namesIn, nameCount, stampIn}
-use Rattle.model.specs.Limits.{maxTaken}
+use Rattle.model.specs.Layout.{Tag, newTag, pairAt, pairsIn, tagsIn, distinct, isTag, blockCount, hasHead, isListable, namesIn, fewNames}
+use Rattle.model.specs.Layout.{nameCount, numberNamed, stampIn, isCommit}
+use Rattle.model.specs.Limits.{maxTaken, maxNames}
 use Rattle.model.specs.JournalEnds.{hasBadField}
 use Rattle.model.specs.declared.Shape.{Shape}
-use Rattle.model.proofs.Lists.{all-append}
+use Rattle.model.specs.declared.CommitLayout.{CommitLayout}
+use Rattle.model.specs.declared.CommitLayout.the-variants.{Lists, Numbers}
+use Rattle.model.proofs.Lists.{cases, mem-all, all-mem, all-append, mem-below, below-mem}
+use Rattle.model.proofs.Named.{numbers-listable, listable-numbers}
 use Rattle.layout.specs.Loops.{every}
 use Rattle.layout.specs.Distinct.{tagAt, isOther, isNew}
+use Rattle.layout.specs.Named.{numberFits}
 use Rattle.layout.proofs.Loops.{every-none, every-map, every-step, every-no, Passed, passed-more, passed-end}
 
 -- ---- descriptor
@@ -87,11 +94,66 @@ unfolding isNew
 new-yes b i j w h = passed-end (isOther b i) i j w h
 
 -- ---- commit
-pub listable-same : (s : Shape) (b : Bytes) (n : ℕ) (r : Bool) → r ≡ every n (λ (i : ℕ). isListable s (pairAt newName b 24 i)) → n ≡ nameCount b
-    → r ≡ all (isListable s) (namesIn b (nameCount b))
-unfolding namesIn pairsIn
-listable-same s b n r e l = e ∙ every-map (isListable s) (pairAt newName b 24) n ∙ ap (λ (k : ℕ). all (isListable s) (namesIn b k)) l
-
 pub stamp-is : (b : Bytes) (x y : ℕ) → x ≡ be4 b 12 → y ≡ be4 b 16 → x * 4294967296 + y ≡ stampIn b
 unfolding stampIn
 stamp-is b x y e q = rw (e, q)
+
+-- a list in range, from what the calls answered for its count of names
+module _ (s : Shape) (b : Bytes) (n : ℕ) (l : n ≡ nameCount b) where
+  pub list-long : maxNames < n → false ≡ (fewNames Lists b && all (isListable s) (namesIn Lists b))
+  unfolding fewNames
+  list-long h = rw (lt-leb (nameCount b) maxNames (omega arith))
+
+  pub list-short : n ≤ maxNames → (r : Bool) → r ≡ every n (λ (i : ℕ). isListable s (pairAt newName b 24 i))
+      → r ≡ (fewNames Lists b && all (isListable s) (namesIn Lists b))
+  unfolding fewNames namesIn pairsIn
+  list-short h r e =
+      let k : n ≡ min (nameCount b) maxNames = omega arith in
+      rw (le-leb (nameCount b) maxNames (omega arith))
+      (e ∙ every-map (isListable s) (pairAt newName b 24) n ∙ ap (λ (k : ℕ). all (isListable s) (pairsIn newName b 24 k)) k)
+
+-- numbers in range
+module _ (s : Shape) (b : Bytes) where
+  module _ (c : ℕ) where
+    pub number-here : c < s .cores → true ≡ numberFits s b c
+    unfolding numberFits
+    number-here h = rw (lt-ltb c (s .cores) h)
+
+    pub number-none : (x : ℕ) → x ≡ numberNamed b c → s .cores ≤ c → eqb x 0 ≡ numberFits s b c
+    unfolding numberFits
+    number-none x e h = rw (le-ltb c (s .cores) h, e)
+
+    number-known : numberFits s b c ≡ true → s .cores ≤ c → numberNamed b c ≡ 0
+    unfolding numberFits
+    number-known t h = eqb-true (numberNamed b c) 0 (rw (le-ltb c (s .cores) h) at t)
+
+    known-number : (s .cores ≤ c → numberNamed b c ≡ 0) → numberFits s b c ≡ true
+    known-number h = elim (decLt c (s .cores)) [ yes l ↦ sym (number-here l) | no g ↦ sym (number-none 0 (sym (h (omega arith))) (omega arith)) ]
+
+  numbers-same : every 8 (numberFits s b) ≡ all (isListable s) (namesIn Numbers b)
+  unfolding every namesIn
+  numbers-same =
+      cases (all (isListable s) (namesIn Numbers b))
+      (λ t. mem-all (numberFits s b) (below 8) (λ c m. known-number c (λ g. listable-numbers s (numberNamed b) t c (mem-below 8 m) g)) ∙ sym t)
+      (λ t.
+      cases (every 8 (numberFits s b))
+      (λ q.
+      absurd (false≢true (sym t ∙ numbers-listable s (numberNamed b) (λ c l g. number-known c (all-mem (numberFits s b) (below 8) q (below-mem 8 c l)) g))))
+      (λ q. q ∙ sym t))
+
+-- what it names, by its layout
+module _ (y : CommitLayout) (s : Shape) (b : Bytes) (r : Bool) where
+  pub names-listed : y ≡ Lists → r ≡ (fewNames Lists b && all (isListable s) (namesIn Lists b)) → r ≡ (fewNames y b && all (isListable s) (namesIn y b))
+  names-listed h e = rw h e
+
+  pub names-numbered : y ≡ Numbers → r ≡ every 8 (numberFits s b) → r ≡ (fewNames y b && all (isListable s) (namesIn y b))
+  unfolding fewNames
+  names-numbered h e = rw h (e ∙ numbers-same s b)
+
+-- the conditions before what it names hold
+pub commit-fits : (y : CommitLayout) (s : Shape) (k : ℕ) (b : Bytes) (g r : Bool) (x : ℕ) → g ≡ hasHead 2 k b → not g ≡ false → x ≡ stampIn b → 1 ≤ x
+    → r ≡ (fewNames y b && all (isListable s) (namesIn y b)) → r ≡ isCommit y s k b
+unfolding isCommit
+commit-fits y s k b g r x e h q l z =
+    let t : leb 1 (stampIn b) ≡ true = le-leb 1 (stampIn b) (omega arith) in
+    z ∙ rw (sym e ∙ not-false g h, t)

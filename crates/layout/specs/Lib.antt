@@ -2,3 +2,4 @@
 pub mod Loops
 pub mod Words
 pub mod Distinct
+pub mod Named

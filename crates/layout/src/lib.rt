@@ -7,10 +7,12 @@ mod descriptor_block;
 mod disk;
 mod words;
 
+pub use commit_block::cores_named;
 pub use commit_block::is_commit;
 pub use commit_block::name_core;
-pub use commit_block::name_count;
 pub use commit_block::name_number;
+pub use commit_block::names_listed;
+pub use commit_block::number_named;
 pub use commit_block::stamp_in;
 pub use commit_block::write_commit;
 pub use data::copy_block;

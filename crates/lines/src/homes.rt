@@ -62,7 +62,7 @@ fn printed_below(count: u8, disk: &[u8], numbers: &mut [u8]) -> usize
 }
 
 // The numbers of the home blocks that have a line, put at the start of the buffer: how many there are.
-pub fn home_blocks(w: &[u64; 512], disk: &[u8], numbers: &mut [u8]) -> usize
+pub fn home_blocks(w: &[u64; 423], disk: &[u8], numbers: &mut [u8]) -> usize
     requires { ⌜ (length (now disk) ≡ diskSize) × (length (now numbers) ≡ 256) ⌝ }
     ensures { λ r. ⌜
         ((m : Bytes) → map (homeLine (now (disk .entry))) (take r (now (numbers .exit))) ≡ homeLines (worldIn (now (w .entry)) (now (disk .entry)) m))

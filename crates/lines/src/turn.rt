@@ -43,7 +43,7 @@ fn advanced(offset: u64, size: u64) -> u64
 pub fn run_command(
     offset: u64,
     read: &[u8],
-    w: &mut [u64; 512],
+    w: &mut [u64; 423],
     disk: &mut [u8],
     memory: &mut [u8],
 ) -> Turn

@@ -34,9 +34,9 @@ few-cores s near c e h = omega (arith, (clamped-range s) .few-cores, ap (λ (z :
 -- the shape that the code has is s
 module _ (s near : Shape) (e : near ≡ s) (ts : List Tail) (i : ℕ) where
   head : List ℕ
-  head = mark ∷ 4 ∷ 0 ∷ near .cores ∷ near .blocks ∷ near .journal ∷ []
+  head = mark ∷ 4 ∷ 1 ∷ near .cores ∷ near .blocks ∷ near .journal ∷ []
 
-  pub master-head : i < 6 → getD (mark ∷ 4 ∷ 0 ∷ near .cores ∷ near .blocks ∷ near .journal ∷ []) i 0 ≡ getD (masterFrom s ts) i 0
+  pub master-head : i < 6 → getD (mark ∷ 4 ∷ 1 ∷ near .cores ∷ near .blocks ∷ near .journal ∷ []) i 0 ≡ getD (masterFrom s ts) i 0
   unfolding masterFrom masterWords head tails
   master-head h = word-head (λ (t : Tail). t .number) (λ (t : Tail). t .position) head 6 refl (tails near ts) i h ∙ ap (λ (z : Shape). getD (masterFrom z ts) i 0) e
 

@@ -9,9 +9,10 @@ use Rattle.model.specs.Card.{newTail}
 use Rattle.model.specs.Layout.{masterWords, shapeIn, tailIn}
 use Rattle.model.specs.declared.Shape.{Shape}
 use Rattle.model.specs.declared.Tail.{Tail}
+use Rattle.model.specs.declared.CommitLayout.the-variants.{Numbers}
 
 unfoldable pub masterFrom : Shape → List Tail → List ℕ
-masterFrom s ts = masterWords s (λ (c : ℕ). getD ts c (newTail 0 0))
+masterFrom s ts = masterWords Numbers s (λ (c : ℕ). getD ts c (newTail 0 0))
 
 -- core c's, and the empty one where the disk has no core c
 unfoldable pub tailOrNone : Bytes → ℕ → Tail

@@ -1,5 +1,5 @@
-// The master block: the disk's shape and the tail of each core's journal, written and read, and a master store. No function here is a
-// public entry of the library: each says in a `requires` what its callers ensure.
+// The master block: the layout of the commits, the disk's shape and the tail of each core's journal, written and read, and a master
+// store. No function here is a public entry of the library: each says in a `requires` what its callers ensure.
 ghost use mathlib.Core.Path.{_≡_};
 ghost use mathlib.Core.Bool.{true};
 ghost use mathlib.Core.List.{map};
@@ -9,8 +9,9 @@ ghost use Rattle.model.specs.Bytes.{be4, store};
 ghost use Rattle.model.specs.Lists.{below};
 ghost use Rattle.model.specs.Shape.{checked, clamped};
 ghost use Rattle.model.specs.Card.{newTail};
-ghost use Rattle.model.specs.Layout.{masterBlock, tailIn, isTail, isMaster};
+ghost use Rattle.model.specs.Layout.{masterBlock, layoutIn, tailIn, isTail, hasMasterFields, isMaster};
 ghost use Rattle.model.specs.Limits.{blockSize, diskSize};
+ghost use Rattle.model.specs.declared.CommitLayout.the-variants.{Numbers};
 ghost use Rattle.layout.specs.Words.{pairWord};
 ghost use Rattle.layout.specs.Loops.{every};
 ghost use Rattle.master_block.specs.Tails.{masterFrom, tailOrNone};
@@ -19,6 +20,7 @@ use layout::get_word;
 use layout::pair_word;
 use layout::put_word;
 use model::Checked;
+use model::CommitLayout;
 use model::Shape;
 use model::Tail;
 
@@ -37,7 +39,7 @@ fn master_word(s: Shape, tails: [Tail; 8], i: usize) -> u32
         let head = [
             MARK,
             4,
-            0,
+            1,
             near.cores as u32,
             near.blocks as u32,
             near.journal as u32,
@@ -52,10 +54,10 @@ fn master_word(s: Shape, tails: [Tail; 8], i: usize) -> u32
     tail_word(t, i - 6)
 }
 
-// The master of this shape and these tails.
+// The master of this shape and these tails, for commits with numbers.
 fn write_master(block: &mut [u8], s: Shape, tails: [Tail; 8])
     requires { ⌜ length (now block) ≡ blockSize ⌝ }
-    ensures { λ _. ⌜ now (block .exit) ≡ masterBlock (clamped s) (λ (c : ℕ). getD tails c (newTail 0 0)) ⌝ }
+    ensures { λ _. ⌜ now (block .exit) ≡ masterBlock Numbers (clamped s) (λ (c : ℕ). getD tails c (newTail 0 0)) ⌝ }
 {
     let mut i: usize = 0;
     while i < 32 {
@@ -69,7 +71,7 @@ fn write_master(block: &mut [u8], s: Shape, tails: [Tail; 8])
 pub fn store_master(s: Shape, tails: [Tail; 8], disk: &mut [u8])
     requires { ⌜ length (now disk) ≡ diskSize ⌝ }
     ensures { λ _. ⌜
-        now (disk .exit) ≡ store (now (disk .entry)) 0 (masterBlock (clamped s) (λ (c : ℕ). getD tails c (newTail 0 0)))
+        now (disk .exit) ≡ store (now (disk .entry)) 0 (masterBlock Numbers (clamped s) (λ (c : ℕ). getD tails c (newTail 0 0)))
         ⌝ }
 {
     write_master(&mut disk[0..Shape::BLOCK_SIZE], s, tails);
@@ -117,10 +119,10 @@ fn are_tails(s: Shape, block: &[u8], cores: usize) -> bool
     true
 }
 
-// The block is a master that RECOVER takes.
-pub fn is_master(block: &[u8]) -> bool
+// The block has all that a master had before request (d).
+fn has_master_fields(block: &[u8]) -> bool
     requires { ⌜ length (now block) ≡ blockSize ⌝ }
-    ensures { λ r. ⌜ r ≡ isMaster (now (block .entry)) ⌝ }
+    ensures { λ r. ⌜ r ≡ hasMasterFields (now (block .entry)) ⌝ }
 {
     if get_word(block, 0) != MARK {
         return false;
@@ -133,6 +135,28 @@ pub fn is_master(block: &[u8]) -> bool
         return false;
     };
     are_tails(s, block, s.cores as usize)
+}
+
+// The block is a master that RECOVER takes: with it, bytes 8 to 11 hold 0 or 1.
+pub fn is_master(block: &[u8]) -> bool
+    requires { ⌜ length (now block) ≡ blockSize ⌝ }
+    ensures { λ r. ⌜ r ≡ isMaster (now (block .entry)) ⌝ }
+{
+    if !has_master_fields(block) {
+        return false;
+    }
+    get_word(block, 8) <= 1
+}
+
+// How the commits of the master's disk name transactions.
+pub fn read_layout(block: &[u8]) -> CommitLayout
+    requires { ⌜ length (now block) ≡ blockSize ⌝ }
+    ensures { λ r. ⌜ r ≡ layoutIn (now (block .entry)) ⌝ }
+{
+    if get_word(block, 8) == 0 {
+        return CommitLayout::Lists;
+    }
+    CommitLayout::Numbers
 }
 
 // The tail of core c, and the empty one for a core that the disk has not.

@@ -6,14 +6,14 @@ use mathlib.Core.List.{List, [], _∷_, map}
 use lib.ListN.{length, getD, set, replicate, length-set, length-map, length-replicate}
 use lib.Dec.{ltb, leb}
 use Rattle.model.specs.Lists.{below, Each}
-use Rattle.model.specs.Card.{newTail, noHolder, noTransaction, lists, taken, withBlock, withName, freshCore, withRunning, freshCard, emptyCard, downCard, coreOf, holderOf, withCore}
+use Rattle.model.specs.Card.{newTail, noHolder, noTransaction, taken, withBlock, withName, freshCore, withRunning, freshCard, emptyCard, downCard, coreOf, holderOf, withCore}
 use Rattle.model.specs.Valid.{Order}
 use Rattle.model.specs.Command.{World, Outcome}
 use Rattle.model.specs.Format.{formatted}
 use Rattle.model.specs.Write.{writer, writerName, ruleFor, takesBlock, namesHolder, isNamedBack, writerAfter, writtenCard, written}
 use Rattle.model.specs.Commit.{closedCard, closed, coreStored, stored}
 use Rattle.model.specs.Checkpoint.{committedOf, oldest, storedHome, released, retiredCard, storedMaster, checkpointed}
-use Rattle.model.specs.Recovery.{emptiedTail, broughtUp, shapeOn, blocksLeft, recoverStep, recovered}
+use Rattle.model.specs.Recovery.{emptiedTail, broughtUp, shapeOn, layoutOn, blocksLeft, recoverStep, recoveredBy, recovered}
 use Rattle.model.proofs.Lists.{length-below}
 use Rattle.model.proofs.Command.{of-cond}
 use Rattle.model.specs.Tape.{CHECKPOINT, CLOSE, CUT, Command, FORMAT, RECOVER, STORE, WRITE}
@@ -27,11 +27,13 @@ use Rattle.model.specs.declared.Name.{Name}
 use Rattle.model.specs.declared.Transaction.{Transaction}
 use Rattle.model.specs.declared.Core.{Core}
 use Rattle.model.specs.declared.Card.{Card}
+use Rattle.model.specs.declared.CommitLayout.{CommitLayout}
+use Rattle.model.specs.declared.CommitLayout.the-variants.{Numbers}
 use Rattle.model.specs.declared.Committed.{Committed}
 
 pub record FitsTransaction (t : Transaction) : Type 0 where
   pub blocks : length (t .blocks) ≡ 8
-  pub names : length (t .names) ≡ 12
+  pub highest : length (t .highest) ≡ 8
 
 pub record FitsCore (k : Core) : Type 0 where
   pub running : FitsTransaction (k .running)
@@ -59,7 +61,7 @@ module _ {A : Type 0} (P : A → Type 0) where
   each-map f (y ∷ ys) p = (p y, each-map f ys p)
 
 none-fits : FitsTransaction noTransaction
-none-fits = record { blocks = refl; names = refl }
+none-fits = record { blocks = refl; highest = refl }
 
 fresh-fits : (n : ℕ) → FitsCore (freshCore n)
 fresh-fits n = record { running = none-fits; closed = none-fits }
@@ -89,16 +91,16 @@ empty-arrays p = fresh-arrays p _ (replicate 8 (newTail 0 0)) (length-replicate 
 -- ---- WRITE
 name-fits : (t : Transaction) (n : Name) → FitsTransaction t → FitsTransaction (withName t n)
 unfolding withName
-name-fits t n f = of-cond FitsTransaction (lists t n) f (record { blocks = f .blocks; names = length-set (t .names) (t .named) n ∙ f .names })
+name-fits t n f = record { blocks = f .blocks; highest = length-set (t .highest) (n .core) _ ∙ f .highest }
 
 block-fits : (t : Transaction) (b : ℕ) → FitsTransaction t → FitsTransaction (withBlock t b)
-block-fits t b f = record { blocks = length-set (t .blocks) (t .count) b ∙ f .blocks; names = f .names }
+block-fits t b f = record { blocks = length-set (t .blocks) (t .count) b ∙ f .blocks; highest = f .highest }
 
 writer-fits : (x : Card) → Arrays x → (c b : ℕ) → FitsTransaction (writerAfter x c b)
 unfolding writerAfter writer
 writer-fits x a c b =
     let r = ruleFor x c b in
-    let w : FitsTransaction (writer x c) = of-cond FitsTransaction ((coreOf x c) .running .live) ((core-fits x a c) .running) (record { blocks = refl; names = refl }) in
+    let w : FitsTransaction (writer x c) = of-cond FitsTransaction ((coreOf x c) .running .live) ((core-fits x a c) .running) (record { blocks = refl; highest = refl }) in
     let t = of-cond FitsTransaction (namesHolder r) (name-fits (writer x c) _ w) w in
     of-cond FitsTransaction (takesBlock r) (block-fits _ b t) t
 
@@ -127,7 +129,7 @@ closed-arrays x a c =
       tails = a .tails;
       cores = length-set (x .cores) c _ ∙ a .cores;
       holders = a .holders;
-      each = each-set FitsCore (x .cores) c (a .each) (record { running = none-fits; closed = record { blocks = f .blocks; names = f .names } });
+      each = each-set FitsCore (x .cores) c (a .each) (record { running = none-fits; closed = record { blocks = f .blocks; highest = f .highest } });
     }
 
 stored-fits : (k : Core) → FitsCore k → FitsCore (coreStored k)
@@ -158,17 +160,17 @@ checkpointed-arrays c w a =
 
 -- ---- RECOVER
 module _ (o : Order) where
-  recoverStep-arrays : (bs : List ℕ) (w : World) → Arrays (w .card) → Arrays ((recoverStep o bs w) .world .card)
+  recoverStep-arrays : (y z : CommitLayout) (bs : List ℕ) (w : World) → Arrays (w .card) → Arrays ((recoverStep o y z bs w) .world .card)
   unfolding recoverStep broughtUp
-  recoverStep-arrays [] w a = fresh-arrays Up (shapeOn (w .disk)) (map (emptiedTail (w .disk)) (below 8)) (length-map (below 8) (emptiedTail (w .disk)) ∙ length-below 8)
-  recoverStep-arrays (b ∷ bs) w a = record { tails = a .tails; cores = a .cores; holders = a .holders; each = a .each }
+  recoverStep-arrays y z [] w a = fresh-arrays Up (shapeOn (w .disk)) (map (emptiedTail y (w .disk)) (below 8)) (length-map (below 8) (emptiedTail y (w .disk)) ∙ length-below 8)
+  recoverStep-arrays y z (b ∷ bs) w a = record { tails = a .tails; cores = a .cores; holders = a .holders; each = a .each }
 
   pub done-arrays : (k : Command) (w : World) → Arrays (w .card) → Arrays ((doneBy o k w) .world .card)
-  unfolding doneBy formatted written closed stored recovered downCard
+  unfolding doneBy formatted written closed stored recovered recoveredBy downCard
   done-arrays (FORMAT c b j) w f = fresh-arrays Up (newShape c b j) (replicate 8 (newTail 1 0)) (length-replicate 8 (newTail 1 0))
   done-arrays (WRITE c b i v) w f = written-arrays (w .card) f c b
   done-arrays (CLOSE c) w f = closed-arrays (w .card) f c
   done-arrays (STORE c) w f = core-kept (w .card) f c (coreStored (coreOf (w .card) c)) (stored-fits (coreOf (w .card) c) (core-fits (w .card) f c))
   done-arrays (CHECKPOINT c) w f = checkpointed-arrays c w f
   done-arrays CUT w f = empty-arrays Down
-  done-arrays RECOVER w f = recoverStep-arrays (blocksLeft o w) w f
+  done-arrays RECOVER w f = recoverStep-arrays (layoutOn (w .disk)) Numbers (blocksLeft o (layoutOn (w .disk)) w) w f

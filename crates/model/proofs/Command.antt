@@ -17,7 +17,9 @@ use Rattle.model.specs.Format.{formatConditions, formatted}
 use Rattle.model.specs.Write.{writeConditions, written}
 use Rattle.model.specs.Commit.{closeConditions, closed, storeConditions, stored}
 use Rattle.model.specs.Checkpoint.{committedOf, oldest, checkpointConditions, storedHome, storedMaster, checkpointed}
-use Rattle.model.specs.Recovery.{cutConditions, recoverConditions, blocksLeft, recoverStep, recovered}
+use Rattle.model.specs.Recovery.{cutConditions, recoverConditionsBy, layoutOn, blocksLeft, recoverStep, recoveredBy, recovered}
+use Rattle.model.specs.declared.CommitLayout.{CommitLayout}
+use Rattle.model.specs.declared.CommitLayout.the-variants.{Numbers}
 use Rattle.model.specs.Reading.{readConditions}
 use Rattle.model.specs.Step.{conditionsOf, doneBy, stepBy, stepAtBy, conditionsOn, doneOn, DecidesEach}
 use Rattle.model.proofs.Lists.{cases, all-mem, mem-each}
@@ -124,10 +126,10 @@ module _ {A : Type 0} (P : A → Type 0) where
   of-cond false p q = q
 
 -- ---- the card's commands
--- the paper's numbers, in the paper's order: 1, then 20 to 23, then 4 to 8, then 24 to 33
+-- the paper's numbers, in the paper's order: 1, then 20 to 23, then 4 to 8, then 25 to 33
 unfoldable pub refusalNumbers : Command → List ℕ
 refusalNumbers (FORMAT c b j) = 1 ∷ 21 ∷ 4 ∷ []
-refusalNumbers (WRITE c b o v) = 1 ∷ 20 ∷ 22 ∷ 5 ∷ 6 ∷ 7 ∷ 24 ∷ 25 ∷ 26 ∷ 27 ∷ []
+refusalNumbers (WRITE c b o v) = 1 ∷ 20 ∷ 22 ∷ 5 ∷ 6 ∷ 7 ∷ 25 ∷ 26 ∷ 27 ∷ []
 refusalNumbers (CLOSE c) = 1 ∷ 20 ∷ 22 ∷ 5 ∷ 28 ∷ 29 ∷ []
 refusalNumbers (STORE c) = 1 ∷ 20 ∷ 22 ∷ 5 ∷ 30 ∷ []
 refusalNumbers (CHECKPOINT c) = 1 ∷ 20 ∷ 22 ∷ 5 ∷ 31 ∷ 32 ∷ 33 ∷ []
@@ -158,14 +160,14 @@ checkpointed-answer c w =
     let e = oldest (committedOf w c) in
     cases (ltb ((coreOf (w .card) c) .homed) (e .count)) (λ h. rw h) (λ h. rw h)
 
-recoverStep-answer : (o : Order) (bs : List ℕ) (w : World) → (recoverStep o bs w) .answer ≡ 0
+recoverStep-answer : (o : Order) (y z : CommitLayout) (bs : List ℕ) (w : World) → (recoverStep o y z bs w) .answer ≡ 0
 unfolding recoverStep
-recoverStep-answer o [] w = refl
-recoverStep-answer o (b ∷ bs) w = refl
+recoverStep-answer o y z [] w = refl
+recoverStep-answer o y z (b ∷ bs) w = refl
 
 module _ (o : Order) where
   pub conditions-numbers : (k : Command) (w : World) → map (λ (t : Bool × ℕ). t .1) (conditionsOf o k w) ≡ refusalNumbers k
-  unfolding conditionsOf refusalNumbers formatConditions writeConditions closeConditions storeConditions checkpointConditions cutConditions recoverConditions
+  unfolding conditionsOf refusalNumbers formatConditions writeConditions closeConditions storeConditions checkpointConditions cutConditions recoverConditionsBy
   conditions-numbers (FORMAT c b j) w = refl
   conditions-numbers (WRITE c b i v) w = refl
   conditions-numbers (CLOSE c) w = refl
@@ -184,14 +186,14 @@ module _ (o : Order) where
   read-numbered r w = rw (read-numbers r w) (positive (readNumbers r) (numbers-positive r))
 
   pub done-answer : (k : Command) (w : World) → (doneBy o k w) .answer ≡ 0
-  unfolding doneBy formatted written closed stored recovered
+  unfolding doneBy formatted written closed stored recovered recoveredBy
   done-answer (FORMAT c b j) w = refl
   done-answer (WRITE c b i v) w = refl
   done-answer (CLOSE c) w = refl
   done-answer (STORE c) w = refl
   done-answer (CHECKPOINT c) w = checkpointed-answer c w
   done-answer CUT w = refl
-  done-answer RECOVER w = recoverStep-answer o (blocksLeft o w) w
+  done-answer RECOVER w = recoverStep-answer o (layoutOn (w .disk)) Numbers (blocksLeft o (layoutOn (w .disk)) w) w
 
   pub read-answer : (r : Read) (w : World) → (doneOn o r w) .answer ≡ 0
   unfolding doneOn
@@ -232,7 +234,7 @@ tapeConditions t at w = (wrongLength w, 1) ∷ (isUnknown (readAt t at), 2) ∷ 
 module _ (o : Order) where
   -- every command asks for 1 first, so that the tape has asked for it before changes nothing
   length-first : (k : Command) (w : World) → (ts : List (Bool × ℕ)) × (conditionsOf o k w ≡ (wrongLength w, 1) ∷ ts)
-  unfolding conditionsOf formatConditions writeConditions closeConditions storeConditions checkpointConditions cutConditions recoverConditions
+  unfolding conditionsOf formatConditions writeConditions closeConditions storeConditions checkpointConditions cutConditions recoverConditionsBy
   length-first (FORMAT c b j) w = (_, refl)
   length-first (WRITE c b i v) w = (_, refl)
   length-first (CLOSE c) w = (_, refl)

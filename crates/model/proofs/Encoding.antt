@@ -4,23 +4,26 @@ use Prim.Native.Nat.{ℕ, zero, suc, _+_, _*_, _≤_, _<_}
 use native.Mathlib.Omega.{arith}
 use native.Mathlib.Nat.{div-add-mod'}
 use mathlib.Core.Path.{_≡_, refl, ap, _∙_, sym}
-use mathlib.Core.Bool.{true, false, _&&_}
+use mathlib.Core.Bool.{true, false, cond, _&&_}
 use mathlib.Core.List.{List, [], _∷_, _++_, map, flatMap}
 use lib.ListN.{length, take, drop, getD, length-map, length-drop, take-append-drop}
 use lib.Seq.{getD-drop, ext-getD, length-take-le}
-use lib.Dec.{eqb, ltb}
+use lib.Dec.{eqb, ltb, leb}
 use borrow.Author.Tests.{le-leb, eq-eqb, leb-true, ltb-true, eqb-true}
 use Rattle.model.specs.Lists.{below, all, Each}
 use Rattle.model.specs.Bytes.{Bytes, bytes, number, part, be4, block}
 use Rattle.model.specs.Shape.{between}
-use Rattle.model.specs.Card.{newTail, newName}
-use Rattle.model.specs.Layout.{mark, hasHead, pairWords, pairAt, pairsIn, masterWords, masterBlock, shapeIn, tailIn, isTail, isMaster, Tag, newTag, descriptorWords, descriptorBlock, blockCount, tagsIn, distinct, isTag, isDescriptor, commitWords, commitBlock, stampIn, nameCount, namesIn, isListable, isCommit, flagOf, escaped, unescaped}
+use Rattle.model.specs.Card.{newTail}
+use Rattle.model.specs.Layout.{mark, hasHead, pairWords, pairAt, pairsIn, layoutWord, masterWords, masterBlock, layoutIn, shapeIn, tailIn, isTail, hasMasterFields, isMaster, Tag, newTag, descriptorWords, descriptorBlock, blockCount, tagsIn, distinct, isTag, isDescriptor, commitWords, commitBlock, stampIn, numberNamed, namesFrom, namesIn, fewNames, isCommit, flagOf, escaped, unescaped}
 use Rattle.model.specs.Limits.{maxNumber}
 use Rattle.model.specs.declared.Shape.{Shape}
 use Rattle.model.specs.declared.Tail.{Tail}
-use Rattle.model.specs.declared.Name.{Name}
-use Rattle.model.proofs.Lists.{cases, and-left, and-right, all-mem, mem-all, length-below, map-below, getD-map-below, mem-below, each-getD, getD-each, mem-each, each-take, getD-mem}
+use Rattle.model.specs.declared.CommitLayout.{CommitLayout}
+use Rattle.model.specs.declared.CommitLayout.the-variants.{Lists, Numbers}
+use Rattle.model.proofs.Lists.{cases, and-left, and-right, all-mem, mem-all, length-below, map-below, getD-map-below, mem-below, getD-each, mem-each, each-take}
 use Rattle.model.proofs.Limits.{InRange, between-known, test-range}
+use Rattle.model.proofs.Highest.{names-same}
+use Rattle.model.proofs.Named.{numbers-listable}
 use Rattle.model.proofs.Words.{IsByte, IsWord, word-of, length-block, bytes-number}
 
 -- ---- pairs
@@ -30,7 +33,7 @@ module _ {A : Type 0} (f g : A → ℕ) where
   length-pairs [] = refl
   length-pairs (x ∷ xs) = omega (arith, length-pairs xs)
 
-  each-pairs : (xs : List A) → Each (λ (x : A). IsWord (f x) × IsWord (g x)) xs → Each IsWord (pairWords f g xs)
+  pub each-pairs : (xs : List A) → Each (λ (x : A). IsWord (f x) × IsWord (g x)) xs → Each IsWord (pairWords f g xs)
   unfolding pairWords flatMap
   each-pairs [] h = tt
   each-pairs (x ∷ xs) h = (h .0 .0, (h .0 .1, each-pairs xs (h .1)))
@@ -66,9 +69,17 @@ module _ {A : Type 0} (f g : A → ℕ) where
 
 -- ---- master
 -- it has the tails of its cores alone
-pub master-same : (s : Shape) (f g : ℕ → Tail) → ((c : ℕ) → c < s .cores → f c ≡ g c) → masterBlock s f ≡ masterBlock s g
+pub master-same : (y : CommitLayout) (s : Shape) (f g : ℕ → Tail) → ((c : ℕ) → c < s .cores → f c ≡ g c) → masterBlock y s f ≡ masterBlock y s g
 unfolding masterBlock masterWords
-master-same s f g h = rw (map-below f g (s .cores) h)
+master-same y s f g h = rw (map-below f g (s .cores) h)
+
+layout-small : (y : CommitLayout) → IsWord (layoutWord y)
+layout-small Lists = omega arith
+layout-small Numbers = omega arith
+
+layout-test : (y : CommitLayout) → (leb (layoutWord y) 1 ≡ true) × (cond (eqb (layoutWord y) 0) Lists Numbers ≡ y)
+layout-test Lists = (refl, refl)
+layout-test Numbers = (refl, refl)
 
 pub tail-limits : (s : Shape) (t : Tail) → isTail s t ≡ true → (1 ≤ t .number) × (t .number ≤ suc maxNumber) × (t .position < s .journal)
 unfolding isTail
@@ -76,15 +87,15 @@ tail-limits s t h =
     let n = between-known 1 (t .number) (suc maxNumber) (and-left _ _ h) in
     (n .0, n .1, ltb-true (t .position) (s .journal) (and-right (between 1 (t .number) (suc maxNumber)) _ h))
 
-module _ {s : Shape} (l : InRange s) (tailAt : ℕ → Tail) where
-  pub length-master : length (masterBlock s tailAt) ≡ 128
+module _ (y : CommitLayout) {s : Shape} (l : InRange s) (tailAt : ℕ → Tail) where
+  pub length-master : length (masterBlock y s tailAt) ≡ 128
   unfolding masterBlock masterWords
   length-master =
       length-block _
       (omega (arith, l .few-cores, length-pairs (λ (t : Tail). t .number) (λ (t : Tail). t .position) (map tailAt (below (s .cores))), length-map (below (s .cores)) tailAt, length-below (s .cores)))
 
   module _ (tails : (c : ℕ) → c < s .cores → isTail s (tailAt c) ≡ true) where
-    master-fit : Each IsWord (masterWords s tailAt)
+    master-fit : Each IsWord (masterWords y s tailAt)
     unfolding masterWords
     master-fit =
         let pairs : Each (λ (t : Tail). IsWord (t .number) × IsWord (t .position)) (map tailAt (below (s .cores))) =
@@ -97,7 +108,7 @@ module _ {s : Shape} (l : InRange s) (tailAt : ℕ → Tail) where
           (
             omega arith,
             (
-              omega arith,
+              layout-small y,
               (
                 omega (arith, l .few-cores),
                 (
@@ -112,31 +123,36 @@ module _ {s : Shape} (l : InRange s) (tailAt : ℕ → Tail) where
           ),
         )
 
-    master-word : (i : ℕ) → be4 (masterBlock s tailAt) (4 * i) ≡ getD (masterWords s tailAt) i 0
+    master-word : (i : ℕ) → be4 (masterBlock y s tailAt) (4 * i) ≡ getD (masterWords y s tailAt) i 0
     unfolding masterBlock masterWords
-    master-word = word-of (masterWords s tailAt) master-fit
+    master-word = word-of (masterWords y s tailAt) master-fit
 
-    pub master-shape : shapeIn (masterBlock s tailAt) ≡ s
+    pub master-shape : shapeIn (masterBlock y s tailAt) ≡ s
     unfolding masterWords shapeIn
     master-shape = simp (master-word 3, master-word 4, master-word 5)
 
-    pub master-tail : (c : ℕ) → c < s .cores → tailIn (masterBlock s tailAt) c ≡ tailAt c
+    pub master-tail : (c : ℕ) → c < s .cores → tailIn (masterBlock y s tailAt) c ≡ tailAt c
     unfolding masterBlock masterWords tailIn
     master-tail c h =
         let n : length (map tailAt (below (s .cores))) ≡ s .cores = length-map (below (s .cores)) tailAt ∙ length-below (s .cores) in
-        pair-of (λ (t : Tail). t .number) (λ (t : Tail). t .position) newTail (λ t. refl) (masterWords s tailAt) master-fit (map tailAt (below (s .cores))) 6 refl c (newTail 0 0) (omega arith)
+        pair-of (λ (t : Tail). t .number) (λ (t : Tail). t .position) newTail (λ t. refl) (masterWords y s tailAt) master-fit (map tailAt (below (s .cores))) 6 refl c (newTail 0 0) (omega arith)
         ∙ getD-map-below tailAt (s .cores) c (newTail 0 0) h
 
-    pub master-read : isMaster (masterBlock s tailAt) ≡ true
-    unfolding isMaster masterWords
+    -- the layout that it is for
+    pub master-layout : layoutIn (masterBlock y s tailAt) ≡ y
+    unfolding layoutIn masterWords
+    master-layout = rw (master-word 2) (layout-test y .1)
+
+    pub master-read : isMaster (masterBlock y s tailAt) ≡ true
+    unfolding isMaster hasMasterFields masterWords
     master-read =
-        let m = masterBlock s tailAt in
+        let m = masterBlock y s tailAt in
         let t : all (λ (c : ℕ). isTail s (tailIn m c)) (below (s .cores)) ≡ true =
         mem-all (λ (c : ℕ). isTail s (tailIn m c)) (below (s .cores)) (λ c h. let n = mem-below (s .cores) h in ap (isTail s) (master-tail c n) ∙ tails c n) in
-        simp (master-shape, master-word 0, master-word 1, test-range s l, t)
+        simp (master-shape, master-word 0, master-word 1, master-word 2, layout-test y .0, test-range s l, t)
 
--- ---- a transaction that keeps the rules of the format: its number, the blocks that it took, its stamp, its names
-pub record Encodable (s : Shape) (k : ℕ) (hs : List Tag) (stamp : ℕ) (ns : List Name) : Type 0 where
+-- ---- a transaction that keeps the rules of the format: its number, the blocks that it took, its stamp, the number that it names of each core
+pub record Encodable (s : Shape) (k : ℕ) (hs : List Tag) (stamp : ℕ) (named : ℕ → ℕ) : Type 0 where
   pub shape : InRange s
   pub number : k ≤ maxNumber
   pub few : length hs ≤ 8
@@ -144,28 +160,28 @@ pub record Encodable (s : Shape) (k : ℕ) (hs : List Tag) (stamp : ℕ) (ns : L
   pub apart : distinct hs ≡ true
   pub stamped : 1 ≤ stamp
   pub stamp-fits : stamp < 18446744073709551616
-  pub short : length ns ≤ 12
-  pub listable : all (isListable s) ns ≡ true
-  pub numbers : Each (λ (n : Name). IsWord (n .number)) ns
+  pub cores : (c : ℕ) → c < 8 → s .cores ≤ c → named c ≡ 0
+  pub numbers : (c : ℕ) → c < 8 → IsWord (named c)
 
 -- ---- descriptor
 pub length-descriptor : (k : ℕ) (hs : List Tag) → length hs ≤ 8 → length (descriptorBlock k hs) ≡ 128
 unfolding descriptorBlock descriptorWords
 length-descriptor k hs h = length-block _ (omega (arith, length-pairs (λ (h : Tag). h .block) (λ (h : Tag). h .flag) hs))
 
-pub length-commit : (k stamp : ℕ) (ns : List Name) → length ns ≤ 12 → length (commitBlock k stamp ns) ≡ 128
+pub length-commit : (k stamp : ℕ) (named : ℕ → ℕ) → length (commitBlock k stamp named) ≡ 128
 unfolding commitBlock commitWords
-length-commit k stamp ns h = length-block _ (omega (arith, length-pairs (λ (n : Name). n .core) (λ (n : Name). n .number) ns))
+length-commit k stamp named = length-block _ (omega (arith, length-map (below 8) named, length-below 8))
+
+-- it has the numbers of eight cores alone
+pub commit-same : (k stamp : ℕ) (f g : ℕ → ℕ) → ((c : ℕ) → c < 8 → f c ≡ g c) → commitBlock k stamp f ≡ commitBlock k stamp g
+unfolding commitBlock commitWords
+commit-same k stamp f g h = rw (map-below f g 8 h)
 
 held-limits : (s : Shape) (h : Tag) → isTag s h ≡ true → (h .block < s .blocks) × (h .flag ≤ 1)
 unfolding isTag
 held-limits s h e = (ltb-true (h .block) (s .blocks) (and-left _ _ e), leb-true (h .flag) 1 (and-right (ltb (h .block) (s .blocks)) _ e))
 
-listable-core : (s : Shape) (n : Name) → isListable s n ≡ true → n .core < s .cores
-unfolding isListable
-listable-core s n e = ltb-true (n .core) (s .cores) (and-left _ _ e)
-
-module _ {s : Shape} {k : ℕ} {hs : List Tag} {stamp : ℕ} {ns : List Name} (g : Encodable s k hs stamp ns) where
+module _ {s : Shape} {k : ℕ} {hs : List Tag} {stamp : ℕ} {named : ℕ → ℕ} (g : Encodable s k hs stamp named) where
   descriptor-fit : Each IsWord (descriptorWords k hs)
   unfolding descriptorWords
   descriptor-fit =
@@ -193,54 +209,47 @@ module _ {s : Shape} {k : ℕ} {hs : List Tag} {stamp : ℕ} {ns : List Name} (g
   descriptor-read =
       simp (descriptor-head, descriptor-count, descriptor-tags, le-leb k maxNumber (g .number), le-leb (length hs) 8 (g .few), g .held, g .apart)
 
-  commit-fit : Each IsWord (commitWords k stamp ns)
+  named-fit : Each IsWord (map named (below 8))
+  named-fit =
+      getD-each IsWord (map named (below 8)) 0
+      (λ c h. let l : c < 8 = omega (arith, length-map (below 8) named, length-below 8) in rw (getD-map-below named 8 c 0 l) (g .numbers c l))
+
+  commit-fit : Each IsWord (commitWords k stamp (0 ∷ map named (below 8)))
   unfolding commitWords
-  commit-fit =
-      let pairs : Each (λ (n : Name). IsWord (n .core) × IsWord (n .number)) ns =
-      getD-each _ ns (newName 0 0)
-      (λ i h. (omega (arith, g .shape .few-cores, listable-core s (getD ns i (newName 0 0)) (all-mem (isListable s) ns (g .listable) (getD-mem ns i (newName 0 0) h))), each-getD (λ (n : Name). IsWord (n .number)) ns (g .numbers) i (newName 0 0) h)) in (
-        omega arith,
-        (
-          omega arith,
-          (
-            omega (arith, g .number),
-            (
-              omega (arith, g .stamp-fits),
-              (
-                omega arith,
-                (
-                  omega (arith, g .short),
-                  each-pairs (λ (n : Name). n .core) (λ (n : Name). n .number) ns pairs,
-                ),
-              ),
-            ),
-          ),
-        ),
-      )
+  commit-fit = (omega arith, (omega arith, (omega (arith, g .number), (omega (arith, g .stamp-fits), (omega arith, (omega arith, named-fit))))))
 
-  commit-word : (i : ℕ) → be4 (commitBlock k stamp ns) (4 * i) ≡ getD (commitWords k stamp ns) i 0
+  commit-word : (i : ℕ) → be4 (commitBlock k stamp named) (4 * i) ≡ getD (commitWords k stamp (0 ∷ map named (below 8))) i 0
   unfolding commitBlock commitWords
-  commit-word = word-of (commitWords k stamp ns) commit-fit
+  commit-word = word-of (commitWords k stamp (0 ∷ map named (below 8))) commit-fit
 
-  pub commit-head : hasHead 2 k (commitBlock k stamp ns) ≡ true
+  pub commit-head : hasHead 2 k (commitBlock k stamp named) ≡ true
   unfolding hasHead commitWords
   commit-head = simp (commit-word 0, commit-word 1, commit-word 2, eq-eqb k k refl)
 
-  pub commit-stamp : stampIn (commitBlock k stamp ns) ≡ stamp
+  pub commit-stamp : stampIn (commitBlock k stamp named) ≡ stamp
   unfolding stampIn commitWords
   commit-stamp = rw (commit-word 3, commit-word 4) (div-add-mod' stamp 4294967296)
 
-  pub commit-count : nameCount (commitBlock k stamp ns) ≡ length ns
-  unfolding nameCount commitWords
-  commit-count = commit-word 5
+  -- 'bytes 20 to 23 are written zero'
+  pub commit-zero : be4 (commitBlock k stamp named) 20 ≡ 0
+  unfolding commitWords
+  commit-zero = commit-word 5
 
-  pub commit-names : namesIn (commitBlock k stamp ns) (length ns) ≡ ns
-  unfolding namesIn commitBlock commitWords
-  commit-names = pairs-of (λ (n : Name). n .core) (λ (n : Name). n .number) newName (λ n. refl) (commitWords k stamp ns) commit-fit ns 6 refl
+  -- 'eight numbers of four bytes, core 0 first'
+  pub commit-number : (c : ℕ) → c < 8 → numberNamed (commitBlock k stamp named) c ≡ named c
+  unfolding numberNamed commitWords
+  commit-number c l =
+      let e : 24 + 4 * c ≡ 4 * suc (suc (suc (suc (suc (suc c))))) = omega arith in
+      rw e (commit-word (suc (suc (suc (suc (suc (suc c)))))) ∙ getD-map-below named 8 c 0 l)
 
-  pub commit-read : isCommit s k (commitBlock k stamp ns) ≡ true
-  unfolding isCommit
-  commit-read = simp (commit-head, commit-stamp, commit-count, commit-names, le-leb 1 stamp (g .stamped), le-leb (length ns) 12 (g .short), g .listable)
+  pub commit-names : namesIn Numbers (commitBlock k stamp named) ≡ namesFrom named
+  unfolding namesIn
+  commit-names = names-same (numberNamed (commitBlock k stamp named)) named commit-number
+
+  pub commit-read : isCommit Numbers s k (commitBlock k stamp named) ≡ true
+  unfolding isCommit fewNames
+  commit-read =
+      simp (commit-head, commit-stamp, commit-names, le-leb 1 stamp (g .stamped), numbers-listable s named (g .cores))
 
 -- ---- blocks with another head
 head-known : (type k : ℕ) (b : Bytes) → hasHead type k b ≡ true → (be4 b 4 ≡ type) × (be4 b 8 ≡ k)
@@ -253,9 +262,9 @@ head-other type k type₂ k₂ b h ne =
     let x = head-known type k b h in
     cases (hasHead type₂ k₂ b) (λ h₂. let y = head-known type₂ k₂ b h₂ in absurd (ne (sym (x .0) ∙ y .0) (sym (x .1) ∙ y .1))) (λ h₂. h₂)
 
-pub no-commit : (s : Shape) (k : ℕ) (b : Bytes) → hasHead 2 k b ≡ false → isCommit s k b ≡ false
+pub no-commit : (y : CommitLayout) (s : Shape) (k : ℕ) (b : Bytes) → hasHead 2 k b ≡ false → isCommit y s k b ≡ false
 unfolding isCommit
-no-commit s k b h = rw h
+no-commit y s k b h = rw h
 
 -- ---- data
 module _ (b : Bytes) where

@@ -1,20 +1,23 @@
 -- Paper 02, request (b), sentence by sentence: each answer of the reader is given exactly under its reason, and a journal is read to the
 -- first position where none is.
-use Rattle.model.proofs.Base.{ℕ, zero, suc, _+_, _-_, _*_, _%_, _≤_, _<_, arith, _≡_, refl, sym, ap, _∙_, _≢_, _⊎_, inl, inr}
+use Rattle.model.proofs.Base.{ℕ, zero, suc, _+_, _-_, _*_, _%_, _≤_, _<_, min, arith, _≡_, refl, sym, ap, _∙_, _≢_, _⊎_, inl, inr}
 use Rattle.model.proofs.Base.{Bool, true, false, not, _&&_, _||_, List, [], _∷_, length, getD, eqb, ltb, leb, eqb-true, eqb-false, eq-eqb, ne-eqb, ltb-true, ltb-false}
 use Rattle.model.proofs.Base.{lt-ltb, le-ltb, leb-true, le-leb, not-true, not-false, true≢false, ap₂, all, below, Bytes}
-use Rattle.model.specs.Limits.{maxTaken, maxNames, maxNumber}
+use Rattle.model.specs.Limits.{maxTaken, maxNumber}
 use Rattle.model.specs.Card.{newName}
-use Rattle.model.specs.Layout.{Tag, newTag, hasHead, pairAt, pairsIn, blockCount, tagsIn, distinct, isTag, isCommit, stampIn, nameCount, namesIn, isListable}
+use Rattle.model.specs.Layout.{Tag, newTag, hasHead, pairAt, pairsIn, blockCount, tagsIn, distinct, isTag, isCommit, stampIn, nameCount, numberNamed, namesIn, fewNames, isListable}
 use Rattle.model.specs.Journal.{journalAt, recordAt, recordsFrom, journal}
 use Rattle.model.specs.JournalEnds.{lacksDescriptor, hasBadField, readRecord, recordAnswer, endFrom, journalEnd}
 use Rattle.model.specs.declared.Shape.{Shape}
 use Rattle.model.specs.declared.Tail.{Tail}
+use Rattle.model.specs.declared.CommitLayout.{CommitLayout}
+use Rattle.model.specs.declared.CommitLayout.the-variants.{Lists, Numbers}
 use Rattle.model.specs.declared.Committed.{Committed}
 use Rattle.model.specs.declared.Found.the-variants.{Miss}
 use Rattle.model.specs.declared.RecordRead.{RecordRead}
 use Rattle.model.specs.declared.RecordRead.the-variants.{Read, NoDescriptor, BadDescriptor, TooFewBlocks, NoCommit}
 use Rattle.model.proofs.Lists.{cases, and-both, and-left, and-right, or-left, or-right, or-cases, or-none, all-mem, mem-all, getD-mem, mem-getD, length-below, getD-map-below}
+use Rattle.model.proofs.Named.{numbers-listable, listable-numbers}
 use Rattle.model.proofs.Journal.{records-miss, records-hit, record-known, no-room, found-cases}
 use Rattle.model.proofs.JournalEnds.{foundBy, same-found, whole-read, end-here, end-on}
 use lib.ListN.{length-map}
@@ -31,13 +34,22 @@ pub record FieldsFit (s : Shape) (b : Bytes) : Type 0 where
   pub flags : (i : ℕ) → i < blockCount b → (pairAt newTag b 16 i) .flag ≤ 1
   pub once : (i j : ℕ) → i < j → j < blockCount b → (pairAt newTag b 16 i) .block ≢ (pairAt newTag b 16 j) .block
 
--- the opposite of '4, no commit of that number with its fields in range'
-pub record CommitFits (s : Shape) (k : ℕ) (b : Bytes) : Type 0 where
-  pub head : hasHead 2 k b ≡ true
-  pub stamp : 1 ≤ stampIn b
+-- what a commit names is in range: of a list 'up to 12 names, each core below C and number 1 or more'
+pub record ListFits (s : Shape) (b : Bytes) : Type 0 where
   pub few : nameCount b ≤ 12
   pub cores : (i : ℕ) → i < nameCount b → (pairAt newName b 24 i) .core < s .cores
   pub numbers : (i : ℕ) → i < nameCount b → 1 ≤ (pairAt newName b 24 i) .number
+
+-- and of numbers: 'A number for a core not below C is out of range'
+abbrev pub NamesFit : CommitLayout → Shape → Bytes → Type 0
+NamesFit Lists s b = ListFits s b
+NamesFit Numbers s b = (c : ℕ) → c < 8 → s .cores ≤ c → numberNamed b c ≡ 0
+
+-- the opposite of '4, no commit of that number with its fields in range'
+pub record CommitFits (y : CommitLayout) (s : Shape) (k : ℕ) (b : Bytes) : Type 0 where
+  pub head : hasHead 2 k b ≡ true
+  pub stamp : 1 ≤ stampIn b
+  pub named : NamesFit y s b
 
 -- ---- a list of pairs, and distinct blocks
 module _ {A : Type 0} (make : ℕ → ℕ → A) (b : Bytes) (at n : ℕ) where
@@ -137,31 +149,49 @@ module _ (s : Shape) (b : Bytes) where
       f .once i j l q (sym (block-read b n i (omega arith)) ∙ z ∙ block-read b n j q)) in
       rw (le-ltb maxTaken n (f .few), tags, two)
 
-module _ (s : Shape) (k : ℕ) (b : Bytes) where
-  commit-says : isCommit s k b ≡ true → CommitFits s k b
-  unfolding isCommit namesIn isListable
-  commit-says h =
-      let n = nameCount b in
-      let heads = hasHead 2 k b && leb 1 (stampIn b) in
-      let g = and-left (heads && leb n maxNames) (all (isListable s) (namesIn b n)) h in
-      let f = and-left heads (leb n maxNames) g in
-      let names = all-each newName b 24 n (isListable s) (and-right (heads && leb n maxNames) (all (isListable s) (namesIn b n)) h) in
+module _ (s : Shape) (b : Bytes) where
+  names-say : (y : CommitLayout) → fewNames y b ≡ true → all (isListable s) (namesIn y b) ≡ true → NamesFit y s b
+  unfolding fewNames namesIn isListable
+  names-say Lists g h =
+      let few : nameCount b ≤ 12 = leb-true _ _ g in
+      let all-of : min (nameCount b) 12 ≡ nameCount b = omega arith in
+      let names : (i : ℕ) → i < nameCount b → isListable s (pairAt newName b 24 i) ≡ true = all-each newName b 24 (nameCount b) (isListable s) (rw all-of at h) in
       record {
-        head = and-left (hasHead 2 k b) (leb 1 (stampIn b)) f;
-        stamp = leb-true _ _ (and-right (hasHead 2 k b) (leb 1 (stampIn b)) f);
-        few = leb-true _ _ (and-right heads (leb n maxNames) g);
+        few = few;
         cores = λ i l. ltb-true _ _ (and-left _ _ (names i l));
         numbers = λ i l. leb-true _ _ (and-right (ltb ((pairAt newName b 24 i) .core) (s .cores)) _ (names i l));
       }
+  names-say Numbers g h = listable-numbers s (numberNamed b) h
 
-  commit-asks : CommitFits s k b → isCommit s k b ≡ true
-  unfolding isCommit namesIn isListable
+  names-ask : (y : CommitLayout) → NamesFit y s b → (fewNames y b ≡ true) × (all (isListable s) (namesIn y b) ≡ true)
+  unfolding fewNames namesIn isListable
+  names-ask Lists f =
+      let all-of : min (nameCount b) 12 ≡ nameCount b = omega (arith, f .few) in
+      rw all-of
+      (le-leb _ _ (f .few), each-all newName b 24 (nameCount b) (isListable s) (λ i l. and-both (lt-ltb _ _ (f .cores i l)) (le-leb _ _ (f .numbers i l))))
+  names-ask Numbers f = (refl, numbers-listable s (numberNamed b) f)
+
+module _ (y : CommitLayout) (s : Shape) (k : ℕ) (b : Bytes) where
+  commit-says : isCommit y s k b ≡ true → CommitFits y s k b
+  unfolding isCommit
+  commit-says h =
+      let heads = hasHead 2 k b && leb 1 (stampIn b) in
+      let g = and-left (heads && fewNames y b) (all (isListable s) (namesIn y b)) h in
+      let f = and-left heads (fewNames y b) g in
+      record {
+        head = and-left (hasHead 2 k b) (leb 1 (stampIn b)) f;
+        stamp = leb-true _ _ (and-right (hasHead 2 k b) (leb 1 (stampIn b)) f);
+        named = names-say s b y (and-right heads (fewNames y b) g) (and-right (heads && fewNames y b) (all (isListable s) (namesIn y b)) h);
+      }
+
+  commit-asks : CommitFits y s k b → isCommit y s k b ≡ true
+  unfolding isCommit
   commit-asks f =
-      and-both (and-both (and-both (f .head) (le-leb _ _ (f .stamp))) (le-leb _ _ (f .few)))
-      (each-all newName b 24 (nameCount b) (isListable s) (λ i l. and-both (lt-ltb _ _ (f .cores i l)) (le-leb _ _ (f .numbers i l))))
+      let n = names-ask s b y (f .named) in
+      and-both (and-both (and-both (f .head) (le-leb _ _ (f .stamp))) (n .0)) (n .1)
 
 -- ---- each answer and its reason
-module _ (s : Shape) (d : Bytes) (c k p left : ℕ) where
+module _ (y : CommitLayout) (s : Shape) (d : Bytes) (c k p left : ℕ) where
   abbrev first : Bytes
   first = journalAt s d c p
 
@@ -176,10 +206,10 @@ module _ (s : Shape) (d : Bytes) (c k p left : ℕ) where
   Reason NoDescriptor = Lacks k left first
   Reason BadDescriptor = (Lacks k left first → ⊥) × (FieldsFit s first → ⊥)
   Reason TooFewBlocks = (Lacks k left first → ⊥) × FieldsFit s first × (left < count + 2)
-  Reason NoCommit = (Lacks k left first → ⊥) × FieldsFit s first × (count + 2 ≤ left) × (CommitFits s k last → ⊥)
+  Reason NoCommit = (Lacks k left first → ⊥) × FieldsFit s first × (count + 2 ≤ left) × (CommitFits y s k last → ⊥)
   Reason (Read e) =
-      (Lacks k left first → ⊥) × FieldsFit s first × (count + 2 ≤ left) × CommitFits s k last
-      × (record { core = c; number = k; position = p; count = count; stamp = stampIn last; named = nameCount last } ≡ e)
+      (Lacks k left first → ⊥) × FieldsFit s first × (count + 2 ≤ left) × CommitFits y s k last
+      × (record { core = c; number = k; position = p; count = count; stamp = stampIn last } ≡ e)
 
   lacks-none : lacksDescriptor k left first ≡ false → Lacks k left first → ⊥
   lacks-none h l = true≢false (sym (lacks-asks k left first l) ∙ h)
@@ -187,7 +217,7 @@ module _ (s : Shape) (d : Bytes) (c k p left : ℕ) where
   none-lacks : (Lacks k left first → ⊥) → lacksDescriptor k left first ≡ false
   none-lacks h = cases (lacksDescriptor k left first) (λ t. absurd (h (lacks-says k left first t))) (λ f. f)
 
-  pub reason : Reason (readRecord s d c k p left)
+  pub reason : Reason (readRecord y s d c k p left)
   unfolding readRecord Reason
   reason =
       cases (lacksDescriptor k left first) (λ h. rw h (lacks-says k left first h))
@@ -198,11 +228,11 @@ module _ (s : Shape) (d : Bytes) (c k p left : ℕ) where
       cases (ltb left (count + 2))
       (λ m. rw (h, g, m) (lacks-none h, fields-say s first g, ltb-true left (count + 2) m))
       (λ m.
-      cases (isCommit s k last)
-      (λ w. rw (h, g, m, w) (lacks-none h, fields-say s first g, ltb-false left (count + 2) m, commit-says s k last w, refl))
-      (λ w. rw (h, g, m, w) (lacks-none h, fields-say s first g, ltb-false left (count + 2) m, λ f. true≢false (sym (commit-asks s k last f) ∙ w))))))
+      cases (isCommit y s k last)
+      (λ w. rw (h, g, m, w) (lacks-none h, fields-say s first g, ltb-false left (count + 2) m, commit-says y s k last w, refl))
+      (λ w. rw (h, g, m, w) (lacks-none h, fields-say s first g, ltb-false left (count + 2) m, λ f. true≢false (sym (commit-asks y s k last f) ∙ w))))))
 
-  pub answered : (r : RecordRead) → Reason r → readRecord s d c k p left ≡ r
+  pub answered : (r : RecordRead) → Reason r → readRecord y s d c k p left ≡ r
   unfolding readRecord Reason
   answered NoDescriptor h = rw (lacks-asks k left first h)
   answered BadDescriptor h =
@@ -210,17 +240,17 @@ module _ (s : Shape) (d : Bytes) (c k p left : ℕ) where
       rw (none-lacks (h .0), g)
   answered TooFewBlocks h = rw (none-lacks (h .0), fields-ask s first (h .1), lt-ltb left (count + 2) (h .2))
   answered NoCommit h =
-      let w : isCommit s k last ≡ false = cases (isCommit s k last) (λ t. absurd (h .3 (commit-says s k last t))) (λ f. f) in
+      let w : isCommit y s k last ≡ false = cases (isCommit y s k last) (λ t. absurd (h .3 (commit-says y s k last t))) (λ f. f) in
       rw (none-lacks (h .0), fields-ask s first (h .1), le-ltb left (count + 2) (h .2), w)
   answered (Read e) h =
-      rw (none-lacks (h .0), fields-ask s first (h .1), le-ltb left (count + 2) (h .2), commit-asks s k last (h .3)) (ap Read (h .4))
+      rw (none-lacks (h .0), fields-ask s first (h .1), le-ltb left (count + 2) (h .2), commit-asks y s k last (h .3)) (ap Read (h .4))
 
 -- ---- the end of a journal
 -- records read one after another from a place, then an end: the answer where none is read
-unfoldable pub ReadTo : Shape → Bytes → ℕ → ℕ → ℕ → ℕ → List Committed → RecordRead → Type 0
-ReadTo s d c k p left [] r = (readRecord s d c k p left ≡ r) × (1 ≤ (recordAnswer r) .0)
-ReadTo s d c k p left (e ∷ es) r =
-    (readRecord s d c k p left ≡ Read e) × ReadTo s d c (k + 1) ((p + (e .count + 2)) % s .journal) (left - (e .count + 2)) es r
+unfoldable pub ReadTo : CommitLayout → Shape → Bytes → ℕ → ℕ → ℕ → ℕ → List Committed → RecordRead → Type 0
+ReadTo y s d c k p left [] r = (readRecord y s d c k p left ≡ r) × (1 ≤ (recordAnswer r) .0)
+ReadTo y s d c k p left (e ∷ es) r =
+    (readRecord y s d c k p left ≡ Read e) × ReadTo y s d c (k + 1) ((p + (e .count + 2)) % s .journal) (left - (e .count + 2)) es r
 
 is-end : (r : RecordRead) → foundBy r ≡ Miss → 1 ≤ (recordAnswer r) .0
 unfolding foundBy recordAnswer
@@ -242,42 +272,42 @@ not-record : (r : RecordRead) (e : Committed) → r ≡ Read e → 1 ≤ (record
 unfolding recordAnswer
 not-record r e h l = let z : (recordAnswer r) .0 ≡ 0 = ap (λ (x : RecordRead). (recordAnswer x) .0) h in omega arith
 
-module _ (s : Shape) (d : Bytes) (c : ℕ) where
-  ended : (k p left : ℕ) → recordAt s d c k p left ≡ Miss → ReadTo s d c k p left [] (readRecord s d c k p left)
+module _ (y : CommitLayout) (s : Shape) (d : Bytes) (c : ℕ) where
+  ended : (k p left : ℕ) → recordAt y s d c k p left ≡ Miss → ReadTo y s d c k p left [] (readRecord y s d c k p left)
   unfolding ReadTo
-  ended k p left h = (refl, is-end (readRecord s d c k p left) (same-found s d c k p left ∙ h))
+  ended k p left h = (refl, is-end (readRecord y s d c k p left) (same-found y s d c k p left ∙ h))
 
   -- half as many as blocks are left reads all
-  reads-to : (most k p left : ℕ) → left ≤ 2 * most + 1 → ReadTo s d c k p left (recordsFrom most s d c k p left) (endFrom most s d c k p left)
+  reads-to : (most k p left : ℕ) → left ≤ 2 * most + 1 → ReadTo y s d c k p left (recordsFrom most y s d c k p left) (endFrom most y s d c k p left)
   unfolding ReadTo
   reads-to zero k p left h =
-      let miss = no-room s d c k p left (omega arith) in
-      rw (records-miss s d c k p left 0 miss, end-here s d c k p left 0 miss) (ended k p left miss)
+      let miss = no-room y s d c k p left (omega arith) in
+      rw (records-miss y s d c k p left 0 miss, end-here y s d c k p left 0 miss) (ended k p left miss)
   reads-to (suc most) k p left h =
-      found-cases (recordAt s d c k p left)
-      (λ miss. rw (records-miss s d c k p left (suc most) miss, end-here s d c k p left (suc most) miss) (ended k p left miss))
+      found-cases (recordAt y s d c k p left)
+      (λ miss. rw (records-miss y s d c k p left (suc most) miss, end-here y s d c k p left (suc most) miss) (ended k p left miss))
       (λ e hit.
-      rw (records-hit s d c k p left most e hit, end-on s d c k p left most e hit) (
-        whole-read s d c k p left e hit,
-        reads-to most (k + 1) ((p + (e .count + 2)) % s .journal) (left - (e .count + 2)) (omega (arith, record-known s d c k p left e hit .2)),
+      rw (records-hit y s d c k p left most e hit, end-on y s d c k p left most e hit) (
+        whole-read y s d c k p left e hit,
+        reads-to most (k + 1) ((p + (e .count + 2)) % s .journal) (left - (e .count + 2)) (omega (arith, record-known y s d c k p left e hit .2)),
       ))
 
   -- what `journal` lists are the records before that end, and the end is that of the first position where none is read
-  pub journal-ends : (t : Tail) → ReadTo s d c (t .number) (t .position) (s .journal) (journal s d c t (s .journal)) (journalEnd s d c t)
+  pub journal-ends : (t : Tail) → ReadTo y s d c (t .number) (t .position) (s .journal) (journal y s d c t (s .journal)) (journalEnd y s d c t)
   unfolding journal journalEnd
   journal-ends t = reads-to (s .journal) (t .number) (t .position) (s .journal) (omega arith)
 
-  some-end : (k p left : ℕ) (es : List Committed) (r : RecordRead) → ReadTo s d c k p left es r → 1 ≤ (recordAnswer r) .0
+  some-end : (k p left : ℕ) (es : List Committed) (r : RecordRead) → ReadTo y s d c k p left es r → 1 ≤ (recordAnswer r) .0
   unfolding ReadTo
   some-end k p left [] r h = h .1
   some-end k p left (e ∷ es) r h = some-end (k + 1) ((p + (e .count + 2)) % s .journal) (left - (e .count + 2)) es r (h .1)
 
   -- it is one of the four
-  pub end-known : (t : Tail) → (1 ≤ (recordAnswer (journalEnd s d c t)) .0) × ((recordAnswer (journalEnd s d c t)) .0 ≤ 4)
-  end-known t = (some-end _ _ _ _ _ (journal-ends t), no-fifth (journalEnd s d c t))
+  pub end-known : (t : Tail) → (1 ≤ (recordAnswer (journalEnd y s d c t)) .0) × ((recordAnswer (journalEnd y s d c t)) .0 ≤ 4)
+  end-known t = (some-end _ _ _ _ _ (journal-ends t), no-fifth (journalEnd y s d c t))
 
   -- there is no other reading
-  pub read-once : (k p left : ℕ) (es fs : List Committed) (q r : RecordRead) → ReadTo s d c k p left es q → ReadTo s d c k p left fs r → (es ≡ fs) × (q ≡ r)
+  pub read-once : (k p left : ℕ) (es fs : List Committed) (q r : RecordRead) → ReadTo y s d c k p left es q → ReadTo y s d c k p left fs r → (es ≡ fs) × (q ≡ r)
   unfolding ReadTo
   read-once k p left [] [] q r a b = (refl, sym (a .0) ∙ b .0)
   read-once k p left [] (f ∷ fs) q r a b = absurd (not-record q f (sym (a .0) ∙ b .0) (a .1))

@@ -15,10 +15,11 @@ use lib.Dec.{leb}
 use borrow.Author.Tests.{le-leb, leb-true}
 use Rattle.model.specs.Bytes.{Bytes, blockAt, store, be4, part, number}
 use Rattle.model.specs.Shape.{journalBlock}
-use Rattle.model.specs.Layout.{Tag, newTag, hasHead, descriptorBlock, blockCount, isDescriptor, commitBlock, stampIn, nameCount, isCommit, flagOf, escaped}
+use Rattle.model.specs.Layout.{Tag, newTag, hasHead, descriptorBlock, blockCount, isDescriptor, commitBlock, stampIn, namesFrom, isCommit, flagOf, escaped}
 use Rattle.model.specs.Journal.{journalAt, recordAt, recordsFrom, tagsOf, namesOf, imageOf}
 use Rattle.model.specs.declared.Shape.{Shape}
-use Rattle.model.specs.declared.Name.{Name}
+use Rattle.model.specs.declared.CommitLayout.{CommitLayout}
+use Rattle.model.specs.declared.CommitLayout.the-variants.{Numbers}
 use Rattle.model.specs.declared.Committed.{Committed}
 use Rattle.model.specs.declared.Found.{Found}
 use Rattle.model.specs.declared.Found.the-variants.{Whole, Miss}
@@ -28,7 +29,7 @@ use Rattle.model.proofs.Lists.{cases, and-left, and-right, each-append,
 use Rattle.model.proofs.Store.{length-store, block-stored, block-other}
 use Rattle.model.proofs.Words.{IsByte}
 use Rattle.model.proofs.Limits.{InRange}
-use Rattle.model.proofs.Encoding.{Encodable, length-descriptor, length-commit, descriptor-count, descriptor-tags, descriptor-read, commit-stamp, commit-count, commit-names, commit-read, length-escaped, unescaped-escaped}
+use Rattle.model.proofs.Encoding.{Encodable, length-descriptor, length-commit, descriptor-count, descriptor-tags, descriptor-read, commit-stamp, commit-names, commit-read, length-escaped, unescaped-escaped}
 
 -- ---- where the blocks of a journal stand
 pub journal-low : {s : Shape} → InRange s → (c p : ℕ) → c < s .cores → journalBlock s c p < 257
@@ -115,22 +116,22 @@ module _ {s : Shape} (l : InRange s) (c : ℕ) (in-range : c < s .cores) where
       rw (next p i) (stores-in bs (p + 1) (store d (journalBlock s c p) b) (z .1) n₂ (omega arith) i (omega arith))
 
 -- ---- one record: its blocks in the order stored, and where they stand
-unfoldable pub encodedRecord : ℕ → List Tag → ℕ → List Name → List Bytes → List Bytes
-encodedRecord k hs stamp ns images = descriptorBlock k hs ∷ (map escaped images ++ (commitBlock k stamp ns ∷ []))
+unfoldable pub encodedRecord : ℕ → List Tag → ℕ → (ℕ → ℕ) → List Bytes → List Bytes
+encodedRecord k hs stamp named images = descriptorBlock k hs ∷ (map escaped images ++ (commitBlock k stamp named ∷ []))
 
-module _ (k : ℕ) (hs : List Tag) (stamp : ℕ) (ns : List Name) (images : List Bytes) where
-  pub length-encodedRecord : length (encodedRecord k hs stamp ns images) ≡ length images + 2
+module _ (k : ℕ) (hs : List Tag) (stamp : ℕ) (named : ℕ → ℕ) (images : List Bytes) where
+  pub length-encodedRecord : length (encodedRecord k hs stamp named images) ≡ length images + 2
   unfolding encodedRecord
   length-encodedRecord = simp length-append (omega (arith, length-map images escaped))
 
   -- what holds of the descriptor, of each image as it is stored and of the commit holds of each block
   pub encodedRecord-each : (P : ℕ → Bytes → Type 0) → P 0 (descriptorBlock k hs) → ((i : ℕ) → i < length images → P (suc i) (escaped (getD images i [])))
-      → P (suc (length images)) (commitBlock k stamp ns) → (i : ℕ) → i < length images + 2 → P i (getD (encodedRecord k hs stamp ns images) i [])
+      → P (suc (length images)) (commitBlock k stamp named) → (i : ℕ) → i < length images + 2 → P i (getD (encodedRecord k hs stamp named images) i [])
   unfolding encodedRecord
   encodedRecord-each P a b c zero h = a
   encodedRecord-each P a b c (suc i) h =
       let n = length-map images escaped in
-      let last = commitBlock k stamp ns in
+      let last = commitBlock k stamp named in
       let at : getD (map escaped images) i [] ≡ escaped (getD images i []) = unfold escaped be4 part number in List·getD-map escaped images i [] in
       elim (decLt i (length images)) [
         | yes lt ↦ subst (P (suc i)) (sym (List·getD-append (map escaped images) (last ∷ []) [] i (omega arith) ∙ at)) (b i lt)
@@ -154,65 +155,65 @@ unfolding flagOf be4 part number
 image-flag {hs} {images} z i =
     sym (List·getD-map (λ (h : Tag). h .flag) hs i (newTag 0 0)) ∙ ap (λ (l : List ℕ). getD l i 0) (z .flags) ∙ List·getD-map flagOf images i []
 
-pub record Stands (s : Shape) (d : Bytes) (c p k : ℕ) (hs : List Tag) (stamp : ℕ) (ns : List Name) (images : List Bytes) : Type 0 where
+pub record Stands (s : Shape) (d : Bytes) (c p k : ℕ) (hs : List Tag) (stamp : ℕ) (named : ℕ → ℕ) (images : List Bytes) : Type 0 where
   pub descriptor : journalAt s d c p ≡ descriptorBlock k hs
   pub data-blocks : (i : ℕ) → i < length hs → journalAt s d c (p + (i + 1)) ≡ escaped (getD images i [])
-  pub commit : journalAt s d c (p + (length hs + 1)) ≡ commitBlock k stamp ns
+  pub commit : journalAt s d c (p + (length hs + 1)) ≡ commitBlock k stamp named
 
 each-escaped : (images : List Bytes) → Each IsLong images → Each IsLong (map escaped images)
 each-escaped [] z = tt
 each-escaped (b ∷ bs) z = (length-escaped b (omega (arith, z .0)) ∙ z .0, each-escaped bs (z .1))
 
 -- a record whose blocks stand one after the other stands
-pub record-stands : {s : Shape} {d : Bytes} {c p k : ℕ} {hs : List Tag} {stamp : ℕ} {ns : List Name} {images : List Bytes} → length images ≡ length hs
-    → ((q : ℕ) → q < length hs + 2 → journalAt s d c (p + q) ≡ getD (encodedRecord k hs stamp ns images) q [])
-    → Stands s d c p k hs stamp ns images
+pub record-stands : {s : Shape} {d : Bytes} {c p k : ℕ} {hs : List Tag} {stamp : ℕ} {named : ℕ → ℕ} {images : List Bytes} → length images ≡ length hs
+    → ((q : ℕ) → q < length hs + 2 → journalAt s d c (p + q) ≡ getD (encodedRecord k hs stamp named images) q [])
+    → Stands s d c p k hs stamp named images
 unfolding encodedRecord
-record-stands {k = k} {hs = hs} {stamp = stamp} {ns = ns} {images = images} n read =
+record-stands {k = k} {hs = hs} {stamp = stamp} {named = named} {images = images} n read =
     let m : length (map escaped images) ≡ length hs = length-map images escaped ∙ n in
     record {
       descriptor = rw add-zero at (read 0 (omega arith));
       data-blocks =
           λ i h.
           read (i + 1) (omega arith)
-          ∙ rw add-one (List·getD-append (map escaped images) (commitBlock k stamp ns ∷ []) [] i (omega arith) ∙ (unfold escaped be4 part number in List·getD-map escaped images i []));
-      commit = read (length hs + 1) (omega arith) ∙ rw add-one (getD-at (map escaped images) (commitBlock k stamp ns) [] [] (length hs) m);
+          ∙ rw add-one (List·getD-append (map escaped images) (commitBlock k stamp named ∷ []) [] i (omega arith) ∙ (unfold escaped be4 part number in List·getD-map escaped images i []));
+      commit = read (length hs + 1) (omega arith) ∙ rw add-one (getD-at (map escaped images) (commitBlock k stamp named) [] [] (length hs) m);
     }
 
 -- a record stored block by block stands
-pub stored-stands : {s : Shape} {k : ℕ} {hs : List Tag} {stamp : ℕ} {ns : List Name} {images : List Bytes} → Encodable s k hs stamp ns → Images hs images
+pub stored-stands : {s : Shape} {k : ℕ} {hs : List Tag} {stamp : ℕ} {named : ℕ → ℕ} {images : List Bytes} → Encodable s k hs stamp named → Images hs images
     → (d : Bytes) (c p : ℕ) → c < s .cores → length d ≡ 32896 → length hs + 2 ≤ s .journal
-    → Stands s (storesAt s c p (encodedRecord k hs stamp ns images) d) c p k hs stamp ns images
-stored-stands {s} {k} {hs} {stamp} {ns} {images} g z d c p h n j =
-    let size : length (encodedRecord k hs stamp ns images) ≡ length hs + 2 = length-encodedRecord k hs stamp ns images ∙ ap (λ (i : ℕ). i + 2) (images-length z) in
-    let whole : Each IsLong (encodedRecord k hs stamp ns images) =
+    → Stands s (storesAt s c p (encodedRecord k hs stamp named images) d) c p k hs stamp named images
+stored-stands {s} {k} {hs} {stamp} {named} {images} g z d c p h n j =
+    let size : length (encodedRecord k hs stamp named images) ≡ length hs + 2 = length-encodedRecord k hs stamp named images ∙ ap (λ (i : ℕ). i + 2) (images-length z) in
+    let whole : Each IsLong (encodedRecord k hs stamp named images) =
     unfold encodedRecord in (
       length-descriptor k hs (g .few),
-      each-append IsLong (map escaped images) (commitBlock k stamp ns ∷ []) (each-escaped images (z .sizes)) (length-commit k stamp ns (g .short), tt),
+      each-append IsLong (map escaped images) (commitBlock k stamp named ∷ []) (each-escaped images (z .sizes)) (length-commit k stamp named, tt),
     ) in
-    record-stands (images-length z) (λ q l. stores-in (g .shape) c h (encodedRecord k hs stamp ns images) p d whole n (omega arith) q (omega arith))
+    record-stands (images-length z) (λ q l. stores-in (g .shape) c h (encodedRecord k hs stamp named images) p d whole n (omega arith) q (omega arith))
 
 -- ---- the record at a position
 -- the record as it is read
-abbrev pub asRead : ℕ → ℕ → ℕ → List Tag → ℕ → List Name → Committed
-asRead c p k hs stamp ns = record { core = c; number = k; position = p; count = length hs; stamp = stamp; named = length ns }
+abbrev pub asRead : ℕ → ℕ → ℕ → List Tag → ℕ → Committed
+asRead c p k hs stamp = record { core = c; number = k; position = p; count = length hs; stamp = stamp }
 
-module _ {s : Shape} {d : Bytes} {c p k : ℕ} {hs : List Tag} {stamp : ℕ} {ns : List Name} {images : List Bytes} (g : Encodable s k hs stamp ns)
-    (st : Stands s d c p k hs stamp ns images) where
-  pub record-read : (left : ℕ) → length hs + 2 ≤ left → recordAt s d c k p left ≡ Whole (asRead c p k hs stamp ns)
+module _ {s : Shape} {d : Bytes} {c p k : ℕ} {hs : List Tag} {stamp : ℕ} {named : ℕ → ℕ} {images : List Bytes} (g : Encodable s k hs stamp named)
+    (st : Stands s d c p k hs stamp named images) where
+  pub record-read : (left : ℕ) → length hs + 2 ≤ left → recordAt Numbers s d c k p left ≡ Whole (asRead c p k hs stamp)
   unfolding recordAt
   record-read left h =
-      simp (st .descriptor, descriptor-count g, st .commit, descriptor-read g, le-leb (length hs + 2) left h, commit-read g, commit-stamp g, commit-count g)
+      simp (st .descriptor, descriptor-count g, st .commit, descriptor-read g, le-leb (length hs + 2) left h, commit-read g, commit-stamp g)
 
-  pub tags-read : tagsOf s d (asRead c p k hs stamp ns) ≡ hs
+  pub tags-read : tagsOf s d (asRead c p k hs stamp) ≡ hs
   unfolding tagsOf
   tags-read = rw (st .descriptor) (descriptor-tags g)
 
-  pub names-read : namesOf s d (asRead c p k hs stamp ns) ≡ ns
+  pub names-read : namesOf Numbers s d (asRead c p k hs stamp) ≡ namesFrom named
   unfolding namesOf
   names-read = rw (st .commit) (commit-names g)
 
-  pub image-read : Images hs images → (i : ℕ) → i < length hs → imageOf s d (asRead c p k hs stamp ns) i ≡ getD images i []
+  pub image-read : Images hs images → (i : ℕ) → i < length hs → imageOf s d (asRead c p k hs stamp) i ≡ getD images i []
   unfolding imageOf
   image-read z i h =
       let n : i < length images = omega (arith, images-length z) in
@@ -220,34 +221,32 @@ module _ {s : Shape} {d : Bytes} {c p k : ℕ} {hs : List Tag} {stamp : ℕ} {ns
       rw (tags-read, st .data-blocks i h, image-flag z i) (unescaped-escaped (getD images i []) (omega arith) (each-getD (Each IsByte) images (z .bytes) i [] n))
 
 -- ---- a step of the reading
-module _ (s : Shape) (d : Bytes) (c k p left : ℕ) where
-  pub records-miss : (most : ℕ) → recordAt s d c k p left ≡ Miss → recordsFrom most s d c k p left ≡ []
+module _ (y : CommitLayout) (s : Shape) (d : Bytes) (c k p left : ℕ) where
+  pub records-miss : (most : ℕ) → recordAt y s d c k p left ≡ Miss → recordsFrom most y s d c k p left ≡ []
   unfolding recordsFrom
   records-miss zero h = refl
   records-miss (suc most) h = rw (h, recordsFrom)
 
-  pub records-hit : (most : ℕ) (e : Committed) → recordAt s d c k p left ≡ Whole e
-      → recordsFrom (suc most) s d c k p left ≡ e ∷ recordsFrom most s d c (k + 1) ((p + (e .count + 2)) % s .journal) (left - (e .count + 2))
+  pub records-hit : (most : ℕ) (e : Committed) → recordAt y s d c k p left ≡ Whole e
+      → recordsFrom (suc most) y s d c k p left ≡ e ∷ recordsFrom most y s d c (k + 1) ((p + (e .count + 2)) % s .journal) (left - (e .count + 2))
   unfolding recordsFrom
   records-hit most e h = rw (h, recordsFrom)
 
   -- a commit that is not its own: a torn record, or a stale one
-  pub miss-commit : isCommit s k (journalAt s d c (p + (blockCount (journalAt s d c p) + 1))) ≡ false → recordAt s d c k p left ≡ Miss
+  pub miss-commit : isCommit y s k (journalAt s d c (p + (blockCount (journalAt s d c p) + 1))) ≡ false → recordAt y s d c k p left ≡ Miss
   unfolding recordAt
   miss-commit h = rw (h, and-false) refl
 
 -- ---- a record that was read
 -- what is known of a record of core c with number k
-pub record KnownRecord (s : Shape) (d : Bytes) (c k : ℕ) (e : Committed) : Type 0 where
+pub record KnownRecord (y : CommitLayout) (s : Shape) (d : Bytes) (c k : ℕ) (e : Committed) : Type 0 where
   pub core : e .core ≡ c
   pub number : e .number ≡ k
   pub few : e .count ≤ 8
-  pub short : e .named ≤ 12
   pub descriptor : isDescriptor s k (journalAt s d c (e .position)) ≡ true
   pub count : blockCount (journalAt s d c (e .position)) ≡ e .count
-  pub commit : isCommit s k (journalAt s d c (e .position + (e .count + 1))) ≡ true
+  pub commit : isCommit y s k (journalAt s d c (e .position + (e .count + 1))) ≡ true
   pub stamp : stampIn (journalAt s d c (e .position + (e .count + 1))) ≡ e .stamp
-  pub named : nameCount (journalAt s d c (e .position + (e .count + 1))) ≡ e .named
 
 pub descriptor-few : (s : Shape) (k : ℕ) (b : Bytes) → isDescriptor s k b ≡ true → blockCount b ≤ 8
 unfolding isDescriptor
@@ -258,104 +257,98 @@ pub descriptor-number : (s : Shape) (k : ℕ) (b : Bytes) → isDescriptor s k b
 unfolding isDescriptor
 descriptor-number s k b h = leb-true k maxNumber (and-right (hasHead 1 k b) _ (and-left _ _ (and-left _ _ (and-left _ _ h))))
 
-pub commit-short : (s : Shape) (k : ℕ) (b : Bytes) → isCommit s k b ≡ true → nameCount b ≤ 12
-unfolding isCommit
-commit-short s k b h = leb-true (nameCount b) 12 (and-right (hasHead 2 k b && leb 1 (stampIn b)) _ (and-left _ _ h))
-
 pub found-cases : {A : Type 0} (r : Found) → (r ≡ Miss → A) → ((e : Committed) → r ≡ Whole e → A) → A
 found-cases (Whole e) f g = g e refl
 found-cases Miss f g = f refl
 
-module _ (s : Shape) (d : Bytes) (c : ℕ) where
-  pub record-known : (k p left : ℕ) (e : Committed) → recordAt s d c k p left ≡ Whole e → KnownRecord s d c k e × (e .position ≡ p) × (e .count + 2 ≤ left)
+module _ (y : CommitLayout) (s : Shape) (d : Bytes) (c : ℕ) where
+  pub record-known : (k p left : ℕ) (e : Committed) → recordAt y s d c k p left ≡ Whole e → KnownRecord y s d c k e × (e .position ≡ p) × (e .count + 2 ≤ left)
   unfolding recordAt
   record-known k p left e h =
       let b = journalAt s d c p in
       let n = blockCount b in
       let f = journalAt s d c (p + (n + 1)) in
-      let x : Committed = record { core = c; number = k; position = p; count = n; stamp = stampIn f; named = nameCount f } in
-      let t = isDescriptor s k b && leb (n + 2) left && isCommit s k f in
+      let x : Committed = record { core = c; number = k; position = p; count = n; stamp = stampIn f } in
+      let t = isDescriptor s k b && leb (n + 2) left && isCommit y s k f in
       cases t
-      (λ y.
-      let dl = and-left (isDescriptor s k b && leb (n + 2) left) (isCommit s k f) y in
+      (λ a.
+      let dl = and-left (isDescriptor s k b && leb (n + 2) left) (isCommit y s k f) a in
       let ed = and-left (isDescriptor s k b) (leb (n + 2) left) dl in
-      let ec = and-right (isDescriptor s k b && leb (n + 2) left) (isCommit s k f) y in
-      let w : cond t (Whole x) Miss ≡ Whole x = rw y in
+      let ec = and-right (isDescriptor s k b && leb (n + 2) left) (isCommit y s k f) a in
+      let w : cond t (Whole x) Miss ≡ Whole x = rw a in
       let q : Whole x ≡ Whole e = sym w ∙ h in
       let same : x ≡ e = cc in
       let size : n + 2 ≤ left = leb-true (n + 2) left (and-right (isDescriptor s k b) (leb (n + 2) left) dl) in
-      let known : KnownRecord s d c k x =
+      let known : KnownRecord y s d c k x =
       record {
         core = refl;
         number = refl;
         few = descriptor-few s k b ed;
-        short = commit-short s k f ec;
         descriptor = ed;
         count = refl;
         commit = ec;
         stamp = refl;
-        named = refl;
       } in
-      subst (λ (r : Committed). KnownRecord s d c k r × (r .position ≡ p) × (r .count + 2 ≤ left)) same (known, refl, size))
-      (λ y.
-      let w : cond t (Whole x) Miss ≡ Miss = rw y in
+      subst (λ (r : Committed). KnownRecord y s d c k r × (r .position ≡ p) × (r .count + 2 ≤ left)) same (known, refl, size))
+      (λ a.
+      let w : cond t (Whole x) Miss ≡ Miss = rw a in
       let q : Whole e ≡ Miss = sym h ∙ w in
       let z : _≡_ {A = ℕ} 0 1 = cc in
       absurd (omega arith))
 
   -- a record has two blocks or more
-  pub no-room : (k p left : ℕ) → left < 2 → recordAt s d c k p left ≡ Miss
-  no-room k p left h = found-cases (recordAt s d c k p left) (λ m. m) (λ e w. absurd (omega (arith, record-known k p left e w .2)))
+  pub no-room : (k p left : ℕ) → left < 2 → recordAt y s d c k p left ≡ Miss
+  no-room k p left h = found-cases (recordAt y s d c k p left) (λ m. m) (λ e w. absurd (omega (arith, record-known k p left e w .2)))
 
   -- every record read is a whole one, their numbers follow one another, and they stand at positions below J
-  pub records-known : (most k p left i : ℕ) (z : Committed) → i < length (recordsFrom most s d c k p left)
-      → KnownRecord s d c (k + i) (getD (recordsFrom most s d c k p left) i z) × (p < s .journal → (getD (recordsFrom most s d c k p left) i z) .position < s .journal)
+  pub records-known : (most k p left i : ℕ) (z : Committed) → i < length (recordsFrom most y s d c k p left)
+      → KnownRecord y s d c (k + i) (getD (recordsFrom most y s d c k p left) i z) × (p < s .journal → (getD (recordsFrom most y s d c k p left) i z) .position < s .journal)
   records-known zero k p left i z h = let l : i < 0 = unfold recordsFrom in h in absurd (omega arith)
   records-known (suc most) k p left i z h =
-      found-cases (recordAt s d c k p left)
-      (λ miss. absurd (omega (arith, ap length (records-miss s d c k p left (suc most) miss))))
+      found-cases (recordAt y s d c k p left)
+      (λ miss. absurd (omega (arith, ap length (records-miss y s d c k p left (suc most) miss))))
       (λ e hit.
       let q = (p + (e .count + 2)) % s .journal in
       let rest = left - (e .count + 2) in
       let known = record-known k p left e hit in
-      let eq : recordsFrom (suc most) s d c k p left ≡ e ∷ recordsFrom most s d c (k + 1) q rest = records-hit s d c k p left most e hit in
+      let eq : recordsFrom (suc most) y s d c k p left ≡ e ∷ recordsFrom most y s d c (k + 1) q rest = records-hit y s d c k p left most e hit in
       rw eq
-      (step e (recordsFrom most s d c (k + 1) q rest) (known .0, λ j. omega (arith, known .1))
+      (step e (recordsFrom most y s d c (k + 1) q rest) (known .0, λ j. omega (arith, known .1))
       (λ n l. let r = records-known most (k + 1) q rest n z l in (r .0, λ j. r .1 (mod-lt (p + (e .count + 2)) (omega arith)))) i (omega (arith, ap length eq))))
     where
-      step : (e : Committed) (r : List Committed) → KnownRecord s d c k e × (p < s .journal → e .position < s .journal)
-          → ((n : ℕ) → n < length r → KnownRecord s d c (k + 1 + n) (getD r n z) × (p < s .journal → (getD r n z) .position < s .journal)) → (i : ℕ) → i < suc (length r)
-          → KnownRecord s d c (k + i) (getD (e ∷ r) i z) × (p < s .journal → (getD (e ∷ r) i z) .position < s .journal)
+      step : (e : Committed) (r : List Committed) → KnownRecord y s d c k e × (p < s .journal → e .position < s .journal)
+          → ((n : ℕ) → n < length r → KnownRecord y s d c (k + 1 + n) (getD r n z) × (p < s .journal → (getD r n z) .position < s .journal)) → (i : ℕ) → i < suc (length r)
+          → KnownRecord y s d c (k + i) (getD (e ∷ r) i z) × (p < s .journal → (getD (e ∷ r) i z) .position < s .journal)
       step e r a b zero l = rw (add-zero k) a
       step e r a b (suc n) l = rw (next k n) (b n (omega arith))
 
   -- each takes two blocks or more of those left
-  pub records-length : (most k p left : ℕ) → 2 * length (recordsFrom most s d c k p left) ≤ left
+  pub records-length : (most k p left : ℕ) → 2 * length (recordsFrom most y s d c k p left) ≤ left
   records-length zero k p left = unfold recordsFrom in omega arith
   records-length (suc most) k p left =
-      found-cases (recordAt s d c k p left)
-      (λ miss. omega (arith, ap length (records-miss s d c k p left (suc most) miss)))
+      found-cases (recordAt y s d c k p left)
+      (λ miss. omega (arith, ap length (records-miss y s d c k p left (suc most) miss)))
       (λ e hit.
       omega (
         arith,
-        ap length (records-hit s d c k p left most e hit),
+        ap length (records-hit y s d c k p left most e hit),
         record-known k p left e hit .2,
         records-length most (k + 1) ((p + (e .count + 2)) % s .journal) (left - (e .count + 2)),
       ))
 
   -- at most n records are the first n of them
-  pub records-take : (most more k p left : ℕ) → most ≤ more → recordsFrom most s d c k p left ≡ take most (recordsFrom more s d c k p left)
+  pub records-take : (most more k p left : ℕ) → most ≤ more → recordsFrom most y s d c k p left ≡ take most (recordsFrom more y s d c k p left)
   records-take zero more k p left h = unfold recordsFrom in refl
   records-take (suc most) zero k p left h = absurd (omega arith)
   records-take (suc most) (suc more) k p left h =
-      found-cases (recordAt s d c k p left)
-      (λ miss. records-miss s d c k p left (suc most) miss ∙ ap (take (suc most)) (sym (records-miss s d c k p left (suc more) miss)))
+      found-cases (recordAt y s d c k p left)
+      (λ miss. records-miss y s d c k p left (suc most) miss ∙ ap (take (suc most)) (sym (records-miss y s d c k p left (suc more) miss)))
       (λ e hit.
-      records-hit s d c k p left most e hit
+      records-hit y s d c k p left most e hit
       ∙ ap (λ (r : List Committed). e ∷ r) (records-take most more (k + 1) ((p + (e .count + 2)) % s .journal) (left - (e .count + 2)) (omega arith))
-      ∙ ap (take (suc most)) (sym (records-hit s d c k p left more e hit)))
+      ∙ ap (take (suc most)) (sym (records-hit y s d c k p left more e hit)))
 
   -- half as many as blocks are left reads all
-  pub records-all : (most more k p left : ℕ) → left ≤ 2 * most + 1 → most ≤ more → recordsFrom most s d c k p left ≡ recordsFrom more s d c k p left
+  pub records-all : (most more k p left : ℕ) → left ≤ 2 * most + 1 → most ≤ more → recordsFrom most y s d c k p left ≡ recordsFrom more y s d c k p left
   records-all most more k p left h m =
-      records-take most more k p left m ∙ take-all most (recordsFrom more s d c k p left) (omega (arith, records-length more k p left))
+      records-take most more k p left m ∙ take-all most (recordsFrom more y s d c k p left) (omega (arith, records-length more k p left))

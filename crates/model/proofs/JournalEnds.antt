@@ -7,6 +7,7 @@ use Rattle.model.specs.Layout.{hasHead, blockCount, tagsIn, isTag, disti
 use Rattle.model.specs.Journal.{journalAt, recordAt}
 use Rattle.model.specs.JournalEnds.{lacksDescriptor, hasBadField, readRecord, endFrom}
 use Rattle.model.specs.declared.Shape.{Shape}
+use Rattle.model.specs.declared.CommitLayout.{CommitLayout}
 use Rattle.model.specs.declared.Committed.{Committed}
 use Rattle.model.specs.declared.Found.{Found}
 use Rattle.model.specs.declared.Found.the-variants.{Whole, Miss}
@@ -73,34 +74,34 @@ chosen false false false false false true e h = refl
 chosen false false false false false false e h = refl
 
 -- 'What recovery keeps is the same as before.': for every shape, disk, core, number, position and count of blocks left
-pub same-found : (s : Shape) (d : Bytes) (c k p left : ℕ) → foundBy (readRecord s d c k p left) ≡ recordAt s d c k p left
+pub same-found : (y : CommitLayout) (s : Shape) (d : Bytes) (c k p left : ℕ) → foundBy (readRecord y s d c k p left) ≡ recordAt y s d c k p left
 unfolding readRecord recordAt lacksDescriptor
-same-found s d c k p left =
+same-found y s d c k p left =
     let b = journalAt s d c p in
     let n = blockCount b in
     rw (descriptor-parts s k b, leb-not (n + 2) left)
-    (chosen (eqb left 0) (ltb maxNumber k) (not (hasHead 1 k b)) (hasBadField s b) (ltb left (n + 2)) (isCommit s k (journalAt s d c (p + (n + 1)))) _
+    (chosen (eqb left 0) (ltb maxNumber k) (not (hasHead 1 k b)) (hasBadField s b) (ltb left (n + 2)) (isCommit y s k (journalAt s d c (p + (n + 1)))) _
     (λ z. let y : left ≡ 0 = eqb-true left 0 z in lt-ltb left (n + 2) (omega arith)))
 
-module _ (s : Shape) (d : Bytes) (c k p left : ℕ) where
+module _ (y : CommitLayout) (s : Shape) (d : Bytes) (c k p left : ℕ) where
   -- of an answer that a call gave
-  pub found-as : (r : RecordRead) → r ≡ readRecord s d c k p left → foundBy r ≡ recordAt s d c k p left
-  found-as r e = ap foundBy e ∙ same-found s d c k p left
+  pub found-as : (r : RecordRead) → r ≡ readRecord y s d c k p left → foundBy r ≡ recordAt y s d c k p left
+  found-as r e = ap foundBy e ∙ same-found y s d c k p left
 
-  pub read-whole : (e : Committed) → readRecord s d c k p left ≡ Read e → recordAt s d c k p left ≡ Whole e
+  pub read-whole : (e : Committed) → readRecord y s d c k p left ≡ Read e → recordAt y s d c k p left ≡ Whole e
   unfolding foundBy
-  read-whole e h = sym (same-found s d c k p left) ∙ ap foundBy h
+  read-whole e h = sym (same-found y s d c k p left) ∙ ap foundBy h
 
-  pub whole-read : (e : Committed) → recordAt s d c k p left ≡ Whole e → readRecord s d c k p left ≡ Read e
-  whole-read e h = found-whole (readRecord s d c k p left) e (same-found s d c k p left ∙ h)
+  pub whole-read : (e : Committed) → recordAt y s d c k p left ≡ Whole e → readRecord y s d c k p left ≡ Read e
+  whole-read e h = found-whole (readRecord y s d c k p left) e (same-found y s d c k p left ∙ h)
 
   -- a step of the reading on
-  pub end-here : (most : ℕ) → recordAt s d c k p left ≡ Miss → endFrom most s d c k p left ≡ readRecord s d c k p left
+  pub end-here : (most : ℕ) → recordAt y s d c k p left ≡ Miss → endFrom most y s d c k p left ≡ readRecord y s d c k p left
   unfolding endFrom
   end-here zero h = refl
-  end-here (suc most) h = stops (readRecord s d c k p left) (λ e. endFrom most s d c (k + 1) ((p + (e .count + 2)) % s .journal) (left - (e .count + 2))) (same-found s d c k p left ∙ h)
+  end-here (suc most) h = stops (readRecord y s d c k p left) (λ e. endFrom most y s d c (k + 1) ((p + (e .count + 2)) % s .journal) (left - (e .count + 2))) (same-found y s d c k p left ∙ h)
 
-  pub end-on : (most : ℕ) (e : Committed) → recordAt s d c k p left ≡ Whole e
-      → endFrom (suc most) s d c k p left ≡ endFrom most s d c (k + 1) ((p + (e .count + 2)) % s .journal) (left - (e .count + 2))
+  pub end-on : (most : ℕ) (e : Committed) → recordAt y s d c k p left ≡ Whole e
+      → endFrom (suc most) y s d c k p left ≡ endFrom most y s d c (k + 1) ((p + (e .count + 2)) % s .journal) (left - (e .count + 2))
   unfolding endFrom
   end-on most e h = rw (endFrom, whole-read e h)

@@ -1,6 +1,6 @@
 -- What the tests of lists say of their elements, the numbers below a count, and a property of each element.
 -- The definitions test lists by Bool; the laws turn such a test into facts on elements and back.
-use Prim.Native.Nat.{ℕ, zero, suc, _<_}
+use Prim.Native.Nat.{ℕ, zero, suc, _≤_, _<_}
 use native.Mathlib.Omega.{arith}
 use native.Mathlib.Decide.{decLt}
 use mathlib.Core.Path.{_≡_, refl, ap, ap₂, _∙_, sym, subst}
@@ -209,3 +209,13 @@ module _ {A : Type 0} where
   each-take P zero xs a = tt
   each-take P (suc n) [] a = tt
   each-take P (suc n) (x ∷ xs) a = (a .0, each-take P n xs (a .1))
+
+-- ---- numbers
+-- what holds of a number holds of all earlier ones down to the first, if it holds of each number where it holds of the next
+pub all-earlier : (P : ℕ → Type 0) (first : ℕ) → ((n : ℕ) → first ≤ n → P (suc n) → P n) → (n m : ℕ) → first ≤ n → n ≤ m → P m → P n
+all-earlier P first before n zero h l p = let e : 0 ≡ n = omega arith in subst P e p
+all-earlier P first before n (suc m) h l p =
+    elim (decLt m n) [
+      | yes g ↦ (let e : suc m ≡ n = omega arith in subst P e p)
+      | no g ↦ all-earlier P first before n m h (omega arith) (before m (omega arith) p)
+    ]

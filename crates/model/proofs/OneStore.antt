@@ -10,8 +10,8 @@ use lib.Dec.{ltb, leb, eqb}
 use borrow.Author.Tests.{ltb-true, leb-true, leb-false, eqb-true, not-false}
 use Rattle.model.specs.Bytes.{Bytes, be4, blockAt, store}
 use Rattle.model.specs.Shape.{inRange, homeBlock, journalBlock, newShape}
-use Rattle.model.specs.Card.{taken, listed, shapeOf, tailOf, coreOf, committedCount}
-use Rattle.model.specs.Layout.{mark, isMaster, shapeIn}
+use Rattle.model.specs.Card.{taken, highestOf, shapeOf, tailOf, coreOf, committedCount}
+use Rattle.model.specs.Layout.{mark, hasMasterFields, isMaster, shapeIn}
 use Rattle.model.specs.Journal.{imageOf}
 use Rattle.model.specs.Valid.{Order, blocksHeld}
 use Rattle.model.specs.Command.{World, Outcome, wrongLength, noCore, Clear, refusedWith, Decided, refused, carried-out}
@@ -19,7 +19,7 @@ use Rattle.model.specs.Format.{formatConditions, formatted, format}
 use Rattle.model.specs.Write.{written}
 use Rattle.model.specs.Commit.{closed, copyBlock, copyTags, closedNumber, storeConditions, stored, nextStored, nextPosition}
 use Rattle.model.specs.Checkpoint.{committedOf, oldest, checkpointConditions, storedHome, storedMaster, retiredCard, checkpointed}
-use Rattle.model.specs.Recovery.{shapeOn, tailOn, committedOn, validOnBy, recoverConditions, blocksLeft, imageFound, newestImage, emptiedTail, recoverStep, recovered}
+use Rattle.model.specs.Recovery.{shapeOn, tailOn, layoutOn, committedBy, validOnBy, recoverConditions, recoverConditionsBy, blocksLeft, imageFound, newestImage, emptiedTail, recoverStep, recoveredBy, recovered}
 use Rattle.model.specs.Step.{stepBy, conditionsOf, doneBy}
 use Rattle.model.proofs.Limits.{InRange, clamped-range, range-test}
 use Rattle.model.specs.Lists.{Each}
@@ -37,6 +37,8 @@ use Rattle.model.specs.declared.Shape.{Shape}
 use Rattle.model.specs.declared.Transaction.{Transaction}
 use Rattle.model.specs.declared.Core.{Core}
 use Rattle.model.specs.declared.Card.{Card}
+use Rattle.model.specs.declared.CommitLayout.{CommitLayout}
+use Rattle.model.specs.declared.CommitLayout.the-variants.{Numbers}
 use Rattle.model.specs.declared.Committed.{Committed}
 use Rattle.model.specs.declared.Found.{Found}
 use Rattle.model.specs.declared.Found.the-variants.{Whole, Miss}
@@ -47,8 +49,8 @@ unfolding shapeOf
 shape-limits x = clamped-range (x .shape)
 
 pub master-limits : (m : Bytes) → isMaster m ≡ true → InRange (shapeIn m)
-unfolding isMaster
-master-limits m h = range-test (shapeIn m) (and-right (eqb (be4 m 0) mark && eqb (be4 m 4) 4) _ (and-left _ _ h))
+unfolding isMaster hasMasterFields
+master-limits m h = range-test (shapeIn m) (and-right (eqb (be4 m 0) mark && eqb (be4 m 4) 4) _ (and-left _ _ (and-left _ _ h)))
 
 -- slices of the lengths that 1 asks for
 pub right-lengths : (w : World) → wrongLength w ≡ false → (length (w .disk) ≡ 32896) × (length (w .memory) ≡ 16384)
@@ -80,10 +82,6 @@ pub few-taken : (t : Transaction) → FitsTransaction t → length (taken t) ≤
 unfolding taken
 few-taken t f = simp length-take (omega arith)
 
-few-listed : (t : Transaction) → FitsTransaction t → length (listed t) ≤ 12
-unfolding listed
-few-listed t f = simp length-take (omega arith)
-
 length-copyTags : (c : ℕ) (bs : List ℕ) (m : Bytes) → length (copyTags c bs m) ≡ length bs
 unfolding copyTags
 length-copyTags c bs m = simp (length-map, length-below)
@@ -101,7 +99,7 @@ length-nextStored c k m f h n =
     let b = blockAt m (copyBlock c (k .stored - 1)) in
     let q : length b ≡ 128 = length-blockAt 128 m n (copyBlock c (k .stored - 1)) (omega arith) in
     rw a (length-escaped b (omega arith) ∙ q))
-    (λ a. rw a (length-commit (closedNumber k) (t .stamp) (listed t) (few-listed t (f .closed)))))
+    (λ a. rw a (length-commit (closedNumber k) (t .stamp) (highestOf t))))
 
 module _ (c : ℕ) (w : World) where
   store-store : Arrays (w .card) → Clear (storeConditions c w) → OneStore (shapeOf (w .card)) (w .disk) (stored c w)
@@ -123,11 +121,11 @@ module _ (c : ℕ) (w : World) where
       cases (ltb i (e .count))
       (λ h.
       let b : i < e .count = ltb-true i (e .count) h in
-      let r = journal-known s (w .disk) c (tailOf (w .card) c) (committedCount (w .card) c) e (unfold committedOf in oldest-mem (committedOf w c) i b) in
+      let r = journal-known Numbers s (w .disk) c (tailOf (w .card) c) (committedCount (w .card) c) e (unfold committedOf in oldest-mem (committedOf w c) i b) in
       rw h
-      (one-stored (home (known-below s (w .disk) c _ e (r .1) i b)) (imageOf s (w .disk) e i)
+      (one-stored (home (known-below Numbers s (w .disk) c _ e (r .1) i b)) (imageOf s (w .disk) e i)
       (length-imageOf l (w .disk) (right-lengths w (cl .0) .0) e i (omega (arith, r .1 .core))) refl refl))
-      (λ h. rw h (one-stored master _ (length-master (shape-limits (retiredCard c e (w .card))) _) refl refl))
+      (λ h. rw h (one-stored master _ (length-master Numbers (shape-limits (retiredCard c e (w .card))) _) refl refl))
 
 -- ---- RECOVER
 module _ (d : Bytes) (l : InRange (shapeOn d)) (n : length d ≡ 32896) where
@@ -136,39 +134,39 @@ module _ (d : Bytes) (l : InRange (shapeOn d)) (n : length d ≡ 32896) where
   length-imageFound b Miss h p = length-blockAt 257 d n (homeBlock b) (omega (arith, l .few-blocks))
   length-imageFound b (Whole e) h p = length-imageOf l d n e _ p
 
-module _ (o : Order) (d : Bytes) (l : InRange (shapeOn d)) (n : length d ≡ 32896) where
-  valid-cores : Each (λ (e : Committed). e .core < (shapeOn d) .cores) (validOnBy o d)
-  unfolding validOnBy committedOn
+module _ (o : Order) (y : CommitLayout) (d : Bytes) (l : InRange (shapeOn d)) (n : length d ≡ 32896) where
+  valid-cores : Each (λ (e : Committed). e .core < (shapeOn d) .cores) (validOnBy o y d)
+  unfolding validOnBy committedBy
   valid-cores =
-      mem-each (λ (e : Committed). e .core < (shapeOn d) .cores) (validOnBy o d)
-      (λ e m. journals-known (shapeOn d) d (tailOn d) _ e (valid-within o (shapeOn d) d (tailOn d) (committedOn d) e m) .0)
+      mem-each (λ (e : Committed). e .core < (shapeOn d) .cores) (validOnBy o y d)
+      (λ e m. journals-known y (shapeOn d) d (tailOn d) _ e (valid-within o y (shapeOn d) d (tailOn d) (committedBy y d) e m) .0)
 
-  pub length-newestImage : (b : ℕ) → b < (shapeOn d) .blocks → length (newestImage o d b) ≡ 128
+  pub length-newestImage : (b : ℕ) → b < (shapeOn d) .blocks → length (newestImage o y d b) ≡ 128
   unfolding newestImage
-  length-newestImage b h = length-imageFound d l n b _ h (newest-holds _ (shapeOn d) d b (validOnBy o d) Miss tt valid-cores)
+  length-newestImage b h = length-imageFound d l n b _ h (newest-holds _ (shapeOn d) d b (validOnBy o y d) Miss tt valid-cores)
 
-recover-limits : (w : World) → Clear (recoverConditions w) → InRange (shapeOn (w .disk))
-unfolding recoverConditions shapeOn
+pub recover-limits : (w : World) → Clear (recoverConditions w) → InRange (shapeOn (w .disk))
+unfolding recoverConditionsBy shapeOn
 recover-limits w cl = master-limits (blockAt (w .disk) 0) (not-false (isMaster (blockAt (w .disk) 0)) (cl .1 .1 .1 .0))
 
 -- the blocks left to recovery are below B
-pub left-below : (o : Order) (w : World) {b : ℕ} → List·Memᴰ b (blocksLeft o w) → b < (shapeOn (w .disk)) .blocks
+pub left-below : (o : Order) (y : CommitLayout) (w : World) {b : ℕ} → List·Memᴰ b (blocksLeft o y w) → b < (shapeOn (w .disk)) .blocks
 unfolding blocksLeft blocksHeld
-left-below o w {b} m = mem-below _ (select-mem _ _ b (select-mem _ _ b m .0) .0)
+left-below o y w {b} m = mem-below _ (select-mem _ _ b (select-mem _ _ b m .0) .0)
 
-module _ (o : Order) (w : World) where
+module _ (o : Order) (y z : CommitLayout) (w : World) where
   recoverStep-store : InRange (shapeOn (w .disk)) → length (w .disk) ≡ 32896 → (bs : List ℕ) → ((b : ℕ) → List·Memᴰ b bs → b < (shapeOn (w .disk)) .blocks)
-      → OneStore (shapeOn (w .disk)) (w .disk) (recoverStep o bs w)
+      → OneStore (shapeOn (w .disk)) (w .disk) (recoverStep o y z bs w)
   unfolding recoverStep
-  recoverStep-store l n [] f = one-stored master _ (length-master l (emptiedTail (w .disk))) refl refl
+  recoverStep-store l n [] f = one-stored master _ (length-master z l (emptiedTail y (w .disk))) refl refl
   recoverStep-store l n (b ∷ bs) f =
       let h = f b (List·Memᴰ·head refl) in
-      one-stored (home h) (newestImage o (w .disk) b) (length-newestImage o (w .disk) l n b h) refl refl
+      one-stored (home h) (newestImage o y (w .disk) b) (length-newestImage o y (w .disk) l n b h) refl refl
 
-  recover-store : Clear (recoverConditions w) → OneStore (shapeOn (w .disk)) (w .disk) (recovered o w)
-  unfolding recovered
+  recover-store : Clear (recoverConditions w) → OneStore (shapeOn (w .disk)) (w .disk) (recoveredBy o y z w)
+  unfolding recoveredBy
   recover-store cl =
-      recoverStep-store (recover-limits w cl) (right-lengths w (unfold recoverConditions in cl .0) .0) (blocksLeft o w) (λ b m. left-below o w m)
+      recoverStep-store (recover-limits w cl) (right-lengths w (unfold recoverConditionsBy in cl .0) .0) (blocksLeft o y w) (λ b m. left-below o y w m)
 
 -- ---- every command but FORMAT
 abbrev pub isFormat : Command → Bool
@@ -199,14 +197,14 @@ decided-store s (carried-out c e) h = rw e (h c)
 
 module _ (o : Order) where
   pub done-store : (k : Command) (w : World) → Arrays (w .card) → isFormat k ≡ false → Clear (conditionsOf o k w) → OneStore (storedShape k w) (w .disk) (doneBy o k w)
-  unfolding conditionsOf doneBy storedShape written closed
+  unfolding conditionsOf doneBy storedShape written closed recovered
   done-store (FORMAT c b j) w f h cl = absurd (true≢false h)
   done-store (WRITE c b i v) w f h cl = none-stored refl refl
   done-store (CLOSE c) w f h cl = none-stored refl refl
   done-store (STORE c) w f h cl = store-store c w f cl
   done-store (CHECKPOINT c) w f h cl = checkpoint-store c w o cl
   done-store CUT w f h cl = none-stored refl refl
-  done-store RECOVER w f h cl = recover-store o w cl
+  done-store RECOVER w f h cl = recover-store o (layoutOn (w .disk)) Numbers w cl
 
   pub stored-limits : (k : Command) (w : World) → Clear (conditionsOf o k w) → InRange (storedShape k w)
   unfolding conditionsOf storedShape

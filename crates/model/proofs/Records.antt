@@ -19,6 +19,7 @@ use Rattle.model.specs.Limits.{maxNumber}
 use Rattle.model.specs.declared.Shape.{Shape}
 use Rattle.model.specs.declared.Tail.{Tail}
 use Rattle.model.specs.declared.Name.{Name}
+use Rattle.model.specs.declared.CommitLayout.{CommitLayout}
 use Rattle.model.specs.declared.Committed.{Committed}
 use Rattle.model.specs.declared.Found.{Found}
 use Rattle.model.specs.declared.Found.the-variants.{Whole, Miss}
@@ -35,9 +36,9 @@ unfolding blocksOf tagsOf tagsIn pairsIn
 length-blocksOf s d e = simp (length-map, length-below)
 
 -- a block of a record read is below B
-pub known-below : (s : Shape) (d : Bytes) (c k : ℕ) (e : Committed) → KnownRecord s d c k e → (i : ℕ) → i < e .count → getD (blocksOf s d e) i 0 < s .blocks
+pub known-below : (y : CommitLayout) (s : Shape) (d : Bytes) (c k : ℕ) (e : Committed) → KnownRecord y s d c k e → (i : ℕ) → i < e .count → getD (blocksOf s d e) i 0 < s .blocks
 unfolding isDescriptor blocksOf tagsOf isTag
-known-below s d c k e r i h =
+known-below y s d c k e r i h =
     let b = journalAt s d c (e .position) in
     let n = blockCount b in
     let a : all (isTag s) (tagsIn b n) ≡ true =
@@ -48,25 +49,25 @@ known-below s d c k e r i h =
     rw (← m .2) (ltb-true ((m .0) .block) (s .blocks) (and-left (ltb ((m .0) .block) (s .blocks)) _ (all-mem (isTag s) (tagsOf s d e) a₂ (m .1))))
 
 -- the one at index i, with its number
-journal-at : (s : Shape) (d : Bytes) (c : ℕ) (t : Tail) (most i : ℕ) → i < length (journal s d c t most)
-    → KnownRecord s d c (t .number + i) (getD (journal s d c t most) i (oldest []))
+journal-at : (y : CommitLayout) (s : Shape) (d : Bytes) (c : ℕ) (t : Tail) (most i : ℕ) → i < length (journal y s d c t most)
+    → KnownRecord y s d c (t .number + i) (getD (journal y s d c t most) i (oldest []))
 unfolding journal
-journal-at s d c t most i h = records-known s d c most (t .number) (t .position) (s .journal) i (oldest []) h .0
+journal-at y s d c t most i h = records-known y s d c most (t .number) (t .position) (s .journal) i (oldest []) h .0
 
-pub journal-known : (s : Shape) (d : Bytes) (c : ℕ) (t : Tail) (most : ℕ) (e : Committed) → List·Memᴰ e (journal s d c t most)
-    → (i : ℕ) × KnownRecord s d c (t .number + i) e
-journal-known s d c t most e m =
+pub journal-known : (y : CommitLayout) (s : Shape) (d : Bytes) (c : ℕ) (t : Tail) (most : ℕ) (e : Committed) → List·Memᴰ e (journal y s d c t most)
+    → (i : ℕ) × KnownRecord y s d c (t .number + i) e
+journal-known y s d c t most e m =
     let i = mem-getD m (oldest []) in
-    (i .0, subst (λ (e : Committed). KnownRecord s d c (t .number + i .0) e) (i .2) (journal-at s d c t most (i .0) (i .1)))
+    (i .0, subst (λ (e : Committed). KnownRecord y s d c (t .number + i .0) e) (i .2) (journal-at y s d c t most (i .0) (i .1)))
 
-pub journals-known : (s : Shape) (d : Bytes) (tailAt : ℕ → Tail) (most : ℕ → ℕ) (e : Committed) → List·Memᴰ e (journals s d tailAt most)
-    → (e .core < s .cores) × ((i : ℕ) × KnownRecord s d (e .core) ((tailAt (e .core)) .number + i) e)
+pub journals-known : (y : CommitLayout) (s : Shape) (d : Bytes) (tailAt : ℕ → Tail) (most : ℕ → ℕ) (e : Committed) → List·Memᴰ e (journals y s d tailAt most)
+    → (e .core < s .cores) × ((i : ℕ) × KnownRecord y s d (e .core) ((tailAt (e .core)) .number + i) e)
 unfolding journals
-journals-known s d tailAt most e m =
-    let r = mem-flatMap (λ (c : ℕ). journal s d c (tailAt c) (most c)) (below (s .cores)) m in
-    let i = journal-known s d (r .0) (tailAt (r .0)) (most (r .0)) e (r .2) in
+journals-known y s d tailAt most e m =
+    let r = mem-flatMap (λ (c : ℕ). journal y s d c (tailAt c) (most c)) (below (s .cores)) m in
+    let i = journal-known y s d (r .0) (tailAt (r .0)) (most (r .0)) e (r .2) in
     let q : r .0 ≡ e .core = sym (i .1 .core) in
-    (subst (λ (c : ℕ). c < s .cores) q (mem-below (s .cores) (r .1)), (i .0, subst (λ (c : ℕ). KnownRecord s d c ((tailAt c) .number + i .0) e) q (i .1)))
+    (subst (λ (c : ℕ). c < s .cores) q (mem-below (s .cores) (r .1)), (i .0, subst (λ (c : ℕ). KnownRecord y s d c ((tailAt c) .number + i .0) e) q (i .1)))
 
 -- one with a block is one of the list
 pub oldest-mem : (es : List Committed) (i : ℕ) → i < (oldest es) .count → List·Memᴰ (oldest es) es
@@ -88,26 +89,26 @@ module _ {s : Shape} (l : InRange s) (d : Bytes) (n : length d ≡ 32896) where
 
 -- ---- names
 -- no two of the transactions read have one name
-pub journals-distinct : (s : Shape) (d : Bytes) (tailAt : ℕ → Tail) (most : ℕ → ℕ) → Distinct nameOf (journals s d tailAt most)
+pub journals-distinct : (y : CommitLayout) (s : Shape) (d : Bytes) (tailAt : ℕ → Tail) (most : ℕ → ℕ) → Distinct nameOf (journals y s d tailAt most)
 unfolding journals
-journals-distinct s d tailAt most t u m n e =
-    let f : ℕ → List Committed = λ c. journal s d c (tailAt c) (most c) in
+journals-distinct y s d tailAt most t u m n e =
+    let f : ℕ → List Committed = λ c. journal y s d c (tailAt c) (most c) in
     let p = mem-flatMap f (below (s .cores)) m in
     let q = mem-flatMap f (below (s .cores)) n in
     same (p .0) (q .0) (mem-getD (p .2) (oldest [])) (mem-getD (q .2) (oldest []))
   where
     same : (c c₂ : ℕ)
-        → ((i : ℕ) × (i < length (journal s d c (tailAt c) (most c))) × (getD (journal s d c (tailAt c) (most c)) i (oldest []) ≡ t))
-        → ((i : ℕ) × (i < length (journal s d c₂ (tailAt c₂) (most c₂))) × (getD (journal s d c₂ (tailAt c₂) (most c₂)) i (oldest []) ≡ u)) → t ≡ u
-    same c c₂ x y =
-        let a : KnownRecord s d c ((tailAt c) .number + x .0) t = subst (λ (t : Committed). KnownRecord s d c ((tailAt c) .number + x .0) t) (x .2) (journal-at s d c (tailAt c) (most c) (x .0) (x .1)) in
-        let b : KnownRecord s d c₂ ((tailAt c₂) .number + y .0) u =
-        subst (λ (u : Committed). KnownRecord s d c₂ ((tailAt c₂) .number + y .0) u) (y .2) (journal-at s d c₂ (tailAt c₂) (most c₂) (y .0) (y .1)) in
+        → ((i : ℕ) × (i < length (journal y s d c (tailAt c) (most c))) × (getD (journal y s d c (tailAt c) (most c)) i (oldest []) ≡ t))
+        → ((i : ℕ) × (i < length (journal y s d c₂ (tailAt c₂) (most c₂))) × (getD (journal y s d c₂ (tailAt c₂) (most c₂)) i (oldest []) ≡ u)) → t ≡ u
+    same c c₂ x z =
+        let a : KnownRecord y s d c ((tailAt c) .number + x .0) t = subst (λ (t : Committed). KnownRecord y s d c ((tailAt c) .number + x .0) t) (x .2) (journal-at y s d c (tailAt c) (most c) (x .0) (x .1)) in
+        let b : KnownRecord y s d c₂ ((tailAt c₂) .number + z .0) u =
+        subst (λ (u : Committed). KnownRecord y s d c₂ ((tailAt c₂) .number + z .0) u) (z .2) (journal-at y s d c₂ (tailAt c₂) (most c₂) (z .0) (z .1)) in
         let g : c ≡ c₂ = sym (a .core) ∙ (ap (λ (n : Name). n .core) e ∙ b .core) in
-        let k : (tailAt c) .number + x .0 ≡ (tailAt c₂) .number + y .0 = sym (a .number) ∙ (ap (λ (n : Name). n .number) e ∙ b .number) in
+        let k : (tailAt c) .number + x .0 ≡ (tailAt c₂) .number + z .0 = sym (a .number) ∙ (ap (λ (n : Name). n .number) e ∙ b .number) in
         let r : (tailAt c) .number ≡ (tailAt c₂) .number = rw g in
-        let i : x .0 ≡ y .0 = omega arith in
-        sym (x .2) ∙ (rw (g, i) (y .2))
+        let i : x .0 ≡ z .0 = omega arith in
+        sym (x .2) ∙ (rw (g, i) (z .2))
 
 -- ---- the newest
 abbrev pub IfFound : (Committed → Type 0) → Found → Type 0

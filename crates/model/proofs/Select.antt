@@ -4,7 +4,7 @@ use native.Mathlib.Omega.{arith}
 use mathlib.Core.Path.{_≡_, refl, sym, ap, _∙_}
 use mathlib.Core.Logic.{inl, inr}
 use mathlib.Core.Bool.{Bool, true, false}
-use mathlib.Core.List.{List, [], _∷_, map, List·Memᴰ, List·Memᴰ·head, List·Memᴰ·tail, List·Memᴰ·not-nil, List·Memᴰ·cases-cons}
+use mathlib.Core.List.{List, [], _∷_, _++_, map, List·Memᴰ, List·Memᴰ·head, List·Memᴰ·tail, List·Memᴰ·not-nil, List·Memᴰ·cases-cons}
 use lib.ListN.{length}
 use Rattle.model.specs.Lists.{select}
 use Rattle.model.proofs.Lists.{cases}
@@ -57,6 +57,11 @@ module _ {A : Type 0} (p : A → Bool) where
   unfolding select
   select-same [] f = refl
   select-same (y ∷ ys) f = select-yes y ys (f y (List·Memᴰ·head refl)) ∙ ap (λ (l : List A). y ∷ l) (select-same ys (λ x m. f x (List·Memᴰ·tail m)))
+
+  pub select-append : (xs ys : List A) → select p (xs ++ ys) ≡ select p xs ++ select p ys
+  unfolding select
+  select-append [] ys = refl
+  select-append (x ∷ xs) ys = cases (p x) (λ e. rw e (ap (λ (l : List A). x ∷ l) (select-append xs ys))) (λ e. rw e (select-append xs ys))
 
 -- the images of those that meet the test are those images that meet theirs
 pub select-map : {A B : Type 0} (f : A → B) (p : A → Bool) (q : B → Bool) → ((x : A) → q (f x) ≡ p x) → (xs : List A) → select q (map f xs) ≡ map f (select p xs)

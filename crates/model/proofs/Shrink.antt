@@ -10,7 +10,7 @@ use lib.ListN.{length, length-map}
 use lib.Dec.{eqb}
 use borrow.Author.Tests.{eqb-true, eqb-false}
 use Rattle.model.specs.Lists.{all, any}
-use Rattle.model.specs.Shrink.{AllStay, Within, strike, shrinkIn, shrink, DependsOn, lists-it, through}
+use Rattle.model.specs.Shrink.{AllStay, Within, strike, shrinkIn, shrink, DependsOn, requires-it, through}
 use Rattle.model.proofs.Lists.{cases, all-mem, mem-all, any-mem, mem-any, or-cases, or-left, or-right}
 use Rattle.model.proofs.Select.{select-length, mem-select, select-mem, select-all, select-map}
 
@@ -98,11 +98,11 @@ module _ {A B : Type 0} (f : A → B) (stays : List A → A → Bool) (stays₂ 
 -- ---- 'depends on': a set is closed under it where it is closed under what is listed, and only there
 module _ {A : Type 0} {Lists : A → A → Type 0} (P : A → Type 0) where
   pub depends-closed : ((t u : A) → P t → Lists t u → P u) → (t u : A) → P t → DependsOn Lists t u → P u
-  depends-closed c t u p (lists-it l) = c t u p l
+  depends-closed c t u p (requires-it l) = c t u p l
   depends-closed c t u p (through {u = v} l d) = depends-closed c v u (c t v p l) d
 
   pub lists-closed : ((t u : A) → P t → DependsOn Lists t u → P u) → (t u : A) → P t → Lists t u → P u
-  lists-closed c t u p l = c t u p (lists-it l)
+  lists-closed c t u p l = c t u p (requires-it l)
 
 -- ---- the test of names: each name listed is that of one in the set, or counts as met without it (is gone)
 module _ {A N : Type 0} (nameOf : A → N) where

@@ -14,11 +14,11 @@ use Rattle.model.specs.Shape.{homeBlock, newShape}
 use Rattle.model.specs.Card.{taken, shapeOf, coreOf, blankCard}
 use Rattle.model.specs.Command.{World, Outcome, noCore, noBlock, Clear, Decided, refused, carried-out}
 use Rattle.model.specs.Valid.{Order}
-use Rattle.model.specs.Format.{formatted}
+use Rattle.model.specs.Format.{formattedDisk, formatted}
 use Rattle.model.specs.Write.{writeConditions, loadsImage, ruleFor, writtenMemory, written}
 use Rattle.model.specs.Commit.{copyBlock, copied, closeConditions, closed, stored}
 use Rattle.model.specs.Checkpoint.{committedOf, oldest, storedHome, storedMaster, checkpointed}
-use Rattle.model.specs.Recovery.{blocksLeft, recoverStep, recovered}
+use Rattle.model.specs.Recovery.{layoutOn, blocksLeft, recoverStep, recoveredBy, recovered}
 use Rattle.model.specs.Tape.{Point, CHECKPOINT, CLOSE, CUT, Command, FORMAT, RECOVER, Read, STORE, WRITE, early, readAt, unknown, whole}
 use Rattle.model.proofs.Limits.{InRange}
 use Rattle.model.specs.Lists.{Each}
@@ -30,6 +30,8 @@ use Rattle.model.proofs.Arrays.{Arrays, core-fits, empty-arrays, done-a
 use Rattle.model.proofs.OneStore.{shape-limits, right-lengths, few-taken, OneStore, none-stored, one-stored, storePlace-low, format-limits, done-store, isFormat, stored-limits}
 use Rattle.model.specs.Step.{conditionsOf, conditionsOn, doneBy, doneOn, stepAtBy}
 use Rattle.model.specs.declared.Shape.{Shape}
+use Rattle.model.specs.declared.CommitLayout.{CommitLayout}
+use Rattle.model.specs.declared.CommitLayout.the-variants.{Numbers}
 use Rattle.model.specs.declared.Phase.the-variants.{Blank}
 
 pub record SizedWorld (w : World) : Type 0 where
@@ -43,8 +45,8 @@ one-length l n (none-stored e z) = ap length e ∙ n
 one-length {d = d} l n (one-stored {k} p b h e z) = ap length e ∙ (length-store d k b (omega (arith, storePlace-low l p)) h ∙ n)
 
 formatted-disk : (s : Shape) → InRange s → length ((formatted s) .world .disk) ≡ 32896
-unfolding formatted zeroDisk
-formatted-disk s l = length-store (replicate 32896 0) 0 _ (rw length-replicate (omega arith)) (length-master l _) ∙ length-replicate {A = ℕ} 32896 0
+unfolding formatted formattedDisk zeroDisk
+formatted-disk s l = length-store (replicate 32896 0) 0 _ (rw length-replicate (omega arith)) (length-master Numbers l _) ∙ length-replicate {A = ℕ} 32896 0
 
 -- ---- memory
 pub length-copied : (c i : ℕ) (bs : List ℕ) (m : Bytes) → c < 8 → i + length bs ≤ 8 → length m ≡ 16384 → length (copied c i bs m) ≡ 16384
@@ -80,10 +82,10 @@ pub checkpointed-memory : (c : ℕ) (w : World) → (checkpointed c w) .world .m
 unfolding checkpointed storedHome storedMaster
 checkpointed-memory c w = of-cond (λ (o : Outcome World). o .world .memory ≡ w .memory) (ltb ((coreOf (w .card) c) .homed) ((oldest (committedOf w c)) .count)) refl refl
 
-pub recoverStep-memory : (o : Order) (bs : List ℕ) (w : World) → (recoverStep o bs w) .world .memory ≡ w .memory
+pub recoverStep-memory : (o : Order) (y z : CommitLayout) (bs : List ℕ) (w : World) → (recoverStep o y z bs w) .world .memory ≡ w .memory
 unfolding recoverStep
-recoverStep-memory o [] w = refl
-recoverStep-memory o (b ∷ bs) w = refl
+recoverStep-memory o y z [] w = refl
+recoverStep-memory o y z (b ∷ bs) w = refl
 
 pub length-zeroMemory : length zeroMemory ≡ 16384
 unfolding zeroMemory
@@ -96,14 +98,14 @@ decided-sized (carried-out c e) z h = subst (λ (o : Outcome World). SizedWorld 
 -- ---- every command
 module _ (o : Order) where
   done-memory : (k : Command) (w : World) → OfData (λ (v : Bytes). length v ≡ 4) k → SizedWorld w → Clear (conditionsOf o k w) → length ((doneBy o k w) .world .memory) ≡ 16384
-  unfolding conditionsOf doneBy formatted stored recovered
+  unfolding conditionsOf doneBy formatted stored recovered recoveredBy
   done-memory (FORMAT c b j) w four z cl = length-zeroMemory
   done-memory (WRITE c b i v) w four z cl = length-written c b i v w four cl
   done-memory (CLOSE c) w four z cl = length-closed c w (z .arrays) cl
   done-memory (STORE c) w four z cl = z .memory
   done-memory (CHECKPOINT c) w four z cl = rw (checkpointed-memory c w) (z .memory)
   done-memory CUT w four z cl = length-zeroMemory
-  done-memory RECOVER w four z cl = rw (recoverStep-memory o (blocksLeft o w) w) (z .memory)
+  done-memory RECOVER w four z cl = rw (recoverStep-memory o (layoutOn (w .disk)) Numbers (blocksLeft o (layoutOn (w .disk)) w) w) (z .memory)
 
   stored-disk : (k : Command) (w : World) → SizedWorld w → isFormat k ≡ false → Clear (conditionsOf o k w) → length ((doneBy o k w) .world .disk) ≡ 32896
   stored-disk k w z h cl = one-length (stored-limits o k w cl) (z .disk) (done-store o k w (z .arrays) h cl)

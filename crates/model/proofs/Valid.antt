@@ -16,6 +16,7 @@ use Rattle.model.specs.Valid.{Order, isIn, isMet, requiredOf, namesMet, 
 use Rattle.model.specs.declared.Shape.{Shape}
 use Rattle.model.specs.declared.Tail.{Tail}
 use Rattle.model.specs.declared.Name.{Name}
+use Rattle.model.specs.declared.CommitLayout.{CommitLayout}
 use Rattle.model.specs.declared.Committed.{Committed}
 use Rattle.model.proofs.Lists.{and-both, and-left, and-right}
 use Rattle.model.proofs.Records.{journals-known, journals-distinct}
@@ -38,38 +39,38 @@ abbrev pub belowTail : (ℕ → Tail) → Name → Bool
 belowTail tailAt n = ltb (n .number) ((tailAt (n .core)) .number)
 
 -- none of those read is below its core's tail number
-pub journals-unretired : (s : Shape) (d : Bytes) (tailAt : ℕ → Tail) (most : ℕ → ℕ) (u : Committed) → List·Memᴰ u (journals s d tailAt most) → belowTail tailAt (nameOf u) ≡ false
-journals-unretired s d tailAt most u m =
-    let r = journals-known s d tailAt most u m .1 in
+pub journals-unretired : (y : CommitLayout) (s : Shape) (d : Bytes) (tailAt : ℕ → Tail) (most : ℕ → ℕ) (u : Committed) → List·Memᴰ u (journals y s d tailAt most) → belowTail tailAt (nameOf u) ≡ false
+journals-unretired y s d tailAt most u m =
+    let r = journals-known y s d tailAt most u m .1 in
     le-ltb (u .number) ((tailAt (u .core)) .number) (omega (arith, r .1 .number))
 
-module _ (o : Order) (s : Shape) (d : Bytes) (tailAt : ℕ → Tail) where
-  pub namesMet-monotone : Monotone (namesMet o s d tailAt)
+module _ (o : Order) (y : CommitLayout) (s : Shape) (d : Bytes) (tailAt : ℕ → Tail) where
+  pub namesMet-monotone : Monotone (namesMet o y s d tailAt)
   unfolding namesMet isMet isIn
-  namesMet-monotone = named-monotone (requiredOf o s d) nameOf sameName sameName-true sameName-refl (belowTail tailAt)
+  namesMet-monotone = named-monotone (requiredOf o y s d) nameOf sameName sameName-true sameName-refl (belowTail tailAt)
 
-  pub valid-closed : (es : List Committed) → AllStay (namesMet o s d tailAt) (validSet o s d tailAt es)
+  pub valid-closed : (es : List Committed) → AllStay (namesMet o y s d tailAt) (validSet o y s d tailAt es)
   unfolding validSet
-  valid-closed = shrink-closed (namesMet o s d tailAt)
+  valid-closed = shrink-closed (namesMet o y s d tailAt)
 
-  pub valid-within : (es : List Committed) → Within (validSet o s d tailAt es) es
+  pub valid-within : (es : List Committed) → Within (validSet o y s d tailAt es) es
   unfolding validSet
-  valid-within = shrink-within (namesMet o s d tailAt)
+  valid-within = shrink-within (namesMet o y s d tailAt)
 
-  pub valid-largest : (es ss : List Committed) → Within ss es → AllStay (namesMet o s d tailAt) ss → Within ss (validSet o s d tailAt es)
+  pub valid-largest : (es ss : List Committed) → Within ss es → AllStay (namesMet o y s d tailAt) ss → Within ss (validSet o y s d tailAt es)
   unfolding validSet
-  valid-largest = shrink-largest (namesMet o s d tailAt) namesMet-monotone
+  valid-largest = shrink-largest (namesMet o y s d tailAt) namesMet-monotone
 
   -- 'each name listed is in the set or lies below its core's tail number', and so each required
-  pub valid-names : (es : List Committed) (t : Committed) → List·Memᴰ t (validSet o s d tailAt es) → (n : Name) → List·Memᴰ n (requiredOf o s d t)
-      → (belowTail tailAt n ≡ true) ⊎ Named nameOf (validSet o s d tailAt es) n
+  pub valid-names : (es : List Committed) (t : Committed) → List·Memᴰ t (validSet o y s d tailAt es) → (n : Name) → List·Memᴰ n (requiredOf o y s d t)
+      → (belowTail tailAt n ≡ true) ⊎ Named nameOf (validSet o y s d tailAt es) n
   unfolding validSet namesMet isMet isIn
-  valid-names = shrunk-names (requiredOf o s d) nameOf sameName sameName-true sameName-refl (belowTail tailAt)
+  valid-names = shrunk-names (requiredOf o y s d) nameOf sameName sameName-true sameName-refl (belowTail tailAt)
 
   -- each valid one has all that it depends on among those read
-  pub valid-depends : (most : ℕ → ℕ) (t u : Committed) → List·Memᴰ t (validSet o s d tailAt (journals s d tailAt most))
-      → DependsOn (ListsIn (requiredOf o s d) nameOf (journals s d tailAt most)) t u → List·Memᴰ u (validSet o s d tailAt (journals s d tailAt most))
+  pub valid-depends : (most : ℕ → ℕ) (t u : Committed) → List·Memᴰ t (validSet o y s d tailAt (journals y s d tailAt most))
+      → DependsOn (ListsIn (requiredOf o y s d) nameOf (journals y s d tailAt most)) t u → List·Memᴰ u (validSet o y s d tailAt (journals y s d tailAt most))
   unfolding validSet namesMet isMet isIn
   valid-depends most =
-      shrunk-depends (requiredOf o s d) nameOf sameName sameName-true sameName-refl (belowTail tailAt) (journals s d tailAt most) (journals-distinct s d tailAt most)
-      (journals-unretired s d tailAt most)
+      shrunk-depends (requiredOf o y s d) nameOf sameName sameName-true sameName-refl (belowTail tailAt) (journals y s d tailAt most) (journals-distinct y s d tailAt most)
+      (journals-unretired y s d tailAt most)

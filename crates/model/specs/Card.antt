@@ -1,12 +1,11 @@
 -- The card's state: empty values, what is read of it, and parts of it replaced.
 -- Reading past the end of an array gives the empty value; replacing there changes nothing.
-use Prim.Native.Nat.{ℕ, _+_, _-_}
+use Prim.Native.Nat.{ℕ, _+_, _-_, max}
 use mathlib.Core.List.{List, map}
 use mathlib.Core.Bool.{Bool, true, false, cond, _&&_}
 use lib.ListN.{take, length, getD, set, replicate}
 use lib.Dec.{eqb}
-use Rattle.model.specs.Limits.{maxCores, maxBlocks, maxNames, maxTaken}
-use Rattle.model.specs.Lists.{any}
+use Rattle.model.specs.Limits.{maxCores, maxBlocks, maxTaken}
 use Rattle.model.specs.Shape.{clamped}
 use Rattle.model.specs.declared.Phase.{Phase}
 use Rattle.model.specs.declared.Phase.the-variants.{Blank, Up, Down}
@@ -47,35 +46,36 @@ sameName a b = eqb (a .core) (b .core) && eqb (a .number) (b .number)
 
 -- ---- transactions
 abbrev pub noTransaction : Transaction
-noTransaction = record { live = false; stamp = 0; count = 0; blocks = replicate maxTaken 0; named = 0; names = replicate maxNames (newName 0 0) }
+noTransaction = record { live = false; stamp = 0; count = 0; blocks = replicate maxTaken 0; highest = replicate maxCores 0 }
 
 -- one just opened: no block, no name
 abbrev pub opened : Transaction
-opened = record { live = true; stamp = 0; count = 0; blocks = replicate maxTaken 0; named = 0; names = replicate maxNames (newName 0 0) }
+opened = record { live = true; stamp = 0; count = 0; blocks = replicate maxTaken 0; highest = replicate maxCores 0 }
 
 -- the blocks that it took, in the order taken
 unfoldable pub taken : Transaction → List ℕ
 taken t = take (t .count) (t .blocks)
 
--- the names in its list, in the order first named
-unfoldable pub listed : Transaction → List Name
-listed t = take (t .named) (t .names)
-
-unfoldable pub lists : Transaction → Name → Bool
-lists t n = any (sameName n) (listed t)
-
 abbrev pub withBlock : Transaction → ℕ → Transaction
-withBlock t b =
-    record { live = t .live; stamp = t .stamp; count = t .count + 1; blocks = set (t .blocks) (t .count) b; named = t .named; names = t .names }
+withBlock t b = record { live = t .live; stamp = t .stamp; count = t .count + 1; blocks = set (t .blocks) (t .count) b; highest = t .highest }
 
--- 'A name stands once in a list.'
+-- paper 02, (d): 'the highest number named for each core'
+unfoldable pub highestOf : Transaction → ℕ → ℕ
+highestOf t c = getD (t .highest) c 0
+
+-- it names n: the number of n's core is raised to n's, where that is higher
 unfoldable pub withName : Transaction → Name → Transaction
 withName t n =
-    cond (lists t n) t
-    (record { live = t .live; stamp = t .stamp; count = t .count; blocks = t .blocks; named = t .named + 1; names = set (t .names) (t .named) n })
+    record {
+      live = t .live;
+      stamp = t .stamp;
+      count = t .count;
+      blocks = t .blocks;
+      highest = set (t .highest) (n .core) (max (highestOf t (n .core)) (n .number));
+    }
 
 abbrev pub stamped : Transaction → ℕ → Transaction
-stamped t s = record { live = t .live; stamp = s; count = t .count; blocks = t .blocks; named = t .named; names = t .names }
+stamped t s = record { live = t .live; stamp = s; count = t .count; blocks = t .blocks; highest = t .highest }
 
 -- ---- cores
 abbrev pub freshCore : ℕ → Core
@@ -136,8 +136,8 @@ holderOf x b = getD (x .holders) b noHolder
 unfoldable pub committedCount : Card → ℕ → ℕ
 committedCount x c = let k = coreOf x c in k .next - (tailOf x c) .number - cond (k .closed .live) 1 0
 
-abbrev pub withLists : Card → List Tail → List Core → List Holder → Card
-withLists x ts ks hs =
+abbrev pub withArrays : Card → List Tail → List Core → List Holder → Card
+withArrays x ts ks hs =
     record {
       phase = x .phase;
       shape = x .shape;
@@ -149,10 +149,10 @@ withLists x ts ks hs =
     }
 
 abbrev pub withCores : Card → List Core → Card
-withCores x ks = withLists x (x .tails) ks (x .holders)
+withCores x ks = withArrays x (x .tails) ks (x .holders)
 
 abbrev pub withCore : Card → ℕ → Core → Card
 withCore x c k = withCores x (set (x .cores) c k)
 
 abbrev pub withHolder : Card → ℕ → Holder → Card
-withHolder x b h = withLists x (x .tails) (x .cores) (set (x .holders) b h)
+withHolder x b h = withArrays x (x .tails) (x .cores) (set (x .holders) b h)

@@ -19,7 +19,7 @@ line offset byte answer stores = record { offset = offset; byte = byte; answer =
 abbrev pub case : Bytes → List Line → List (ℕ × Bytes) → ℕ → Case
 case tape lines homes next = record { tape = tape; prints = record { lines = lines; homes = homes }; next = next }
 
--- what the definitions make of a tape, under each rule
+-- what the definitions make of a tape, under a rule
 unfoldable pub outcomeOf : Order → Bytes → Case
 outcomeOf o t =
     let f = stepAtBy o in

@@ -7,7 +7,7 @@ use lib.ListN.{length, getD, set}
 use lib.Dec.{ltb, eqb}
 use Rattle.model.specs.Lists.{below, any}
 use Rattle.model.specs.Shape.{homeBlock}
-use Rattle.model.specs.Card.{newTail, sameName, noHolder, taken, shapeOf, tailOf, coreOf, committedCount, withLists, withCore}
+use Rattle.model.specs.Card.{newTail, sameName, noHolder, taken, shapeOf, tailOf, coreOf, committedCount, withArrays, withCore}
 use Rattle.model.specs.Layout.{masterBlock}
 use Rattle.model.specs.Journal.{journal, journals, nameOf, blocksOf, imageOf}
 use Rattle.model.specs.Valid.{Order, isIn, validSet}
@@ -19,22 +19,24 @@ use Rattle.model.specs.declared.Transaction.{Transaction}
 use Rattle.model.specs.declared.Core.{Core}
 use Rattle.model.specs.declared.Holder.{Holder}
 use Rattle.model.specs.declared.Card.{Card}
+use Rattle.model.specs.declared.CommitLayout.the-variants.{Numbers}
 use Rattle.model.specs.declared.Committed.{Committed}
 
--- the committed unretired transactions of a card that is up: of each journal, as many as the card counts
+-- the committed unretired transactions of a card that is up: of each journal, as many as the card counts. It has come from FORMAT or from
+-- a recovery that was finished, so its commits have numbers; the master is not looked at
 unfoldable pub committedNow : World → List Committed
-committedNow w = journals (shapeOf (w .card)) (w .disk) (tailOf (w .card)) (committedCount (w .card))
+committedNow w = journals Numbers (shapeOf (w .card)) (w .disk) (tailOf (w .card)) (committedCount (w .card))
 
 unfoldable pub validNow : Order → World → List Committed
-validNow o w = validSet o (shapeOf (w .card)) (w .disk) (tailOf (w .card)) (committedNow w)
+validNow o w = validSet o Numbers (shapeOf (w .card)) (w .disk) (tailOf (w .card)) (committedNow w)
 
 -- the core's committed unretired transactions; the oldest comes first
 unfoldable pub committedOf : World → ℕ → List Committed
-committedOf w c = journal (shapeOf (w .card)) (w .disk) c (tailOf (w .card) c) (committedCount (w .card) c)
+committedOf w c = journal Numbers (shapeOf (w .card)) (w .disk) c (tailOf (w .card) c) (committedCount (w .card) c)
 
 -- the first of a list, the empty one where there is none
 unfoldable pub oldest : List Committed → Committed
-oldest [] = record { core = 0; number = 0; position = 0; count = 0; stamp = 0; named = 0 }
+oldest [] = record { core = 0; number = 0; position = 0; count = 0; stamp = 0 }
 oldest (e ∷ es) = e
 
 -- two transactions share a block
@@ -94,7 +96,7 @@ retiredCore k e =
 -- the card after the master store, 'which retires it'
 unfoldable pub retiredCard : ℕ → Committed → Card → Card
 retiredCard c e x =
-    withLists x
+    withArrays x
     (set (x .tails) c (movedTail (shapeOf x) e))
     (set (x .cores) c (retiredCore (coreOf x c) e))
     (released (nameOf e) (x .holders))
@@ -102,7 +104,7 @@ retiredCard c e x =
 unfoldable pub storedMaster : ℕ → Committed → World → Outcome World
 storedMaster c e w =
     let x = retiredCard c e (w .card) in
-    storing w x 0 (masterBlock (shapeOf x) (tailOf x))
+    storing w x 0 (masterBlock Numbers (shapeOf x) (tailOf x))
 
 unfoldable pub checkpointed : ℕ → World → Outcome World
 checkpointed c w =

@@ -8,7 +8,7 @@ use Rattle.model.specs.Limits.{maxBlocks, maxTaken}
 use Rattle.model.specs.Lists.{below}
 use Rattle.model.specs.Bytes.{Bytes, blockAt, store}
 use Rattle.model.specs.Shape.{journalBlock}
-use Rattle.model.specs.Card.{noTransaction, taken, listed, stamped, recordSize, shapeOf, tailOf, coreOf, withCore}
+use Rattle.model.specs.Card.{noTransaction, taken, highestOf, stamped, recordSize, shapeOf, tailOf, coreOf, withCore}
 use Rattle.model.specs.Layout.{Tag, newTag, descriptorBlock, commitBlock, flagOf, escaped}
 use Rattle.model.specs.Command.{World, Outcome, unstored, storing, unless, notUp, noCore}
 use Rattle.model.specs.declared.Core.{Core}
@@ -70,7 +70,7 @@ nextStored c k m =
     let t = k .closed in
     cond (eqb (k .stored) 0) (descriptorBlock (closedNumber k) (copyTags c (taken t) m))
     (cond (leb (k .stored) (length (taken t))) (escaped (blockAt m (copyBlock c (k .stored - 1))))
-    (commitBlock (closedNumber k) (t .stamp) (listed t)))
+    (commitBlock (closedNumber k) (t .stamp) (highestOf t)))
 
 -- 'Records follow one another from the tail': the position of what is stored next
 unfoldable pub nextPosition : Card → ℕ → ℕ

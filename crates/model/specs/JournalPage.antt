@@ -1,4 +1,5 @@
--- Paper 02, request (a): 'A journal page for the service log', with the ends of (b). A line is given by its fields, a page by its lines.
+-- Paper 02, request (a): 'A journal page for the service log', with the ends of (b) and the name count of (d). A line is given by its fields,
+-- a page by its lines.
 use Prim.Native.Nat.{ℕ, zero, suc, _+_, _-_, _/_, _%_, _^_}
 use mathlib.Core.List.{List, [], _∷_, _++_, map}
 use mathlib.Core.Bool.{Bool, cond, not, _&&_}
@@ -7,10 +8,11 @@ use lib.Dec.{ltb, leb, eqb}
 use Rattle.model.specs.Lists.{below}
 use Rattle.model.specs.Bytes.{Bytes, zeroMemory}
 use Rattle.model.specs.Card.{downCard}
-use Rattle.model.specs.Journal.{nameOf}
+use Rattle.model.specs.Layout.{coresNamed}
+use Rattle.model.specs.Journal.{nameOf, namesOf}
 use Rattle.model.specs.Valid.{isIn}
 use Rattle.model.specs.Command.{refusal}
-use Rattle.model.specs.Recovery.{shapeOn, tailOn, committedOn, validOn, recoverConditions}
+use Rattle.model.specs.Recovery.{shapeOn, tailOn, layoutOn, committedOn, validOn, recoverConditions}
 use Rattle.model.specs.JournalEnds.{recordAnswer, journalEnd}
 use Rattle.model.specs.declared.Shape.{Shape}
 use Rattle.model.specs.declared.Committed.{Committed}
@@ -72,11 +74,11 @@ unfoldable pub keptOrLeft : Bool → Bytes
 keptOrLeft kept = cond kept (0x6B ∷ 0x65 ∷ 0x70 ∷ 0x74 ∷ []) (0x6C ∷ 0x65 ∷ 0x66 ∷ 0x74 ∷ [])
 
 -- 'A line has core (2 columns), number (10), stamp (20), block count (2), name count (2) and the word ..,
--- single spaces between'
-unfoldable pub transactionFields : Bool → Committed → List Field
-transactionFields kept e =
+-- single spaces between'; it names so many cores
+unfoldable pub transactionFields : Bool → ℕ → Committed → List Field
+transactionFields kept cores e =
     numeral 1 2 (e .core) ∷ numeral 4 10 (e .number) ∷ numeral 15 20 (e .stamp) ∷
-    numeral 36 2 (e .count) ∷ numeral 39 2 (e .named) ∷ word 42 (keptOrLeft kept) ∷ []
+    numeral 36 2 (e .count) ∷ numeral 39 2 cores ∷ word 42 (keptOrLeft kept) ∷ []
 
 -- 'one line for each core, core and end in two columns each'
 unfoldable pub endFields : ℕ → ℕ → List Field
@@ -91,13 +93,13 @@ refusalFields n = numeral 1 2 n ∷ []
 unfoldable pub pageRefusal : Bytes → ℕ
 pageRefusal d = refusal (recoverConditions (record { card = downCard; disk = d; memory = zeroMemory }))
 
--- a transaction of the disk: kept where its name is one of the valid set's
+-- a transaction of the disk: kept where its name is one of the valid set's; paper 02, (d): 'the page counts the cores named'
 unfoldable pub transactionLine : Bytes → Committed → List Field
-transactionLine d e = transactionFields (isIn (validOn d) (nameOf e)) e
+transactionLine d e = transactionFields (isIn (validOn d) (nameOf e)) (coresNamed (namesOf (layoutOn d) (shapeOn d) d e)) e
 
 -- why the reading of core c's journal ended, by its number
 unfoldable pub endOn : Bytes → ℕ → ℕ
-endOn d c = (recordAnswer (journalEnd (shapeOn d) d c (tailOn d c))) .0
+endOn d c = (recordAnswer (journalEnd (layoutOn d) (shapeOn d) d c (tailOn d c))) .0
 
 unfoldable pub endLine : Bytes → ℕ → List Field
 endLine d c = endFields c (endOn d c)

@@ -25,7 +25,7 @@ minJournal = 4
 abbrev pub maxJournal : ℕ
 maxJournal = 24
 
--- 'A list has at most 12 names, a transaction at most 8 blocks'
+-- 'A list has at most 12 names, a transaction at most 8 blocks': the names in commits before request (d) alone; a list in a book has no limit
 abbrev pub maxNames : ℕ
 maxNames = 12
 

@@ -9,7 +9,7 @@ use Rattle.model.specs.Lists.{below, select}
 use Rattle.model.specs.Bytes.{Bytes, blockAt, zeroMemory}
 use Rattle.model.specs.Shape.{homeBlock}
 use Rattle.model.specs.Card.{isBlank, isUp, newTail, freshCard, downCard}
-use Rattle.model.specs.Layout.{masterBlock, isMaster, shapeIn, tailIn}
+use Rattle.model.specs.Layout.{masterBlock, layoutIn, hasMasterFields, isMaster, shapeIn, tailIn}
 use Rattle.model.specs.Journal.{journal, journals, blocksOf, imageOf}
 use Rattle.model.specs.Valid.{Order, in-sequence, validSet, blocksHeld, newest}
 use Rattle.model.specs.Command.{World, Outcome, unstored, storing, unless, wrongLength}
@@ -17,6 +17,8 @@ use Rattle.model.specs.declared.Phase.the-variants.{Up}
 use Rattle.model.specs.declared.Shape.{Shape}
 use Rattle.model.specs.declared.Tail.{Tail}
 use Rattle.model.specs.declared.Card.{Card}
+use Rattle.model.specs.declared.CommitLayout.{CommitLayout}
+use Rattle.model.specs.declared.CommitLayout.the-variants.{Lists, Numbers}
 use Rattle.model.specs.declared.Committed.{Committed}
 use Rattle.model.specs.declared.Found.{Found}
 use Rattle.model.specs.declared.Found.the-variants.{Whole, Miss}
@@ -35,25 +37,37 @@ shapeOn d = shapeIn (blockAt d 0)
 unfoldable pub tailOn : Bytes → ℕ → Tail
 tailOn d c = tailIn (blockAt d 0) c
 
+-- paper 02, (d): 'A disk whose master holds 0 there is still recovered by its lists'
+unfoldable pub layoutOn : Bytes → CommitLayout
+layoutOn d = layoutIn (blockAt d 0)
+
 -- a journal read whole: no record is shorter than two blocks, so J bounds their number
-unfoldable pub committedOn : Bytes → List Committed
-committedOn d = let s = shapeOn d in journals s d (tailOn d) (λ (c : ℕ). s .journal)
+unfoldable pub committedBy : CommitLayout → Bytes → List Committed
+committedBy y d = let s = shapeOn d in journals y s d (tailOn d) (λ (c : ℕ). s .journal)
 
-unfoldable pub validOnBy : Order → Bytes → List Committed
-validOnBy o d = validSet o (shapeOn d) d (tailOn d) (committedOn d)
+unfoldable pub validOnBy : Order → CommitLayout → Bytes → List Committed
+validOnBy o y d = validSet o y (shapeOn d) d (tailOn d) (committedBy y d)
 
--- with request (c) in force
+-- by the disk's layout
+abbrev pub committedOn : Bytes → List Committed
+committedOn d = committedBy (layoutOn d) d
+
+-- and with request (c) in force
 abbrev pub validOn : Bytes → List Committed
-validOn d = validOnBy in-sequence d
+validOn d = validOnBy in-sequence (layoutOn d) d
 
 -- ---- RECOVER
-unfoldable pub recoverConditions : World → List (Bool × ℕ)
-recoverConditions w =
-    (wrongLength w, 1) ∷ (isBlank (w .card .phase), 20) ∷ (isUp (w .card .phase), 23) ∷ (not (isMaster (blockAt (w .disk) 0)), 8) ∷ []
+-- given what is taken for a master
+unfoldable pub recoverConditionsBy : (Bytes → Bool) → World → List (Bool × ℕ)
+recoverConditionsBy fits w =
+    (wrongLength w, 1) ∷ (isBlank (w .card .phase), 20) ∷ (isUp (w .card .phase), 23) ∷ (not (fits (blockAt (w .disk) 0)), 8) ∷ []
+
+abbrev pub recoverConditions : World → List (Bool × ℕ)
+recoverConditions w = recoverConditionsBy isMaster w
 
 -- 'from the lowest block to the highest': the blocks held in the valid set that recovery has not passed
-unfoldable pub blocksLeft : Order → World → List ℕ
-blocksLeft o w = select (leb (w .card .recovered)) (blocksHeld (shapeOn (w .disk)) (w .disk) (validOnBy o (w .disk)))
+unfoldable pub blocksLeft : Order → CommitLayout → World → List ℕ
+blocksLeft o y w = select (leb (w .card .recovered)) (blocksHeld (shapeOn (w .disk)) (w .disk) (validOnBy o y (w .disk)))
 
 -- the place of block b among those given; as many as all where it is not there
 unfoldable pub placeOf : ℕ → List ℕ → ℕ
@@ -65,8 +79,8 @@ unfoldable pub imageFound : Bytes → ℕ → Found → Bytes
 imageFound d b Miss = blockAt d (homeBlock b)
 imageFound d b (Whole e) = imageOf (shapeOn d) d e (placeOf b (blocksOf (shapeOn d) d e))
 
-unfoldable pub newestImage : Order → Bytes → ℕ → Bytes
-newestImage o d b = imageFound d b (newest (shapeOn d) d b Miss (validOnBy o d))
+unfoldable pub newestImage : Order → CommitLayout → Bytes → ℕ → Bytes
+newestImage o y d b = imageFound d b (newest (shapeOn d) d b Miss (validOnBy o y d))
 
 abbrev pub recoveredTo : Card → ℕ → Card
 recoveredTo x b =
@@ -77,23 +91,32 @@ recoveredTo x b =
 abbrev pub tailPast : Tail → ℕ → Tail
 tailPast t n = newTail (min (t .number + (n + 1)) (suc maxNumber)) 0
 
-unfoldable pub emptiedTail : Bytes → ℕ → Tail
-emptiedTail d c =
+unfoldable pub emptiedTail : CommitLayout → Bytes → ℕ → Tail
+emptiedTail y d c =
     let s = shapeOn d in
     let t = tailOn d c in
-    cond (ltb c (s .cores)) (tailPast t (length (journal s d c t (s .journal)))) (newTail 0 0)
+    cond (ltb c (s .cores)) (tailPast t (length (journal y s d c t (s .journal)))) (newTail 0 0)
 
 -- 'Then one master store empties all journals ..' 'The card is up, stamps start again at 1.'
-unfoldable pub broughtUp : Bytes → Card
-broughtUp d = freshCard Up (shapeOn d) (map (emptiedTail d) (below maxCores))
+unfoldable pub broughtUp : CommitLayout → Bytes → Card
+broughtUp y d = freshCard Up (shapeOn d) (map (emptiedTail y d) (below maxCores))
 
--- a home store of the lowest block left, or the master store
-unfoldable pub recoverStep : Order → List ℕ → World → Outcome World
-recoverStep o [] w = storing w (broughtUp (w .disk)) 0 (masterBlock (shapeOn (w .disk)) (emptiedTail (w .disk)))
-recoverStep o (b ∷ bs) w = storing w (recoveredTo (w .card) (b + 1)) (homeBlock b) (newestImage o (w .disk) b)
+-- a home store of the lowest block left, or the master store; read by layout y, the closing master for layout z
+unfoldable pub recoverStep : Order → CommitLayout → CommitLayout → List ℕ → World → Outcome World
+recoverStep o y z [] w = storing w (broughtUp y (w .disk)) 0 (masterBlock z (shapeOn (w .disk)) (emptiedTail y (w .disk)))
+recoverStep o y z (b ∷ bs) w = storing w (recoveredTo (w .card) (b + 1)) (homeBlock b) (newestImage o y (w .disk) b)
 
+unfoldable pub recoveredBy : Order → CommitLayout → CommitLayout → World → Outcome World
+recoveredBy o y z w = recoverStep o y z (blocksLeft o y w) w
+
+-- 'A disk whose master holds 0 there is still recovered by its lists, under (c), and the closing master store of that recovery writes 1.'
 unfoldable pub recovered : Order → World → Outcome World
-recovered o w = recoverStep o (blocksLeft o w) w
+recovered o w = recoveredBy o (layoutOn (w .disk)) Numbers w
 
 unfoldable pub recover : Order → World → Outcome World
 recover o w = unless (recoverConditions w) w (recovered o w)
+
+-- RECOVER before request (d): by lists, without a look at bytes 8 to 11 of the master; its closing master holds 0 there. No command is
+-- defined by it: with it is said how an older disk is recovered
+unfoldable pub recoverByLists : Order → World → Outcome World
+recoverByLists o w = unless (recoverConditionsBy hasMasterFields w) w (recoveredBy o Lists Lists w)

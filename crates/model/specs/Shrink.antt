@@ -29,6 +29,6 @@ module _ {A : Type 0} where
   shrink stays es = shrinkIn (length es) stays es
 
   -- 'A transaction depends on those its list names and on all that these depend on.'; by paper 02, (c), also on the one before it
-  pub data DependsOn (Lists : A → A → Type 0) : A → A → Type 0 where
-    lists-it : {t u : A} → Lists t u → DependsOn Lists t u
-    through : {t u v : A} → Lists t u → DependsOn Lists u v → DependsOn Lists t v
+  pub data DependsOn (Requires : A → A → Type 0) : A → A → Type 0 where
+    requires-it : {t u : A} → Requires t u → DependsOn Requires t u
+    through : {t u v : A} → Requires t u → DependsOn Requires u v → DependsOn Requires t v

@@ -32,7 +32,7 @@ doneBy o (CHECKPOINT c) w = checkpointed c w
 doneBy o CUT w = unstored w downCard zeroMemory
 doneBy o RECOVER w = recovered o w
 
--- the card of each rule
+-- the card under a rule, its commits with numbers. That is too little under the old one: its card fails demand 3
 unfoldable pub stepBy : Order → Step World
 stepBy o k w = unless (conditionsOf o k w) w (doneBy o k w)
 

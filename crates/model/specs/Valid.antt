@@ -11,6 +11,7 @@ use Rattle.model.specs.Shrink.{shrink}
 use Rattle.model.specs.declared.Shape.{Shape}
 use Rattle.model.specs.declared.Tail.{Tail}
 use Rattle.model.specs.declared.Name.{Name}
+use Rattle.model.specs.declared.CommitLayout.{CommitLayout}
 use Rattle.model.specs.declared.Committed.{Committed}
 use Rattle.model.specs.declared.Found.{Found}
 use Rattle.model.specs.declared.Found.the-variants.{Whole, Miss}
@@ -26,14 +27,15 @@ pub data Order : Type 0 where
 abbrev pub predecessor : Name → Name
 predecessor n = newName (n .core) (n .number - 1)
 
--- of the transaction of this name, which lists the names given
+-- of the transaction of this name, which names those given
 unfoldable pub required : Order → Name → List Name → List Name
 required unordered n ns = ns
 required in-sequence n ns = predecessor n ∷ ns
 
--- of one that was read
-unfoldable pub requiredOf : Order → Shape → Bytes → Committed → List Name
-requiredOf o s d e = required o (nameOf e) (namesOf s d e)
+-- of one that was read: all names of a list, and of numbers the highest of each core. Paper 02, (d): 'With (c) in force, only the highest
+-- number named for each core matters.'
+unfoldable pub requiredOf : Order → CommitLayout → Shape → Bytes → Committed → List Name
+requiredOf o y s d e = required o (nameOf e) (namesOf y s d e)
 
 -- ---- the valid set
 -- the transaction of this name is in the set
@@ -44,13 +46,13 @@ isIn es n = any (λ (e : Committed). sameName n (nameOf e)) es
 unfoldable pub isMet : (ℕ → Tail) → List Committed → Name → Bool
 isMet tailAt es n = ltb (n .number) ((tailAt (n .core)) .number) || isIn es n
 
-unfoldable pub namesMet : Order → Shape → Bytes → (ℕ → Tail) → List Committed → Committed → Bool
-namesMet o s d tailAt es e = all (isMet tailAt es) (requiredOf o s d e)
+unfoldable pub namesMet : Order → CommitLayout → Shape → Bytes → (ℕ → Tail) → List Committed → Committed → Bool
+namesMet o y s d tailAt es e = all (isMet tailAt es) (requiredOf o y s d e)
 
 -- 'The valid set is the largest set of committed, unretired transactions in which each name listed is ..'; 'The kept set and the valid
 -- set are read with this added dependence'
-unfoldable pub validSet : Order → Shape → Bytes → (ℕ → Tail) → List Committed → List Committed
-validSet o s d tailAt es = shrink (namesMet o s d tailAt) es
+unfoldable pub validSet : Order → CommitLayout → Shape → Bytes → (ℕ → Tail) → List Committed → List Committed
+validSet o y s d tailAt es = shrink (namesMet o y s d tailAt) es
 
 -- the home blocks that a set holds, from the lowest to the highest
 unfoldable pub blocksHeld : Shape → Bytes → List Committed → List ℕ

@@ -1,12 +1,12 @@
 -- WRITE: 'four bytes replaced in the block's memory image', and the four rules of section 'Transactions'.
 use Prim.Native.Nat.{ℕ, _+_, _*_}
 use mathlib.Core.List.{List, [], _∷_}
-use mathlib.Core.Bool.{Bool, true, false, cond, not, _&&_, _||_}
+use mathlib.Core.Bool.{Bool, true, false, cond, not, _&&_}
 use lib.Dec.{ltb, leb, eqb}
-use Rattle.model.specs.Limits.{blockSize, maxNames, maxTaken, maxNumber, maxOffset}
+use Rattle.model.specs.Limits.{blockSize, maxTaken, maxNumber, maxOffset}
 use Rattle.model.specs.Bytes.{Bytes, blockAt, store, replaced}
 use Rattle.model.specs.Shape.{homeBlock}
-use Rattle.model.specs.Card.{newName, sameName, opened, lists, withBlock, withName, withRunning, recordSize, shapeOf, coreOf, holderOf, newHolder, withCore, withHolder}
+use Rattle.model.specs.Card.{newName, sameName, opened, withBlock, withName, withRunning, recordSize, shapeOf, coreOf, holderOf, newHolder, withCore, withHolder}
 use Rattle.model.specs.Command.{World, Outcome, unstored, unless, notUp, noCore, noBlock}
 use Rattle.model.specs.declared.Name.{Name}
 use Rattle.model.specs.declared.Transaction.{Transaction}
@@ -41,14 +41,14 @@ takesBlock Own = false
 takesBlock Running = false
 takesBlock Closed = true
 
--- T's list names U: 'another running U holds it', 'a closed U holds it'
+-- T names U: 'another running U holds it', 'a closed U holds it'
 abbrev pub namesHolder : Rule → Bool
 namesHolder Free = false
 namesHolder Own = false
 namesHolder Running = true
 namesHolder Closed = true
 
--- U's list names T: 'another running U holds it'
+-- U names T: 'another running U holds it'
 abbrev pub isNamedBack : Rule → Bool
 isNamedBack Free = false
 isNamedBack Own = false
@@ -69,16 +69,6 @@ writerAfter x c b =
     let t = cond (namesHolder r) (withName (writer x c) ((holderOf x b) .name)) (writer x c) in
     cond (takesBlock r) (withBlock t b) t
 
--- '24 a list, the writer's or the holder's, would pass 12 names'
-unfoldable pub passesNames : Transaction → Name → Bool
-passesNames t n = not (lists t n) && leb maxNames (t .named)
-
-unfoldable pub listsFull : Card → ℕ → ℕ → Bool
-listsFull x c b =
-    let r = ruleFor x c b in
-    let n = (holderOf x b) .name in
-    namesHolder r && passesNames (writer x c) n || isNamedBack r && passesNames ((coreOf x (n .core)) .running) (writerName x c)
-
 -- '26 journal full: blocks of the records of closed unretired transactions, stored yet or not,
 -- plus 2 and the blocks of the running one, would pass J'
 unfoldable pub closedBlocks : Core → ℕ
@@ -87,6 +77,7 @@ closedBlocks k = k .used + cond (k .closed .live) (recordSize (k .closed)) 0
 unfoldable pub journalFull : Card → ℕ → ℕ → Bool
 journalFull x c b = ltb ((shapeOf x) .journal) (closedBlocks (coreOf x c) + recordSize (writerAfter x c b))
 
+-- paper 02, (d): 'Refusal 24 can no longer occur'
 unfoldable pub writeConditions : ℕ → ℕ → ℕ → World → List (Bool × ℕ)
 writeConditions c b o w =
     let x = w .card in
@@ -94,13 +85,12 @@ writeConditions c b o w =
     ((noCore w c, 5)
     ∷ (noBlock w b, 6)
     ∷ (ltb maxOffset o, 7)
-    ∷ (listsFull x c b, 24)
     ∷ (takesBlock (ruleFor x c b) && leb maxTaken ((writer x c) .count), 25)
     ∷ (journalFull x c b, 26)
     ∷ (not ((coreOf x c) .running .live) && ltb maxNumber ((coreOf x c) .next), 27)
     ∷ [])
 
--- the card afterwards: U's list, T, the block's holder
+-- the card afterwards: what U names, T, the block's holder
 unfoldable pub writtenCard : Card → ℕ → ℕ → Card
 writtenCard x c b =
     let r = ruleFor x c b in

@@ -1,5 +1,5 @@
-// The types of the revision D card: the disk's shape, tails, names, holders and records, shared by definitions and code; transactions,
-// cores and the card itself, of the definitions alone.
+// The types of the revision D card: the disk's shape, tails, names, holders, the layouts of a commit and records, shared by definitions and
+// code; transactions, cores and the card itself, of the definitions alone.
 ghost use mathlib.Core.Path.{_≡_};
 ghost use Rattle.model.specs.Shape.{checked, nearest, clamped, homeBlock, journalBlock};
 
@@ -35,15 +35,14 @@ pub struct Name {
     pub number: u32,
 }
 
-// A transaction that is not committed: the blocks that it took, in order, and the names of those that it depends on.
-// Its stamp is given at CLOSE.
+// A transaction that is not committed: the blocks that it took, in order, and for each core the highest number that it names there, zero
+// for none. Its stamp is given at CLOSE.
 pub struct Transaction {
     pub live: bool,
     pub stamp: u64,
     pub count: u8,
     pub blocks: [u8; Shape::MAX_TAKEN],
-    pub named: u8,
-    pub names: [Name; Shape::MAX_NAMES],
+    pub highest: [u32; 8],
 }
 
 // A core: the number of its running transaction, or of the next one to open; the blocks of its committed unretired
@@ -83,15 +82,20 @@ pub struct Card {
     pub holders: [Holder; 64],
 }
 
-// A committed transaction as its record gives it: its name, where its descriptor stands, how many blocks it took, its
-// stamp and how many names it lists.
+// How the commits of a disk name transactions: by a list of names, as before request (d), or by one number for each core.
+pub enum CommitLayout {
+    Lists,
+    Numbers,
+}
+
+// A committed transaction as its record gives it: its name, where its descriptor stands, how many blocks it took, and its
+// stamp.
 pub struct Committed {
     pub core: u8,
     pub number: u32,
     pub position: u8,
     pub count: u8,
     pub stamp: u64,
-    pub named: u8,
 }
 
 // What reading one record finds.
@@ -130,7 +134,7 @@ impl Shape {
 
     pub const BLOCK_SIZE: usize = 128;
 
-    // The blocks that a transaction takes and the names that its list has, at most.
+    // The blocks that a transaction takes, and the names in the list of an older commit, at most.
     pub const MAX_TAKEN: usize = 8;
 
     pub const MAX_NAMES: usize = 12;

@@ -8,6 +8,7 @@ use Rattle.model.specs.JournalEnds.{readRecord}
 use Rattle.model.specs.declared.Shape.{Shape}
 use Rattle.model.specs.declared.Tail.{Tail}
 use Rattle.model.specs.declared.Card.{Card}
+use Rattle.model.specs.declared.CommitLayout.the-variants.{Numbers}
 use Rattle.model.specs.declared.Committed.{Committed}
 use Rattle.model.specs.declared.Found.the-variants.{Whole, Miss}
 use Rattle.model.specs.declared.RecordRead.{RecordRead}
@@ -69,12 +70,12 @@ unfolding counts
 count-in x c h = getD-map-below (countAt x) 8 c 0 h
 
 -- ---- read
-pub reads-card : (x : Card) (d : Bytes) (s : Shape) → s ≡ shapeOf x → (ts : List Tail) → ts ≡ x .tails → (most slots : List ℕ) → Counts x most → Reads s d ts most slots
-    → Reads (shapeOf x) d (x .tails) (counts x) slots
+pub reads-card : (x : Card) (d : Bytes) (s : Shape) → s ≡ shapeOf x → (ts : List Tail) → ts ≡ x .tails → (most slots : List ℕ) → Counts x most → Reads Numbers s d ts most slots
+    → Reads Numbers (shapeOf x) d (x .tails) (counts x) slots
 unfolding Reads Counts
 reads-card x d s p ts y most slots q r c h =
     let e : getD most c 0 ≡ getD (counts x) c 0 = q c h ∙ sym (count-in x c (core-low x c h)) in
-    (rw (p, y) at r) c h ∙ ap (λ (n : ℕ). journal (shapeOf x) d c (tailFor (x .tails) c) n) e
+    (rw (p, y) at r) c h ∙ ap (λ (n : ℕ). journal Numbers (shapeOf x) d c (tailFor (x .tails) c) n) e
 
 pub core-below : (x : Card) (s : Shape) (c : ℕ) → s ≡ shapeOf x → c < (shapeOf x) .cores → c < s .cores
 core-below x s c e h = rw e h
@@ -89,10 +90,10 @@ module _ (x : Card) (d : Bytes) (c : ℕ) (most : List ℕ) (e : Counts x most) 
   none-counted n = rw (count-at, n)
 
   module _ (n : getD most c 0 ≡ 0 → ⊥) (s : Shape) (p : s ≡ shapeOf x) (t : Tail) (q : t ≡ tailOf x c) (r : RecordRead)
-      (z : r ≡ readRecord s d c (t .number) (t .position) (s .journal)) where
+      (z : r ≡ readRecord Numbers s d c (t .number) (t .position) (s .journal)) where
     oldest-found : foundBy r ≡ oldestAt x d c
     unfolding oldestAt
-    oldest-found = found-as s d c (t .number) (t .position) (s .journal) r z ∙ rw (p, q, count-at, ne-eqb (getD most c 0) 0 n)
+    oldest-found = found-as Numbers s d c (t .number) (t .position) (s .journal) r z ∙ rw (p, q, count-at, ne-eqb (getD most c 0) 0 n)
 
     pub oldest-none : foundBy r ≡ Miss → Miss ≡ oldestAt x d c
     oldest-none h = sym h ∙ oldest-found

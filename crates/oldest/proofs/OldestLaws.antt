@@ -10,6 +10,7 @@ use Rattle.model.specs.Checkpoint.{committedNow, validNow, sharesLower}
 use Rattle.model.specs.declared.Shape.{Shape}
 use Rattle.model.specs.declared.Tail.{Tail}
 use Rattle.model.specs.declared.Card.{Card}
+use Rattle.model.specs.declared.CommitLayout.the-variants.{Numbers}
 use Rattle.model.specs.declared.Committed.{Committed}
 use Rattle.model.specs.declared.Found.{Found}
 use Rattle.model.specs.declared.Found.the-variants.{Whole, Miss}
@@ -36,15 +37,15 @@ whole-known false f e h = (refl, h)
 
 module _ (x : Card) (d : Bytes) (c : ℕ) where
   abbrev pub atTail : Found
-  atTail = recordAt (shapeOf x) d c ((tailOf x c) .number) ((tailOf x c) .position) ((shapeOf x) .journal)
+  atTail = recordAt Numbers (shapeOf x) d c ((tailOf x c) .number) ((tailOf x c) .position) ((shapeOf x) .journal)
 
   module _ (e : Committed) (h : oldestAt x d c ≡ Whole e) where
     pub at-tail : atTail ≡ Whole e
     unfolding oldestAt
     at-tail = whole-known (eqb (countAt x c) 0) atTail e h .1
 
-    pub tail-known : KnownRecord (shapeOf x) d c ((tailOf x c) .number) e
-    tail-known = record-known (shapeOf x) d c ((tailOf x c) .number) ((tailOf x c) .position) ((shapeOf x) .journal) e at-tail .0
+    pub tail-known : KnownRecord Numbers (shapeOf x) d c ((tailOf x c) .number) e
+    tail-known = record-known Numbers (shapeOf x) d c ((tailOf x c) .number) ((tailOf x c) .position) ((shapeOf x) .journal) e at-tail .0
 
     was-read : length d ≡ 32896 → c < (shapeOf x) .cores → IsRead (shapeOf x) d e
     was-read n l =
@@ -53,7 +54,7 @@ module _ (x : Card) (d : Bytes) (c : ℕ) where
           long = n;
           range = shape-limits x;
           core = omega (arith, k .core);
-          known = subst (λ (n : ℕ). KnownRecord (shapeOf x) d (e .core) n e) (sym (k .number)) (subst (λ (i : ℕ). KnownRecord (shapeOf x) d i ((tailOf x c) .number) e) (sym (k .core)) k);
+          known = subst (λ (n : ℕ). KnownRecord Numbers (shapeOf x) d (e .core) n e) (sym (k .number)) (subst (λ (i : ℕ). KnownRecord Numbers (shapeOf x) d i ((tailOf x c) .number) e) (sym (k .core)) k);
         }
 
 module _ (x : Card) (d : Bytes) (c : ℕ) (most : List ℕ) (e : Committed) (h : IsOldest x d c most e) where
@@ -64,11 +65,11 @@ module _ (x : Card) (d : Bytes) (c : ℕ) (most : List ℕ) (e : Committed) (h :
   core-here s p = core-below x s c p (h .core)
 
 -- ---- the slots are the card's committed transactions
-journal-capped : (s : Shape) (d : Bytes) (c : ℕ) (t : Tail) (n : ℕ) → InRange s → journal s d c t (min n 12) ≡ journal s d c t n
+journal-capped : (s : Shape) (d : Bytes) (c : ℕ) (t : Tail) (n : ℕ) → InRange s → journal Numbers s d c t (min n 12) ≡ journal Numbers s d c t n
 unfolding journal
 journal-capped s d c t n l =
     elim (decLt 12 n) [
-      | yes h ↦ (let z : min n 12 ≡ 12 = omega arith in rw z (records-all s d c 12 n (t .number) (t .position) (s .journal) (omega (arith, l .short)) (omega arith)))
+      | yes h ↦ (let z : min n 12 ≡ 12 = omega arith in rw z (records-all Numbers s d c 12 n (t .number) (t .position) (s .journal) (omega (arith, l .short)) (omega arith)))
       | no h ↦ (let z : min n 12 ≡ n = omega arith in rw z)
     ]
 
@@ -77,21 +78,21 @@ unfolding tailOf
 card-tail x c h = refl
 
 card-bound : (x : Card) (d : Bytes) (c : ℕ) → c < (shapeOf x) .cores
-    → journal (shapeOf x) d c (tailOf x c) (getD (counts x) c 0) ≡ journal (shapeOf x) d c (tailOf x c) (committedCount x c)
+    → journal Numbers (shapeOf x) d c (tailOf x c) (getD (counts x) c 0) ≡ journal Numbers (shapeOf x) d c (tailOf x c) (committedCount x c)
 unfolding countAt
 card-bound x d c h = rw (count-in x c (core-low x c h)) (journal-capped (shapeOf x) d c (tailOf x c) (committedCount x c) (shape-limits x))
 
-module _ (x : Card) (d m : Bytes) (slots : List ℕ) (r : Reads (shapeOf x) d (x .tails) (counts x) slots) where
+module _ (x : Card) (d m : Bytes) (slots : List ℕ) (r : Reads Numbers (shapeOf x) d (x .tails) (counts x) slots) where
   shares-committed : (e : Committed)
       → any (sharesBelow (shapeOf x) d e) (entries (shapeOf x) d [] slots) ≡ any (sharesBelow (shapeOf x) d e) (committedNow (world x d m))
   unfolding committedNow
-  shares-committed e = slots-share (shape-limits x) d (x .tails) (counts x) slots r (tailOf x) (committedCount x) (card-tail x) (card-bound x d) e
+  shares-committed e = slots-share Numbers (shape-limits x) d (x .tails) (counts x) slots r (tailOf x) (committedCount x) (card-tail x) (card-bound x d) e
 
   module _ (valid : List ℕ) (v : entries (shapeOf x) d (numbersOf (x .tails)) valid
-      ≡ validSet in-sequence (shapeOf x) d (numbered (numbersOf (x .tails))) (entries (shapeOf x) d (numbersOf (x .tails)) slots)) where
+      ≡ validSet in-sequence Numbers (shapeOf x) d (numbered (numbersOf (x .tails))) (entries (shapeOf x) d (numbersOf (x .tails)) slots)) where
     valid-committed : entries (shapeOf x) d (numbersOf (x .tails)) valid ≡ validNow in-sequence (world x d m)
     unfolding validNow committedNow
-    valid-committed = slots-valid (shape-limits x) d (x .tails) (counts x) slots r (tailOf x) (committedCount x) (card-tail x) (card-bound x d) in-sequence valid v
+    valid-committed = slots-valid Numbers (shape-limits x) d (x .tails) (counts x) slots r (tailOf x) (committedCount x) (card-tail x) (card-bound x d) in-sequence valid v
 
 -- ---- the valid set
 number-same : (x : Card) (c : ℕ) → c < 8 → tailNumber (numbersOf (x .tails)) c ≡ (tailOf x c) .number
@@ -114,7 +115,7 @@ oldest-slot x d c e h l set =
     ∙ ap (λ (i : ℕ). isFilled (shapeOf x) set (12 * i)) (k .core)
 
 -- ---- those of lower stamp that share a block
-lower-parts : (x : Card) (d m : Bytes) (e : Committed) (slots : List ℕ) → Reads (shapeOf x) d (x .tails) (counts x) slots
+lower-parts : (x : Card) (d m : Bytes) (e : Committed) (slots : List ℕ) → Reads Numbers (shapeOf x) d (x .tails) (counts x) slots
     → lowerShares x (shapeOf x) d slots e ≡ sharesLower (world x d m) e
 unfolding lowerShares sharesLower some closedLower lowerClosed sharesBelow
 lower-parts x d m e slots r =
@@ -124,9 +125,9 @@ lower-parts x d m e slots r =
 
 -- ---- the number from the journals
 module _ (x : Card) (d : Bytes) (c : ℕ) (most : List ℕ) (e : Committed) (h : IsOldest x d c most e) (s : Shape) (p : s ≡ shapeOf x) (ts : List Tail) (y : ts ≡ x .tails)
-    (slots : List ℕ) (r : Reads s d ts most slots) (valid : List ℕ) (v : entries s d (numbersOf ts) valid ≡ validSet in-sequence s d (numbered (numbersOf ts)) (entries s d (numbersOf ts) slots))
+    (slots : List ℕ) (r : Reads Numbers s d ts most slots) (valid : List ℕ) (v : entries s d (numbersOf ts) valid ≡ validSet in-sequence Numbers s d (numbered (numbersOf ts)) (entries s d (numbersOf ts) slots))
     (b : Bool) (q : b ≡ isFilled s valid (12 * c)) where
-  all-read : Reads (shapeOf x) d (x .tails) (counts x) slots
+  all-read : Reads Numbers (shapeOf x) d (x .tails) (counts x) slots
   all-read = reads-card x d s p ts y most slots (h .are-counts) r
 
   told : (m : Bytes) → b ≡ isIn (validNow in-sequence (world x d m)) (nameOf e)

@@ -9,6 +9,7 @@ use Rattle.model.specs.Journal.{journalAt, tagsOf, blocksOf}
 use Rattle.model.specs.Checkpoint.{share}
 use Rattle.model.specs.declared.Shape.{Shape}
 use Rattle.model.specs.declared.Card.{Card}
+use Rattle.model.specs.declared.CommitLayout.the-variants.{Numbers}
 use Rattle.model.specs.declared.Committed.{Committed}
 use Rattle.model.proofs.Lists.{any-mem, mem-any, getD-mem, mem-getD, mem-below, below-mem, getD-map-below, bool-ext}
 use Rattle.model.proofs.OneStore.{shape-limits}
@@ -18,7 +19,7 @@ use Rattle.layout.specs.Loops.{some}
 use Rattle.layout.proofs.Loops.{some-none, some-no, some-in, some-out}
 use Rattle.journal.specs.Slots.{entries, SizedCommitted}
 use Rattle.valid.specs.Newest.{sharesBelow}
-use Rattle.cells.specs.Cells.{byteIn, transactionIn, cardIn, closedPlace}
+use Rattle.cells.specs.Cells.{transactionSize, blockPlace, byteIn, transactionIn, cardIn, closedPlace}
 use Rattle.cells.proofs.Parts.{any-hit, any-more, any-none, any-all}
 use Rattle.cells.proofs.ReadLaws.{stamp-read, block-read, closed-read}
 use Rattle.oldest.specs.Oldest.{IsRead, lowerClosed, closedLower, lowerShares}
@@ -43,13 +44,13 @@ module _ (s : Shape) (d : Bytes) (e : Committed) (r : IsRead s d e) (i : ℕ) (b
   block-is = q ∙ rw p (sym (block-there (journalAt s d (e .core) (e .position)) (e .count) i h))
 
   pub block-low : v < 64
-  block-low = omega (arith, block-is, known-below s d (e .core) (e .number) e (r .known) i h, r .range .few-blocks)
+  block-low = omega (arith, block-is, known-below Numbers s d (e .core) (e .number) e (r .known) i h, r .range .few-blocks)
 
   pub block-fits : v < 256
   block-fits = omega (arith, block-low)
 
 pub is-sized : (s : Shape) (d : Bytes) (e : Committed) → IsRead s d e → SizedCommitted s e
-is-sized s d e r = record { core = r .core; few = r .known .few; short = r .known .short }
+is-sized s d e r = record { core = r .core; few = r .known .few }
 
 module _ (x : Card) (s : Shape) (q : s ≡ shapeOf x) where
   pub read-shape : (d : Bytes) (e : Committed) → IsRead (shapeOf x) d e → IsRead s d e
@@ -64,7 +65,7 @@ module _ (w : List ℕ) (a b : ℕ) where
     pub not-taken : any (eqb b) (take i (taken (transactionIn w a))) ≡ false → count ≤ i → false ≡ any (eqb b) (taken (transactionIn w a))
     not-taken u h = sym (any-all (eqb b) (taken (transactionIn w a)) i u (omega arith))
 
-    module _ (l : count ≤ 8) (h : i < count) (g : ℕ) (q : g ≡ byteIn w (a + 4 + i)) where
+    module _ (l : count ≤ 8) (h : i < count) (g : ℕ) (q : g ≡ byteIn w (blockPlace a i)) where
       here : getD ((transactionIn w a) .blocks) i 0 ≡ g
       here = block-read w a i 0 (omega arith) ∙ sym q
 
@@ -135,7 +136,7 @@ module _ (s : Shape) (d : Bytes) (e : Committed) (w : List ℕ) (a : ℕ) (g : B
     closed-earlier l r z = z ∙ rw (← q, not-false g h, ← stamp-read w a, lt-ltb (getD w (a + 1) 0) (e .stamp) l)
 
 module _ (s : Shape) (c at : ℕ) (p : at ≡ closedPlace c) (l : InRange s) (h : c < s .cores) where
-  pub closed-in : at + 24 ≤ 512
+  pub closed-in : at + transactionSize ≤ 423
   closed-in = omega (arith, l .few-cores)
 
   pub is-lower : (w : List ℕ) (d : Bytes) (e : Committed) (r : Bool) → r ≡ lowerClosed s d e (transactionIn w at) → r ≡ closedLower (cardIn w) s d e c

@@ -16,6 +16,7 @@ use Rattle.model.specs.Command.{World}
 use Rattle.model.specs.declared.Shape.{Shape}
 use Rattle.model.specs.declared.Transaction.{Transaction}
 use Rattle.model.specs.declared.Card.{Card}
+use Rattle.model.specs.declared.CommitLayout.the-variants.{Numbers}
 use Rattle.model.specs.declared.Committed.{Committed}
 use Rattle.model.specs.declared.Found.{Found}
 use Rattle.model.specs.declared.Found.the-variants.{Whole, Miss}
@@ -40,14 +41,14 @@ Counts x most = (c : ℕ) → c < (shapeOf x) .cores → getD most c 0 ≡ count
 -- core c's oldest transaction, if the card counts one
 unfoldable pub oldestAt : Card → Bytes → ℕ → Found
 oldestAt x d c =
-    cond (eqb (countAt x c) 0) Miss (recordAt (shapeOf x) d c ((tailOf x c) .number) ((tailOf x c) .position) ((shapeOf x) .journal))
+    cond (eqb (countAt x c) 0) Miss (recordAt Numbers (shapeOf x) d c ((tailOf x c) .number) ((tailOf x c) .position) ((shapeOf x) .journal))
 
 -- a transaction that was read from its record, on a whole disk of this shape
 pub record IsRead (s : Shape) (d : Bytes) (e : Committed) : Type 0 where
   pub long : length d ≡ 32896
   pub range : InRange s
   pub core : e .core < s .cores
-  pub known : KnownRecord s d (e .core) (e .number) e
+  pub known : KnownRecord Numbers s d (e .core) (e .number) e
 
 -- core c's oldest transaction, as it was found by the counts
 pub record IsOldest (x : Card) (d : Bytes) (c : ℕ) (most : List ℕ) (e : Committed) : Type 0 where

@@ -1,4 +1,5 @@
-// How many committed transactions each core has, and a core's oldest one.
+// How many committed transactions each core has, and a core's oldest one. A card that is up has come from FORMAT or from a finished
+// recovery, so its commits have numbers; the master is not looked at.
 ghost use mathlib.Core.Path.{_≡_};
 ghost use Prim.Native.Nat.{_<_, min};
 ghost use lib.ListN.{length};
@@ -12,6 +13,7 @@ use cells::is_live;
 use cells::number_in;
 use cells::shape_of;
 use cells::tail_at;
+use model::CommitLayout;
 use model::Found;
 use model::RecordRead;
 
@@ -27,7 +29,7 @@ fn at_most_12(n: u32) -> u8
 // How many records of core c's journal count: those from the tail to the core's next number, without a closed one. A journal has
 // no more than twelve.
 fn counted(w: &[u64], c: u8) -> u8
-    requires { ⌜ (length (now w) ≡ 512) × (c < 8) ⌝ }
+    requires { ⌜ (length (now w) ≡ 423) × (c < 8) ⌝ }
     ensures { λ r. ⌜ r ≡ countAt (cardIn (now (w .entry))) c ⌝ }
 {
     let next = number_in(w, core_place(c));
@@ -44,7 +46,7 @@ fn counted(w: &[u64], c: u8) -> u8
 
 // The counts of the cores that the disk has.
 pub fn counts(w: &[u64]) -> [u8; 8]
-    requires { ⌜ length (now w) ≡ 512 ⌝ }
+    requires { ⌜ length (now w) ≡ 423 ⌝ }
     ensures { λ r. ⌜ Counts (cardIn (now (w .entry))) r ⌝ }
 {
     let s = shape_of(w);
@@ -59,7 +61,7 @@ pub fn counts(w: &[u64]) -> [u8; 8]
 
 // Core c's oldest committed transaction. Why there is none is not asked: on a card that is up its own count decides.
 pub fn oldest_of(w: &[u64], c: u8, most: [u8; 8], disk: &[u8]) -> Found
-    requires { ⌜ (length (now w) ≡ 512) × (length (now disk) ≡ diskSize)
+    requires { ⌜ (length (now w) ≡ 423) × (length (now disk) ≡ diskSize)
         × (c < (shapeOf (cardIn (now w))) .cores) × Counts (cardIn (now w)) most ⌝ }
     ensures { λ r. ⌜ r ≡ oldestAt (cardIn (now (w .entry))) (now (disk .entry)) c ⌝ }
 {
@@ -68,8 +70,15 @@ pub fn oldest_of(w: &[u64], c: u8, most: [u8; 8], disk: &[u8]) -> Found
     }
     let s = shape_of(w);
     let t = tail_at(w, c);
-    let RecordRead::Read(e) = journal::read_record(s, disk, c, t.number, t.position, s.journal)
-    else {
+    let RecordRead::Read(e) = journal::read_record(
+        CommitLayout::Numbers,
+        s,
+        disk,
+        c,
+        t.number,
+        t.position,
+        s.journal,
+    ) else {
         return Found::Miss;
     };
     Found::Whole(e)

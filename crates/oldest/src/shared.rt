@@ -8,7 +8,7 @@ ghost use Rattle.model.specs.Card.{taken};
 ghost use Rattle.model.specs.Journal.{blocksOf};
 ghost use Rattle.model.specs.Checkpoint.{share};
 ghost use Rattle.layout.specs.Loops.{some};
-ghost use Rattle.cells.specs.Cells.{cardIn, transactionIn};
+ghost use Rattle.cells.specs.Cells.{transactionSize, transactionIn, cardIn};
 ghost use Rattle.oldest.specs.Oldest.{IsRead, lowerClosed, closedLower, lowerShares};
 use cells::BLOCKS;
 use cells::STAMP;
@@ -30,7 +30,7 @@ pub fn block_at(s: Shape, disk: &[u8], e: Committed, i: usize) -> u8
 
 // Whether the transaction at a place took block b.
 fn takes_block(w: &[u64], at: usize, b: u8) -> bool
-    requires { ⌜ (length (now w) ≡ 512) × (at + 24 ≤ 512) ⌝ }
+    requires { ⌜ (length (now w) ≡ 423) × (at + transactionSize ≤ 423) ⌝ }
     ensures { λ r. ⌜ r ≡ any (eqb b) (taken (transactionIn (now (w .entry)) at)) ⌝ }
 {
     let count = block_count(w, at);
@@ -46,7 +46,7 @@ fn takes_block(w: &[u64], at: usize, b: u8) -> bool
 
 // Whether it took a block that e took.
 fn shares_closed(w: &[u64], at: usize, s: Shape, disk: &[u8], e: Committed) -> bool
-    requires { ⌜ (length (now w) ≡ 512) × (at + 24 ≤ 512) × IsRead s (now disk) e ⌝ }
+    requires { ⌜ (length (now w) ≡ 423) × (at + transactionSize ≤ 423) × IsRead s (now disk) e ⌝ }
     ensures { λ r. ⌜ r ≡ share (blocksOf s (now (disk .entry)) e) (taken (transactionIn (now (w .entry)) at)) ⌝ }
 {
     let n = e.count as usize;
@@ -63,7 +63,7 @@ fn shares_closed(w: &[u64], at: usize, s: Shape, disk: &[u8], e: Committed) -> b
 
 // Whether the closed transaction at a place has a lower stamp and shares a block.
 fn lower_closed(w: &[u64], at: usize, s: Shape, disk: &[u8], e: Committed) -> bool
-    requires { ⌜ (length (now w) ≡ 512) × (at + 24 ≤ 512) × IsRead s (now disk) e ⌝ }
+    requires { ⌜ (length (now w) ≡ 423) × (at + transactionSize ≤ 423) × IsRead s (now disk) e ⌝ }
     ensures { λ r. ⌜ r ≡ lowerClosed s (now (disk .entry)) e (transactionIn (now (w .entry)) at) ⌝ }
 {
     if !is_live(w, at) {
@@ -77,7 +77,7 @@ fn lower_closed(w: &[u64], at: usize, s: Shape, disk: &[u8], e: Committed) -> bo
 
 // Whether any closed one does.
 fn any_closed(w: &[u64], s: Shape, disk: &[u8], e: Committed) -> bool
-    requires { ⌜ (length (now w) ≡ 512) × IsRead s (now disk) e ⌝ }
+    requires { ⌜ (length (now w) ≡ 423) × IsRead s (now disk) e ⌝ }
     ensures { λ r. ⌜ r ≡ some (s .cores) (closedLower (cardIn (now (w .entry))) s (now (disk .entry)) e) ⌝ }
 {
     let mut c: u8 = 0;
@@ -93,7 +93,7 @@ fn any_closed(w: &[u64], s: Shape, disk: &[u8], e: Committed) -> bool
 
 // Whether an unretired transaction of lower stamp, committed or closed, shares a block. The slots are the committed ones.
 pub fn shares_lower(w: &[u64], s: Shape, e: Committed, disk: &[u8], slots: &[u16; 96]) -> bool
-    requires { ⌜ (length (now w) ≡ 512) × IsRead s (now disk) e ⌝ }
+    requires { ⌜ (length (now w) ≡ 423) × IsRead s (now disk) e ⌝ }
     ensures { λ r. ⌜ r ≡ lowerShares (cardIn (now (w .entry))) s (now (disk .entry)) (now (slots .entry)) e ⌝ }
 {
     if valid::shares_lower(s, disk, slots, e) {

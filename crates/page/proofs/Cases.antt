@@ -9,21 +9,26 @@ use mathlib.Core.Bool.{Bool, true, false}
 use mathlib.Core.List.{List, [], _∷_, _++_, map}
 use lib.ListN.{length, take, getD, replicate}
 use Rattle.model.specs.Lists.{below}
-use Rattle.model.specs.Bytes.{Bytes, store, padded, zeroDisk}
+use Rattle.model.specs.Bytes.{Bytes, store, padded, block, zeroDisk}
 use Rattle.model.specs.Shape.{newShape, journalBlock}
 use Rattle.model.specs.Card.{newTail, newName}
-use Rattle.model.specs.Layout.{newTag, masterBlock, descriptorBlock, commitBlock}
+use Rattle.model.specs.Layout.{mark, newTag, masterBlock, descriptorBlock, listCommitBlock}
+use Rattle.model.specs.Journal.{namesOf}
+use Rattle.model.specs.Format.{formattedDisk}
 use Rattle.model.specs.Printing.{blankWorld}
 use Rattle.model.specs.Tape.{run, worldAfter}
 use Rattle.model.specs.Step.{stepAt}
 use Rattle.model.specs.Cases.{Case, cases}
-use Rattle.model.specs.Recovery.{shapeOn, committedOn}
+use Rattle.model.specs.Recovery.{shapeOn, layoutOn, committedOn}
 use Rattle.model.specs.JournalPage.{Field, digitAt, numeral, word, covers, shownAt, byteAt, lineBytes, headFields, keptOrLeft, transactionFields}
 use Rattle.model.specs.JournalPage.{endFields, refusalFields, pageRefusal, transactionLine, endOn, endLine, bodyLines, pageOf, layNumber, laid}
 use Rattle.model.specs.declared.Shape.{Shape}
+use Rattle.model.specs.declared.CommitLayout.{CommitLayout}
+use Rattle.model.specs.declared.CommitLayout.the-variants.{Lists, Numbers}
 use Rattle.model.specs.declared.Committed.{Committed}
 use Rattle.model.proofs.Computes.{computes}
 use Rattle.model.proofs.Journal.{storesAt}
+use Rattle.page.proofs.EndCases.{committing}
 
 -- ---- what is expected: a text, blanks to column 64 and a line feed
 unfoldable pub textBytes : String → Bytes
@@ -56,38 +61,64 @@ diskP2 =
     4 ∷ 0 ∷ 5 ∷ 0 ∷ 3 ∷ 1 ∷ 4 ∷ 1 ∷ 2 ∷ 2 ∷ 0 ∷ 1 ∷ 0 ∷ 1 ∷ 2 ∷ 3 ∷ 4 ∷ 3 ∷ 2 ∷ 4 ∷ 2 ∷ 4 ∷ 2 ∷ 4 ∷ 2 ∷ [])
 
 -- made block by block: two records, from position 9 on and round. The second has the highest number and stamp, as many blocks as a
--- record may have and as many names.
+-- record may have and as many names as a list; all are of one core.
 abbrev roundShape : Shape
 roundShape = newShape 1 10 12
 
 unfoldable pub diskHighest : Bytes
 diskHighest =
     storesAt roundShape 0 9
-    (descriptorBlock 3999999999 [] ∷ commitBlock 3999999999 1 [] ∷ descriptorBlock 4000000000 (map (λ (b : ℕ). newTag b 0) (below 8)) ∷ [])
-    (store (store zeroDisk 0 (masterBlock roundShape (λ (c : ℕ). newTail 3999999999 9))) (journalBlock roundShape 0 20)
-    (commitBlock 4000000000 (2 ^ 64 - 1) (map (λ (i : ℕ). newName 0 (i + 1)) (below 12))))
+    (descriptorBlock 3999999999 [] ∷ listCommitBlock 3999999999 1 [] ∷ descriptorBlock 4000000000 (map (λ (b : ℕ). newTag b 0) (below 8)) ∷ [])
+    (store (store zeroDisk 0 (masterBlock Lists roundShape (λ (c : ℕ). newTail 3999999999 9))) (journalBlock roundShape 0 20)
+    (listCommitBlock 4000000000 (2 ^ 64 - 1) (map (λ (i : ℕ). newName 0 (i + 1)) (below 12))))
 
--- made block by block, as the program's `stdin`: cores 0 and 1 are tied by block 3 and committed, core 2 is tied by block 2 to core 3, whose
--- commit is not there. Then core 1 has a descriptor with block 259, core 2 one of eight blocks where nine are left.
+-- made block by block, with lists, as the program's `stdin`: cores 0 and 1 are tied by block 3 and committed, core 2 is tied by block 2 to
+-- core 3, whose commit is not there. Then core 1 has a descriptor with block 259, core 2 one of eight blocks where nine are left.
 abbrev fourCores : Shape
 fourCores = newShape 4 8 12
 
 unfoldable pub diskFourEnds : Bytes
 diskFourEnds =
-    storesAt fourCores 0 0 (descriptorBlock 1 (newTag 3 0 ∷ []) ∷ padded (textBytes "ABCDEFGH") ∷ commitBlock 1 1 (newName 1 1 ∷ []) ∷ [])
-    (storesAt fourCores 1 0 (descriptorBlock 1 [] ∷ commitBlock 1 2 (newName 0 1 ∷ []) ∷ descriptorBlock 2 (newTag 259 0 ∷ []) ∷ [])
+    storesAt fourCores 0 0 (descriptorBlock 1 (newTag 3 0 ∷ []) ∷ padded (textBytes "ABCDEFGH") ∷ listCommitBlock 1 1 (newName 1 1 ∷ []) ∷ [])
+    (storesAt fourCores 1 0 (descriptorBlock 1 [] ∷ listCommitBlock 1 2 (newName 0 1 ∷ []) ∷ descriptorBlock 2 (newTag 259 0 ∷ []) ∷ [])
     (storesAt fourCores 2 0
-    (descriptorBlock 1 (newTag 2 0 ∷ []) ∷ padded (textBytes "IJKLMNOP") ∷ commitBlock 1 3 (newName 3 1 ∷ []) ∷
+    (descriptorBlock 1 (newTag 2 0 ∷ []) ∷ padded (textBytes "IJKLMNOP") ∷ listCommitBlock 1 3 (newName 3 1 ∷ []) ∷
     descriptorBlock 2 (map (λ (b : ℕ). newTag b 0) (below 8)) ∷ [])
     (storesAt fourCores 3 0 (descriptorBlock 1 (newTag 5 0 ∷ []) ∷ padded (textBytes "QRST") ∷ [])
-    (store zeroDisk 0 (masterBlock fourCores (λ (c : ℕ). newTail 1 0))))))
+    (store zeroDisk 0 (masterBlock Lists fourCores (λ (c : ℕ). newTail 1 0))))))
 
--- formatted, and nothing more
+-- one disk in both layouts: core 0's transaction names three of core 0, two of core 7 and one of core 2, all below the tails; core 1's
+-- names one of each core, and its own it is itself
+abbrev eightCores : Shape
+eightCores = newShape 8 1 4
+
+unfoldable pub diskNaming : CommitLayout → Bytes → Bytes → Bytes
+diskNaming y f g =
+    storesAt eightCores 0 0 (descriptorBlock 9 [] ∷ f ∷ [])
+    (storesAt eightCores 1 0 (descriptorBlock 9 [] ∷ g ∷ []) (store zeroDisk 0 (masterBlock y eightCores (λ (c : ℕ). newTail 9 0))))
+
+unfoldable pub diskLists : Bytes
+diskLists =
+    diskNaming Lists
+    (listCommitBlock 9 1 (newName 0 1 ∷ newName 7 2 ∷ newName 0 3 ∷ newName 2 4 ∷ newName 7 1 ∷ newName 0 2 ∷ []))
+    (listCommitBlock 9 2 (map (λ (c : ℕ). newName c 8) (below 8) ++ newName 1 9 ∷ []))
+
+unfoldable pub diskNumbers : Bytes
+diskNumbers =
+    diskNaming Numbers (committing 9 1 (3 ∷ 0 ∷ 4 ∷ 0 ∷ 0 ∷ 0 ∷ 0 ∷ 2 ∷ [])) (committing 9 2 (8 ∷ 9 ∷ 8 ∷ 8 ∷ 8 ∷ 8 ∷ 8 ∷ 8 ∷ []))
+
+-- formatted, and nothing more: before request (d), since, and with another value in bytes 8 to 11 of the master
+abbrev smallest : Shape
+smallest = newShape 1 1 4
+
+unfoldable pub diskHolding : ℕ → Bytes
+diskHolding n = store zeroDisk 0 (block (mark ∷ 4 ∷ n ∷ 1 ∷ 1 ∷ 4 ∷ 1 ∷ 0 ∷ []))
+
 unfoldable pub diskFormatted : Bytes
-diskFormatted = store zeroDisk 0 (masterBlock (newShape 1 1 4) (λ (c : ℕ). newTail 1 0))
+diskFormatted = formattedDisk Numbers smallest
 
 unfoldable pub pageComputes : Unit {0}
-unfolding computes digitAt numeral covers shownAt byteAt lineBytes headFields keptOrLeft transactionFields endFields refusalFields pageRefusal transactionLine endOn endLine bodyLines pageOf layNumber laid textBytes line pageBytes diskAfter diskP1 diskTorn diskP2 diskHighest diskFourEnds diskFormatted storesAt
+unfolding computes digitAt numeral covers shownAt byteAt lineBytes headFields keptOrLeft transactionFields endFields refusalFields pageRefusal transactionLine endOn endLine bodyLines pageOf layNumber laid textBytes line pageBytes diskAfter diskP1 diskTorn diskP2 diskHighest diskFourEnds diskNaming diskLists committing diskNumbers diskHolding diskFormatted storesAt
 pageComputes = tt
 
 -- ---- pages
@@ -124,7 +155,7 @@ page-P2 = refl
 pub page-highest : pageBytes diskHighest
     ≡ line " 1 10 12"
     ∷ line " 0 3999999999                    1  0  0 kept"
-    ∷ line " 0 4000000000 18446744073709551615  8 12 kept"
+    ∷ line " 0 4000000000 18446744073709551615  8  1 kept"
     ∷ line " 0  1"
     ∷ []
 unfolding pageComputes
@@ -144,10 +175,26 @@ pub page-four-ends : pageBytes diskFourEnds
 unfolding pageComputes
 page-four-ends = refl
 
+-- 'the page counts the cores named, in the lists of older disks too'
+pub page-naming : (pageBytes diskLists ≡ pageBytes diskNumbers)
+    × (take 3 (pageBytes diskNumbers)
+    ≡ line " 8  1  4"
+    ∷ line " 0          9                    1  0  3 kept"
+    ∷ line " 1          9                    2  0  8 kept"
+    ∷ [])
+unfolding pageComputes
+page-naming = (refl, refl)
+
 -- an unfit master: 8; a disk of another length: 1, its master fit or not
 pub page-unfit : pageBytes zeroDisk ≡ line " 8" ∷ []
 unfolding pageComputes
 page-unfit = refl
+
+-- 0 and 1 in bytes 8 to 11 of the master; 'Any other value joins the conditions of refusal 8.'
+pub page-holding : map pageBytes (map diskHolding (0 ∷ 1 ∷ 2 ∷ 256 ∷ 4294967295 ∷ []))
+    ≡ pageBytes diskFormatted ∷ pageBytes diskFormatted ∷ (line " 8" ∷ []) ∷ (line " 8" ∷ []) ∷ (line " 8" ∷ []) ∷ []
+unfolding pageComputes
+page-holding = refl
 
 pub page-none : pageBytes [] ≡ line " 1" ∷ []
 unfolding pageComputes
@@ -189,22 +236,30 @@ pub short-fill-differs : (fs : List Field) → filledShort fs ≢ lineBytes fs
 unfolding pageComputes filledShort
 short-fill-differs fs e = let h : _≡_ {A = ℕ} 64 65 = ap length e in omega arith
 
--- block count and name count exchanged: core 1's transaction of P1 has no block and one name
+-- block count and name count exchanged: core 1's transaction of P1 has no block and names one core
 abbrev secondOfP1 : Committed
-secondOfP1 = record { core = 1; number = 1; position = 0; count = 0; stamp = 2; named = 1 }
+secondOfP1 = record { core = 1; number = 1; position = 0; count = 0; stamp = 2 }
 
-unfoldable pub countsExchanged : Bool → Committed → List Field
-countsExchanged kept e =
+unfoldable pub countsExchanged : Bool → ℕ → Committed → List Field
+countsExchanged kept named e =
     numeral 1 2 (e .core) ∷ numeral 4 10 (e .number) ∷ numeral 15 20 (e .stamp) ∷
-    numeral 36 2 (e .named) ∷ numeral 39 2 (e .count) ∷ word 42 (keptOrLeft kept) ∷ []
+    numeral 36 2 named ∷ numeral 39 2 (e .count) ∷ word 42 (keptOrLeft kept) ∷ []
 
-pub second-line : lineBytes (transactionFields true secondOfP1) ≡ line " 1          1                    2  0  1 kept"
+pub second-line : lineBytes (transactionFields true 1 secondOfP1) ≡ line " 1          1                    2  0  1 kept"
 unfolding pageComputes
 second-line = refl
 
-pub counts-differ : lineBytes (countsExchanged true secondOfP1) ≢ lineBytes (transactionFields true secondOfP1)
+pub counts-differ : lineBytes (countsExchanged true 1 secondOfP1) ≢ lineBytes (transactionFields true 1 secondOfP1)
 unfolding pageComputes countsExchanged
 counts-differ e = let h : _≡_ {A = ℕ} 0x31 0x30 = ap (λ (b : Bytes). getD b 36 0) e in omega arith
+
+-- names counted, not cores: the twelve names of the second transaction are all of one core, and its line in `page-highest` has 1
+unfoldable pub namesCounted : Bytes → Committed → ℕ
+namesCounted d e = length (namesOf (layoutOn d) (shapeOn d) d e)
+
+pub twelve-names-counted : map (namesCounted diskHighest) (committedOn diskHighest) ≡ 0 ∷ 12 ∷ []
+unfolding pageComputes namesCounted
+twelve-names-counted = refl
 
 -- numbers with leading zeros
 unfoldable pub zerosLead : ℕ → ℕ → ℕ → Field
@@ -215,9 +270,9 @@ unfolding pageComputes zerosLead
 zeros-differ e = let h : _≡_ {A = ℕ} 0x30 0x20 = ap (λ (b : Bytes). getD b 0 0) e in omega arith
 
 -- the other word
-pub words-differ : (e : Committed) → lineBytes (transactionFields true e) ≢ lineBytes (transactionFields false e)
+pub words-differ : (named : ℕ) (e : Committed) → lineBytes (transactionFields true named e) ≢ lineBytes (transactionFields false named e)
 unfolding pageComputes
-words-differ e q = let h : _≡_ {A = ℕ} 0x6B 0x6C = ap (λ (b : Bytes). getD b 41 0) q in omega arith
+words-differ named e q = let h : _≡_ {A = ℕ} 0x6B 0x6C = ap (λ (b : Bytes). getD b 41 0) q in omega arith
 
 -- an end line with its two fields exchanged: core 1 of P2 ends 4
 pub end-fields-differ : lineBytes (endFields 4 1) ≢ lineBytes (endFields 1 4)

@@ -1,3 +1,4 @@
 -- Pages and ends of journals that are computed.
 pub mod Cases
 pub mod EndCases
+pub mod WrongReaders

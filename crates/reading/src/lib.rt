@@ -21,7 +21,7 @@ pub struct BlockPart {
 
 // The number of the refusal that reading block b meets, 0 for none.
 pub fn read_number(w: &[u64], b: u16, disk: &[u8], memory: &[u8]) -> u8
-    requires { ⌜ length (now w) ≡ 512 ⌝ }
+    requires { ⌜ length (now w) ≡ 423 ⌝ }
     ensures { λ r. ⌜ r ≡ readNumber b (worldIn (now (w .entry)) (now (disk .entry)) (now (memory .entry))) ⌝ }
 {
     let n = state_refusal(w, disk, memory);
@@ -33,7 +33,7 @@ pub fn read_number(w: &[u64], b: u16, disk: &[u8], memory: &[u8]) -> u8
 
 // Where the 128 bytes of block b stand: in memory while a transaction holds it, otherwise on the disk.
 pub fn read_part(w: &[u64], b: u16, disk: &[u8], memory: &[u8]) -> BlockPart
-    requires { ⌜ length (now w) ≡ 512 ⌝ }
+    requires { ⌜ length (now w) ≡ 423 ⌝ }
     ensures { λ r. ⌜ r ≡ partOf b (worldIn (now (w .entry)) (now (disk .entry)) (now (memory .entry))) ⌝ }
 {
     let n = read_number(w, b, disk, memory);
@@ -65,7 +65,7 @@ pub fn read_part(w: &[u64], b: u16, disk: &[u8], memory: &[u8]) -> BlockPart
 
 // Those bytes, as a part of the slice. A refused reading hands back a part of no bytes.
 pub fn read_block<'a>(w: &[u64], b: u16, disk: &'a [u8], memory: &'a [u8]) -> &'a [u8]
-    requires { ⌜ length (now w) ≡ 512 ⌝ }
+    requires { ⌜ length (now w) ≡ 423 ⌝ }
     ensures { λ r. ⌜ now r ≡ readBlock b (worldIn (now (w .entry)) (now (disk .entry)) (now (memory .entry))) ⌝ }
 {
     let p = read_part(w, b, disk, memory);

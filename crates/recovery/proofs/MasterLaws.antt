@@ -1,16 +1,17 @@
--- The first block is a master or RECOVER answers 8; its shape is the disk's. A card counts no home blocks while blank, its own
+-- The first block is a master or RECOVER answers 8; its shape is the disk's, as is the layout that it gives. A card counts no home blocks while blank, its own
 -- while up, while down those of a master that is fit.
 use Rattle.model.proofs.Base.{ℕ, arith, _≡_, sym, ap, subst, _∙_, Bool, true, false, cond, not, _&&_, length, take, eqb, Bytes}
 use Rattle.model.specs.Bytes.{be4, part, blockAt}
 use Rattle.model.specs.Shape.{checked}
 use Rattle.model.specs.Card.{shapeOf}
-use Rattle.model.specs.Layout.{mark, shapeIn, isMaster}
-use Rattle.model.specs.Recovery.{shapeOn}
+use Rattle.model.specs.Layout.{mark, layoutIn, shapeIn, hasMasterFields, isMaster}
+use Rattle.model.specs.Recovery.{shapeOn, layoutOn}
 use Rattle.model.specs.Printing.{homeCount}
 use Rattle.model.specs.declared.Card.{Card}
 use Rattle.model.specs.declared.Phase.{Phase}
 use Rattle.model.specs.declared.Phase.the-variants.{Blank, Up, Down}
 use Rattle.model.specs.declared.Shape.{Shape}
+use Rattle.model.specs.declared.CommitLayout.{CommitLayout}
 use Rattle.model.specs.declared.Checked.{Checked}
 use Rattle.model.specs.declared.Checked.the-variants.{Fits, OutOfRange}
 use Rattle.model.proofs.Lists.{and-left, and-right}
@@ -47,8 +48,8 @@ module _ (d : Bytes) (h : isMaster (blockAt d 0) ≡ true) where
 
   -- its shape is within the limits
   shape-fits : checked (be4 (take 128 d) 12) (be4 (take 128 d) 16) (be4 (take 128 d) 20) ≡ Fits (shapeOn d)
-  unfolding blockAt part isMaster checked shapeOn shapeIn
-  shape-fits = rw (and-right (eqb (be4 (take 128 d) 0) mark && eqb (be4 (take 128 d) 4) 4) _ (and-left _ _ h))
+  unfolding blockAt part isMaster hasMasterFields checked shapeOn shapeIn
+  shape-fits = rw (and-right (eqb (be4 (take 128 d) 0) mark && eqb (be4 (take 128 d) 4) 4) _ (and-left _ _ (and-left _ _ h)))
 
   disk-range : InRange (shapeOn d)
   unfolding shapeOn
@@ -66,6 +67,11 @@ module _ (d : Bytes) (h : isMaster (blockAt d 0) ≡ true) where
         let q : Fits (shapeOn d) ≡ OutOfRange = sym shape-fits ∙ sym e ∙ f in
         let z : _≡_ {A = ℕ} 0 1 = cc in
         absurd (omega arith)
+
+-- the layout of the disk's commits
+pub layout-read : (d : Bytes) (y : CommitLayout) → y ≡ layoutIn (take 128 d) → y ≡ layoutOn d
+unfolding layoutOn blockAt part
+layout-read d y e = e
 
 -- ---- the home blocks of a card, by its phase
 module _ (x : Card) (d : Bytes) (p : Phase) (e : p ≡ x .phase) where

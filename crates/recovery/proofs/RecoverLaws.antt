@@ -8,11 +8,13 @@ use Rattle.model.specs.Card.{newTail, freshCard}
 use Rattle.model.specs.Layout.{isMaster, masterBlock}
 use Rattle.model.specs.Command.{refusal, Clear}
 use Rattle.model.specs.Valid.{in-sequence}
-use Rattle.model.specs.Recovery.{blocksLeft, newestImage, recoveredTo, emptiedTail, broughtUp, recoverConditions, recoverStep, recovered, recover}
+use Rattle.model.specs.Recovery.{layoutOn, blocksLeft, newestImage, recoveredTo, emptiedTail, broughtUp, recoverConditionsBy, recoverConditions, recoverStep, recoveredBy, recovered, recover}
 use Rattle.model.specs.declared.Card.{Card}
 use Rattle.model.specs.declared.Tail.{Tail}
 use Rattle.model.specs.declared.Shape.{Shape}
 use Rattle.model.specs.declared.Phase.the-variants.{Up}
+use Rattle.model.specs.declared.CommitLayout.{CommitLayout}
+use Rattle.model.specs.declared.CommitLayout.the-variants.{Numbers}
 use Rattle.model.proofs.Lists.{getD-map-below}
 use Rattle.model.proofs.Limits.{clamped-same}
 use Rattle.model.proofs.OneStore.{right-lengths, left-below}
@@ -34,18 +36,18 @@ module _ (v : List ℕ) (d m : Bytes) (n : ℕ) (e : n ≡ refusal (recoverCondi
   -- no refusal met
   module _ (h : n ≡ 0) where
     none-met : Clear (recoverConditions (worldIn v d m))
-    unfolding recoverConditions
+    unfolding recoverConditionsBy
     none-met = none-held (recoverConditions (worldIn v d m)) (worldIn v d m) (recovered in-sequence (worldIn v d m)) n e h (omega arith, (omega arith, (omega arith, (omega arith, tt))))
 
     pub disk-long : length d ≡ 32896
-    unfolding recoverConditions
+    unfolding recoverConditionsBy
     disk-long = right-lengths (worldIn v d m) (none-met .0) .0
 
     pub first-master : isMaster (blockAt d 0) ≡ true
-    unfolding recoverConditions
+    unfolding recoverConditionsBy
     first-master = not-false (isMaster (blockAt d 0)) (none-met .1 .1 .1 .0)
 
-  module _ (l : length v ≡ 512) where
+  module _ (l : length v ≡ 423) where
     pub recover-refused : (n ≡ 0 → ⊥) → Meets (recover in-sequence (worldIn v d m)) v v d m (newAnswer n 0)
     unfolding recover
     recover-refused h = meets-refused (recoverConditions (worldIn v d m)) v d m _ l n e h
@@ -53,36 +55,36 @@ module _ (v : List ℕ) (d m : Bytes) (n : ℕ) (e : n ≡ refusal (recoverCondi
     pub recover-done : n ≡ 0 → (w : List ℕ) (k : Bytes) → Stores (recovered in-sequence) v w d k → Meets (recover in-sequence (worldIn v d m)) v w k m (newAnswer 0 1)
     unfolding recover
     recover-done h w k s =
-        meets-done (recoverConditions (worldIn v d m)) v d m (recovered in-sequence (worldIn v d m)) l n e h w k m 1 (s .outcome m) 0 512 (s .frame)
+        meets-done (recoverConditions (worldIn v d m)) v d m (recovered in-sequence (worldIn v d m)) l n e h w k m 1 (s .outcome m) 0 423 (s .frame)
 
 -- ---- the master store
-module _ (d : Bytes) (s : Shape) (g : Shaped s d) (ts : List Tail) (e : ts ≡ map (emptiedTail d) (below 8)) where
-  emptied-master : masterBlock (clamped s) (λ (c : ℕ). getD ts c (newTail 0 0)) ≡ masterBlock s (emptiedTail d)
+module _ (d : Bytes) (s : Shape) (g : Shaped s d) (ts : List Tail) (e : ts ≡ map (emptiedTail (layoutOn d) d) (below 8)) where
+  emptied-master : masterBlock Numbers (clamped s) (λ (c : ℕ). getD ts c (newTail 0 0)) ≡ masterBlock Numbers s (emptiedTail (layoutOn d) d)
   emptied-master =
       rw (clamped-same s (g .range))
-      (master-same s _ (emptiedTail d) (λ c h. rw e (getD-map-below (emptiedTail d) 8 c (newTail 0 0) (omega (arith, g .range .few-cores)))))
+      (master-same Numbers s _ (emptiedTail (layoutOn d) d) (λ c h. rw e (getD-map-below (emptiedTail (layoutOn d) d) 8 c (newTail 0 0) (omega (arith, g .range .few-cores)))))
 
-  brought-up : (d′ : Bytes) → d′ ≡ store d 0 (masterBlock (clamped s) (λ (c : ℕ). getD ts c (newTail 0 0)))
+  brought-up : (d′ : Bytes) → d′ ≡ store d 0 (masterBlock Numbers (clamped s) (λ (c : ℕ). getD ts c (newTail 0 0)))
       → (y : Card) → y ≡ freshCard Up s ts
-      → (x : Card) (m : Bytes) → record { answer = 0; world = world y d′ m; stores = 1 } ≡ recoverStep in-sequence [] (world x d m)
+      → (x : Card) (m : Bytes) → record { answer = 0; world = world y d′ m; stores = 1 } ≡ recoverStep in-sequence (layoutOn d) Numbers [] (world x d m)
   unfolding recoverStep broughtUp
   brought-up d′ q y p x m = rw (q, p, emptied-master, e, g .shape)
 
-module _ (d : Bytes) (s : Shape) (g : Shaped s d) (ts : List Tail) (set : List ℕ) (r : OnDisk s d ts set) where
+module _ (d : Bytes) (s : Shape) (g : Shaped s d) (y : CommitLayout) (ts : List Tail) (set : List ℕ) (r : OnDisk s d y ts set) where
   pub all-emptied : (after : List Tail) → after ≡ map (tailAfter s ts set) (below 8)
-      → (d′ : Bytes) → d′ ≡ store d 0 (masterBlock (clamped s) (λ (c : ℕ). getD after c (newTail 0 0)))
-      → (v w : List ℕ) → cardIn w ≡ freshCard Up s after → Frame v w 0 512 → Stores (recoverStep in-sequence []) v w d d′
-  all-emptied after q d′ p v w y f =
-      record { outcome = λ m. brought-up d s g after (tails-after d s g ts set r after q) d′ p (cardIn w) y (cardIn v) m; frame = f }
+      → (d′ : Bytes) → d′ ≡ store d 0 (masterBlock Numbers (clamped s) (λ (c : ℕ). getD after c (newTail 0 0)))
+      → (v w : List ℕ) → cardIn w ≡ freshCard Up s after → Frame v w 0 423 → Stores (recoverStep in-sequence (layoutOn d) Numbers []) v w d d′
+  all-emptied after q d′ p v w z f =
+      record { outcome = λ m. brought-up d s g after (tails-after d s g y ts set r after q) d′ p (cardIn w) z (cardIn v) m; frame = f }
 
 -- ---- a home store
-home-step : (x y : Card) (d : Bytes) (b : ℕ) → y ≡ recoveredTo x (b + 1) → (i : Bytes) → i ≡ newestImage in-sequence d b
+home-step : (x y : Card) (d : Bytes) (b : ℕ) → y ≡ recoveredTo x (b + 1) → (i : Bytes) → i ≡ newestImage in-sequence (layoutOn d) d b
     → (d′ : Bytes) → d′ ≡ store d (homeBlock b) i → (bs : List ℕ) (m : Bytes)
-    → record { answer = 0; world = world y d′ m; stores = 1 } ≡ recoverStep in-sequence (b ∷ bs) (world x d m)
+    → record { answer = 0; world = world y d′ m; stores = 1 } ≡ recoverStep in-sequence (layoutOn d) Numbers (b ∷ bs) (world x d m)
 unfolding recoverStep
 home-step x y d b p i q d′ h bs m = rw (p, h, q)
 
-module _ (v : List ℕ) (long : length v ≡ 512) (b : ℕ) (few : b < 64) where
+module _ (v : List ℕ) (long : length v ≡ 423) (b : ℕ) (few : b < 64) where
   passed-frame : Frame v (set v 5 (b + 1)) 5 1
   passed-frame = frame-set v 5 1 5 (b + 1) (omega arith) (omega arith) (fits-field 5 (b + 1) (omega arith) (omega arith) (omega arith))
 
@@ -92,17 +94,17 @@ module _ (v : List ℕ) (long : length v ≡ 512) (b : ℕ) (few : b < 64) where
   passed-card : cardIn (set v 5 (b + 1)) ≡ recoveredTo (cardIn v) (b + 1)
   passed-card = recovered-put v (set v 5 (b + 1)) passed-frame ∙ ap (recoveredTo (cardIn v)) passed-byte
 
-  home-passed : (d i : Bytes) → i ≡ newestImage in-sequence d b → (d′ : Bytes) → d′ ≡ store d (homeBlock b) i
-      → (bs : List ℕ) → Stores (recoverStep in-sequence (b ∷ bs)) v (set v 5 (b + 1)) d d′
+  home-passed : (d i : Bytes) → i ≡ newestImage in-sequence (layoutOn d) d b → (d′ : Bytes) → d′ ≡ store d (homeBlock b) i
+      → (bs : List ℕ) → Stores (recoverStep in-sequence (layoutOn d) Numbers (b ∷ bs)) v (set v 5 (b + 1)) d d′
   home-passed d i q d′ h bs =
       record {
         outcome = λ m. home-step (cardIn v) (cardIn (set v 5 (b + 1))) d b passed-card i q d′ h bs m;
-        frame = frame-wider v (set v 5 (b + 1)) 5 1 0 512 passed-frame (omega arith) (omega arith);
+        frame = frame-wider v (set v 5 (b + 1)) 5 1 0 423 passed-frame (omega arith) (omega arith);
       }
 
-pub home-stored : (v : List ℕ) → length v ≡ 512 → (s : Shape) (d : Bytes) → Shaped s d → (b : ℕ) → b < s .blocks
-    → (i : Bytes) → i ≡ newestImage in-sequence d b → (d′ : Bytes) → d′ ≡ store d (homeBlock b) i
-    → (bs : List ℕ) → Stores (recoverStep in-sequence (b ∷ bs)) v (set v 5 (b + 1)) d d′
+pub home-stored : (v : List ℕ) → length v ≡ 423 → (s : Shape) (d : Bytes) → Shaped s d → (b : ℕ) → b < s .blocks
+    → (i : Bytes) → i ≡ newestImage in-sequence (layoutOn d) d b → (d′ : Bytes) → d′ ≡ store d (homeBlock b) i
+    → (bs : List ℕ) → Stores (recoverStep in-sequence (layoutOn d) Numbers (b ∷ bs)) v (set v 5 (b + 1)) d d′
 home-stored v l s d g b h = home-passed v l b (omega (arith, g .range .few-blocks)) d
 
 -- ---- which of the two comes next
@@ -121,25 +123,25 @@ unfolding cardIn
 recovered-read v = refl
 
 module _ (v : List ℕ) (d : Bytes) (s : Shape) (g : Shaped s d) (set : List ℕ) (q : IsValid s d set) (from : ℕ) (f : from ≡ byteIn v 5) (b : ℕ) (e : b ≡ heldFrom s d (entries s d [] set) from) where
-  next-left : (m : Bytes) → b ≡ firstOr (s .blocks) (blocksLeft in-sequence (worldIn v d m))
+  next-left : (m : Bytes) → b ≡ firstOr (s .blocks) (blocksLeft in-sequence (layoutOn d) (worldIn v d m))
   next-left m = left-first d s g set q (cardIn v) m b (e ∙ ap (heldFrom s d (entries s d [] set)) (f ∙ recovered-read v))
 
-  pub recovered-home : b < s .blocks → (w : List ℕ) (k : Bytes) → ((bs : List ℕ) → Stores (recoverStep in-sequence (b ∷ bs)) v w d k) → Stores (recovered in-sequence) v w d k
-  unfolding recovered
+  pub recovered-home : b < s .blocks → (w : List ℕ) (k : Bytes) → ((bs : List ℕ) → Stores (recoverStep in-sequence (layoutOn d) Numbers (b ∷ bs)) v w d k) → Stores (recovered in-sequence) v w d k
+  unfolding recovered recoveredBy
   recovered-home h w k t =
       record {
         outcome = λ m.
-            let r = first-some (s .blocks) b (blocksLeft in-sequence (worldIn v d m)) (next-left m) h in
-            t (r .0) .outcome m ∙ ap (λ (bs : List ℕ). recoverStep in-sequence bs (worldIn v d m)) (sym (r .1));
+            let r = first-some (s .blocks) b (blocksLeft in-sequence (layoutOn d) (worldIn v d m)) (next-left m) h in
+            t (r .0) .outcome m ∙ ap (λ (bs : List ℕ). recoverStep in-sequence (layoutOn d) Numbers bs (worldIn v d m)) (sym (r .1));
         frame = t [] .frame;
       }
 
-  pub recovered-up : s .blocks ≤ b → (w : List ℕ) (k : Bytes) → Stores (recoverStep in-sequence []) v w d k → Stores (recovered in-sequence) v w d k
-  unfolding recovered
+  pub recovered-up : s .blocks ≤ b → (w : List ℕ) (k : Bytes) → Stores (recoverStep in-sequence (layoutOn d) Numbers []) v w d k → Stores (recovered in-sequence) v w d k
+  unfolding recovered recoveredBy
   recovered-up h w k t =
       record {
         outcome = λ m.
-            let r = first-none (s .blocks) b (blocksLeft in-sequence (worldIn v d m)) (next-left m) h (λ y k. rw (g .shape) (left-below in-sequence (worldIn v d m) k)) in
-            t .outcome m ∙ ap (λ (bs : List ℕ). recoverStep in-sequence bs (worldIn v d m)) (sym r);
+            let r = first-none (s .blocks) b (blocksLeft in-sequence (layoutOn d) (worldIn v d m)) (next-left m) h (λ i k. rw (g .shape) (left-below in-sequence (layoutOn d) (worldIn v d m) k)) in
+            t .outcome m ∙ ap (λ (bs : List ℕ). recoverStep in-sequence (layoutOn d) Numbers bs (worldIn v d m)) (sym r);
         frame = t .frame;
       }

@@ -9,9 +9,10 @@ use Rattle.model.specs.Lists.{below}
 use Rattle.model.specs.Bytes.{Bytes, blockAt}
 use Rattle.model.specs.Card.{newTail}
 use Rattle.model.specs.Layout.{isMaster}
-use Rattle.model.specs.Recovery.{shapeOn, validOn, tailPast}
+use Rattle.model.specs.Recovery.{shapeOn, layoutOn, validOn, tailPast}
 use Rattle.model.specs.declared.Shape.{Shape}
 use Rattle.model.specs.declared.Tail.{Tail}
+use Rattle.model.specs.declared.CommitLayout.{CommitLayout}
 use Rattle.model.proofs.Limits.{InRange}
 use Rattle.master_block.specs.Tails.{tailOrNone}
 use Rattle.journal.specs.Slots.{numbersOf, entries, filledFrom}
@@ -33,10 +34,11 @@ pub record Shaped (s : Shape) (d : Bytes) : Type 0 where
   pub shape : s ≡ shapeOn d
   pub range : InRange s
 
--- the tails of a disk's master, and all its journals read whole
-pub record OnDisk (s : Shape) (d : Bytes) (ts : List Tail) (set : List ℕ) : Type 0 where
+-- the layout of a disk's commits, the tails of its master, and all its journals read whole
+pub record OnDisk (s : Shape) (d : Bytes) (y : CommitLayout) (ts : List Tail) (set : List ℕ) : Type 0 where
+  pub layout : y ≡ layoutOn d
   pub tails : ts ≡ map (tailOrNone (blockAt d 0)) (below 8)
-  pub slots : Reads s d ts (replicate 8 (s .journal)) set
+  pub slots : Reads y s d ts (replicate 8 (s .journal)) set
 
 -- slots that are the valid set of a disk
 pub record IsValid (s : Shape) (d : Bytes) (set : List ℕ) : Type 0 where

@@ -26,7 +26,7 @@ fn master_count(disk: &[u8]) -> u8
 
 // A blank card has none, one that is down as many as its disk says.
 pub fn home_count(w: &[u64], disk: &[u8]) -> u8
-    requires { ⌜ (length (now w) ≡ 512) × (length (now disk) ≡ diskSize) ⌝ }
+    requires { ⌜ (length (now w) ≡ 423) × (length (now disk) ≡ diskSize) ⌝ }
     ensures { λ r. ⌜ ((m : Bytes) → r ≡ homeCount (worldIn (now (w .entry)) (now (disk .entry)) m)) ⌝ }
 {
     let p = cells::phase_of(w);

@@ -1,16 +1,20 @@
-// All journals of a disk: the tails of its master, its committed transactions as slots, and what recovery makes of them.
+// All journals of a disk: the layout of their commits, the tails of its master, its committed transactions as slots, and what recovery
+// makes of them.
 ghost use mathlib.Core.Path.{_≡_};
 ghost use mathlib.Core.List.{map};
 ghost use Prim.Native.Nat.{_≤_, _<_};
 ghost use Rattle.model.specs.Lists.{below};
 ghost use Rattle.model.specs.Valid.{in-sequence};
-ghost use Rattle.model.specs.Recovery.{tailPast, newestImage};
+ghost use Rattle.model.specs.Recovery.{tailPast, layoutOn, newestImage};
 ghost use Rattle.recovery.specs.Recovering.{tailAfter, Shaped, OnDisk, IsValid};
+use crate::master::disk_layout;
+use model::CommitLayout;
 use model::Shape;
 use model::Tail;
 
-// All journals of a disk, read whole: the tails of its master, and its committed transactions as slots.
+// All journals of a disk, read whole: the layout of their commits, the tails of its master, and its committed transactions as slots.
 pub struct Journals {
+    pub layout: CommitLayout,
     pub tails: [Tail; 8],
     pub committed: [u16; 96],
 }
@@ -67,27 +71,33 @@ pub fn emptied_tails(s: Shape, tails: [Tail; 8], slots: &[u16; 96]) -> [Tail; 8]
 
 pub fn read_disk(s: Shape, disk: &[u8]) -> Journals
     requires { ⌜ Shaped s (now disk) ⌝ }
-    ensures { λ r. ⌜ OnDisk s (now (disk .entry)) (r .tails) (r .committed) ⌝ }
+    ensures { λ r. ⌜ OnDisk s (now (disk .entry)) (r .layout) (r .tails) (r .committed) ⌝ }
 {
+    let layout = disk_layout(disk);
     let tails = master_block::read_tails(&disk[0..Shape::BLOCK_SIZE]);
-    let committed = journal::read_journals(s, disk, tails, [s.journal; 8]);
-    Journals { tails, committed }
+    let committed = journal::read_journals(layout, s, disk, tails, [s.journal; 8]);
+    Journals {
+        layout,
+        tails,
+        committed,
+    }
 }
 
 // The slots of the valid set of a disk.
 pub fn valid_set(s: Shape, disk: &[u8], all: Journals) -> [u16; 96]
-    requires { ⌜ Shaped s (now disk) × OnDisk s (now disk) (all .tails) (all .committed) ⌝ }
+    requires { ⌜ Shaped s (now disk) × OnDisk s (now disk) (all .layout) (all .tails) (all .committed) ⌝ }
     ensures { λ r. ⌜ IsValid s (now (disk .entry)) r ⌝ }
 {
+    let layout = all.layout;
     let tails = all.tails;
     let committed = all.committed;
-    valid::valid_slots(s, disk, tails, committed)
+    valid::valid_slots(layout, s, disk, tails, committed)
 }
 
 // The newest image of block b in the valid set.
 pub fn newest_block(s: Shape, disk: &[u8], valid: &[u16; 96], b: u8) -> [u8; Shape::BLOCK_SIZE]
     requires { ⌜ Shaped s (now disk) × IsValid s (now disk) (now valid) ⌝ }
-    ensures { λ r. ⌜ r ≡ newestImage in-sequence (now (disk .entry)) b ⌝ }
+    ensures { λ r. ⌜ r ≡ newestImage in-sequence (layoutOn (now (disk .entry))) (now (disk .entry)) b ⌝ }
 {
     let at = valid::newest_image(s, disk, valid, b);
     let image = layout::load_block(disk, at.block);

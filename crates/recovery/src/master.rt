@@ -1,12 +1,14 @@
-// The first block of a disk: whether it is a master, and the shape that it gives.
+// The first block of a disk: whether it is a master, the shape that it gives, and the layout of the disk's commits.
 ghost use mathlib.Core.Path.{_≡_};
 ghost use mathlib.Core.Bool.{true, cond, not};
 ghost use lib.ListN.{length};
 ghost use Rattle.model.specs.Bytes.{blockAt};
 ghost use Rattle.model.specs.Layout.{isMaster};
+ghost use Rattle.model.specs.Recovery.{layoutOn};
 ghost use Rattle.model.specs.Limits.{diskSize};
 ghost use Rattle.recovery.specs.Recovering.{Shaped};
 use model::Checked;
+use model::CommitLayout;
 use model::Shape;
 
 // Refusal 8, a first block that is no master.
@@ -34,4 +36,12 @@ pub fn disk_shape(disk: &[u8]) -> Shape
         };
     };
     s
+}
+
+// How the disk's commits name transactions, as its master says.
+pub fn disk_layout(disk: &[u8]) -> CommitLayout
+    requires { ⌜ length (now disk) ≡ diskSize ⌝ }
+    ensures { λ r. ⌜ r ≡ layoutOn (now (disk .entry)) ⌝ }
+{
+    master_block::read_layout(&disk[0..Shape::BLOCK_SIZE])
 }

@@ -9,8 +9,9 @@ ghost use Rattle.model.specs.Bytes.{blockAt};
 ghost use Rattle.model.specs.Layout.{isMaster};
 ghost use Rattle.model.specs.Command.{refusal};
 ghost use Rattle.model.specs.Valid.{in-sequence};
-ghost use Rattle.model.specs.Recovery.{recoverConditions, recoverStep, recovered, recover};
+ghost use Rattle.model.specs.Recovery.{layoutOn, recoverConditions, recoverStep, recovered, recover};
 ghost use Rattle.model.specs.Limits.{diskSize};
+ghost use Rattle.model.specs.declared.CommitLayout.the-variants.{Numbers};
 ghost use Rattle.cells.specs.Answer.{Meets, Stores};
 ghost use Rattle.cells.specs.Cells.{worldIn};
 ghost use Rattle.recovery.specs.Recovering.{Shaped, OnDisk, IsValid};
@@ -32,7 +33,7 @@ use model::Shape;
 
 // The first block is looked at once the slices have their lengths and the card is down.
 fn recover_refusal(w: &[u64], disk: &[u8], memory: &[u8]) -> u8
-    requires { ⌜ length (now w) ≡ 512 ⌝ }
+    requires { ⌜ length (now w) ≡ 423 ⌝ }
     ensures { λ r. ⌜ r ≡ refusal (recoverConditions (worldIn (now (w .entry)) (now (disk .entry)) (now (memory .entry)))) ⌝ }
 {
     let n = phase_refusal(w, disk, memory, 20, 23, 0);
@@ -42,10 +43,13 @@ fn recover_refusal(w: &[u64], disk: &[u8], memory: &[u8]) -> u8
     master_refusal(disk)
 }
 
-// The last store of recovery: one master with all journals empty. The card is up.
+// The last store of recovery: one master with all journals empty, for commits with numbers. The card is up.
 fn bring_up(w: &mut [u64], s: Shape, all: Journals, disk: &mut [u8])
-    requires { ⌜ (length (now w) ≡ 512) × Shaped s (now disk) × OnDisk s (now disk) (all .tails) (all .committed) ⌝ }
-    ensures { λ _. ⌜ Stores (recoverStep in-sequence []) (now (w .entry)) (now (w .exit)) (now (disk .entry)) (now (disk .exit)) ⌝ }
+    requires { ⌜ (length (now w) ≡ 423) × Shaped s (now disk) × OnDisk s (now disk) (all .layout) (all .tails) (all .committed) ⌝ }
+    ensures { λ _. ⌜
+        Stores (recoverStep in-sequence (layoutOn (now (disk .entry))) Numbers [])
+        (now (w .entry)) (now (w .exit)) (now (disk .entry)) (now (disk .exit))
+        ⌝ }
 {
     let before = all.tails;
     let committed = all.committed;
@@ -56,9 +60,10 @@ fn bring_up(w: &mut [u64], s: Shape, all: Journals, disk: &mut [u8])
 
 // A home store of recovery, of the lowest block left; recovery has then passed it.
 fn restore_block(w: &mut [u64], s: Shape, disk: &mut [u8], valid: &[u16; 96], b: u8)
-    requires { ⌜ (length (now w) ≡ 512) × Shaped s (now disk) × IsValid s (now disk) (now valid) × (b < s .blocks) ⌝ }
+    requires { ⌜ (length (now w) ≡ 423) × Shaped s (now disk) × IsValid s (now disk) (now valid) × (b < s .blocks) ⌝ }
     ensures { λ _. ⌜
-        ((bs : List ℕ) → Stores (recoverStep in-sequence (b ∷ bs)) (now (w .entry)) (now (w .exit)) (now (disk .entry)) (now (disk .exit)))
+        ((bs : List ℕ) → Stores (recoverStep in-sequence (layoutOn (now (disk .entry))) Numbers (b ∷ bs))
+        (now (w .entry)) (now (w .exit)) (now (disk .entry)) (now (disk .exit)))
         ⌝ }
 {
     let image = newest_block(s, disk, valid, b);
@@ -68,7 +73,7 @@ fn restore_block(w: &mut [u64], s: Shape, disk: &mut [u8], valid: &[u16; 96], b:
 
 // The next store of recovery over a disk whose first block is a master.
 fn recovered(w: &mut [u64], disk: &mut [u8])
-    requires { ⌜ (length (now w) ≡ 512) × (length (now disk) ≡ diskSize) × (isMaster (blockAt (now disk) 0) ≡ true) ⌝ }
+    requires { ⌜ (length (now w) ≡ 423) × (length (now disk) ≡ diskSize) × (isMaster (blockAt (now disk) 0) ≡ true) ⌝ }
     ensures { λ _. ⌜ Stores (recovered in-sequence) (now (w .entry)) (now (w .exit)) (now (disk .entry)) (now (disk .exit)) ⌝ }
 {
     let s = disk_shape(disk);
@@ -85,7 +90,7 @@ fn recovered(w: &mut [u64], disk: &mut [u8])
 
 // RECOVER. Memory takes no part: only its length is asked for.
 pub fn recover(w: &mut [u64], disk: &mut [u8], memory: &[u8]) -> Answer
-    requires { ⌜ length (now w) ≡ 512 ⌝ }
+    requires { ⌜ length (now w) ≡ 423 ⌝ }
     ensures { λ r. ⌜
         Meets (recover in-sequence (worldIn (now (w .entry)) (now (disk .entry)) (now (memory .entry))))
         (now (w .entry)) (now (w .exit)) (now (disk .exit)) (now (memory .entry)) r

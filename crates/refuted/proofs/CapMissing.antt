@@ -17,19 +17,20 @@ use Rattle.model.specs.Card.{newTail, isBlank, isUp}
 use Rattle.model.specs.Layout.{masterWords, masterBlock}
 use Rattle.model.specs.Journal.{journal}
 use Rattle.model.specs.Command.{World, Outcome, refusal, unless, wrongLength}
-use Rattle.model.specs.Recovery.{shapeOn, tailOn, recoverConditions, blocksLeft, newestImage}
+use Rattle.model.specs.Recovery.{shapeOn, tailOn, layoutOn, recoverConditions}
 use Rattle.model.specs.Tape.{Command, CUT, RECOVER, Read, whole, TapeStep, Point, run, decoded, operandLength, commandByte, operandsAt, wholeOrEarly, readAt, obeyed, commandAt, offsetPast, nextOffset, heard}
 use Rattle.model.specs.Limits.{maxNumber}
 use Rattle.model.specs.declared.Shape.{Shape}
 use Rattle.model.specs.declared.Phase.the-variants.{Down}
 use Rattle.model.specs.declared.Tail.{Tail}
+use Rattle.model.specs.declared.CommitLayout.the-variants.{Numbers}
 use Rattle.model.proofs.Command.{unless-done, unless-refused}
 use Rattle.model.proofs.Tape.{pointAt, Runs, at-end, one-more, run-runs}
 use Rattle.crash.specs.Book.{emptyBook}
 use Rattle.crash.specs.Ledger.{Ledger, freshLedger, cutLedger, carriedOut, entered, storedSince, diskAfter, refusalsOf, answerOf}
 use Rattle.crash.specs.Claims.{IsBytes, Start, from-down, startWorld, startLedger, StartFits, enteredPoint, Between, PointKept, LedgerKept, JournalsRead, Demands}
 use Rattle.crash.proofs.Books.Tests.{clash}
-use Rattle.refuted.specs.Parts.{onTape, recoverStepBy, tailBy}
+use Rattle.refuted.specs.Parts.{onTape, recoverStepBy, ownLeft, ownImage, tailBy}
 use Rattle.refuted.specs.Wrong.{capMissing}
 use Rattle.refuted.proofs.Tapes.{tests}
 
@@ -139,7 +140,7 @@ recover-enters : (first : ℕ → ℕ) → carriedOut RECOVER (downBy first) ≡
 unfolding tests
 recover-enters first = refl
 
-recover-stores : (first : ℕ → ℕ) (d : Bytes) → diskAfter RECOVER (downBy first) d ≡ store d 0 (masterBlock small (λ (c : ℕ). newTail (raised first c) 0))
+recover-stores : (first : ℕ → ℕ) (d : Bytes) → diskAfter RECOVER (downBy first) d ≡ store d 0 (masterBlock Numbers small (λ (c : ℕ). newTail (raised first c) 0))
 unfolding tests
 recover-stores first d = refl
 
@@ -167,31 +168,31 @@ abbrev unbounded : ℕ → ℕ → ℕ
 unbounded t n = t + (n + 1)
 
 -- a master of one core has one tail
-one-tail : (f g : ℕ → Tail) → f 0 ≡ g 0 → masterBlock small f ≡ masterBlock small g
+one-tail : (f g : ℕ → Tail) → f 0 ≡ g 0 → masterBlock Numbers small f ≡ masterBlock Numbers small g
 unfolding masterBlock masterWords below
-one-tail f g e = ap (λ (t : Tail). masterBlock small (λ (c : ℕ). t)) e
+one-tail f g e = ap (λ (t : Tail). masterBlock Numbers small (λ (c : ℕ). t)) e
 
 module _ (first : ℕ → ℕ) (top : first 0 ≡ suc maxNumber) (w : World) (o : Outcome World) where
   -- the master that is due, and the one that this card stores
-  due : masterBlock small (λ (c : ℕ). newTail (raised first c) 0) ≡ masterBlock small (λ (c : ℕ). newTail 4000000001 0)
+  due : masterBlock Numbers small (λ (c : ℕ). newTail (raised first c) 0) ≡ masterBlock Numbers small (λ (c : ℕ). newTail 4000000001 0)
   due = one-tail _ _ (ap (λ (n : ℕ). newTail n 0) (rw top refl))
 
-  stored-instead : JournalsRead (downBy first) (w .disk) → masterBlock (shapeOn (w .disk)) (tailBy unbounded (w .disk)) ≡ masterBlock small (λ (c : ℕ). newTail 4000000002 0)
+  stored-instead : JournalsRead (downBy first) (w .disk) → masterBlock Numbers (shapeOn (w .disk)) (tailBy unbounded (w .disk)) ≡ masterBlock Numbers small (λ (c : ℕ). newTail 4000000002 0)
   unfolding cutLedger freshLedger emptyBook
   stored-instead r =
       let d = w .disk in
       let n : (tailOn d 0) .number ≡ 4000000001 = r .tails 0 (omega arith) ∙ top in
       let s : shapeOn d ≡ small = r .shape in
-      let j : length (journal small d 0 (tailOn d 0) 4) ≡ 0 = sym (length-map (journal small d 0 (tailOn d 0) 4) _) ∙ ap length (r .records 0 (omega arith) ∙ none-stored first) in
+      let j : length (journal (layoutOn d) small d 0 (tailOn d 0) 4) ≡ 0 = sym (length-map (journal (layoutOn d) small d 0 (tailOn d 0) 4) _) ∙ ap length (r .records 0 (omega arith) ∙ none-stored first) in
       rw s (one-tail _ _ (rw (s, j, n) refl))
 
-  differ : (d : Bytes) → store d 0 (masterBlock small (λ (c : ℕ). newTail 4000000002 0)) ≡ store d 0 (masterBlock small (λ (c : ℕ). newTail 4000000001 0)) → ⊥
+  differ : (d : Bytes) → store d 0 (masterBlock Numbers small (λ (c : ℕ). newTail 4000000002 0)) ≡ store d 0 (masterBlock Numbers small (λ (c : ℕ). newTail 4000000001 0)) → ⊥
   unfolding tests
   differ d e = let z : _≡_ {A = ℕ} 2 1 = ap (λ (s : Bytes). getD s 27 0) e in omega arith
 
   module _ (k : o .world .disk ≡ diskAfter RECOVER (downBy first) (w .disk)) (up : isUp (o .world .card .phase) ≡ true) (phase : w .card .phase ≡ Down)
       (r : JournalsRead (downBy first) (w .disk)) where
-    by-left : (bs : List ℕ) → o ≡ recoverStepBy (newestImage in-sequence) (tailBy unbounded) bs w → ⊥
+    by-left : (bs : List ℕ) → o ≡ recoverStepBy ownImage (tailBy unbounded) bs w → ⊥
     by-left [] e =
         differ (w .disk)
         (ap (store (w .disk) 0) (sym (stored-instead r)) ∙ sym (ap (λ (o : Outcome World). o .world .disk) e) ∙ k ∙ recover-stores first (w .disk)
@@ -218,14 +219,14 @@ module _ (t : Bytes) where
       let after : Between (freshLedger in-sequence small [] (raised first)) (o .world) =
       subst (λ (l : Ledger). Between l (o .world)) (recover-enters first) (between-first _ _ (x .rest) (x .ledger)) in
       let reached : o ≡ capMissing RECOVER w = done-of ((wrongLength w, 1) ∷ []) w (obeyed capMissing (readAt t at) w) (x .answer) ∙ ap (λ (r : Read). obeyed capMissing r w) r in
-      let last : o ≡ recoverStepBy (newestImage in-sequence) (tailBy unbounded) (blocksLeft in-sequence w) w =
+      let last : o ≡ recoverStepBy ownImage (tailBy unbounded) (ownLeft w) w =
       reached ∙ done-of (recoverConditions w) w _ (sym (ap (λ (o : Outcome World). o .answer) reached) ∙ x .answer) in
       by-left first (omega arith) w o
       (x .kept .done RECOVER r (x .answer) .disk)
       (ap isUp (after .phase))
       phase
       (x .kept .between .journals (ap isBlank phase))
-      (blocksLeft in-sequence w) last
+      (ownLeft w) last
 
   refuted-more : (k : ℕ) → Refuted k → Refuted (suc k)
   unfolding rounds
@@ -246,7 +247,7 @@ module _ (t : Bytes) where
   refuted (suc k) = refuted-more k (refuted k)
 
 abbrev emptySmall : Start
-emptySmall = from-down small zeroMemory
+emptySmall = from-down Numbers small zeroMemory
 
 small-fits : StartFits emptySmall
 unfolding tests

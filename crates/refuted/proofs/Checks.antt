@@ -1,6 +1,7 @@
 -- Tests that a run can be put to by computing. Each is met wherever its demand is, so a run that fails one refutes the demand.
 -- Nothing here is to be believed: a test that asked too much could not be proved to follow from the demand.
 use Prim.Native.Nat.{ℕ, zero, suc, _+_, _*_}
+use native.Mathlib.Omega.{arith}
 use mathlib.Core.Path.{_≡_, refl, sym, ap, _∙_, subst}
 use mathlib.Core.Bool.{Bool, true, false, cond, not, _&&_}
 use mathlib.Core.List.{List, [], _∷_}
@@ -9,11 +10,11 @@ use lib.Dec.{eqb, ltb}
 use borrow.Author.Tests.{eqb-true, eqb-false, eq-eqb, not-true}
 use Rattle.model.specs.Lists.{all, below}
 use Rattle.model.specs.Bytes.{Bytes, zeroDisk, zeroMemory}
-use Rattle.model.specs.Valid.{Order}
+use Rattle.model.specs.Valid.{Order, in-sequence}
 use Rattle.model.specs.Command.{Outcome, refusal, Decided, refused, carried-out, World}
 use Rattle.model.specs.Reading.{readNumber, Reader, blockReader}
 use Rattle.model.specs.Tape.{Command, FORMAT, WRITE, CLOSE, STORE, CHECKPOINT, CUT, RECOVER, Read, whole, unknown, early, readAt, TapeStep, Point, run}
-use Rattle.model.specs.Step.{stepAtBy, conditionsOn, DecidesEach}
+use Rattle.model.specs.Step.{stepAt, stepAtBy, conditionsOn, doneOn, DecidesEach}
 use Rattle.model.specs.Printing.{blankWorld}
 use Rattle.model.specs.declared.Shape.{Shape}
 use Rattle.model.proofs.Lists.{and-both, and-left, and-right, mem-all}
@@ -238,6 +239,21 @@ pub decides : (o : Order) (f : TapeStep World) → DecidesEach o f → (t : Byte
 unfolding decidesTest
 decides o f h t w = eq-eqb _ _ (decided-answer (h t 0 w) (read-answer o (readAt t 0) w))
 
+-- .. and the disk that it leaves where it is carried out: so many bytes are looked at
+unfoldable pub leavesTest : Order → TapeStep World → ℕ → Bytes → World → Bool
+leavesTest o f n t w =
+    cond (eqb (refusal (conditionsOn o (readAt t 0) w)) 0) (sameBytes (take n ((f t 0 w) .world .disk)) (take n ((doneOn o (readAt t 0) w) .world .disk))) true
+
+decided-done : {ts : List (Bool × ℕ)} {w : World} {done o : Outcome World} → Decided ts w done o → refusal ts ≡ 0 → o ≡ done
+decided-done (refused n p f e) z = absurd (omega (arith, p, first-refusal f, z))
+decided-done (carried-out c e) z = e
+
+pub leaves : (o : Order) (f : TapeStep World) → DecidesEach o f → (n : ℕ) (t : Bytes) (w : World) → leavesTest o f n t w ≡ true
+unfolding leavesTest
+leaves o f h n t w =
+    asked (eqb (refusal (conditionsOn o (readAt t 0) w)) 0)
+    (λ e. same-bytes (ap (λ (x : Outcome World). take n (x .world .disk)) (decided-done (h t 0 w) (eqb-true _ _ e))))
+
 -- ---- a run that fails a test
 abbrev blankStart : Start
 blankStart = from-blank zeroDisk zeroMemory
@@ -252,13 +268,20 @@ blank-fits =
     }
 
 module _ (o : Order) (f : TapeStep World) (t : Bytes) where
+  module _ (s : Start) (fits : StartFits s) where
+    pub claim-from : Claim o f → IsBytes t → areaHolds (startService o s) (run f t (startWorld s)) ≡ true
+    claim-from k h = area-holds _ _ (k t h s fits)
+
+    pub demands-from : Demands o f → (c : Check) → IsBytes t → holds (c .test) (startLedger o s) (startWorld s) (run f t (startWorld s)) ≡ true
+    demands-from k c h = kept-holds c _ _ _ (k t h s fits)
+
   pub claim-holds : Claim o f → IsBytes t → areaHolds (emptyService o 0) (run f t blankWorld) ≡ true
   unfolding blankWorld startWorld startService
-  claim-holds k h = area-holds _ _ (k t h blankStart blank-fits)
+  claim-holds = claim-from blankStart blank-fits
 
   pub demands-hold : Demands o f → (c : Check) → IsBytes t → holds (c .test) (blankLedger o) blankWorld (run f t blankWorld) ≡ true
   unfolding blankWorld startWorld startLedger
-  demands-hold k c h = kept-holds c _ _ _ (k t h blankStart blank-fits)
+  demands-hold = demands-from blankStart blank-fits
 
   pub readings-hold : (read : Reader) → Readings o read f → IsBytes t → readsHold read (blankLedger o) blankWorld (run f t blankWorld) ≡ true
   unfolding blankWorld startWorld startLedger
@@ -280,19 +303,30 @@ refutes-claim o f t h k = failed t _ h (claim-holds o f t k)
 pub refutes-demands : (o : Order) (f : TapeStep World) (c : Check) (t : Bytes) → Fails t (holds (c .test) (blankLedger o) blankWorld (run f t blankWorld)) → Demands o f → ⊥
 refutes-demands o f c t h k = failed t _ h (demands-hold o f t k c)
 
+-- .. from any start that fits
+module _ (s : Start) (fits : StartFits s) (o : Order) (f : TapeStep World) where
+  pub refutes-claim-from : (t : Bytes) → Fails t (areaHolds (startService o s) (run f t (startWorld s))) → Claim o f → ⊥
+  refutes-claim-from t h k = failed t _ h (claim-from o f t s fits k)
+
+  pub refutes-demands-from : (c : Check) (t : Bytes) → Fails t (holds (c .test) (startLedger o s) (startWorld s) (run f t (startWorld s))) → Demands o f → ⊥
+  refutes-demands-from c t h k = failed t _ h (demands-from o f t s fits k c)
+
 pub refutes-readings : (o : Order) (read : Reader) (f : TapeStep World) (t : Bytes)
     → Fails t (readsHold read (blankLedger o) blankWorld (run f t blankWorld)) → Readings o read f → ⊥
 refutes-readings o read f t h k = failed t _ h (readings-hold o f t read k)
 
--- ---- the model's card passes every test of its rule on every tape
-pub passes-area : (o : Order) (t : Bytes) → IsBytes t → areaHolds (emptyService o 0) (run (stepAtBy o) t blankWorld) ≡ true
-passes-area o t = claim-holds o (stepAtBy o) t (claim o)
+-- ---- the model's card passes every test on every tape
+pub passes-area : (t : Bytes) → IsBytes t → areaHolds (emptyService in-sequence 0) (run stepAt t blankWorld) ≡ true
+passes-area t = claim-holds in-sequence stepAt t claim
 
-pub passes-check : (o : Order) (c : Check) (t : Bytes) → IsBytes t → holds (c .test) (blankLedger o) blankWorld (run (stepAtBy o) t blankWorld) ≡ true
-passes-check o c t = demands-hold o (stepAtBy o) t (demands o) c
+pub passes-check : (c : Check) (t : Bytes) → IsBytes t → holds (c .test) (blankLedger in-sequence) blankWorld (run stepAt t blankWorld) ≡ true
+passes-check c t = demands-hold in-sequence stepAt t demands c
 
-pub passes-readings : (o : Order) (t : Bytes) → IsBytes t → readsHold blockReader (blankLedger o) blankWorld (run (stepAtBy o) t blankWorld) ≡ true
-passes-readings o t = readings-hold o (stepAtBy o) t blockReader (readings o)
+pub passes-readings : (t : Bytes) → IsBytes t → readsHold blockReader (blankLedger in-sequence) blankWorld (run stepAt t blankWorld) ≡ true
+passes-readings t = readings-hold in-sequence stepAt t blockReader readings
 
 pub passes-decides : (o : Order) (t : Bytes) (w : World) → decidesTest o (stepAtBy o) t w ≡ true
 passes-decides o = decides o (stepAtBy o) (command-decided o)
+
+pub passes-leaves : (o : Order) (n : ℕ) (t : Bytes) (w : World) → leavesTest o (stepAtBy o) n t w ≡ true
+passes-leaves o = leaves o (stepAtBy o) (command-decided o)

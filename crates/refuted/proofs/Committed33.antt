@@ -16,7 +16,7 @@ use Rattle.model.specs.Lists.{any, below}
 use Rattle.model.specs.Bytes.{Bytes}
 use Rattle.model.specs.Card.{newName, isBlank, isDown, shapeOf}
 use Rattle.model.specs.Journal.{nameOf}
-use Rattle.model.specs.Valid.{Order, in-sequence, isIn}
+use Rattle.model.specs.Valid.{in-sequence, isIn}
 use Rattle.model.specs.Command.{World, Outcome, unless, noCore}
 use Rattle.model.specs.Checkpoint.{validNow, committedOf, oldest, share, sharesLower, checkpointConditions, checkpointed}
 use Rattle.model.specs.Tape.{Command, Read, whole, unknown, early, Step, Point, readAt, obeyed, runFrom, run, commandByte, commandAt, nextOffset}
@@ -38,8 +38,7 @@ use Rattle.crash.proofs.Blocks.Invariant.{Inv, historyOf, homed, status, opened
 use Rattle.crash.proofs.Disk.ReadMaster.{shape-up}
 use Rattle.crash.proofs.Disk.ReadCheckpoint.{Lower, lowerClosed, closed-lower, oldest-is, oldest-name, none-committed, oldest-valid}
 use Rattle.crash.proofs.Commands.CardAnswers.{SameConditions, none-left, then, same-refusal}
-use Rattle.crash.proofs.Runs.RunClaims.{PointKeeps, point-keeps, start-order}
-use Rattle.crash.proofs.Books.BookOrder.{heard-order}
+use Rattle.crash.proofs.Runs.RunClaims.{PointKeeps, point-keeps}
 use Rattle.crash.proofs.Runs.UpSteps.{RelatedUp, retired-below}
 use Rattle.crash.proofs.Runs.Theorem.{blank-phase, Related, related-blank, related-up, related-down, related-simulation, claim, demands, readings, starts}
 use Rattle.crash.proofs.Disk.Relation.{first-waiting}
@@ -126,7 +125,7 @@ module _ {l : Ledger} {w : World} (u : RelatedUp l w) (c : ℕ) (in-range : c < 
   same-33 = sym (or-false (sharesCommitted w (oldest (committedOf w c))) _ none-closed)
 
 -- ---- one command in a world of a run
-module _ {l : Ledger} {w : World} (rule : l .book .begun .order ≡ in-sequence) (here : Related l w) (c : ℕ) where
+module _ {l : Ledger} {w : World} (here : Related l w) (c : ℕ) where
   last-same : (a : Related l w) → isBlank (w .card .phase) ≡ false → isDown (w .card .phase) ≡ false → noCore w c ≡ false
       → eqb (length (committedOf w c)) 0 ≡ false → not (isIn (validNow in-sequence w) (nameOf (oldest (committedOf w c)))) ≡ false
       → sharesCommitted w (oldest (committedOf w c)) ≡ sharesLower w (oldest (committedOf w c))
@@ -137,7 +136,7 @@ module _ {l : Ledger} {w : World} (rule : l .book .begun .order ≡ in-sequence)
       let in-range : c < l .shape .cores = leb-false _ c (subst (λ (s : Shape). leb (s .cores) c ≡ false) (shape-up (u .up)) core) in
       let more : l .book .oldest c < l .book .uncommitted c = ltb-true _ _ (not-false _ (sym (none-committed (u .up) c in-range) ∙ some)) in
       same-33 u c in-range more
-      (sym (oldest-valid (u .up) c in-range more) ∙ ap (λ (o : Order). isIn (validNow o w) (nameOf (oldest (committedOf w c)))) rule ∙ not-false _ valid)
+      (sym (oldest-valid (u .up) c in-range more) ∙ not-false _ valid)
 
   same-conditions : SameConditions (committedConditions c w) (checkpointConditions in-sequence c w)
   unfolding checkpointConditions
@@ -150,55 +149,55 @@ module _ {l : Ledger} {w : World} (rule : l .book .begun .order ≡ in-sequence)
       then refl (λ valid.
       then (last-same here up low core some valid) (λ _. none-left)))))))
 
-pub same-step : (l : Ledger) (w : World) → l .book .begun .order ≡ in-sequence → Related l w → (k : Command) → onlyCommitted33 k w ≡ step k w
+pub same-step : (l : Ledger) (w : World) → Related l w → (k : Command) → onlyCommitted33 k w ≡ step k w
 unfolding stepBy conditionsOf doneBy
-same-step l w rule here =
+same-step l w here =
     other-checkpoint w step (λ k. refl) (λ (c : ℕ) (w : World). unless (committedConditions c w) w (checkpointed c w))
-    (λ c. unless-same (committedConditions c w) (checkpointConditions in-sequence c w) w (checkpointed c w) (same-refusal (same-conditions rule here c)))
+    (λ c. unless-same (committedConditions c w) (checkpointConditions in-sequence c w) w (checkpointed c w) (same-refusal (same-conditions here c)))
 
 -- ---- along a tape
 -- a card that does as the model's in every world of a run
-module _ (f : Step World) (same : (l : Ledger) (w : World) → l .book .begun .order ≡ in-sequence → Related l w → (k : Command) → f k w ≡ step k w) (t : Bytes) (bytes : IsBytes t) where
-  obeyed-same : (l : Ledger) (w : World) → l .book .begun .order ≡ in-sequence → Related l w → (r : Read) → obeyed step r w ≡ obeyed f r w
+module _ (f : Step World) (same : (l : Ledger) (w : World) → Related l w → (k : Command) → f k w ≡ step k w) (t : Bytes) (bytes : IsBytes t) where
+  obeyed-same : (l : Ledger) (w : World) → Related l w → (r : Read) → obeyed step r w ≡ obeyed f r w
   unfolding obeyed
-  obeyed-same l w rule here (whole k) = sym (same l w rule here k)
-  obeyed-same l w rule here unknown = refl
-  obeyed-same l w rule here early = refl
+  obeyed-same l w here (whole k) = sym (same l w here k)
+  obeyed-same l w here unknown = refl
+  obeyed-same l w here early = refl
 
-  command-same : (at : ℕ) (l : Ledger) (w : World) → l .book .begun .order ≡ in-sequence → Related l w → stepAt t at w ≡ onTape f t at w
+  command-same : (at : ℕ) (l : Ledger) (w : World) → Related l w → stepAt t at w ≡ onTape f t at w
   unfolding stepAtBy commandAt
-  command-same at l w rule here = ap (unless _ w) (obeyed-same l w rule here (readAt t at))
+  command-same at l w here = ap (unless _ w) (obeyed-same l w here (readAt t at))
 
-  same-from : (most at n : ℕ) (l : Ledger) (w : World) → l .book .begun .order ≡ in-sequence → Related l w → runFrom most stepAt t at n w ≡ runFrom most (onTape f) t at n w
+  same-from : (most at n : ℕ) (l : Ledger) (w : World) → Related l w → runFrom most stepAt t at n w ≡ runFrom most (onTape f) t at n w
   unfolding runFrom
-  same-from zero at n l w rule here = refl
-  same-from (suc most) at n l w rule here =
+  same-from zero at n l w here = refl
+  same-from (suc most) at n l w here =
       cases (ltb at (length t))
       (λ h.
       let o = stepAt t at w in
-      let g : PointKeeps Related l w (readAt t at) o = point-keeps Related related-simulation in-sequence t bytes at l w rule here in
+      let g : PointKeeps Related l w (readAt t at) o = point-keeps Related related-simulation t bytes at l w here in
       let rest : runFrom most stepAt t (nextOffset t at) (n + o .stores) (o .world) ≡ runFrom most (onTape f) t (nextOffset t at) (n + o .stores) (o .world) =
-      same-from most (nextOffset t at) (n + o .stores) _ (o .world) (heard-order (readAt t at) (o .answer) l ∙ rule) (g .next) in
+      same-from most (nextOffset t at) (n + o .stores) _ (o .world) (g .next) in
       rw (h, runFrom)
       (ap (λ (ps : List (Point World)). pointAt stepAt t at n w ∷ ps) rest
       ∙ ap (λ (o : Outcome World). record { offset = at; byte = commandByte t at; read = readAt t at; before = w; outcome = o; stores = n + o .stores } ∷ runFrom most (onTape f) t (nextOffset t at) (n + o .stores) (o .world))
-      (command-same at l w rule here)))
+      (command-same at l w here)))
       (λ h. rw (h, runFrom) refl)
 
-  run-same : (l : Ledger) (w : World) → l .book .begun .order ≡ in-sequence → Related l w → run stepAt t w ≡ run (onTape f) t w
+  run-same : (l : Ledger) (w : World) → Related l w → run stepAt t w ≡ run (onTape f) t w
   unfolding run
-  run-same l w rule here = same-from (length t) 0 0 l w rule here
+  run-same l w here = same-from (length t) 0 0 l w here
 
 -- The runs are the same, from every start.
 pub same-runs : (t : Bytes) → IsBytes t → (s : Start) → StartFits s → run stepAt t (startWorld s) ≡ run (onTape onlyCommitted33) t (startWorld s)
-same-runs t b s h = run-same onlyCommitted33 same-step t b (startLedger in-sequence s) (startWorld s) (start-order in-sequence s) (starts in-sequence s h)
+same-runs t b s h = run-same onlyCommitted33 same-step t b (startLedger in-sequence s) (startWorld s) (starts s h)
 
 -- so no demand tells it from the model's card
 pub claim-33 : Claim in-sequence (onTape onlyCommitted33)
-claim-33 t b s h = subst (AreaKept (startService in-sequence s)) (same-runs t b s h) (claim in-sequence t b s h)
+claim-33 t b s h = subst (AreaKept (startService in-sequence s)) (same-runs t b s h) (claim t b s h)
 
 pub demands-33 : Demands in-sequence (onTape onlyCommitted33)
-demands-33 t b s h = subst (LedgerKept (startLedger in-sequence s) (startWorld s)) (same-runs t b s h) (demands in-sequence t b s h)
+demands-33 t b s h = subst (LedgerKept (startLedger in-sequence s) (startWorld s)) (same-runs t b s h) (demands t b s h)
 
 pub readings-33 : Readings in-sequence blockReader (onTape onlyCommitted33)
-readings-33 t b s h = subst (ReadingsKept blockReader (startLedger in-sequence s) (startWorld s)) (same-runs t b s h) (readings in-sequence t b s h)
+readings-33 t b s h = subst (ReadingsKept blockReader (startLedger in-sequence s) (startWorld s)) (same-runs t b s h) (readings t b s h)

@@ -1,4 +1,4 @@
--- Why the wrong cards fail.
+-- Why the wrong cards fail, and computed runs of the right one that need the same tests.
 pub mod Checks
 pub mod Parts
 pub mod Tapes
@@ -6,5 +6,7 @@ pub mod PaperCards
 pub mod Refusals
 pub mod OtherCards
 pub mod OrderCards
+pub mod NumberCards
+pub mod LongLists
 pub mod CapMissing
 pub mod Committed33

@@ -37,7 +37,8 @@ pub in-running-alone-answer : Demands unordered (onTape inRunningAlone) → ⊥
 unfolding tests
 in-running-alone-answer = refutes-demands unordered (onTape inRunningAlone) answerCheck linked refl
 
--- ---- the card of one rule and the claim of the other: (0,2) comes back without (0,1), or is missing
+-- ---- the card of one rule and the claim of the other: (0,2) comes back without (0,1), or is missing. (With one number for each core the
+-- old rule's card fails the claim of its own too: `NumberCards`.)
 pub old-card : Claim in-sequence (stepAtBy unordered) → ⊥
 unfolding tests
 old-card = refutes-claim in-sequence (stepAtBy unordered) laterAlone refl

@@ -10,9 +10,9 @@ use Rattle.model.specs.Step.{stepAt}
 use Rattle.model.specs.Printing.{blankWorld}
 use Rattle.crash.specs.Claims.{Claim, Demands, Readings}
 use Rattle.refuted.specs.Parts.{onTape, ignoring}
-use Rattle.refuted.specs.Wrong.{tailOneAbove, tailKept, stampsGoOn, validityOneDeep, allCommittedValid, highestFirst, flagIgnored, cutKeepsPlace, cutKeepsMemory, writerTakesRunning, onlyWriterNames, onlyHolderNames, nameTwice, notLoaded, no26OnOpen, only26Stored, no24OfHolder, stampAtOpen, stampAtCommit, noEscape, twelfthDropped, storesImages, noWrap, retiresAtOnce, homeFromMemory, holderStays, refusalOverwrites, fromHome, fromMemory, exchanged, handsWhileDown, neverRefuses}
-use Rattle.refuted.proofs.Checks.{refutes-claim, refutes-demands, refutes-readings, answerCheck, unchanged, bytesCheck, left-in-memory}
-use Rattle.refuted.proofs.Tapes.{tests, format, write, writeWord, close, stores, checkpoints, cut, recovers, lostWriter, oneKept, twelveNames, thirteenth}
+use Rattle.refuted.specs.Wrong.{tailOneAbove, tailKept, stampsGoOn, validityOneDeep, allCommittedValid, highestFirst, flagIgnored, cutKeepsPlace, cutKeepsMemory, writerTakesRunning, onlyWriterNames, onlyHolderNames, notLoaded, no26OnOpen, only26Stored, stampAtOpen, stampAtCommit, noEscape, storesImages, noWrap, retiresAtOnce, homeFromMemory, holderStays, refusalOverwrites, fromHome, fromMemory, exchanged, handsWhileDown, neverRefuses}
+use Rattle.refuted.proofs.Checks.{refutes-claim, refutes-demands, refutes-readings, unchanged, bytesCheck, left-in-memory}
+use Rattle.refuted.proofs.Tapes.{tests, format, write, writeWord, close, stores, checkpoints, cut, recovers, lostWriter, oneKept}
 
 -- ---- tails and stamps after recovery
 pub tail-one-above : Demands in-sequence (onTape tailOneAbove) → ⊥
@@ -79,13 +79,6 @@ only-holder-names =
     (format 2 2 4 ++ write 0 0 0 1 ++ write 1 0 4 2 ++ write 1 1 0 3 ++ close 1 ++ stores 1 3 ++ cut ++ recovers 2)
     refl
 
-pub name-twice : Demands in-sequence (onTape nameTwice) → ⊥
-unfolding tests
-name-twice =
-    refutes-demands in-sequence (onTape nameTwice) bytesCheck
-    (format 2 1 4 ++ write 0 0 0 1 ++ write 1 0 4 2 ++ write 1 0 8 3 ++ close 1 ++ stores 1 2)
-    refl
-
 -- After recovery a write of four bytes brings zeros beside them.
 pub not-loaded : Claim in-sequence (onTape notLoaded) → ⊥
 unfolding tests
@@ -109,10 +102,6 @@ only-26-stored =
     refutes-claim in-sequence (onTape only26Stored)
     (format 1 1 4 ++ write 0 0 0 1 ++ close 0 ++ write 0 0 4 2 ++ stores 0 3 ++ close 0 ++ stores 0 2 ++ cut ++ recovers 2)
     refl
-
-pub no-24-of-holder : Demands in-sequence (onTape no24OfHolder) → ⊥
-unfolding tests
-no-24-of-holder = refutes-demands in-sequence (onTape no24OfHolder) answerCheck thirteenth refl
 
 -- ---- CLOSE
 -- The three stores are of number 2, where the journal is read from number 1.
@@ -145,13 +134,6 @@ no-escape =
     refutes-claim in-sequence (onTape noEscape)
     (format 1 2 4 ++ write 0 0 0 1 ++ writeWord 0 1 0 mark ++ writeWord 0 1 4 2 ++ writeWord 0 1 8 3 ++ writeWord 0 1 16 1 ++ close 0 ++ stores 0 4 ++
     cut ++ recovers 3 ++ write 0 1 0 2 ++ close 0 ++ stores 0 1 ++ cut ++ recovers 2)
-    refl
-
-pub twelfth-dropped : Demands in-sequence (onTape twelfthDropped) → ⊥
-unfolding tests
-twelfth-dropped =
-    refutes-demands in-sequence (onTape twelfthDropped) bytesCheck
-    (twelveNames ++ close 0 ++ stores 0 3)
     refl
 
 -- Core 1 writes into the closed block before its data is stored, and is lost.

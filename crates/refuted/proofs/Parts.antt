@@ -4,18 +4,22 @@ use mathlib.Core.Path.{_≡_, refl, sym, ap}
 use mathlib.Core.List.{List, [], _∷_}
 use Rattle.model.specs.Bytes.{Bytes}
 use Rattle.model.specs.Shape.{journalBlock}
-use Rattle.model.specs.Card.{shapeOf}
+use Rattle.model.specs.Card.{shapeOf, withName}
+use Rattle.model.specs.Layout.{isMaster}
 use Rattle.model.specs.Command.{World, Outcome, unless}
 use Rattle.model.specs.Commit.{nextStored, nextPosition, stored}
 use Rattle.model.specs.Valid.{Order, in-sequence, validSet}
-use Rattle.model.specs.Checkpoint.{validNow, checkpointConditions}
-use Rattle.model.specs.Recovery.{validOn, validOnBy, recoverConditions, blocksLeft, newestImage, emptiedTail, broughtUp, recoverStep, recovered}
+use Rattle.model.specs.Format.{formatted}
+use Rattle.model.specs.Write.{writerAfter, writtenCard, written}
+use Rattle.model.specs.Checkpoint.{validNow, checkpointConditions, storedMaster, checkpointed}
+use Rattle.model.specs.Recovery.{validOn, validOnBy, layoutOn, recoverConditions, blocksLeft, newestImage, emptiedTail, broughtUp, recoverStep, recoveredBy, recovered}
 use Rattle.model.specs.Tape.{Command, FORMAT, WRITE, CLOSE, STORE, CHECKPOINT, CUT, RECOVER, Step, readAt}
 use Rattle.model.specs.Step.{conditionsOf, doneBy, step, stepBy, stepAt, stepAtBy, conditionsOn, doneOn}
 use Rattle.model.specs.Limits.{maxNumber}
 use Rattle.model.specs.declared.Card.{Card}
+use Rattle.model.specs.declared.CommitLayout.the-variants.{Numbers}
 use Rattle.model.proofs.Command.{command-unless}
-use Rattle.refuted.specs.Parts.{onTape, otherStore, otherCheckpoint, otherRecover, storeBy, recoverStepBy, recoverBy, recoverSet, recoverTail, byOrders, validBy}
+use Rattle.refuted.specs.Parts.{onTape, otherFormat, otherWrite, otherStore, otherCheckpoint, otherRecover, storeBy, recoverStepBy, recoverBy, ownLeft, ownImage, ownTail, recoverSet, recoverTail, byOrders, validBy, formatAs, checkpointAs, recoverAs, alwaysNumbers, writeNaming}
 
 -- a card that does as the model's in a world, and in every world
 abbrev pub SameIn : World → Step World → Type 0
@@ -31,6 +35,24 @@ tape-model o = refl
 
 -- ---- another command that does as the model's
 module _ (w : World) where
+  other-format : (g : ℕ → ℕ → ℕ → World → Outcome World) → ((c b j : ℕ) → g c b j w ≡ step (FORMAT c b j) w) → SameIn w (otherFormat step g)
+  other-format g h (FORMAT c b j) = h c b j
+  other-format g h (WRITE c b o v) = refl
+  other-format g h (CLOSE c) = refl
+  other-format g h (STORE c) = refl
+  other-format g h (CHECKPOINT c) = refl
+  other-format g h CUT = refl
+  other-format g h RECOVER = refl
+
+  other-write : (g : ℕ → ℕ → ℕ → Bytes → World → Outcome World) → ((c b o : ℕ) (v : Bytes) → g c b o v w ≡ step (WRITE c b o v) w) → SameIn w (otherWrite step g)
+  other-write g h (FORMAT c b j) = refl
+  other-write g h (WRITE c b o v) = h c b o v
+  other-write g h (CLOSE c) = refl
+  other-write g h (STORE c) = refl
+  other-write g h (CHECKPOINT c) = refl
+  other-write g h CUT = refl
+  other-write g h RECOVER = refl
+
   other-store : (g : ℕ → World → Outcome World) → ((c : ℕ) → g c w ≡ step (STORE c) w) → SameIn w (otherStore step g)
   other-store g h (FORMAT c b j) = refl
   other-store g h (WRITE c b o v) = refl
@@ -72,14 +94,14 @@ pub store-by : IsModel (storeBy (λ (x : Card) (c : ℕ). journalBlock (shapeOf 
 unfolding stepBy conditionsOf doneBy stored
 store-by w = other-store w _ (λ c. refl)
 
-same-step : (bs : List ℕ) (w : World) → recoverStepBy (newestImage in-sequence) emptiedTail bs w ≡ recoverStep in-sequence bs w
+same-step : (bs : List ℕ) (w : World) → recoverStepBy ownImage ownTail bs w ≡ recoverStep in-sequence (layoutOn (w .disk)) Numbers bs w
 unfolding recoverStep broughtUp
 same-step [] w = refl
 same-step (b ∷ bs) w = refl
 
-pub recover-by : IsModel (recoverBy (blocksLeft in-sequence) (newestImage in-sequence) emptiedTail)
-unfolding stepBy conditionsOf doneBy recovered
-recover-by w = other-recover w _ (ap (unless (recoverConditions w) w) (same-step (blocksLeft in-sequence w) w))
+pub recover-by : IsModel (recoverBy ownLeft ownImage ownTail)
+unfolding stepBy conditionsOf doneBy recovered recoveredBy
+recover-by w = other-recover w _ (ap (unless (recoverConditions w) w) (same-step (ownLeft w) w))
 
 pub recover-set : IsModel (recoverSet validOn)
 unfolding blocksLeft newestImage
@@ -103,3 +125,20 @@ by-orders o RECOVER w = refl
 pub valid-by : IsModel (validBy (validSet in-sequence))
 unfolding stepBy conditionsOf doneBy checkpointConditions validNow validOnBy
 valid-by w = other-checkpoint w _ (recover-set w) _ (λ c. refl)
+
+-- paper 02, (d): the masters, the layout read, and what comes of a name
+pub format-as : IsModel (formatAs Numbers)
+unfolding stepBy conditionsOf doneBy formatted
+format-as w = other-format w _ (λ c b j. refl)
+
+pub checkpoint-as : IsModel (checkpointAs Numbers)
+unfolding stepBy conditionsOf doneBy checkpointed storedMaster
+checkpoint-as w = other-checkpoint w _ (λ k. refl) _ (λ c. refl)
+
+pub recover-as : IsModel (recoverAs isMaster layoutOn alwaysNumbers)
+unfolding stepBy conditionsOf doneBy recovered
+recover-as w = other-recover w _ refl
+
+pub write-naming : IsModel (writeNaming withName)
+unfolding stepBy conditionsOf doneBy written writtenCard writerAfter
+write-naming w = other-write w _ (λ c b o v. refl)

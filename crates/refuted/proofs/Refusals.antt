@@ -21,7 +21,7 @@ use Rattle.crash.specs.Claims.{Demands}
 use Rattle.crash.proofs.Books.Tests.{clash}
 use Rattle.refuted.specs.Parts.{onTape, ignoring, ignoringAt, refusing}
 use Rattle.refuted.proofs.Checks.{answerTest, answerCheck, holds, decidesTest, decides, areBytes, refutes-demands}
-use Rattle.refuted.proofs.Tapes.{tests, format, write, close, stores, checkpoints, cut, recovers, thirteenth}
+use Rattle.refuted.proofs.Tapes.{tests, format, write, close, stores, checkpoints, cut, recovers}
 
 unfoldable failsAnswers : Step World → Bytes → Bool
 failsAnswers f t = areBytes t && not (holds answerTest (blankLedger in-sequence) blankWorld (run (onTape f) t blankWorld))
@@ -37,7 +37,6 @@ conditionTapes =
     ∷ (21, format 1 1 4 ++ format 1 1 4)
     ∷ (22, format 1 1 4 ++ cut ++ write 0 0 0 1)
     ∷ (23, format 1 1 4 ++ recovers 1)
-    ∷ (24, thirteenth)
     ∷ (25, format 1 9 11 ++ flatMap (λ (b : ℕ). write 0 b 0 1) (below 9))
     ∷ (26, format 1 3 4 ++ flatMap (λ (b : ℕ). write 0 b 0 1) (below 3))
     ∷ (28, format 1 1 4 ++ close 0)

@@ -1,17 +1,17 @@
 -- Tapes by their commands, and every definition that a test of a run computes with, on one `unfolding` line.
-use Prim.Native.Nat.{ℕ, _+_}
+use Prim.Native.Nat.{ℕ}
 use mathlib.Core.List.{[], _∷_, _++_, flatMap}
 use lib.ListN.{replicate}
 use Rattle.model.specs.Lists.{below}
 use Rattle.model.specs.Bytes.{Bytes, bytes}
-use Rattle.crash.specs.Claims.{homeArea, startWorld, startLedger, fedPoint, enteredPoint}
+use Rattle.crash.specs.Claims.{homeArea, startWorld, startService, startLedger, fedPoint, enteredPoint}
 use Rattle.crash.specs.Service.{bookArea}
-use Rattle.crash.specs.Ledger.{blankLedger, freshLedger, imageNow, closeLedger, unretired, metIn, validIn, blocksIn, cutLedger, recoverLedger, carriedOut, entered, storedOf, storedSince, recordTags, recordOf, recordBlocks, recordStored, tailsPast, checkpointStored, recoverStored, diskAfter, storeCount, copiesStored, memoryAfter, namesCount, holderNames, formatRefusals, namesPass, blocksAfter, journalPasses, numberPasses, writeRefusals, closeRefusals, storeRefusals, sharesLowerIn, checkpointRefusals, refusalsOf, answerOf, readNow, readRefusals}
+use Rattle.crash.specs.Ledger.{blankLedger, freshLedger, imageNow, closeLedger, unretired, metIn, validIn, blocksIn, cutLedger, recoverLedger, carriedOut, entered, storedOf, storedSince, recordTags, recordOf, recordBlocks, recordStored, tailsPast, checkpointStored, recoverStored, diskAfter, storeCount, copiesStored, memoryAfter, formatRefusals, blocksAfter, journalPasses, numberPasses, writeRefusals, closeRefusals, storeRefusals, sharesLowerIn, checkpointRefusals, refusalsOf, answerOf, readNow, readRefusals}
 use Rattle.crash.proofs.Books.BookExamples.{books}
-use Rattle.refuted.proofs.Checks.{sameBytes, isRecover, comesUp, areaHolds, answerTest, usedBytes, imageBytes, sameWorld, refusedTest, ofDone, countTest, bytesTest, memoryTest, holds, readsTest, readsHold, decidesTest}
+use Rattle.refuted.proofs.Checks.{sameBytes, isRecover, comesUp, areaHolds, answerTest, usedBytes, imageBytes, sameWorld, refusedTest, ofDone, countTest, bytesTest, memoryTest, holds, readsTest, readsHold, decidesTest, leavesTest}
 
 unfoldable pub tests : Unit {0}
-unfolding books readRefusals readNow homeArea startWorld startLedger fedPoint enteredPoint bookArea blankLedger freshLedger imageNow closeLedger unretired metIn validIn blocksIn cutLedger recoverLedger carriedOut entered storedOf storedSince recordTags recordOf recordBlocks recordStored tailsPast checkpointStored recoverStored diskAfter storeCount copiesStored memoryAfter namesCount holderNames formatRefusals namesPass blocksAfter journalPasses numberPasses writeRefusals closeRefusals storeRefusals sharesLowerIn checkpointRefusals refusalsOf answerOf sameBytes isRecover comesUp areaHolds answerTest usedBytes imageBytes sameWorld refusedTest ofDone countTest bytesTest memoryTest holds readsTest readsHold decidesTest
+unfolding books readRefusals readNow homeArea startWorld startService startLedger fedPoint enteredPoint bookArea blankLedger freshLedger imageNow closeLedger unretired metIn validIn blocksIn cutLedger recoverLedger carriedOut entered storedOf storedSince recordTags recordOf recordBlocks recordStored tailsPast checkpointStored recoverStored diskAfter storeCount copiesStored memoryAfter formatRefusals blocksAfter journalPasses numberPasses writeRefusals closeRefusals storeRefusals sharesLowerIn checkpointRefusals refusalsOf answerOf sameBytes isRecover comesUp areaHolds answerTest usedBytes imageBytes sameWorld refusedTest ofDone countTest bytesTest memoryTest holds readsTest readsHold decidesTest leavesTest
 tests = tt
 
 -- ---- commands of a tape
@@ -55,14 +55,3 @@ linked =
 -- one transaction is committed and kept
 abbrev pub oneKept : Bytes
 oneKept = format 1 1 4 ++ write 0 0 0 1 ++ close 0 ++ stores 0 3 ++ cut ++ recovers 2
-
--- Core 0's list has 12 names: seven cores write into its block, five of them close and write into it again.
-abbrev pub writers : ℕ → Bytes
-writers n = flatMap (λ (c : ℕ). write (1 + c) 0 4 2) (below n)
-
-abbrev pub twelveNames : Bytes
-twelveNames = format 8 1 4 ++ write 0 0 0 1 ++ writers 7 ++ flatMap (λ (c : ℕ). close (1 + c)) (below 5) ++ writers 5
-
--- a sixth one closes and would be the thirteenth
-abbrev pub thirteenth : Bytes
-thirteenth = twelveNames ++ close 6 ++ write 6 0 4 2

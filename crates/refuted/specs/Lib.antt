@@ -2,3 +2,4 @@
 pub mod Parts
 pub mod Wrong
 pub mod WrongOrder
+pub mod WrongNumbers

@@ -7,32 +7,45 @@ use lib.ListN.{length}
 use lib.Dec.{eqb, ltb, leb}
 use Rattle.model.specs.Lists.{below, select}
 use Rattle.model.specs.Bytes.{Bytes}
-use Rattle.model.specs.Shape.{homeBlock}
-use Rattle.model.specs.Card.{newTail, freshCard, shapeOf, tailOf, coreOf, withCore, withRunning}
+use Rattle.model.specs.Shape.{homeBlock, newShape}
+use Rattle.model.specs.Card.{newTail, newHolder, freshCard, shapeOf, tailOf, coreOf, holderOf, withBlock, withCore, withHolder, withRunning}
 use Rattle.model.specs.Layout.{masterBlock}
 use Rattle.model.specs.Journal.{journal, nameOf}
 use Rattle.model.specs.Valid.{Order, in-sequence, isIn, blocksHeld, newest}
-use Rattle.model.specs.Command.{World, Outcome, wrongLength, storing, refusedWith, unless}
-use Rattle.model.specs.Write.{writeConditions, written}
+use Rattle.model.specs.Command.{World, Outcome, wrongLength, unstored, storing, refusedWith, unless}
+use Rattle.model.specs.Format.{formatConditions, formattedDisk, formatted}
+use Rattle.model.specs.Write.{writer, writerName, ruleFor, takesBlock, namesHolder, isNamedBack, writeConditions, writtenMemory, written}
 use Rattle.model.specs.Commit.{coreStored, storeConditions}
-use Rattle.model.specs.Checkpoint.{committedNow, committedOf, oldest, checkpointConditions, checkpointed}
-use Rattle.model.specs.Recovery.{shapeOn, tailOn, committedOn, recoverConditions, blocksLeft, imageFound, newestImage, recoveredTo, emptiedTail}
+use Rattle.model.specs.Checkpoint.{committedNow, committedOf, oldest, checkpointConditions, storedHome, retiredCard, checkpointed}
+use Rattle.model.specs.Recovery.{shapeOn, tailOn, layoutOn, committedOn, recoverConditionsBy, recoverConditions, blocksLeft, imageFound, newestImage, recoveredTo, emptiedTail, recoveredBy}
 use Rattle.model.specs.Tape.{Command, FORMAT, WRITE, CLOSE, STORE, CHECKPOINT, CUT, RECOVER, Step, TapeStep, readAt, commandAt}
 use Rattle.model.specs.Step.{conditionsOf, doneBy, step, stepBy, conditionsOn, doneOn}
 use Rattle.model.specs.declared.Phase.the-variants.{Up}
 use Rattle.model.specs.declared.Found.the-variants.{Miss}
 use Rattle.model.specs.declared.Shape.{Shape}
 use Rattle.model.specs.declared.Tail.{Tail}
+use Rattle.model.specs.declared.Name.{Name}
 use Rattle.model.specs.declared.Transaction.{Transaction}
 use Rattle.model.specs.declared.Core.{Core}
 use Rattle.model.specs.declared.Card.{Card}
+use Rattle.model.specs.declared.CommitLayout.{CommitLayout}
+use Rattle.model.specs.declared.CommitLayout.the-variants.{Lists, Numbers}
 use Rattle.model.specs.declared.Committed.{Committed}
 
 -- a card as a tape meets it: 1, 2 and 3 are asked as in the model
 abbrev pub onTape : Step World → TapeStep World
 onTape f = commandAt wrongLength f
 
--- ---- the card f with another command: a WRITE, a CLOSE and so on
+-- ---- the card f with another command: a FORMAT, a WRITE and so on
+abbrev pub otherFormat : Step World → (ℕ → ℕ → ℕ → World → Outcome World) → Step World
+otherFormat f g (FORMAT c b j) w = g c b j w
+otherFormat f g (WRITE c b o v) w = f (WRITE c b o v) w
+otherFormat f g (CLOSE c) w = f (CLOSE c) w
+otherFormat f g (STORE c) w = f (STORE c) w
+otherFormat f g (CHECKPOINT c) w = f (CHECKPOINT c) w
+otherFormat f g CUT w = f CUT w
+otherFormat f g RECOVER w = f RECOVER w
+
 abbrev pub otherWrite : Step World → (ℕ → ℕ → ℕ → Bytes → World → Outcome World) → Step World
 otherWrite f g (FORMAT c b j) w = f (FORMAT c b j) w
 otherWrite f g (WRITE c b o v) w = g c b o v w
@@ -129,6 +142,9 @@ patched g o =
 abbrev pub withMemory : Bytes → Outcome World → Outcome World
 withMemory m o = record { answer = o .answer; world = record { card = o .world .card; disk = o .world .disk; memory = m }; stores = o .stores }
 
+abbrev pub withDisk : Bytes → Outcome World → Outcome World
+withDisk d o = record { answer = o .answer; world = record { card = o .world .card; disk = d; memory = o .world .memory }; stores = o .stores }
+
 abbrev pub withCard : World → Card → World
 withCard w x = record { card = x; disk = w .disk; memory = w .memory }
 
@@ -156,36 +172,88 @@ storeBy place bytes =
 abbrev pub recoverStepBy : (Bytes → ℕ → Bytes) → (Bytes → ℕ → Tail) → List ℕ → World → Outcome World
 recoverStepBy image tail [] w =
     let s = shapeOn (w .disk) in
-    storing w (freshCard Up s (map (tail (w .disk)) (below 8))) 0 (masterBlock s (tail (w .disk)))
+    storing w (freshCard Up s (map (tail (w .disk)) (below 8))) 0 (masterBlock Numbers s (tail (w .disk)))
 recoverStepBy image tail (b ∷ bs) w = storing w (recoveredTo (w .card) (b + 1)) (homeBlock b) (image (w .disk) b)
 
 abbrev pub recoverBy : (World → List ℕ) → (Bytes → ℕ → Bytes) → (Bytes → ℕ → Tail) → Step World
 recoverBy left image tail = otherRecover step (λ w. unless (recoverConditions w) w (recoverStepBy image tail (left w) w))
 
+-- the model's own ones, by the disk's layout
+abbrev pub ownLeft : World → List ℕ
+ownLeft w = blocksLeft in-sequence (layoutOn (w .disk)) w
+
+abbrev pub ownImage : Bytes → ℕ → Bytes
+ownImage d = newestImage in-sequence (layoutOn d) d
+
+abbrev pub ownTail : Bytes → ℕ → Tail
+ownTail d = emptiedTail (layoutOn d) d
+
 -- by the set of transactions that count as valid on a disk
 abbrev pub recoverSet : (Bytes → List Committed) → Step World
 recoverSet set =
     recoverBy (λ (w : World). select (leb (w .card .recovered)) (blocksHeld (shapeOn (w .disk)) (w .disk) (set (w .disk))))
-    (λ (d : Bytes) (b : ℕ). imageFound d b (newest (shapeOn d) d b Miss (set d))) emptiedTail
+    (λ (d : Bytes) (b : ℕ). imageFound d b (newest (shapeOn d) d b Miss (set d))) ownTail
 
 -- by the new tail number, from the old one and the count of transactions read
 abbrev pub tailBy : (ℕ → ℕ → ℕ) → Bytes → ℕ → Tail
 tailBy next d c =
     let s = shapeOn d in
     let t = tailOn d c in
-    cond (ltb c (s .cores)) (newTail (next (t .number) (length (journal s d c t (s .journal)))) 0) (newTail 0 0)
+    cond (ltb c (s .cores)) (newTail (next (t .number) (length (journal (layoutOn d) s d c t (s .journal)))) 0) (newTail 0 0)
 
 abbrev pub recoverTail : (ℕ → ℕ → ℕ) → Step World
-recoverTail next = recoverBy (blocksLeft in-sequence) (newestImage in-sequence) (tailBy next)
+recoverTail next = recoverBy ownLeft ownImage (tailBy next)
 
 -- ---- paper 02, (c): one rule in running, one in recovery
 abbrev pub byOrders : Order → Order → Step World
 byOrders running recovery = otherRecover (stepBy running) (stepBy recovery RECOVER)
 
--- CHECKPOINT and RECOVER by another valid set, of shape, disk, tails and the transactions read
-abbrev pub validBy : (Shape → Bytes → (ℕ → Tail) → List Committed → List Committed) → Step World
+-- CHECKPOINT and RECOVER by another valid set, of layout, shape, disk, tails and the transactions read
+abbrev pub validBy : (CommitLayout → Shape → Bytes → (ℕ → Tail) → List Committed → List Committed) → Step World
 validBy set =
-    otherCheckpoint (recoverSet (λ (d : Bytes). set (shapeOn d) d (tailOn d) (committedOn d)))
+    otherCheckpoint (recoverSet (λ (d : Bytes). set (layoutOn d) (shapeOn d) d (tailOn d) (committedOn d)))
     (λ c w.
-    let valid = set (shapeOf (w .card)) (w .disk) (tailOf (w .card)) (committedNow w) in
+    let valid = set Numbers (shapeOf (w .card)) (w .disk) (tailOf (w .card)) (committedNow w) in
     unless (withCondition 32 (not (isIn valid (nameOf (oldest (committedOf w c))))) (checkpointConditions in-sequence c w)) w (checkpointed c w))
+
+-- ---- paper 02, (d): the layout of which each command's master says that its commits are
+abbrev pub formatAs : CommitLayout → Step World
+formatAs y = otherFormat step (λ c b j w. unless (formatConditions c b j w) w (let s = newShape c b j in withDisk (formattedDisk y s) (formatted s)))
+
+abbrev pub checkpointAs : CommitLayout → Step World
+checkpointAs y =
+    otherCheckpoint step (λ c w.
+    let e = oldest (committedOf w c) in
+    let x = retiredCard c e (w .card) in
+    unless (checkpointConditions in-sequence c w) w
+    (cond (ltb ((coreOf (w .card) c) .homed) (e .count)) (storedHome c e w) (storing w x 0 (masterBlock y (shapeOf x) (tailOf x)))))
+
+-- .. RECOVER also by what it takes for a master and by the layout that it reads
+abbrev pub recoverAs : (Bytes → Bool) → (Bytes → CommitLayout) → (Bytes → CommitLayout) → Step World
+recoverAs fits reads closing =
+    otherRecover step (λ w. let d = w .disk in unless (recoverConditionsBy fits w) w (recoveredBy in-sequence (reads d) (closing d) w))
+
+abbrev pub alwaysLists : Bytes → CommitLayout
+alwaysLists d = Lists
+
+abbrev pub alwaysNumbers : Bytes → CommitLayout
+alwaysNumbers d = Numbers
+
+-- WRITE: what comes of a transaction that names another
+abbrev pub writerNaming : (Transaction → Name → Transaction) → Card → ℕ → ℕ → Transaction
+writerNaming name x c b =
+    let r = ruleFor x c b in
+    let t = cond (namesHolder r) (name (writer x c) ((holderOf x b) .name)) (writer x c) in
+    cond (takesBlock r) (withBlock t b) t
+
+abbrev pub cardNaming : (Transaction → Name → Transaction) → Card → ℕ → ℕ → Card
+cardNaming name x c b =
+    let r = ruleFor x c b in
+    let u = ((holderOf x b) .name) .core in
+    let x₁ = cond (isNamedBack r) (withCore x u (withRunning (coreOf x u) (name ((coreOf x u) .running) (writerName x c)))) x in
+    let x₂ = withCore x₁ c (withRunning (coreOf x₁ c) (writerNaming name x c b)) in
+    cond (takesBlock r) (withHolder x₂ b (newHolder (writerName x c))) x₂
+
+abbrev pub writeNaming : (Transaction → Name → Transaction) → Step World
+writeNaming name =
+    otherWrite step (λ c b o v w. unless (writeConditions c b o w) w (unstored w (cardNaming name (w .card) c b) (writtenMemory w c b o v)))

@@ -3,21 +3,21 @@
 use Prim.Native.Nat.{ℕ, suc, _+_, _*_, _-_, max, min}
 use mathlib.Core.List.{List, [], _∷_, map}
 use mathlib.Core.Bool.{Bool, cond, not, _&&_, _||_}
-use lib.ListN.{length, getD, set, take, replicate}
+use lib.ListN.{length, getD, replicate}
 use lib.Dec.{eqb, leb, ltb}
 use Rattle.model.specs.Lists.{below, select, any}
 use Rattle.model.specs.Bytes.{Bytes, blockAt, replaced}
 use Rattle.model.specs.Shape.{homeBlock, journalBlock}
-use Rattle.model.specs.Card.{taken, listed, lists, stamped, withBlock, newHolder, withHolder, recordSize, freshCard, shapeOf, tailOf, coreOf, holderOf, isDown}
-use Rattle.model.specs.Layout.{masterBlock, newTag, descriptorBlock, commitBlock}
+use Rattle.model.specs.Card.{taken, stamped, withBlock, newHolder, withHolder, recordSize, freshCard, shapeOf, tailOf, coreOf, holderOf, isDown}
+use Rattle.model.specs.Layout.{masterBlock, newTag, descriptorBlock}
 use Rattle.model.specs.Journal.{journalAt, nameOf, blocksOf}
 use Rattle.model.specs.Shrink.{strike}
 use Rattle.model.specs.Valid.{in-sequence, isIn, namesMet, blocksHeld, newest}
 use Rattle.model.specs.Command.{World, Outcome, storing, unless, notUp, noCore}
-use Rattle.model.specs.Write.{writer, writerName, ruleFor, takesBlock, namesHolder, isNamedBack, writerAfter, passesNames, journalFull}
+use Rattle.model.specs.Write.{writer, writerName, ruleFor, takesBlock, namesHolder, isNamedBack, writerAfter, journalFull}
 use Rattle.model.specs.Commit.{copyBlock, closedNumber, nextStored, nextPosition}
 use Rattle.model.specs.Checkpoint.{committedNow, validNow, committedOf, oldest, share, checkpointConditions, checkpointed, storedMaster}
-use Rattle.model.specs.Recovery.{shapeOn, tailOn, committedOn, validOn, recoverConditions, blocksLeft, placeOf, imageFound, newestImage, recoveredTo, emptiedTail, recoverStep}
+use Rattle.model.specs.Recovery.{shapeOn, tailOn, layoutOn, committedOn, validOn, recoverConditions, placeOf, imageFound, recoveredTo, recoverStep}
 use Rattle.model.specs.Tape.{Step, CHECKPOINT, CLOSE, CUT, Command, FORMAT, RECOVER, STORE, WRITE}
 use Rattle.model.specs.Step.{step}
 use Rattle.model.specs.Reading.{readNumber, Reader, readBlock}
@@ -30,13 +30,14 @@ use Rattle.model.specs.declared.Name.{Name}
 use Rattle.model.specs.declared.Transaction.{Transaction}
 use Rattle.model.specs.declared.Core.{Core}
 use Rattle.model.specs.declared.Card.{Card}
+use Rattle.model.specs.declared.CommitLayout.the-variants.{Numbers}
 use Rattle.model.specs.declared.Committed.{Committed}
-use Rattle.refuted.specs.Parts.{otherWrite, otherClose, otherStore, otherCheckpoint, otherCut, otherRecover, refusing, writeAsking, patched, withMemory, withCard, putCloses, onRunning, onClosed, storeBy, recoverBy, recoverSet, recoverTail}
+use Rattle.refuted.specs.Parts.{otherWrite, otherClose, otherStore, otherCheckpoint, otherCut, otherRecover, refusing, writeAsking, patched, withMemory, withCard, putCloses, onRunning, onClosed, storeBy, recoverBy, ownLeft, ownImage, ownTail, recoverSet, recoverTail}
 
 -- ---- 'Where a card goes astray'
--- 'No name for a holder already committed': the writer's list stays as it was
+-- 'No name for a holder already committed': what the writer names stays as it was
 abbrev withNamesOf : Transaction → Transaction → Transaction
-withNamesOf t u = record { live = u .live; stamp = u .stamp; count = u .count; blocks = u .blocks; named = t .named; names = t .names }
+withNamesOf t u = record { live = u .live; stamp = u .stamp; count = u .count; blocks = u .blocks; highest = t .highest }
 
 abbrev isClosedNow : Card → Name → Bool
 isClosedNow x n = let k = coreOf x (n .core) in k .closed .live && eqb (closedNumber k) (n .number)
@@ -53,10 +54,10 @@ noNameForCommitted =
 -- 'Trusting that a block cannot be in both of two tied transactions .. The stamp decides.': the last in order of core
 -- and number decides
 abbrev unstamped : Committed → Committed
-unstamped e = record { core = e .core; number = e .number; position = e .position; count = e .count; stamp = 0; named = e .named }
+unstamped e = record { core = e .core; number = e .number; position = e .position; count = e .count; stamp = 0 }
 
 abbrev pub newestByOrder : Step World
-newestByOrder = recoverBy (blocksLeft in-sequence) (λ (d : Bytes) (b : ℕ). imageFound d b (newest (shapeOn d) d b Miss (map unstamped (validOn d)))) emptiedTail
+newestByOrder = recoverBy ownLeft (λ (d : Bytes) (b : ℕ). imageFound d b (newest (shapeOn d) d b Miss (map unstamped (validOn d)))) ownTail
 
 -- 'Tails emptied core by core': one master store each, in the places after the last home block's
 abbrev byCore : List ℕ → World → Outcome World
@@ -64,12 +65,12 @@ byCore [] w =
     let d = w .disk in
     let s = shapeOn d in
     let i = w .card .recovered - 64 in
-    let tails : ℕ → Tail = λ c. cond (eqb c i) (emptiedTail d c) (tailOn d c) in
-    storing w (cond (eqb (i + 1) (s .cores)) (freshCard Up s (map tails (below 8))) (recoveredTo (w .card) (65 + i))) 0 (masterBlock s tails)
-byCore (b ∷ bs) w = recoverStep in-sequence (b ∷ bs) w
+    let tails : ℕ → Tail = λ c. cond (eqb c i) (ownTail d c) (tailOn d c) in
+    storing w (cond (eqb (i + 1) (s .cores)) (freshCard Up s (map tails (below 8))) (recoveredTo (w .card) (65 + i))) 0 (masterBlock Numbers s tails)
+byCore (b ∷ bs) w = recoverStep in-sequence (layoutOn (w .disk)) Numbers (b ∷ bs) w
 
 abbrev pub tailsCoreByCore : Step World
-tailsCoreByCore = otherRecover step (λ w. unless (recoverConditions w) w (byCore (blocksLeft in-sequence w) w))
+tailsCoreByCore = otherRecover step (λ w. unless (recoverConditions w) w (byCore (ownLeft w) w))
 
 -- 'A number used again': recovery leaves the tail numbers, or begins them at 1 again
 abbrev pub tailUnchanged : Step World
@@ -81,7 +82,7 @@ numbersFromOne = recoverTail (λ (t n : ℕ). 1)
 -- ---- 'Cards that look busy'
 -- 'one whose RECOVER reports up before its home stores'
 abbrev pub upBeforeHome : Step World
-upBeforeHome = recoverBy (λ (w : World). []) (newestImage in-sequence) emptiedTail
+upBeforeHome = recoverBy (λ (w : World). []) ownImage ownTail
 
 -- 'one that stores the first record and afterwards only counts', of each core
 abbrev pub firstRecordOnly : Step World
@@ -113,7 +114,7 @@ nothingChanges RECOVER w = counting 1 w
 
 -- 'one that recovers a blank area always'
 abbrev pub blankAlways : Step World
-blankAlways = recoverBy (blocksLeft in-sequence) (λ (d : Bytes) (b : ℕ). replicate 128 0) emptiedTail
+blankAlways = recoverBy ownLeft (λ (d : Bytes) (b : ℕ). replicate 128 0) ownTail
 
 -- 'one whose STORE always says 30 or CHECKPOINT always 32'
 abbrev pub storeAlways30 : Step World
@@ -144,7 +145,7 @@ stampsGoOn =
 -- ---- recovery
 -- 'The valid set is the largest set ..': one whose names are all committed counts, whatever these name
 abbrev pub validityOneDeep : Step World
-validityOneDeep = recoverSet (λ (d : Bytes). strike (namesMet in-sequence (shapeOn d) d (tailOn d)) (committedOn d))
+validityOneDeep = recoverSet (λ (d : Bytes). strike (namesMet in-sequence (layoutOn d) (shapeOn d) d (tailOn d)) (committedOn d))
 
 -- all committed ones count
 abbrev pub allCommittedValid : Step World
@@ -159,7 +160,7 @@ highestFirst =
     recoverBy (λ (w : World).
     let n = w .card .recovered in
     reversed (select (λ (b : ℕ). eqb n 0 || ltb (suc b) n) (blocksHeld (shapeOn (w .disk)) (w .disk) (validOn (w .disk)))))
-    (newestImage in-sequence) emptiedTail
+    ownImage ownTail
 
 -- 'wherever the flag is 1, the image read has the mark as its first four bytes': the flag is not looked at
 abbrev bareImage : Bytes → ℕ → Found → Bytes
@@ -167,7 +168,7 @@ bareImage d b Miss = blockAt d (homeBlock b)
 bareImage d b (Whole e) = let s = shapeOn d in journalAt s d (e .core) (e .position + (placeOf b (blocksOf s d e) + 1))
 
 abbrev pub flagIgnored : Step World
-flagIgnored = recoverBy (blocksLeft in-sequence) (λ (d : Bytes) (b : ℕ). bareImage d b (newest (shapeOn d) d b Miss (validOn d))) emptiedTail
+flagIgnored = recoverBy ownLeft (λ (d : Bytes) (b : ℕ). bareImage d b (newest (shapeOn d) d b Miss (validOn d))) ownTail
 
 -- CUT: 'a recovery under way starts over': it goes on where it was
 abbrev pub cutKeepsPlace : Step World
@@ -203,19 +204,6 @@ onlyHolderNames =
     let done = step (WRITE c b o v) w in
     cond (isNamedBack (ruleFor x c b)) (patched (onRunning c (withNamesOf (writer x c))) done) done)
 
--- 'A name stands once in a list.': it is added again
-abbrev nameAgain : Name → Transaction → Transaction
-nameAgain n t =
-    record { live = t .live; stamp = t .stamp; count = t .count; blocks = t .blocks; named = t .named + 1; names = set (t .names) (t .named) n }
-
-abbrev pub nameTwice : Step World
-nameTwice =
-    otherWrite step (λ c b o v w.
-    let x = w .card in
-    let n = (holderOf x b) .name in
-    let done = step (WRITE c b o v) w in
-    cond (namesHolder (ruleFor x c b) && lists (writer x c) n) (patched (onRunning c (nameAgain n)) done) done)
-
 -- 'loaded from home when taken without a holder': memory is taken as it stands
 abbrev pub notLoaded : Step World
 notLoaded =
@@ -235,13 +223,6 @@ only26Stored =
     let k = coreOf x c in
     let closedOne = cond (k .closed .live && ltb 0 (k .stored)) (recordSize (k .closed)) 0 in
     ltb ((shapeOf x) .journal) (k .used + closedOne + recordSize (writerAfter x c b)))
-
--- 24 'a list, the writer's or the holder's': the holder's is not asked
-abbrev pub no24OfHolder : Step World
-no24OfHolder =
-    writeAsking 24 (λ c b w.
-    let x = w .card in
-    namesHolder (ruleFor x c b) && passesNames (writer x c) ((holderOf x b) .name))
 
 -- ---- CLOSE
 -- 'CLOSE .. gives it a stamp': the stamp is given when the transaction opens
@@ -268,7 +249,7 @@ stampAtCommit =
     (λ c w. patched (putCloses (w .card .closes)) (step (CLOSE c) w))
 
 -- ---- STORE
-abbrev rightPlace : Card → ℕ → ℕ
+abbrev pub rightPlace : Card → ℕ → ℕ
 rightPlace x c = journalBlock (shapeOf x) c (nextPosition x c)
 
 -- 'A data block beginning with the mark has those four bytes zeroed in the journal and flag 1': it is stored as it is
@@ -277,13 +258,6 @@ noEscape =
     storeBy rightPlace (λ (c : ℕ) (k : Core) (m : Bytes).
     cond (eqb (k .stored) 0) (descriptorBlock (closedNumber k) (map (λ (b : ℕ). newTag b 0) (taken (k .closed))))
     (cond (leb (k .stored) (length (taken (k .closed)))) (blockAt m (copyBlock c (k .stored - 1))) (nextStored c k m)))
-
--- 'A list has at most 12 names': the twelfth is not stored
-abbrev pub twelfthDropped : Step World
-twelfthDropped =
-    storeBy rightPlace (λ (c : ℕ) (k : Core) (m : Bytes).
-    cond (leb (k .stored) (length (taken (k .closed)))) (nextStored c k m)
-    (commitBlock (closedNumber k) (k .closed .stamp) (take 11 (listed (k .closed)))))
 
 -- 'CLOSE copies the transaction's block images': data is stored from the images as they are by then
 abbrev pub storesImages : Step World

@@ -18,9 +18,9 @@ inRunningAlone = byOrders in-sequence unordered
 
 -- one round of it: of those whose names are met, each whose predecessor is met among them
 abbrev pub oneRound : Step World
-oneRound = validBy (λ s d tailAt es. strike (λ vs e. isMet tailAt vs (predecessor (nameOf e))) (validSet unordered s d tailAt es))
+oneRound = validBy (λ y s d tailAt es. strike (λ vs e. isMet tailAt vs (predecessor (nameOf e))) (validSet unordered y s d tailAt es))
 
 -- the predecessor asked for below the tail too; number 1 has none
 abbrev pub askedBelowTail : Step World
 askedBelowTail =
-    validBy (λ s d tailAt es. shrink (λ vs e. namesMet unordered s d tailAt vs e && (leb (e .number) 1 || isIn vs (predecessor (nameOf e)))) es)
+    validBy (λ y s d tailAt es. shrink (λ vs e. namesMet unordered y s d tailAt vs e && (leb (e .number) 1 || isIn vs (predecessor (nameOf e)))) es)

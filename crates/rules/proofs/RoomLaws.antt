@@ -1,13 +1,12 @@
--- WRITE answers 24 to 27 exactly under their conditions: a thirteenth name of the writer or of the holder, a ninth block, a
--- record that the journal has no room for, a number too high. Each is asked of what the WRITE would leave.
-use Rattle.model.proofs.Base.{ℕ, _+_, _≤_, _<_, min, arith, _≡_, refl, sym, ap, _∙_, Bool, true, false, cond, not, _&&_, List}
+-- WRITE answers 25 to 27 exactly under their conditions: a ninth block, a record that the journal has no room for, a number too high.
+-- Each is asked of what the WRITE would leave.
+use Rattle.model.proofs.Base.{ℕ, _+_, _<_, min, arith, _≡_, refl, sym, ap, _∙_, Bool, true, false, cond, not, _&&_, List}
 use Rattle.model.proofs.Base.{length, take, set, length-set, length-take, ltb, leb, le-leb, lt-leb, leb-true, leb-false, not-true}
-use Rattle.model.proofs.Base.{not-false, any}
-use mathlib.Core.Bool.{and-false, and-true}
-use Rattle.model.specs.Card.{opened, taken, listed, lists, withName, recordSize, shapeOf, coreOf}
+use Rattle.model.proofs.Base.{not-false}
+use Rattle.model.specs.Card.{opened, taken, withName, recordSize, shapeOf, coreOf}
 use Rattle.model.specs.Command.{refusal}
 use Rattle.model.specs.Limits.{maxNumber}
-use Rattle.model.specs.Write.{writer, takesBlock, namesHolder, passesNames, closedBlocks}
+use Rattle.model.specs.Write.{writer, takesBlock, namesHolder, closedBlocks}
 use Rattle.model.specs.declared.Shape.{Shape}
 use Rattle.model.specs.declared.Name.{Name}
 use Rattle.model.specs.declared.Transaction.{Transaction}
@@ -16,31 +15,13 @@ use Rattle.model.specs.declared.Rule.{Rule}
 use Rattle.model.proofs.Lists.{cases}
 use Rattle.cells.specs.Cells.{byteIn, transactionIn, cardIn, corePlace, runningPlace, closedPlace}
 use Rattle.cells.specs.Changes.{openedOr}
-use Rattle.cells.proofs.ReadLaws.{used-there, running-read, running-there, closed-there, closed-live, blocks-long, names-long}
+use Rattle.cells.proofs.ReadLaws.{used-there, running-read, running-there, closed-there, closed-live, blocks-long}
 use Rattle.cells.proofs.TransactionLaws.{open-live}
-use Rattle.rules.specs.Conditions.{ownFull, backFull, ninth, sizeAfter, namedBy, takenBy, afterBy, roomConditions}
+use Rattle.rules.specs.Conditions.{ninth, sizeAfter, namedBy, takenBy, afterBy, roomConditions}
 use Rattle.rules.specs.declared.RuleMet.{RuleMet}
 use Rattle.rules.proofs.RuleLaws.{cond-not, cond-done}
 
--- ---- 24, the list of a transaction
-module _ (w : List ℕ) (a : ℕ) (n : Name) (k : ℕ) (e : k ≡ length (listed (transactionIn w a))) where
-  listed-count : k ≡ min ((transactionIn w a) .named) 12
-  unfolding listed
-  listed-count = e ∙ length-take ((transactionIn w a) .named) ((transactionIn w a) .names) ∙ ap (min ((transactionIn w a) .named)) (names-long w a)
-
-  pub twelve-not : k < 12 → false ≡ passesNames (transactionIn w a) n
-  unfolding passesNames
-  twelve-not h = let z : leb 12 ((transactionIn w a) .named) ≡ false = lt-leb 12 ((transactionIn w a) .named) (omega (arith, listed-count)) in rw (z, and-false)
-
-  pub twelve-full : 12 ≤ k → (g : Bool) → g ≡ lists (transactionIn w a) n → not g ≡ passesNames (transactionIn w a) n
-  unfolding passesNames
-  twelve-full h g q = let z : leb 12 ((transactionIn w a) .named) ≡ true = le-leb 12 ((transactionIn w a) .named) (omega (arith, listed-count)) in rw (z, ← q, and-true)
-
--- ---- the writer: one that opens has no names, no blocks
-opened-lists : (n : Name) → false ≡ passesNames opened n
-unfolding passesNames lists listed any
-opened-lists n = refl
-
+-- ---- the writer: one that opens has no blocks
 opened-count : _≡_ {A = ℕ} 0 (length (taken opened))
 unfolding taken
 opened-count = refl
@@ -50,26 +31,16 @@ module _ (x : Card) (c : ℕ) (l : Bool) (q : l ≡ (coreOf x c) .running .live)
   unfolding writer
   writer-opens = rw (← q, not-true l z)
 
-  pub names-none : (n : Name) → false ≡ passesNames (writer x c) n
-  names-none n = rw writer-opens (opened-lists n)
-
   pub count-none : 0 ≡ length (taken (writer x c))
   count-none = rw writer-opens opened-count
 
-module _ (w : List ℕ) (c : ℕ) (h : c < 8) (p : ℕ) (e : p ≡ runningPlace c) where
-  pub holder-names : (own : Name) (f : Bool) → f ≡ passesNames (transactionIn w p) own → f ≡ passesNames ((coreOf (cardIn w) c) .running) own
-  holder-names own f s = s ∙ ap (λ (t : Transaction). passesNames t own) (running-there w c h p e)
+module _ (w : List ℕ) (c : ℕ) (h : c < 8) (p : ℕ) (e : p ≡ runningPlace c) (l : Bool) (q : l ≡ (coreOf (cardIn w) c) .running .live) (z : not l ≡ false) where
+  writer-runs : transactionIn w p ≡ writer (cardIn w) c
+  unfolding writer openedOr
+  writer-runs = running-there w c h p e ∙ open-live ((coreOf (cardIn w) c) .running) l q (not-false l z)
 
-  module _ (l : Bool) (q : l ≡ (coreOf (cardIn w) c) .running .live) (z : not l ≡ false) where
-    writer-runs : transactionIn w p ≡ writer (cardIn w) c
-    unfolding writer openedOr
-    writer-runs = running-there w c h p e ∙ open-live ((coreOf (cardIn w) c) .running) l q (not-false l z)
-
-    pub names-some : (n : Name) (f : Bool) → f ≡ passesNames (transactionIn w p) n → f ≡ passesNames (writer (cardIn w) c) n
-    names-some n f s = s ∙ rw writer-runs
-
-    pub count-some : (k : ℕ) → k ≡ length (taken (transactionIn w p)) → k ≡ length (taken (writer (cardIn w) c))
-    count-some k s = s ∙ rw writer-runs
+  pub count-some : (k : ℕ) → k ≡ length (taken (transactionIn w p)) → k ≡ length (taken (writer (cardIn w) c))
+  count-some k s = s ∙ rw writer-runs
 
 pub writer-long : (w : List ℕ) (c : ℕ) → c < 8 → length ((writer (cardIn w) c) .blocks) ≡ 8
 unfolding writer
@@ -92,14 +63,14 @@ module _ (w : List ℕ) (c : ℕ) (h : c < 8) (a : ℕ) (d : a ≡ corePlace c) 
 pub journal-test : (j u m a b : ℕ) → u ≡ a → m ≡ b → ltb j (u + m) ≡ ltb j (a + b)
 journal-test j u m a b p q = rw (p, q)
 
--- a name added leaves the blocks alone
+-- a number raised leaves the blocks alone
 pub named-count : (r : Rule) (t : Transaction) (n : Name) → (namedBy r t n) .count ≡ t .count
 unfolding namedBy withName
-named-count r t n = cases (namesHolder r) (λ h. cases (lists t n) (λ k. rw (h, k)) (λ k. rw (h, k))) (λ h. rw h)
+named-count r t n = cases (namesHolder r) (λ h. rw h) (λ h. rw h)
 
 named-blocks : (r : Rule) (t : Transaction) (n : Name) → (namedBy r t n) .blocks ≡ t .blocks
 unfolding namedBy withName
-named-blocks r t n = cases (namesHolder r) (λ h. cases (lists t n) (λ k. rw (h, k)) (λ k. rw (h, k))) (λ h. rw h)
+named-blocks r t n = cases (namesHolder r) (λ h. rw h) (λ h. rw h)
 
 module _ (r : Rule) (t : Transaction) (l : length (t .blocks) ≡ 8) (k : ℕ) (e : k ≡ length (taken t)) where
   taken-count : k ≡ min (t .count) 8
@@ -133,42 +104,32 @@ pub number-opens : (l p : Bool) → l ≡ false → p ≡ (not l && p)
 number-opens l p h = rw h
 
 -- ---- the refusals in turn
-module _ (w : List ℕ) (f : RuleMet) (p : Bool) (own : p ≡ ownFull (f .rule) (writer (cardIn w) (f .core)) (f .holder)) where
-  pub refused-own : p ≡ true → 24 ≡ refusal (roomConditions (cardIn w) f)
+module _ (w : List ℕ) (f : RuleMet) (core : f .core < 8) (k : ℕ) (count : k ≡ length (taken (writer (cardIn w) (f .core)))) (r : Bool) (more : r ≡ (takesBlock (f .rule) && leb 8 k)) where
+  ninth-met : r ≡ ninth (f .rule) (writer (cardIn w) (f .core))
+  ninth-met = ninth-is (f .rule) (writer (cardIn w) (f .core)) (writer-long w (f .core) core) k count r more
+
+  pub refused-ninth : r ≡ true → 25 ≡ refusal (roomConditions (cardIn w) f)
   unfolding refusal
-  refused-own h = rw (← own, h)
+  refused-ninth h = rw (← ninth-met, h)
 
-  module _ (p' : p ≡ false) (q : Bool) (back : q ≡ backFull (f .rule) ((coreOf (cardIn w) (f .holder .core)) .running) (f .own)) where
-    pub refused-back : q ≡ true → 24 ≡ refusal (roomConditions (cardIn w) f)
+  module _ (r' : r ≡ false) (s : Shape) (shape : s ≡ shapeOf (cardIn w)) (t : Bool) (full : t ≡ ltb (s .journal) (closedBlocks (coreOf (cardIn w) (f .core)) + sizeAfter (f .rule) k)) where
+    journal-met : t ≡ ltb ((shapeOf (cardIn w)) .journal) (closedBlocks (coreOf (cardIn w) (f .core)) + recordSize (afterBy (cardIn w) f))
+    journal-met = full ∙ rw (shape, size-is (f .rule) (writer (cardIn w) (f .core)) (writer-long w (f .core) core) k count (f .holder) (f .block) r more r')
+
+    pub refused-journal : t ≡ true → 26 ≡ refusal (roomConditions (cardIn w) f)
     unfolding refusal
-    refused-back h = rw (← own, p', ← back, h)
+    refused-journal h = rw (← ninth-met, r', ← journal-met, h)
 
-    module _ (q' : q ≡ false) (core : f .core < 8) (k : ℕ) (count : k ≡ length (taken (writer (cardIn w) (f .core)))) (r : Bool) (more : r ≡ (takesBlock (f .rule) && leb 8 k)) where
-      ninth-met : r ≡ ninth (f .rule) (writer (cardIn w) (f .core))
-      ninth-met = ninth-is (f .rule) (writer (cardIn w) (f .core)) (writer-long w (f .core) core) k count r more
+    module _ (t' : t ≡ false) (l : Bool) (live : l ≡ (coreOf (cardIn w) (f .core)) .running .live) (u : Bool) (last : u ≡ (not l && ltb maxNumber (f .own .number))) where
+      numbers-met : u ≡ (not ((coreOf (cardIn w) (f .core)) .running .live) && ltb maxNumber (f .own .number))
+      numbers-met = last ∙ rw live
 
-      pub refused-ninth : r ≡ true → 25 ≡ refusal (roomConditions (cardIn w) f)
+      refused-last : refusal (roomConditions (cardIn w) f) ≡ cond u 27 0
       unfolding refusal
-      refused-ninth h = rw (← own, p', ← back, q', ← ninth-met, h)
+      refused-last = rw (← ninth-met, r', ← journal-met, t', ← numbers-met)
 
-      module _ (r' : r ≡ false) (s : Shape) (shape : s ≡ shapeOf (cardIn w)) (t : Bool) (full : t ≡ ltb (s .journal) (closedBlocks (coreOf (cardIn w) (f .core)) + sizeAfter (f .rule) k)) where
-        journal-met : t ≡ ltb ((shapeOf (cardIn w)) .journal) (closedBlocks (coreOf (cardIn w) (f .core)) + recordSize (afterBy (cardIn w) f))
-        journal-met = full ∙ rw (shape, size-is (f .rule) (writer (cardIn w) (f .core)) (writer-long w (f .core) core) k count (f .holder) (f .block) r more r')
+      pub refused-numbers : u ≡ true → 27 ≡ refusal (roomConditions (cardIn w) f)
+      refused-numbers h = rw (refused-last, h)
 
-        pub refused-journal : t ≡ true → 26 ≡ refusal (roomConditions (cardIn w) f)
-        unfolding refusal
-        refused-journal h = rw (← own, p', ← back, q', ← ninth-met, r', ← journal-met, h)
-
-        module _ (t' : t ≡ false) (l : Bool) (live : l ≡ (coreOf (cardIn w) (f .core)) .running .live) (u : Bool) (last : u ≡ (not l && ltb maxNumber (f .own .number))) where
-          numbers-met : u ≡ (not ((coreOf (cardIn w) (f .core)) .running .live) && ltb maxNumber (f .own .number))
-          numbers-met = last ∙ rw live
-
-          refused-last : refusal (roomConditions (cardIn w) f) ≡ cond u 27 0
-          unfolding refusal
-          refused-last = rw (← own, p', ← back, q', ← ninth-met, r', ← journal-met, t', ← numbers-met)
-
-          pub refused-numbers : u ≡ true → 27 ≡ refusal (roomConditions (cardIn w) f)
-          refused-numbers h = rw (refused-last, h)
-
-          pub refused-not : u ≡ false → 0 ≡ refusal (roomConditions (cardIn w) f)
-          refused-not h = rw (refused-last, h)
+      pub refused-not : u ≡ false → 0 ≡ refusal (roomConditions (cardIn w) f)
+      refused-not h = rw (refused-last, h)

@@ -1,10 +1,10 @@
--- What a WRITE finds at a block, what its rule makes of the writer, and the conditions 24 to 27 over both.
+-- What a WRITE finds at a block, what its rule makes of the writer, and the conditions 25 to 27 over both.
 use Prim.Native.Nat.{ℕ, _+_, _<_}
-use mathlib.Core.Bool.{Bool, cond, not, _&&_, _||_}
+use mathlib.Core.Bool.{Bool, cond, not, _&&_}
 use mathlib.Core.List.{List, [], _∷_}
 use lib.Dec.{ltb, leb}
 use Rattle.model.specs.Card.{recordSize, shapeOf, coreOf, holderOf, withBlock, withName}
-use Rattle.model.specs.Write.{writer, writerName, ruleFor, takesBlock, namesHolder, isNamedBack, passesNames, closedBlocks}
+use Rattle.model.specs.Write.{writer, writerName, ruleFor, takesBlock, namesHolder, closedBlocks}
 use Rattle.model.specs.Limits.{maxNumber}
 use Rattle.model.specs.declared.Name.{Name}
 use Rattle.model.specs.declared.Transaction.{Transaction}
@@ -24,7 +24,7 @@ pub record Bounded (f : RuleMet) : Type 0 where
   pub own : f .own .core < 8
 
 -- ---- what a rule makes of the writer t
--- its list names n where the rule has it name the holder
+-- it names n where the rule has it name the holder
 unfoldable pub namedBy : Rule → Transaction → Name → Transaction
 namedBy r t n = cond (namesHolder r) (withName t n) t
 
@@ -36,13 +36,6 @@ abbrev pub afterBy : Card → RuleMet → Transaction
 afterBy x f = takenBy (f .rule) (namedBy (f .rule) (writer x (f .core)) (f .holder)) (f .block)
 
 -- ---- room
--- 24 for the writer t, and for the transaction t that holds the block
-unfoldable pub ownFull : Rule → Transaction → Name → Bool
-ownFull r t n = namesHolder r && passesNames t n
-
-unfoldable pub backFull : Rule → Transaction → Name → Bool
-backFull r t own = isNamedBack r && passesNames t own
-
 -- '25 a ninth block'
 unfoldable pub ninth : Rule → Transaction → Bool
 ninth r t = takesBlock r && leb 8 (t .count)
@@ -51,11 +44,10 @@ ninth r t = takesBlock r && leb 8 (t .count)
 unfoldable pub sizeAfter : Rule → ℕ → ℕ
 sizeAfter r n = cond (takesBlock r) (n + 3) (n + 2)
 
--- 24 to 27
+-- 25 to 27
 abbrev pub roomConditions : Card → RuleMet → List (Bool × ℕ)
 roomConditions x f =
-    (ownFull (f .rule) (writer x (f .core)) (f .holder) || backFull (f .rule) ((coreOf x (f .holder .core)) .running) (f .own), 24)
-    ∷ (ninth (f .rule) (writer x (f .core)), 25)
+    (ninth (f .rule) (writer x (f .core)), 25)
     ∷ (ltb ((shapeOf x) .journal) (closedBlocks (coreOf x (f .core)) + recordSize (afterBy x f)), 26)
     ∷ (not ((coreOf x (f .core)) .running .live) && ltb maxNumber (f .own .number), 27)
     ∷ []

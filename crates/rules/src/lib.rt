@@ -31,7 +31,7 @@ pub struct RuleMet {
 
 // Whether core c has a running transaction.
 fn has_running(w: &[u64], c: u8) -> bool
-    requires { ⌜ (length (now w) ≡ 512) × (c < 8) ⌝ }
+    requires { ⌜ (length (now w) ≡ 423) × (c < 8) ⌝ }
     ensures { λ r. ⌜ r ≡ (coreOf (cardIn (now (w .entry))) c) .running .live ⌝ }
 {
     is_live(w, running_place(c))
@@ -39,7 +39,7 @@ fn has_running(w: &[u64], c: u8) -> bool
 
 // The name of the transaction that writes, of core c.
 fn writer_name(w: &[u64], c: u8) -> Name
-    requires { ⌜ (length (now w) ≡ 512) × (c < 8) ⌝ }
+    requires { ⌜ (length (now w) ≡ 423) × (c < 8) ⌝ }
     ensures { λ r. ⌜ (r ≡ writerName (cardIn (now (w .entry))) c) × (r .core < 8) ⌝ }
 {
     Name {
@@ -50,7 +50,7 @@ fn writer_name(w: &[u64], c: u8) -> Name
 
 // Whether the transaction of this name is running.
 fn is_running(w: &[u64], n: Name) -> bool
-    requires { ⌜ (length (now w) ≡ 512) × (n .core < 8) ⌝ }
+    requires { ⌜ (length (now w) ≡ 423) × (n .core < 8) ⌝ }
     ensures { λ r. ⌜ r ≡ isRunningIn (cardIn (now (w .entry))) n ⌝ }
 {
     if !has_running(w, n.core) {
@@ -62,7 +62,7 @@ fn is_running(w: &[u64], n: Name) -> bool
 
 // Which rule the writer of the name own meets at a block b whose holder is h.
 fn rule_for(w: &[u64], h: Holder, own: Name) -> Rule
-    requires { ⌜ (length (now w) ≡ 512) × (h .name .core < 8) ⌝ }
+    requires { ⌜ (length (now w) ≡ 423) × (h .name .core < 8) ⌝ }
     ensures { λ r. ⌜ ((c b : ℕ) → h ≡ holderOf (cardIn (now (w .entry))) b → own ≡ writerName (cardIn (now (w .entry))) c
         → r ≡ ruleFor (cardIn (now (w .entry))) c b) ⌝ }
 {
@@ -80,7 +80,7 @@ fn rule_for(w: &[u64], h: Holder, own: Name) -> Rule
 
 // What a WRITE of core c to block b meets.
 pub fn find(w: &[u64], c: u8, b: u8) -> RuleMet
-    requires { ⌜ (length (now w) ≡ 512) × (c < 8) × (b < 64) ⌝ }
+    requires { ⌜ (length (now w) ≡ 423) × (c < 8) × (b < 64) ⌝ }
     ensures { λ r. ⌜ (r ≡ ruleMet (cardIn (now (w .entry))) c b) × Bounded r ⌝ }
 {
     let h = holder_at(w, b);
@@ -107,7 +107,7 @@ pub fn takes_block(r: Rule) -> bool
     }
 }
 
-// Whether the writer's list names the holder.
+// Whether the writer names the holder.
 pub fn names_holder(r: Rule) -> bool
     ensures { λ t. ⌜ t ≡ namesHolder r ⌝ }
 {
@@ -119,7 +119,7 @@ pub fn names_holder(r: Rule) -> bool
     }
 }
 
-// Whether the holder's list names the writer.
+// Whether the holder names the writer.
 pub fn is_named_back(r: Rule) -> bool
     ensures { λ t. ⌜ t ≡ isNamedBack r ⌝ }
 {

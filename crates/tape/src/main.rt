@@ -28,7 +28,7 @@ struct Course {
 fn step(
     c: Course,
     bytes: &[u8],
-    w: &mut [u64; 512],
+    w: &mut [u64; 423],
     disk: &mut [u8],
     memory: &mut [u8],
     text: &mut [u8],
@@ -58,7 +58,7 @@ fn step(
 fn run_whole(
     begin: Course,
     bytes: &[u8],
-    w: &mut [u64; 512],
+    w: &mut [u64; 423],
     disk: &mut [u8],
     memory: &mut [u8],
     text: &mut [u8],
@@ -109,7 +109,7 @@ fn refill(c: Course, bytes: &mut [u8], text: &[u8]) -> Course
 // The end of the input: bytes that are left are a command whose operands end early.
 fn run_last(
     c: Course,
-    w: &mut [u64; 512],
+    w: &mut [u64; 423],
     disk: &mut [u8],
     memory: &mut [u8],
     bytes: &[u8],
@@ -132,7 +132,7 @@ fn run_last(
 // the front.
 fn run_read(
     c: Course,
-    w: &mut [u64; 512],
+    w: &mut [u64; 423],
     disk: &mut [u8],
     memory: &mut [u8],
     bytes: &mut [u8],
@@ -152,7 +152,7 @@ fn run_read(
 
 // The whole tape. The budget only shows that the loop ends: no input reaches it.
 fn run_tape(
-    w: &mut [u64; 512],
+    w: &mut [u64; 423],
     disk: &mut [u8],
     memory: &mut [u8],
     bytes: &mut [u8],
@@ -204,7 +204,7 @@ fn put_homes(text: &mut [u8], numbers: &[u8], n: usize, disk: &[u8]) -> usize
 }
 
 // What waits is written, then the home blocks that are not all zero: whether it all was.
-fn print_homes(used: usize, w: &[u64; 512], disk: &[u8], text: &mut [u8]) -> bool
+fn print_homes(used: usize, w: &[u64; 423], disk: &[u8], text: &mut [u8]) -> bool
     requires { ⌜ (used ≤ 65536) × (length (now text) ≡ 65536) × (length (now disk) ≡ diskSize) ⌝ }
 {
     let p = output::flush(text, used);
@@ -219,7 +219,7 @@ fn print_homes(used: usize, w: &[u64; 512], disk: &[u8], text: &mut [u8]) -> boo
 }
 
 fn main() {
-    let mut state = [0u64; 512];
+    let mut state = [0u64; 423];
     let mut disk = [0u8; Shape::DISK_SIZE];
     let mut memory = [0u8; Shape::MEMORY_SIZE];
     let mut bytes = [0u8; 65536];

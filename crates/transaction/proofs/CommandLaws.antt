@@ -1,14 +1,14 @@
 -- WRITE meets entry, block and offset first. Memory afterwards is the image, loaded where the rule says so, with four bytes
 -- replaced. Refused, or carried out, WRITE meets its contract.
-use Rattle.model.proofs.Base.{ℕ, _+_, _-_, _*_, _≤_, _<_, arith, add-one, _≡_, refl, sym, ap, _∙_, Bool, true, false, cond, not}
-use Rattle.model.proofs.Base.{_||_, List, [], _∷_, length, take, drop, getD, set, ltb, leb, lt-ltb, le-ltb, ltb-false, leb-false}
+use Rattle.model.proofs.Base.{ℕ, _+_, _-_, _*_, _≤_, _<_, arith, add-one, _≡_, refl, sym, ap, _∙_, Bool, false, cond, not}
+use Rattle.model.proofs.Base.{List, [], _∷_, length, take, drop, getD, set, ltb, leb, lt-ltb, le-ltb, ltb-false, leb-false}
 use Rattle.model.proofs.Base.{Bytes}
 use native.Mathlib.Numerals.{add-two, add-three}
 use Rattle.model.specs.Bytes.{part, blockAt, store, replaced}
 use Rattle.model.specs.Shape.{homeBlock}
 use Rattle.model.specs.Card.{shapeOf}
 use Rattle.model.specs.Command.{World, refusal, noCore, noBlock, Clear}
-use Rattle.model.specs.Write.{writerName, loadsImage, listsFull, journalFull, writeConditions, writerAfter, writtenCard, writtenMemory, written, write}
+use Rattle.model.specs.Write.{writer, writerName, loadsImage, journalFull, writeConditions, writerAfter, writtenCard, writtenMemory, written, write}
 use Rattle.model.specs.declared.Card.{Card}
 use Rattle.model.specs.declared.Rule.{Rule}
 use Rattle.model.proofs.Command.{Numbered, refusal-clear}
@@ -20,10 +20,10 @@ use Rattle.cells.specs.Changes.{Frame}
 use Rattle.cells.proofs.RefusalLaws.{first-hit, first-pass, refusal-joined, refusal-next, refusal-one}
 use Rattle.cells.proofs.EntryLaws.{entry, entry-hit, entry-pass}
 use Rattle.cells.proofs.MeetLaws.{meets-refused, meets-done}
-use Rattle.rules.specs.Conditions.{ruleMet, ownFull, backFull, ninth, namedBy, takenBy, roomConditions}
+use Rattle.rules.specs.Conditions.{ruleMet, ninth, namedBy, takenBy, roomConditions}
 use Rattle.rules.specs.declared.RuleMet.{RuleMet}
 use Rattle.rules.proofs.RuleLaws.{cond-done}
-use Rattle.transaction.specs.Writing.{firstConditions, Unrefused, Room, loadedBy}
+use Rattle.transaction.specs.Writing.{firstConditions, Unrefused, loadedBy}
 
 -- ---- what it meets first
 module _ (x : Card) (c b o : ℕ) (d m : Bytes) (n : ℕ) (e : n ≡ refusal (entry c (world x d m))) where
@@ -91,32 +91,25 @@ four-put m (p ∷ q ∷ r ∷ s ∷ t ∷ v) at l h = absurd (omega arith)
 pub bytes-put : (n k l : Bytes) (at : ℕ) (v : Bytes) → n ≡ l → k ≡ replaced at 4 n v → k ≡ replaced at 4 l v
 bytes-put n k l at v p q = q ∙ rw p
 
--- ---- room
-or-false : (p q : Bool) → (p || q) ≡ false → (p ≡ false) × (q ≡ false)
-or-false true q h = absurd (let z : _≡_ {A = ℕ} 0 1 = cc in omega arith)
-or-false false q h = (refl, h)
-
-pub room : (x : Card) (f : RuleMet) (k : ℕ) → k ≡ refusal (roomConditions x f) → k ≡ 0 → Room x f
-room x f k e h =
-    let c : Clear (roomConditions x f) = refusal-clear _ (omega arith, (omega arith, (omega arith, (omega arith, tt)))) (sym e ∙ h) in
-    let l = or-false _ _ (c .0) in
-    record { list = l .0; back = l .1; blocks = c .1 .0 }
-
 pub found-own : (x : Card) (c b : ℕ) (f : RuleMet) → f ≡ ruleMet x c b → f ≡ ruleMet x (f .core) (f .block)
 found-own x c b f e = e ∙ ap (λ (a : RuleMet). ruleMet x (a .core) (a .block)) (sym e)
 
 -- ---- the command
+-- room: no ninth block
+pub no-ninth : (x : Card) (f : RuleMet) (k : ℕ) → k ≡ refusal (roomConditions x f) → k ≡ 0 → ninth (f .rule) (writer x (f .core)) ≡ false
+no-ninth x f k e h = (refusal-clear (roomConditions x f) (omega arith, (omega arith, (omega arith, tt))) (sym e ∙ h)) .0
+
 joined : (x : Card) (c b o : ℕ) (d m : Bytes)
     → refusal (writeConditions c b o (world x d m)) ≡ firstOf (refusal (firstConditions c b o (world x d m))) (refusal (roomConditions x (ruleMet x c b)))
-unfolding writeConditions listsFull journalFull writerAfter writerName ownFull backFull ninth namedBy takenBy
+unfolding writeConditions journalFull writerAfter writerName ninth namedBy takenBy
 joined x c b o d m = refusal-joined (firstConditions c b o (world x d m)) _ (first-numbered c b o (world x d m))
 
-pub first-refused : (v : List ℕ) (c b o : ℕ) (bytes d m : Bytes) (n : ℕ) → length v ≡ 512 → n ≡ refusal (firstConditions c b o (worldIn v d m)) → (n ≡ 0 → ⊥)
+pub first-refused : (v : List ℕ) (c b o : ℕ) (bytes d m : Bytes) (n : ℕ) → length v ≡ 423 → n ≡ refusal (firstConditions c b o (worldIn v d m)) → (n ≡ 0 → ⊥)
     → Meets (write c b o bytes (worldIn v d m)) v v d m (newAnswer n 0)
 unfolding write
 first-refused v c b o bytes d m n l e h = meets-refused _ v d m _ l n (first-hit n _ _ e h ∙ sym (joined (cardIn v) c b o d m)) h
 
-module _ (v : List ℕ) (c b o : ℕ) (bytes d m : Bytes) (l : length v ≡ 512) (p : Unrefused (cardIn v) c b o d m) (f : RuleMet) (e : f ≡ ruleMet (cardIn v) c b) (k : ℕ) (r : k ≡ refusal (roomConditions (cardIn v) f)) where
+module _ (v : List ℕ) (c b o : ℕ) (bytes d m : Bytes) (l : length v ≡ 423) (p : Unrefused (cardIn v) c b o d m) (f : RuleMet) (e : f ≡ ruleMet (cardIn v) c b) (k : ℕ) (r : k ≡ refusal (roomConditions (cardIn v) f)) where
   number : k ≡ refusal (writeConditions c b o (worldIn v d m))
   number =
       first-pass 0 k _ _ (sym (p .none)) refl (r ∙ ap (λ (a : RuleMet). refusal (roomConditions (cardIn v) a)) e)
@@ -126,10 +119,10 @@ module _ (v : List ℕ) (c b o : ℕ) (bytes d m : Bytes) (l : length v ≡ 512)
   unfolding write
   ruled-refused h = meets-refused _ v d m _ l k number h
 
-  pub ruled-done : k ≡ 0 → (w : List ℕ) (t : Bytes) → t ≡ replaced (128 * b + o) 4 (loadedBy (f .rule) d m b) bytes → cardIn w ≡ writtenCard (cardIn v) (f .core) (f .block) → Frame v w 0 512
+  pub ruled-done : k ≡ 0 → (w : List ℕ) (t : Bytes) → t ≡ replaced (128 * b + o) 4 (loadedBy (f .rule) d m b) bytes → cardIn w ≡ writtenCard (cardIn v) (f .core) (f .block) → Frame v w 0 423
       → Meets (write c b o bytes (worldIn v d m)) v w d t (newAnswer 0 0)
   unfolding write written writtenMemory loadedBy
   ruled-done h w t q i j =
       let y : cardIn w ≡ writtenCard (cardIn v) c b = i ∙ ap (λ (a : RuleMet). writtenCard (cardIn v) (a .core) (a .block)) e in
       let z : t ≡ writtenMemory (worldIn v d m) c b o bytes = q ∙ ap (λ (a : RuleMet). replaced (128 * b + o) 4 (loadedBy (a .rule) d m b) bytes) e in
-      meets-done _ v d m _ l k number h w d t 0 (rw (y, z)) 0 512 j
+      meets-done _ v d m _ l k number h w d t 0 (rw (y, z)) 0 423 j

@@ -1,9 +1,9 @@
 -- The cells after WRITE, in their steps: the holder's transaction with the writer's name, the writer's with the holder's name
--- and the block, the holder of the block. Together they are the card after WRITE; room asked before is room at each step.
-use Rattle.model.proofs.Base.{ℕ, _-_, _%_, _<_, arith, _≡_, refl, sym, ap, _∙_, Bool, true, false, not, _&&_, false≢true, List}
+-- and the block, the holder of the block. Together they are the card after WRITE; room for the block asked before is room at its step.
+use Rattle.model.proofs.Base.{ℕ, _-_, _%_, _<_, arith, _≡_, refl, sym, ap, _∙_, Bool, true, false, not, false≢true, List}
 use Rattle.model.proofs.Base.{getD-set-other, eqb, eq-eqb, eqb-true, leb-false, not-false}
 use Rattle.model.specs.Card.{newName, sameName, freshCore, withName, withRunning, withCore, coreOf, holderOf}
-use Rattle.model.specs.Write.{writer, writerName, isRunningIn, ruleFor, takesBlock, namesHolder, isNamedBack, passesNames, writerAfter, writtenCard}
+use Rattle.model.specs.Write.{writer, writerName, isRunningIn, ruleFor, takesBlock, isNamedBack, writerAfter, writtenCard}
 use Rattle.model.specs.declared.Name.{Name}
 use Rattle.model.specs.declared.Transaction.{Transaction}
 use Rattle.model.specs.declared.Card.{Card}
@@ -13,60 +13,44 @@ use Rattle.cells.specs.Cells.{transactionIn, cardIn, holderPlace, runningPlace}
 use Rattle.cells.specs.Changes.{openedOr, Frame}
 use Rattle.cells.proofs.CellLaws.{running-put}
 use Rattle.cells.proofs.FitsLaws.{frame-then, frame-wider}
-use Rattle.rules.specs.Conditions.{ruleMet, ownFull, backFull, ninth, namedBy, takenBy, afterBy}
+use Rattle.rules.specs.Conditions.{ruleMet, ninth, namedBy, takenBy, afterBy}
 use Rattle.rules.specs.declared.RuleMet.{RuleMet}
 use Rattle.cells.proofs.ReadLaws.{running-there}
 use Rattle.rules.proofs.RuleLaws.{cond-done}
 use Rattle.rules.proofs.RoomLaws.{named-count}
-use Rattle.transaction.specs.Writing.{Room, namedBack, heldBy}
+use Rattle.transaction.specs.Writing.{namedBack, heldBy}
 
 -- ---- a core's running transaction, changed at its place
 module _ (c : ℕ) (h : c < 8) (p : ℕ) (e : p ≡ runningPlace c) where
-  pub place-of : (p - 96) % 52 % 24 ≡ 4
-  place-of = let z : (p - 96) % 52 ≡ 4 = omega arith in rw z
+  pub place-of : (p - 87) % 42 % 19 ≡ 4
+  place-of = let z : (p - 87) % 42 ≡ 4 = omega arith in rw z
 
-  module _ (v w : List ℕ) (b : Frame v w p 24) where
+  module _ (v w : List ℕ) (b : Frame v w p 19) where
     pub running-after : (t : Transaction) → transactionIn w p ≡ t → cardIn w ≡ withCore (cardIn v) c (withRunning (coreOf (cardIn v) c) t)
     running-after t q =
         running-put v w c h (rw e at b)
         ∙ ap (λ (a : Transaction). withCore (cardIn v) c (withRunning (coreOf (cardIn v) c) a)) (ap (transactionIn w) (sym e) ∙ q)
 
-    pub frame-all : Frame v w 0 512
-    frame-all = frame-wider v w p 24 0 512 b (omega arith) (omega arith)
+    pub frame-all : Frame v w 0 423
+    frame-all = frame-wider v w p 19 0 423 b (omega arith) (omega arith)
 
--- ---- the room that the tests leave
-module _ (g a p : Bool) (q : g ≡ a) where
-  pub room-left : (a && p) ≡ false → not g ≡ false → p ≡ false
-  room-left m z = rw (← q, not-false g z) at m
-
--- ---- the holder's list
+-- ---- the holder
 module _ (v : List ℕ) (n own : Name) (h : n .core < 8) (p : ℕ) (e : p ≡ runningPlace (n .core)) (r : Rule) (g : Bool) (q : g ≡ isNamedBack r) where
-  pub back-room : backFull r ((coreOf (cardIn v) (n .core)) .running) own ≡ false → not g ≡ false → passesNames (transactionIn v p) own ≡ false
-  unfolding backFull
-  back-room m z = ap (λ (t : Transaction). passesNames t own) (running-there v (n .core) h p e) ∙ room-left g _ _ q m z
-
-  pub back-done : (w : List ℕ) → transactionIn w p ≡ withName (transactionIn v p) own → Frame v w p 24 → not g ≡ false → cardIn w ≡ namedBack r (cardIn v) (n .core) own
+  pub back-done : (w : List ℕ) → transactionIn w p ≡ withName (transactionIn v p) own → Frame v w p 19 → not g ≡ false → cardIn w ≡ namedBack r (cardIn v) (n .core) own
   unfolding namedBack
   back-done w s b z =
       cond-done g _ q _ _ (cardIn w)
       (running-after (n .core) h p e v w b _ (s ∙ ap (λ (t : Transaction). withName t own) (running-there v (n .core) h p e))) z
 
 -- ---- the writer
-pub own-room : (r : Rule) (t : Transaction) (n : Name) (g : Bool) → g ≡ namesHolder r → ownFull r t n ≡ false → not g ≡ false → passesNames t n ≡ false
-unfolding ownFull
-own-room r t n g q m z = room-left g _ _ q m z
-
 pub block-room : (r : Rule) (t : Transaction) (g : Bool) → g ≡ takesBlock r → ninth r t ≡ false → not g ≡ false → t .count < 8
 unfolding ninth
-block-room r t g q m z = leb-false 8 (t .count) (room-left g _ _ q m z)
+block-room r t g q m z = leb-false 8 (t .count) (rw (← q, not-false g z) at m)
 
 module _ (v : List ℕ) (f : RuleMet) (h : f .core < 8) (p : ℕ) (e : p ≡ runningPlace (f .core)) (u : List ℕ) (i : transactionIn u p ≡ openedOr (transactionIn v p)) where
   writer-open : transactionIn u p ≡ writer (cardIn v) (f .core)
   unfolding openedOr writer
   writer-open = i ∙ rw (running-there v (f .core) h p e)
-
-  pub list-room : ownFull (f .rule) (writer (cardIn v) (f .core)) (f .holder) ≡ false → ownFull (f .rule) (transactionIn u p) (f .holder) ≡ false
-  list-room m = rw writer-open m
 
   module _ (w : List ℕ) (j : transactionIn w p ≡ namedBy (f .rule) (transactionIn u p) (f .holder)) where
     pub count-room : ninth (f .rule) (writer (cardIn v) (f .core)) ≡ false → ninth (f .rule) (transactionIn w p) ≡ false
@@ -76,17 +60,17 @@ module _ (v : List ℕ) (f : RuleMet) (h : f .core < 8) (p : ℕ) (e : p ≡ run
         ap (λ (t : Transaction). t .count) j ∙ named-count (f .rule) (transactionIn u p) (f .holder) ∙ ap (λ (t : Transaction). t .count) writer-open in
         rw k m
 
-    pub own-written : (z : List ℕ) → transactionIn z p ≡ takenBy (f .rule) (transactionIn w p) (f .block) → Frame v u p 24 → Frame u w p 24 → Frame w z p 24
-        → (cardIn z ≡ withCore (cardIn v) (f .core) (withRunning (coreOf (cardIn v) (f .core)) (afterBy (cardIn v) f))) × Frame v z 0 512
+    pub own-written : (z : List ℕ) → transactionIn z p ≡ takenBy (f .rule) (transactionIn w p) (f .block) → Frame v u p 19 → Frame u w p 19 → Frame w z p 19
+        → (cardIn z ≡ withCore (cardIn v) (f .core) (withRunning (coreOf (cardIn v) (f .core)) (afterBy (cardIn v) f))) × Frame v z 0 423
     own-written z l g k m =
-        let d : Frame v z p 24 = frame-then w z v p 24 (frame-then u w v p 24 g k) m in (
+        let d : Frame v z p 19 = frame-then w z v p 19 (frame-then u w v p 19 g k) m in (
           running-after (f .core) h p e v z d _ (l ∙ ap (λ (t : Transaction). takenBy (f .rule) t (f .block)) (j ∙ ap (λ (t : Transaction). namedBy (f .rule) t (f .holder)) writer-open)),
           frame-all (f .core) h p e v z d,
         )
 
 -- ---- the block's holder
-pub holder-all : (v w : List ℕ) (b : ℕ) → b < 64 → Frame v w (holderPlace b) 1 → Frame v w 0 512
-holder-all v w b h f = frame-wider v w (holderPlace b) 1 0 512 f (omega arith) (omega arith)
+pub holder-all : (v w : List ℕ) (b : ℕ) → b < 64 → Frame v w (holderPlace b) 1 → Frame v w 0 423
+holder-all v w b h f = frame-wider v w (holderPlace b) 1 0 423 f (omega arith) (omega arith)
 
 -- ---- the three steps
 -- a transaction that is named back is of another core
@@ -135,11 +119,8 @@ module _ (x : Card) (f : RuleMet) (e : f ≡ ruleMet x (f .core) (f .block)) whe
     unfolding writer
     same-writer = rw same-core
 
-    pub list-fits : Room x f → ownFull (f .rule) (writer y (f .core)) (f .holder) ≡ false
-    list-fits m = rw same-writer (m .list)
-
-    pub block-fits : Room x f → ninth (f .rule) (writer y (f .core)) ≡ false
-    block-fits m = rw same-writer (m .blocks)
+    pub block-fits : ninth (f .rule) (writer x (f .core)) ≡ false → ninth (f .rule) (writer y (f .core)) ≡ false
+    block-fits m = rw same-writer m
 
     writer-made : afterBy y f ≡ writerAfter x (f .core) (f .block)
     unfolding takenBy namedBy writerAfter

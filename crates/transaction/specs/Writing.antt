@@ -1,7 +1,7 @@
--- WRITE in stages: what it meets before its rule, what is known where there is room, and what each step makes of card and memory.
+-- WRITE in stages: what it meets before its rule, and what each step makes of card and memory.
 use Prim.Native.Nat.{ℕ, _≤_, _<_}
 use mathlib.Core.Path.{_≡_}
-use mathlib.Core.Bool.{Bool, false, cond}
+use mathlib.Core.Bool.{Bool, cond}
 use mathlib.Core.List.{List, [], _∷_}
 use lib.Dec.{ltb}
 use lib.ListN.{length}
@@ -9,13 +9,11 @@ use Rattle.model.specs.Bytes.{Bytes, blockAt, store}
 use Rattle.model.specs.Shape.{homeBlock}
 use Rattle.model.specs.Card.{coreOf, newHolder, withName, withRunning, withCore, withHolder}
 use Rattle.model.specs.Command.{World, refusal, notUp, noCore, noBlock}
-use Rattle.model.specs.Write.{writer, takesBlock, isNamedBack, loadsImage}
+use Rattle.model.specs.Write.{takesBlock, isNamedBack, loadsImage}
 use Rattle.model.specs.declared.Name.{Name}
 use Rattle.model.specs.declared.Card.{Card}
 use Rattle.model.specs.declared.Rule.{Rule}
 use Rattle.cells.specs.Cells.{world}
-use Rattle.rules.specs.Conditions.{ownFull, backFull, ninth}
-use Rattle.rules.specs.declared.RuleMet.{RuleMet}
 
 -- ---- before the rule: 1, 20, 22, 5 to 7
 abbrev pub firstConditions : ℕ → ℕ → ℕ → World → List (Bool × ℕ)
@@ -34,15 +32,8 @@ pub record Unrefused (x : Card) (c b o : ℕ) (d m : Bytes) : Type 0 where
   pub core : c < 8
   pub within : InImage d m b o
 
--- ---- room
--- what 24 and 25 leave: room for the names and the block
-pub record Room (x : Card) (f : RuleMet) : Type 0 where
-  pub list : ownFull (f .rule) (writer x (f .core)) (f .holder) ≡ false
-  pub back : backFull (f .rule) ((coreOf x (f .holder .core)) .running) (f .own) ≡ false
-  pub blocks : ninth (f .rule) (writer x (f .core)) ≡ false
-
 -- ---- card and memory afterwards
--- the list of core u's running transaction names the writer where the rule asks for it
+-- core u's running transaction names the writer where the rule asks for it
 unfoldable pub namedBack : Rule → Card → ℕ → Name → Card
 namedBack r x u own = cond (isNamedBack r) (withCore x u (withRunning (coreOf x u) (withName ((coreOf x u) .running) own))) x
 

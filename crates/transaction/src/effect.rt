@@ -1,4 +1,4 @@
-// The cells afterwards: the holder's list, the writer, the block's holder.
+// The cells afterwards: what the holder names, the writer, the block's holder.
 ghost use mathlib.Core.Path.{_≡_};
 ghost use mathlib.Core.Bool.{false};
 ghost use Prim.Native.Nat.{_<_};
@@ -9,50 +9,49 @@ ghost use Rattle.model.specs.declared.Card.{Card};
 ghost use Rattle.model.specs.declared.Transaction.{Transaction};
 ghost use Rattle.cells.specs.Cells.{transactionIn, cardIn};
 ghost use Rattle.cells.specs.Changes.{IsPlace, Changed, ChangedAt};
-ghost use Rattle.rules.specs.Conditions.{ruleMet, Bounded, ownFull, backFull, ninth, namedBy, takenBy, afterBy};
-ghost use Rattle.transaction.specs.Writing.{Room, namedBack, heldBy};
+ghost use Rattle.rules.specs.Conditions.{ruleMet, Bounded, ninth, namedBy, takenBy, afterBy};
+ghost use Rattle.transaction.specs.Writing.{namedBack, heldBy};
 use cells::hold;
 use cells::running_place;
-use lists::add_block;
-use lists::add_name;
-use lists::open_at;
 use model::Name;
 use model::Rule;
 use rules::RuleMet;
 use rules::is_named_back;
 use rules::names_holder;
 use rules::takes_block;
+use running::add_block;
+use running::open_at;
+use running::raise_number;
 
-// The holder's list, naming the writer where the rule asks for it.
+// The holder, naming the writer where the rule asks for it.
 fn name_back(w: &mut [u64], f: RuleMet)
-    requires { ⌜ (length (now w) ≡ 512) × Bounded f
-        × (backFull (f .rule) ((coreOf (cardIn (now w)) (f .holder .core)) .running) (f .own) ≡ false) ⌝ }
+    requires { ⌜ (length (now w) ≡ 423) × Bounded f ⌝ }
     ensures { λ _. ⌜
         Changed (λ (x : Card). namedBack (f .rule) x (f .holder .core) (f .own))
-        (now (w .entry)) (now (w .exit)) 0 512
+        (now (w .entry)) (now (w .exit)) 0 423
         ⌝ }
 {
     let rule = f.rule;
     if !is_named_back(rule) {
         return;
     }
-    add_name(w, running_place(f.holder.core), f.own);
+    raise_number(w, running_place(f.holder.core), f.own);
 }
 
-// The list of the transaction at a place, naming the holder where the rule asks for it.
+// The transaction at a place, naming the holder where the rule asks for it.
 fn name_own(w: &mut [u64], at: usize, rule: Rule, n: Name)
-    requires { ⌜ (length (now w) ≡ 512) × IsPlace at × (n .core < 8) × (ownFull rule (transactionIn (now w) at) n ≡ false) ⌝ }
+    requires { ⌜ (length (now w) ≡ 423) × IsPlace at × (n .core < 8) ⌝ }
     ensures { λ _. ⌜ ChangedAt at (λ (t : Transaction). namedBy rule t n) (now (w .entry)) (now (w .exit)) ⌝ }
 {
     if !names_holder(rule) {
         return;
     }
-    add_name(w, at, n);
+    raise_number(w, at, n);
 }
 
 // Its blocks, the block taken where the rule asks for it.
 fn block_own(w: &mut [u64], at: usize, rule: Rule, b: u8)
-    requires { ⌜ (length (now w) ≡ 512) × IsPlace at × (ninth rule (transactionIn (now w) at) ≡ false) ⌝ }
+    requires { ⌜ (length (now w) ≡ 423) × IsPlace at × (ninth rule (transactionIn (now w) at) ≡ false) ⌝ }
     ensures { λ _. ⌜ ChangedAt at (λ (t : Transaction). takenBy rule t b) (now (w .entry)) (now (w .exit)) ⌝ }
 {
     if !takes_block(rule) {
@@ -61,14 +60,12 @@ fn block_own(w: &mut [u64], at: usize, rule: Rule, b: u8)
     add_block(w, at, b);
 }
 
-// The writer, opened if its core has none: its list and its blocks.
+// The writer, opened if its core has none: what it names and its blocks.
 fn write_own(w: &mut [u64], f: RuleMet)
-    requires { ⌜ (length (now w) ≡ 512) × Bounded f
-        × (ownFull (f .rule) (writer (cardIn (now w)) (f .core)) (f .holder) ≡ false)
-        × (ninth (f .rule) (writer (cardIn (now w)) (f .core)) ≡ false) ⌝ }
+    requires { ⌜ (length (now w) ≡ 423) × Bounded f × (ninth (f .rule) (writer (cardIn (now w)) (f .core)) ≡ false) ⌝ }
     ensures { λ _. ⌜
         Changed (λ (x : Card). withCore x (f .core) (withRunning (coreOf x (f .core)) (afterBy x f)))
-        (now (w .entry)) (now (w .exit)) 0 512
+        (now (w .entry)) (now (w .exit)) 0 423
         ⌝ }
 {
     let rule = f.rule;
@@ -80,9 +77,9 @@ fn write_own(w: &mut [u64], f: RuleMet)
 
 // The block's holder: the writer where it takes the block.
 fn take_hold(w: &mut [u64], f: RuleMet)
-    requires { ⌜ (length (now w) ≡ 512) × Bounded f ⌝ }
+    requires { ⌜ (length (now w) ≡ 423) × Bounded f ⌝ }
     ensures { λ _. ⌜
-        Changed (λ (x : Card). heldBy (f .rule) x (f .block) (f .own)) (now (w .entry)) (now (w .exit)) 0 512
+        Changed (λ (x : Card). heldBy (f .rule) x (f .block) (f .own)) (now (w .entry)) (now (w .exit)) 0 423
         ⌝ }
 {
     let rule = f.rule;
@@ -92,11 +89,12 @@ fn take_hold(w: &mut [u64], f: RuleMet)
     hold(w, f.block, f.own);
 }
 
-// What a WRITE makes of the cells: the holder's list, the writer, the block's holder.
+// What a WRITE that meets no ninth block makes of the cells: what the holder names, the writer, the block's holder.
 pub fn write_state(w: &mut [u64], f: RuleMet)
-    requires { ⌜ (length (now w) ≡ 512) × Bounded f × (f ≡ ruleMet (cardIn (now w)) (f .core) (f .block)) × Room (cardIn (now w)) f ⌝ }
+    requires { ⌜ (length (now w) ≡ 423) × Bounded f × (f ≡ ruleMet (cardIn (now w)) (f .core) (f .block))
+        × (ninth (f .rule) (writer (cardIn (now w)) (f .core)) ≡ false) ⌝ }
     ensures { λ _. ⌜
-        Changed (λ (x : Card). writtenCard x (f .core) (f .block)) (now (w .entry)) (now (w .exit)) 0 512
+        Changed (λ (x : Card). writtenCard x (f .core) (f .block)) (now (w .entry)) (now (w .exit)) 0 423
         ⌝ }
 {
     name_back(w, f);

@@ -22,7 +22,7 @@ use rules::room_refusal;
 
 // What a WRITE meets before its rule.
 fn first_refusal(w: &[u64], c: u8, b: u16, o: u8, disk: &[u8], memory: &[u8]) -> u8
-    requires { ⌜ length (now w) ≡ 512 ⌝ }
+    requires { ⌜ length (now w) ≡ 423 ⌝ }
     ensures { λ r. ⌜ r ≡ refusal (firstConditions c b o (worldIn (now (w .entry)) (now (disk .entry)) (now (memory .entry)))) ⌝ }
 {
     let n = entry_refusal(w, c, disk, memory);
@@ -49,7 +49,7 @@ fn write_ruled(
     disk: &[u8],
     memory: &mut [u8],
 ) -> Answer
-    requires { ⌜ (length (now w) ≡ 512) × Unrefused (cardIn (now w)) c b o (now disk) (now memory) ⌝ }
+    requires { ⌜ (length (now w) ≡ 423) × Unrefused (cardIn (now w)) c b o (now disk) (now memory) ⌝ }
     ensures { λ r. ⌜
         Meets (write c b o bytes (worldIn (now (w .entry)) (now (disk .entry)) (now (memory .entry))))
         (now (w .entry)) (now (w .exit)) (now (disk .entry)) (now (memory .exit)) r ⌝ }
@@ -82,7 +82,7 @@ pub fn write(
     disk: &[u8],
     memory: &mut [u8],
 ) -> Answer
-    requires { ⌜ length (now w) ≡ 512 ⌝ }
+    requires { ⌜ length (now w) ≡ 423 ⌝ }
     ensures { λ r. ⌜
         Meets (write core block offset bytes (worldIn (now (w .entry)) (now (disk .entry)) (now (memory .entry))))
         (now (w .entry)) (now (w .exit)) (now (disk .entry)) (now (memory .exit)) r ⌝ }

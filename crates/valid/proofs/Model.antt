@@ -4,7 +4,7 @@ use Rattle.model.proofs.Base.{ℕ, zero, suc, _+_, _*_, _<_, _≡_, refl, sym, 
 use Rattle.model.proofs.Base.{[], _∷_, map, map-append, List·Memᴰ, List·Memᴰ·head, List·Memᴰ·tail, length, getD, eqb, ltb, leb}
 use Rattle.model.proofs.Base.{ltb-true, below, any, all, select, Bytes}
 use Rattle.model.specs.Bytes.{blockAt}
-use Rattle.model.specs.Layout.{hasHead, stampIn, nameCount, namesIn, isListable, isCommit, unescaped}
+use Rattle.model.specs.Layout.{hasHead, stampIn, namesIn, fewNames, isListable, isCommit, unescaped}
 use Rattle.model.specs.Journal.{nameOf, journalAt, journal, journals, namesOf, blocksOf, tagsOf, took, imageOf}
 use Rattle.model.specs.Shrink.{strike, shrinkIn, shrink}
 use Rattle.model.specs.Valid.{Order, requiredOf, isMet, namesMet, validSet, blocksHeld, later, newest}
@@ -12,6 +12,7 @@ use Rattle.model.specs.Recovery.{shapeOn, placeOf, imageFound}
 use Rattle.model.specs.declared.Shape.{Shape}
 use Rattle.model.specs.declared.Tail.{Tail}
 use Rattle.model.specs.declared.Name.{Name}
+use Rattle.model.specs.declared.CommitLayout.{CommitLayout}
 use Rattle.model.specs.declared.Committed.{Committed}
 use Rattle.model.specs.declared.Found.{Found}
 use Rattle.model.specs.declared.Found.the-variants.{Whole, Miss}
@@ -44,7 +45,7 @@ found-bytes d b (Whole e) = image-bytes (shapeOn d) d e (placeOf b (blocksOf (sh
 
 -- ---- the numbers do not matter to images and blocks
 unnumbered : Committed → Committed
-unnumbered e = record { core = e .core; number = 0; position = e .position; count = e .count; stamp = e .stamp; named = e .named }
+unnumbered e = record { core = e .core; number = 0; position = e .position; count = e .count; stamp = e .stamp }
 
 unnumberedFound : Found → Found
 unnumberedFound Miss = Miss
@@ -130,12 +131,12 @@ module _ {A : Type 0} where
   select-cong : (p q : A → Bool) (xs : List A) → ((x : A) → List·Memᴰ x xs → p x ≡ q x) → select p xs ≡ select q xs
   unfolding select
   select-cong p q [] h = refl
-  select-cong p q (x ∷ xs) h = rw (h x (List·Memᴰ·head refl), select-cong p q xs (λ y m. h y (List·Memᴰ·tail m)))
+  select-cong p q (x ∷ xs) h = rw (h x (List·Memᴰ·head refl), select-cong p q xs (λ z m. h z (List·Memᴰ·tail m)))
 
   all-cong : (p q : A → Bool) (xs : List A) → ((x : A) → List·Memᴰ x xs → p x ≡ q x) → all p xs ≡ all q xs
   unfolding all
   all-cong p q [] h = refl
-  all-cong p q (x ∷ xs) h = rw (h x (List·Memᴰ·head refl), all-cong p q xs (λ y m. h y (List·Memᴰ·tail m)))
+  all-cong p q (x ∷ xs) h = rw (h x (List·Memᴰ·head refl), all-cong p q xs (λ z m. h z (List·Memᴰ·tail m)))
 
   module _ (p q : List A → A → Bool) where
     strike-cong : (es : List A) → ((ss : List A) (e : A) → List·Memᴰ e es → p ss e ≡ q ss e) → strike p es ≡ strike q es
@@ -162,36 +163,35 @@ module _ {A : Type 0} where
     unfolding shrink
     shrink-cong es h = shrinkIn-cong (length es) es h
 
--- each name that a record read lists is of a core that the disk has
-listed-core : (s : Shape) (d : Bytes) (c k : ℕ) (e : Committed) → KnownRecord s d c k e → (n : Name) → List·Memᴰ n (namesOf s d e) → n .core < s .cores
+-- each that a record read names is of a core that the disk has
+named-core : (y : CommitLayout) (s : Shape) (d : Bytes) (c k : ℕ) (e : Committed) → KnownRecord y s d c k e → (n : Name) → List·Memᴰ n (namesOf y s d e) → n .core < s .cores
 unfolding namesOf isCommit isListable
-listed-core s d c k e r n m =
+named-core y s d c k e r n m =
     let f = journalAt s d c (e .position + (e .count + 1)) in
-    let a : all (isListable s) (namesIn f (nameCount f)) ≡ true = and-right (hasHead 2 k f && leb 1 (stampIn f) && leb (nameCount f) 12) (all (isListable s) (namesIn f (nameCount f))) (r .commit) in
+    let a : all (isListable s) (namesIn y f) ≡ true = and-right (hasHead 2 k f && leb 1 (stampIn f) && fewNames y f) (all (isListable s) (namesIn y f)) (r .commit) in
     let g : journalAt s d (e .core) (e .position + (e .count + 1)) ≡ f = rw (r .core) in
-    let z : List·Memᴰ n (namesIn f (nameCount f)) = rw (r .named) (rw g at m) in
-    ltb-true (n .core) (s .cores) (and-left (ltb (n .core) (s .cores)) _ (all-mem (isListable s) (namesIn f (nameCount f)) a z))
+    ltb-true (n .core) (s .cores) (and-left (ltb (n .core) (s .cores)) _ (all-mem (isListable s) (namesIn y f) a (rw g at m)))
 
-module _ (o : Order) (s : Shape) (d : Bytes) (t₁ t₂ : ℕ → Tail) (same : (c : ℕ) → c < s .cores → (t₁ c) .number ≡ (t₂ c) .number) where
-  names-tails : (es : List Committed) (e : Committed) → ((n : Name) → List·Memᴰ n (requiredOf o s d e) → n .core < s .cores) → namesMet o s d t₁ es e ≡ namesMet o s d t₂ es e
+module _ (o : Order) (y : CommitLayout) (s : Shape) (d : Bytes) (t₁ t₂ : ℕ → Tail) (same : (c : ℕ) → c < s .cores → (t₁ c) .number ≡ (t₂ c) .number) where
+  names-tails : (es : List Committed) (e : Committed) → ((n : Name) → List·Memᴰ n (requiredOf o y s d e) → n .core < s .cores) → namesMet o y s d t₁ es e ≡ namesMet o y s d t₂ es e
   unfolding namesMet isMet
-  names-tails es e h = all-cong (isMet t₁ es) (isMet t₂ es) (requiredOf o s d e) (λ n m. rw (same (n .core) (h n m)))
+  names-tails es e h = all-cong (isMet t₁ es) (isMet t₂ es) (requiredOf o y s d e) (λ n m. rw (same (n .core) (h n m)))
 
-  pub valid-tails : (t : ℕ → Tail) (most : ℕ → ℕ) → validSet o s d t₁ (journals s d t most) ≡ validSet o s d t₂ (journals s d t most)
+  pub valid-tails : (t : ℕ → Tail) (most : ℕ → ℕ) → validSet o y s d t₁ (journals y s d t most) ≡ validSet o y s d t₂ (journals y s d t most)
   unfolding validSet
   valid-tails t most =
-      shrink-cong (namesMet o s d t₁) (namesMet o s d t₂) (journals s d t most)
+      shrink-cong (namesMet o y s d t₁) (namesMet o y s d t₂) (journals y s d t most)
       (λ ss e m.
-      let k = journals-known s d t most e m in
-      names-tails ss e (unfold requiredOf in required-core o (nameOf e) (namesOf s d e) (s .cores) (k .0) (listed-core s d (e .core) ((t (e .core)) .number + k .1 .0) e (k .1 .1))))
+      let k = journals-known y s d t most e m in
+      names-tails ss e (unfold requiredOf in required-core o (nameOf e) (namesOf y s d e) (s .cores) (k .0) (named-core y s d (e .core) ((t (e .core)) .number + k .1 .0) e (k .1 .1))))
 
-pub journals-tails : (s : Shape) (d : Bytes) (t₁ t₂ : ℕ → Tail) (m₁ m₂ : ℕ → ℕ)
-    → ((c : ℕ) → c < s .cores → journal s d c (t₁ c) (m₁ c) ≡ journal s d c (t₂ c) (m₂ c)) → journals s d t₁ m₁ ≡ journals s d t₂ m₂
+pub journals-tails : (y : CommitLayout) (s : Shape) (d : Bytes) (t₁ t₂ : ℕ → Tail) (m₁ m₂ : ℕ → ℕ)
+    → ((c : ℕ) → c < s .cores → journal y s d c (t₁ c) (m₁ c) ≡ journal y s d c (t₂ c) (m₂ c)) → journals y s d t₁ m₁ ≡ journals y s d t₂ m₂
 unfolding journals
-journals-tails s d t₁ t₂ m₁ m₂ h = flatMap-below _ _ (s .cores) h
+journals-tails y s d t₁ t₂ m₁ m₂ h = flatMap-below _ _ (s .cores) h
 
 -- ---- a core's slots that are filled are as many as its records
-pub read-count : {s : Shape} → InRange s → (d : Bytes) (ts : List Tail) (most set : List ℕ) → Reads s d ts most set → (c : ℕ) → c < s .cores
-    → filledFrom s set (12 * c) 12 ≡ length (journal s d c (tailFor ts c) (getD most c 0))
+pub read-count : (y : CommitLayout) {s : Shape} → InRange s → (d : Bytes) (ts : List Tail) (most set : List ℕ) → Reads y s d ts most set → (c : ℕ) → c < s .cores
+    → filledFrom s set (12 * c) 12 ≡ length (journal y s d c (tailFor ts c) (getD most c 0))
 unfolding Reads
-read-count {s} l d ts most set r c h = sym (core-length s d (numbersOf ts) set c 12) ∙ ap length (r c h)
+read-count y {s} l d ts most set r c h = sym (core-length s d (numbersOf ts) set c 12) ∙ ap length (r c h)

@@ -1,29 +1,28 @@
 -- Sets as slots and as lists: which transactions a set has, a name looked up by its slot, one round of striking, and how
 -- many are left.
-use Rattle.model.proofs.Base.{ℕ, zero, suc, _+_, _-_, _*_, _/_, _%_, _≤_, _<_, min, arith, decLt, _≡_, refl, sym, ap, fun-ext}
-use Rattle.model.proofs.Base.{_∙_, inl, inr, Bool, true, false, cond, not, _&&_, List, [], _∷_, _++_, map, List·Memᴰ}
+use Rattle.model.proofs.Base.{ℕ, zero, suc, _+_, _-_, _*_, _/_, _%_, _≤_, _<_, arith, decLt, _≡_, refl, sym, ap}
+use Rattle.model.proofs.Base.{_∙_, inl, inr, Bool, true, false, cond, not, _&&_, List, [], _∷_, _++_, List·Memᴰ}
 use Rattle.model.proofs.Base.{List·Memᴰ·head, List·Memᴰ·not-nil, List·Memᴰ·append-cases, List·Memᴰ·eq-of-singleton, length}
 use Rattle.model.proofs.Base.{getD, length-append, eqb, ltb, eqb-true, eqb-false, eq-eqb, ne-eqb, lt-ltb, le-ltb, ltb-true}
 use Rattle.model.proofs.Base.{ltb-false, not-true, not-false, below, all, select, Bytes}
 use mathlib.Core.List.{Memᴰ·append-left, Memᴰ·append-right}
 use Rattle.model.specs.Card.{newName, sameName}
-use Rattle.model.specs.Layout.{pairAt, pairsIn, namesIn, blockCount, nameCount}
-use Rattle.model.specs.Journal.{journalAt, nameOf, namesOf}
+use Rattle.model.specs.Journal.{nameOf}
 use Rattle.model.specs.Shrink.{strike}
 use Rattle.model.specs.Valid.{unordered, in-sequence, required, requiredOf, isIn, isMet, namesMet}
 use Rattle.model.specs.declared.Shape.{Shape}
 use Rattle.model.specs.declared.Tail.{Tail}
 use Rattle.model.specs.declared.Name.{Name}
+use Rattle.model.specs.declared.CommitLayout.{CommitLayout}
 use Rattle.model.specs.declared.Committed.{Committed}
 use Rattle.model.specs.declared.Found.{Found}
 use Rattle.model.specs.declared.Found.the-variants.{Whole, Miss}
 use Rattle.model.proofs.Lists.{cases, bool-ext, and-left, and-right, any-mem, mem-any, getD-map-below}
 use Rattle.model.proofs.Limits.{InRange}
 use Rattle.model.proofs.Valid.{sameName-true, sameName-refl}
-use Rattle.layout.specs.Loops.{every}
-use Rattle.layout.proofs.Loops.{every-map, Filled, filled-all}
+use Rattle.layout.proofs.Loops.{Filled, filled-all}
 use Rattle.journal.specs.Slots.{tailFor, numbersOf, slotOf, isFilled, entry, foundAt, listOf, entriesTo, entries, entriesOf, filledFrom}
-use Rattle.valid.specs.Sets.{tailNumber, numbered, isHere, slotMet, nameMet, beforeMet, keepsSlot, keptSlot, struck, SameTo}
+use Rattle.valid.specs.Sets.{tailNumber, numbered, isHere, slotMet, beforeMet, keepsSlot, keptSlot, struck, SameTo}
 use Rattle.journal.proofs.Slots.{empty-slot, filled-slot}
 use Rattle.journal.proofs.Entries.{slot-core}
 
@@ -128,8 +127,8 @@ module _ (s : Shape) (d : Bytes) (ks set : List ℕ) where
         let t : tailNumber ks c ≡ getD ks (i / 12) 0 = ap (tailNumber ks) e ∙ in-range (i / 12) there in
         let j : k - tailNumber ks c ≡ i % 12 = omega arith in
         let z : 12 * c + i % 12 ≡ i = omega arith in
-        let y : c < s .cores = omega arith in
-        rw (j, z, filled, lt-ltb c (s .cores) y, lt-ltb (i % 12) 12 (omega arith))
+        let g : c < s .cores = omega arith in
+        rw (j, z, filled, lt-ltb c (s .cores) g, lt-ltb (i % 12) 12 (omega arith))
 
     here-yes : (n : Name) → isIn (entries s d ks set) n ≡ true → isHere s set (tailNumber ks (n .core)) (n .core) (n .number) ≡ true
     unfolding isIn entries entry
@@ -171,15 +170,6 @@ module _ (s : Shape) (d : Bytes) (ks set : List ℕ) where
         (λ t. rw t)
         (λ t. rw t (in-slot n (ltb-false _ _ t)))
 
-    -- each name of a transaction, looked up by its slot
-    pub names-slot : (e : Committed) → namesMet unordered s d (numbered ks) (entries s d ks set) e
-        ≡ every (e .named) (nameMet s ks set (journalAt s d (e .core) (e .position + (e .count + 1))))
-    unfolding namesMet requiredOf required namesOf namesIn pairsIn nameMet
-    names-slot e =
-        let f = journalAt s d (e .core) (e .position + (e .count + 1)) in
-        ap (λ (p : Name → Bool). all p (map (pairAt newName f 24) (below (e .named)))) (fun-ext met-slot)
-        ∙ sym (every-map (λ (n : Name). slotMet s ks set (n .core) (n .number)) (pairAt newName f 24) (e .named))
-
     -- the one before the transaction in a slot. Before a core's first it lies below the tail number; where that is 0, the number
     -- less one is the transaction's own.
     slot-before : (i : ℕ) → isFilled s set i ≡ true → slotMet s ks set (i / 12) (getD ks (i / 12) 0 + i % 12 - 1) ≡ beforeMet s set i
@@ -200,13 +190,13 @@ module _ (s : Shape) (d : Bytes) (ks set : List ℕ) where
         rw (z, le-ltb k t (omega arith)) (sym (here-slot s set t c k (isFilled s set (i - 1)) (ap (isFilled s set) (sym at)) there (omega arith))))
 
     -- all that it requires: the one before, and its names
-    required-slot : (i v : ℕ) → isFilled s set i ≡ true
-        → namesMet in-sequence s d (numbered ks) (entries s d ks set) (entry s d (i / 12) (getD ks (i / 12) 0 + i % 12) v)
-        ≡ (beforeMet s set i && namesMet unordered s d (numbered ks) (entries s d ks set) (entry s d (i / 12) (getD ks (i / 12) 0 + i % 12) v))
+    required-slot : (y : CommitLayout) (i v : ℕ) → isFilled s set i ≡ true
+        → namesMet in-sequence y s d (numbered ks) (entries s d ks set) (entry s d (i / 12) (getD ks (i / 12) 0 + i % 12) v)
+        ≡ (beforeMet s set i && namesMet unordered y s d (numbered ks) (entries s d ks set) (entry s d (i / 12) (getD ks (i / 12) 0 + i % 12) v))
     unfolding namesMet requiredOf required all entry
-    required-slot i v f =
+    required-slot y i v f =
         let k = getD ks (i / 12) 0 + i % 12 in
-        ap (λ (b : Bool). b && namesMet unordered s d (numbered ks) (entries s d ks set) (entry s d (i / 12) k v))
+        ap (λ (b : Bool). b && namesMet unordered y s d (numbered ks) (entries s d ks set) (entry s d (i / 12) k v))
         (met-slot (newName (i / 12) (k - 1)) ∙ slot-before i f)
 
 -- ---- one round
@@ -219,14 +209,7 @@ module _ {A : Type 0} (p : A → Bool) where
       (λ h. rw h (ap (λ (l : List A). x ∷ l) (select-append xs ys)))
       (λ h. rw h (select-append xs ys))
 
-module _ (s : Shape) (d : Bytes) (ks set : List ℕ) where
-  abbrev stays : Committed → Bool
-  stays = namesMet in-sequence s d (numbered ks) (entries s d ks set)
-
-  struck-at : (i : ℕ) → i < 96 → getD (struck s d ks set) i 0 ≡ cond (keepsSlot s d ks set (foundAt s d ks set i)) (getD set i 0) 0
-  unfolding struck keptSlot
-  struck-at i h = getD-map-below (keptSlot s d ks set) 96 i 0 h
-
+module _ (s : Shape) (d : Bytes) (ks : List ℕ) where
   slot-same : (a b : List ℕ) (i : ℕ) → getD a i 0 ≡ getD b i 0 → foundAt s d ks a i ≡ foundAt s d ks b i
   unfolding foundAt slotOf
   slot-same a b i h = rw h
@@ -235,19 +218,27 @@ module _ (s : Shape) (d : Bytes) (ks set : List ℕ) where
   unfolding slotOf
   slot-none a i h = empty-slot s d ks a i (rw h (cases (ltb (i / 12) (s .cores)) (λ t. rw t) (λ t. rw t)))
 
-  -- what a round leaves of one slot
-  left-of : (i : ℕ) (f : Found) → foundAt s d ks set i ≡ f → i < 96 → foundAt s d ks (struck s d ks set) i ≡ cond (keepsSlot s d ks set f) f Miss
-  left-of i f e h =
-      cases (keepsSlot s d ks set f)
-      (λ t. rw t (slot-same (struck s d ks set) set i (struck-at i h ∙ rw (e, t)) ∙ e))
-      (λ t. rw t (slot-none (struck s d ks set) i (struck-at i h ∙ rw (e, t))))
+module _ (y : CommitLayout) (s : Shape) (d : Bytes) (ks set : List ℕ) where
+  abbrev stays : Committed → Bool
+  stays = namesMet in-sequence y s d (numbered ks) (entries s d ks set)
 
-  left-list : (f : Found) → listOf (cond (keepsSlot s d ks set f) f Miss) ≡ select stays (listOf f)
+  struck-at : (i : ℕ) → i < 96 → getD (struck y s d ks set) i 0 ≡ cond (keepsSlot y s d ks set (foundAt s d ks set i)) (getD set i 0) 0
+  unfolding struck keptSlot
+  struck-at i h = getD-map-below (keptSlot y s d ks set) 96 i 0 h
+
+  -- what a round leaves of one slot
+  left-of : (i : ℕ) (f : Found) → foundAt s d ks set i ≡ f → i < 96 → foundAt s d ks (struck y s d ks set) i ≡ cond (keepsSlot y s d ks set f) f Miss
+  left-of i f e h =
+      cases (keepsSlot y s d ks set f)
+      (λ t. rw t (slot-same s d ks (struck y s d ks set) set i (struck-at i h ∙ rw (e, t)) ∙ e))
+      (λ t. rw t (slot-none s d ks (struck y s d ks set) i (struck-at i h ∙ rw (e, t))))
+
+  left-list : (f : Found) → listOf (cond (keepsSlot y s d ks set f) f Miss) ≡ select stays (listOf f)
   unfolding listOf keepsSlot select
   left-list Miss = refl
   left-list (Whole e) = cases (stays e) (λ t. rw t) (λ t. rw t)
 
-  struck-to : (n : ℕ) → n ≤ 96 → entriesTo s d ks (struck s d ks set) n ≡ select stays (entriesTo s d ks set n)
+  struck-to : (n : ℕ) → n ≤ 96 → entriesTo s d ks (struck y s d ks set) n ≡ select stays (entriesTo s d ks set n)
   unfolding entriesTo select
   struck-to zero h = refl
   struck-to (suc n) h =
@@ -255,7 +246,7 @@ module _ (s : Shape) (d : Bytes) (ks set : List ℕ) where
       (sym (select-append stays (entriesTo s d ks set n) (listOf (foundAt s d ks set n))))
 
   -- a round over slots is one over the list
-  pub struck-entries : entries s d ks (struck s d ks set) ≡ strike (namesMet in-sequence s d (numbered ks)) (entries s d ks set)
+  pub struck-entries : entries s d ks (struck y s d ks set) ≡ strike (namesMet in-sequence y s d (numbered ks)) (entries s d ks set)
   unfolding entries strike
   struck-entries = struck-to 96 (omega arith)
 
@@ -283,45 +274,26 @@ module _ (s : Shape) (ks set : List ℕ) (c k : ℕ) where
     unfolding slotMet tailNumber
     met-here r q g = q ∙ rw (lt-ltb c 8 h, ← e, le-ltb k n g)
 
-module _ (s : Shape) (d : Bytes) (ks set : List ℕ) where
-  pub name-is : (f : Bytes) (i c k : ℕ) (r : Bool) → c ≡ (pairAt newName f 24 i) .core → k ≡ (pairAt newName f 24 i) .number → r ≡ slotMet s ks set c k → r ≡ nameMet s ks set f i
-  unfolding nameMet
-  name-is f i c k r p q e = e ∙ rw (p, q)
-
-  names-are : (e : Committed) (f : Bytes) (r : Bool) → f ≡ journalAt s d (e .core) (e .position + (e .count + 1)) → r ≡ every (e .named) (nameMet s ks set f) → InRange s
-      → r ≡ namesMet unordered s d (numbered ks) (entries s d ks set) e
-  names-are e f r q h l = h ∙ rw q (sym (names-slot s d ks set l e))
-
-  -- as they are read from a slot's descriptor and commit
-  pub names-read : (c v x n y m : ℕ) (b f : Bytes) (r : Bool) → b ≡ journalAt s d c (v - 1) → x ≡ blockCount b → n ≡ min x 8
-      → f ≡ journalAt s d c (v - 1 + (n + 1)) → y ≡ nameCount f → m ≡ min y 12 → r ≡ every m (nameMet s ks set f) → InRange s
-      → (k : ℕ) → r ≡ namesMet unordered s d (numbered ks) (entries s d ks set) (entry s d c k v)
-  unfolding entry
-  names-read c v x n y m b f r eb ex en ef ey em er l k =
-      let h : n ≡ min (blockCount (journalAt s d c (v - 1))) 8 = en ∙ rw (ex, eb) in
-      let g : f ≡ journalAt s d c (v - 1 + (min (blockCount (journalAt s d c (v - 1))) 8 + 1)) = rw h at ef in
-      let a : m ≡ (entry s d c k v) .named = em ∙ ap (λ (n : ℕ). min n 12) (ey ∙ ap nameCount g) in
-      names-are (entry s d c k v) f r g (er ∙ ap (λ (n : ℕ). every n (nameMet s ks set f)) a) l
-
+module _ (y : CommitLayout) (s : Shape) (d : Bytes) (ks set : List ℕ) where
   module _ (i v : ℕ) (e : v ≡ slotOf s set i) where
-    pub kept-none : v ≡ 0 → 0 ≡ keptSlot s d ks set i
+    pub kept-none : v ≡ 0 → 0 ≡ keptSlot y s d ks set i
     unfolding keptSlot keepsSlot
     kept-none h = rw (empty-slot s d ks set i (sym e ∙ h))
 
     module _ (h : v ≡ 0 → ⊥) (l : InRange s) (b : Bool) (p : b ≡ beforeMet s set i) where
-      kept-by : keptSlot s d ks set i
-          ≡ cond (b && namesMet unordered s d (numbered ks) (entries s d ks set) (entry s d (i / 12) (getD ks (i / 12) 0 + i % 12) v)) (getD set i 0) 0
+      kept-by : keptSlot y s d ks set i
+          ≡ cond (b && namesMet unordered y s d (numbered ks) (entries s d ks set) (entry s d (i / 12) (getD ks (i / 12) 0 + i % 12) v)) (getD set i 0) 0
       unfolding keptSlot keepsSlot isFilled
-      kept-by = rw (filled-slot s d ks set i v (sym e) h, required-slot s d ks set l i v (rw (← e, ne-eqb v 0 h)), p)
+      kept-by = rw (filled-slot s d ks set i v (sym e) h, required-slot s d ks set l y i v (rw (← e, ne-eqb v 0 h)), p)
 
-      pub kept-alone : b ≡ false → 0 ≡ keptSlot s d ks set i
+      pub kept-alone : b ≡ false → 0 ≡ keptSlot y s d ks set i
       kept-alone t = rw (kept-by, t)
 
-      module _ (t : b ≡ true) (r : Bool) (q : (k : ℕ) → r ≡ namesMet unordered s d (numbered ks) (entries s d ks set) (entry s d (i / 12) k v)) where
-        pub kept-in : r ≡ true → getD set i 0 ≡ keptSlot s d ks set i
+      module _ (t : b ≡ true) (r : Bool) (q : (k : ℕ) → r ≡ namesMet unordered y s d (numbered ks) (entries s d ks set) (entry s d (i / 12) k v)) where
+        pub kept-in : r ≡ true → getD set i 0 ≡ keptSlot y s d ks set i
         kept-in u = rw (kept-by, t, ← q (getD ks (i / 12) 0 + i % 12), u)
 
-        pub kept-out : r ≡ false → 0 ≡ keptSlot s d ks set i
+        pub kept-out : r ≡ false → 0 ≡ keptSlot y s d ks set i
         kept-out u = rw (kept-by, t, ← q (getD ks (i / 12) 0 + i % 12), u)
 
 -- ---- the same slots
@@ -344,15 +316,15 @@ module _ (a b : List ℕ) where
   entries-to : (s : Shape) (d : Bytes) (ks : List ℕ) (n : ℕ) → SameTo a b n → entriesTo s d ks a n ≡ entriesTo s d ks b n
   unfolding entriesTo SameTo
   entries-to s d ks zero w = refl
-  entries-to s d ks (suc n) w = rw (entries-to s d ks n (λ i h. w i (omega arith)), slot-same s d ks [] a b n (w n (omega arith)))
+  entries-to s d ks (suc n) w = rw (entries-to s d ks n (λ i h. w i (omega arith)), slot-same s d ks a b n (w n (omega arith)))
 
   pub entries-same : (s : Shape) (d : Bytes) (ks : List ℕ) → SameTo a b 96 → entries s d ks a ≡ entries s d ks b
   unfolding entries
   entries-same s d ks w = entries-to s d ks 96 w
 
-pub all-struck : (s : Shape) (d : Bytes) (ks set next : List ℕ) (i : ℕ) → Filled (keptSlot s d ks set) 96 next i → 96 ≤ i → next ≡ struck s d ks set
+pub all-struck : (y : CommitLayout) (s : Shape) (d : Bytes) (ks set next : List ℕ) (i : ℕ) → Filled (keptSlot y s d ks set) 96 next i → 96 ≤ i → next ≡ struck y s d ks set
 unfolding struck
-all-struck s d ks set next i w h = filled-all (keptSlot s d ks set) 96 next i w h
+all-struck y s d ks set next i w h = filled-all (keptSlot y s d ks set) 96 next i w h
 
 -- the tail numbers, one after another
 unfoldable pub numberAt : List Tail → ℕ → ℕ

@@ -5,6 +5,7 @@ use Rattle.model.specs.Shrink.{strike, shrinkIn, shrink}
 use Rattle.model.specs.Valid.{in-sequence, namesMet, validSet}
 use Rattle.model.specs.declared.Shape.{Shape}
 use Rattle.model.specs.declared.Tail.{Tail}
+use Rattle.model.specs.declared.CommitLayout.{CommitLayout}
 use Rattle.model.proofs.Lists.{cases}
 use Rattle.model.proofs.Shrink.{shrinkIn-settled, shrinkIn-again}
 use Rattle.model.proofs.Select.{select-length, select-all, select-same}
@@ -51,37 +52,37 @@ module _ {A : Type 0} (stays : List A → A → Bool) where
       enough (length (strike stays (x ∷ es))) (length es) (strike stays (x ∷ es)) (omega arith) (omega arith) ∙ sym (shrinkIn-again stays (length es) (x ∷ es) t))
 
 -- ---- the recursion over slots: ys is what a round leaves of xs
-module _ (s : Shape) (d : Bytes) (ks xs ys : List ℕ) (m n : ℕ) (e : ys ≡ struck s d ks xs) (p : m ≡ filledFrom s ys 0 96) (q : n ≡ filledFrom s xs 0 96) where
+module _ (y : CommitLayout) (s : Shape) (d : Bytes) (ks xs ys : List ℕ) (m n : ℕ) (e : ys ≡ struck y s d ks xs) (p : m ≡ filledFrom s ys 0 96) (q : n ≡ filledFrom s xs 0 96) where
   size : (set : List ℕ) → length (entries s d ks set) ≡ filledFrom s set 0 96
   unfolding entries
   size set = entries-length s d ks set 96
 
-  round : entries s d ks ys ≡ strike (namesMet in-sequence s d (numbered ks)) (entries s d ks xs)
-  round = rw e (struck-entries s d ks xs)
+  round : entries s d ks ys ≡ strike (namesMet in-sequence y s d (numbered ks)) (entries s d ks xs)
+  round = rw e (struck-entries y s d ks xs)
 
-  pub shrink-same : m ≡ n → entries s d ks ys ≡ shrink (namesMet in-sequence s d (numbered ks)) (entries s d ks xs)
+  pub shrink-same : m ≡ n → entries s d ks ys ≡ shrink (namesMet in-sequence y s d (numbered ks)) (entries s d ks xs)
   shrink-same h =
-      round ∙ shrink-stop (namesMet in-sequence s d (numbered ks)) (entries s d ks xs) (sym (ap length round) ∙ size ys ∙ sym p ∙ h ∙ q ∙ sym (size xs))
+      round ∙ shrink-stop (namesMet in-sequence y s d (numbered ks)) (entries s d ks xs) (sym (ap length round) ∙ size ys ∙ sym p ∙ h ∙ q ∙ sym (size xs))
 
-  pub shrink-less : (zs : List ℕ) → entries s d ks zs ≡ shrink (namesMet in-sequence s d (numbered ks)) (entries s d ks ys)
-      → entries s d ks zs ≡ shrink (namesMet in-sequence s d (numbered ks)) (entries s d ks xs)
-  shrink-less zs z = z ∙ ap (shrink (namesMet in-sequence s d (numbered ks))) round ∙ shrink-again (namesMet in-sequence s d (numbered ks)) (entries s d ks xs)
+  pub shrink-less : (zs : List ℕ) → entries s d ks zs ≡ shrink (namesMet in-sequence y s d (numbered ks)) (entries s d ks ys)
+      → entries s d ks zs ≡ shrink (namesMet in-sequence y s d (numbered ks)) (entries s d ks xs)
+  shrink-less zs z = z ∙ ap (shrink (namesMet in-sequence y s d (numbered ks))) round ∙ shrink-again (namesMet in-sequence y s d (numbered ks)) (entries s d ks xs)
 
   pub shrink-falls : (m ≡ n → ⊥) → filledFrom s ys 0 96 < filledFrom s xs 0 96
-  shrink-falls h = omega (arith, h, size ys, size xs, ap length round, strike-length (namesMet in-sequence s d (numbered ks)) (entries s d ks xs))
+  shrink-falls h = omega (arith, h, size ys, size xs, ap length round, strike-length (namesMet in-sequence y s d (numbered ks)) (entries s d ks xs))
 
 -- the first round; where no slot changes it is the last one
-pub valid-same : (s : Shape) (d : Bytes) (ts : List Tail) (ks xs ys : List ℕ) (r : Bool) → ks ≡ numbersOf ts → ys ≡ struck s d ks xs
-    → (r ≡ true → SameTo xs ys 96) → r ≡ true → entries s d (numbersOf ts) ys ≡ validSet in-sequence s d (numbered (numbersOf ts)) (entries s d (numbersOf ts) xs)
+pub valid-same : (y : CommitLayout) (s : Shape) (d : Bytes) (ts : List Tail) (ks xs ys : List ℕ) (r : Bool) → ks ≡ numbersOf ts → ys ≡ struck y s d ks xs
+    → (r ≡ true → SameTo xs ys 96) → r ≡ true → entries s d (numbersOf ts) ys ≡ validSet in-sequence y s d (numbered (numbersOf ts)) (entries s d (numbersOf ts) xs)
 unfolding validSet
-valid-same s d ts ks xs ys r e z w t =
-    let round : entries s d ks ys ≡ strike (namesMet in-sequence s d (numbered ks)) (entries s d ks xs) = rw z (struck-entries s d ks xs) in
-    let g = round ∙ shrink-stop (namesMet in-sequence s d (numbered ks)) (entries s d ks xs) (ap length (sym round ∙ sym (entries-same xs ys s d ks (w t)))) in
+valid-same y s d ts ks xs ys r e z w t =
+    let round : entries s d ks ys ≡ strike (namesMet in-sequence y s d (numbered ks)) (entries s d ks xs) = rw z (struck-entries y s d ks xs) in
+    let g = round ∙ shrink-stop (namesMet in-sequence y s d (numbered ks)) (entries s d ks xs) (ap length (sym round ∙ sym (entries-same xs ys s d ks (w t)))) in
     rw e at g
 
 -- otherwise the recursion follows
-pub valid-is : (s : Shape) (d : Bytes) (ts : List Tail) (ks xs ys zs : List ℕ) → ks ≡ numbersOf ts → ys ≡ struck s d ks xs
-    → entries s d ks zs ≡ shrink (namesMet in-sequence s d (numbered ks)) (entries s d ks ys)
-    → entries s d (numbersOf ts) zs ≡ validSet in-sequence s d (numbered (numbersOf ts)) (entries s d (numbersOf ts) xs)
+pub valid-is : (y : CommitLayout) (s : Shape) (d : Bytes) (ts : List Tail) (ks xs ys zs : List ℕ) → ks ≡ numbersOf ts → ys ≡ struck y s d ks xs
+    → entries s d ks zs ≡ shrink (namesMet in-sequence y s d (numbered ks)) (entries s d ks ys)
+    → entries s d (numbersOf ts) zs ≡ validSet in-sequence y s d (numbered (numbersOf ts)) (entries s d (numbersOf ts) xs)
 unfolding validSet
-valid-is s d ts ks xs ys zs e r h = let g = shrink-less s d ks xs ys _ _ r refl refl zs h in rw e at g
+valid-is y s d ts ks xs ys zs e r h = let g = shrink-less y s d ks xs ys _ _ r refl refl zs h in rw e at g

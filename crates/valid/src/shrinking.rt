@@ -10,14 +10,22 @@ ghost use Rattle.model.specs.Valid.{unordered, in-sequence, namesMet, validSet}
 ghost use Rattle.model.specs.Limits.{blockSize, diskSize, maxNames};
 ghost use Rattle.layout.specs.Loops.{every};
 ghost use Rattle.journal.specs.Slots.{numbersOf, entry, entries, isFilled, filledFrom};
-ghost use Rattle.valid.specs.Sets.{numbered, isHere, slotMet, nameMet, beforeMet, keptSlot, struck, SameTo};
+ghost use Rattle.valid.specs.Sets.{numbered, isHere, slotMet, nameMet, numberMet, commitMet, beforeMet, keptSlot, struck, SameTo};
 use journal::at_most;
 use journal::count_slots;
 use journal::is_filled;
 use journal::journal_part;
 use journal::slot_of;
+use model::CommitLayout;
 use model::Shape;
 use model::Tail;
+
+// How the commits of a disk name transactions, and its shape: one value for the recursion, so that a level of it takes no more of the
+// stack than the shape alone would.
+struct LayoutAndShape {
+    layout: CommitLayout,
+    shape: Shape,
+}
 
 // Whether transaction k of core c, whose tail number is n, is in the set.
 fn is_here(s: Shape, set: &[u16; 96], n: u32, c: u32, k: u32) -> bool
@@ -34,39 +42,39 @@ fn is_here(s: Shape, set: &[u16; 96], n: u32, c: u32, k: u32) -> bool
     is_filled(s, set, 12 * c as usize + j as usize)
 }
 
-// Whether a name is met: below its core's tail number, or in the set.
-fn is_met(s: Shape, numbers: &[u32; 8], set: &[u16; 96], c: u32, k: u32) -> bool
+// Whether a name is met: below its core's tail number, the number of its oldest, or in the set.
+fn is_met(s: Shape, oldest: &[u32; 8], set: &[u16; 96], c: u32, k: u32) -> bool
     requires { ⌜ InRange s ⌝ }
-    ensures { λ r. ⌜ r ≡ slotMet s (now (numbers .entry)) (now (set .entry)) c k ⌝ }
+    ensures { λ r. ⌜ r ≡ slotMet s (now (oldest .entry)) (now (set .entry)) c k ⌝ }
 {
     if 8 <= c {
         return false;
     }
-    let n = numbers[c as usize];
+    let n = oldest[c as usize];
     if k < n {
         return true;
     }
     is_here(s, set, n, c, k)
 }
 
-// Whether the i-th name of a commit is met.
-fn name_met(s: Shape, numbers: &[u32; 8], set: &[u16; 96], commit: &[u8], i: usize) -> bool
+// Whether the i-th name that a commit lists is met.
+fn name_met(s: Shape, oldest: &[u32; 8], set: &[u16; 96], commit: &[u8], i: usize) -> bool
     requires { ⌜ InRange s × (length (now commit) ≡ blockSize) × (i < maxNames) ⌝ }
-    ensures { λ r. ⌜ r ≡ nameMet s (now (numbers .entry)) (now (set .entry)) (now (commit .entry)) i ⌝ }
+    ensures { λ r. ⌜ r ≡ nameMet s (now (oldest .entry)) (now (set .entry)) (now (commit .entry)) i ⌝ }
 {
     let c = layout::name_core(commit, i);
     let k = layout::name_number(commit, i);
-    is_met(s, numbers, set, c, k)
+    is_met(s, oldest, set, c, k)
 }
 
-// Whether the first n names of a commit are.
-fn are_met(s: Shape, numbers: &[u32; 8], set: &[u16; 96], commit: &[u8], n: usize) -> bool
+// Whether the first n names that a commit lists are met.
+fn are_met(s: Shape, oldest: &[u32; 8], set: &[u16; 96], commit: &[u8], n: usize) -> bool
     requires { ⌜ InRange s × (length (now commit) ≡ blockSize) × (n ≤ maxNames) ⌝ }
-    ensures { λ r. ⌜ r ≡ every n (nameMet s (now (numbers .entry)) (now (set .entry)) (now (commit .entry))) ⌝ }
+    ensures { λ r. ⌜ r ≡ every n (nameMet s (now (oldest .entry)) (now (set .entry)) (now (commit .entry))) ⌝ }
 {
     let mut i: usize = 0;
     while i < n {
-        if !name_met(s, numbers, set, commit, i) {
+        if !name_met(s, oldest, set, commit, i) {
             return false;
         }
         i += 1;
@@ -74,13 +82,59 @@ fn are_met(s: Shape, numbers: &[u32; 8], set: &[u16; 96], commit: &[u8], n: usiz
     true
 }
 
-// Whether each name that core c's transaction lists is met, with v the position after its descriptor. Its number plays no
+// Whether the number that a commit has for core c is met; where it has none, nothing is asked for.
+fn number_met(s: Shape, oldest: &[u32; 8], set: &[u16; 96], commit: &[u8], c: usize) -> bool
+    requires { ⌜ InRange s × (length (now commit) ≡ blockSize) × (c < 8) ⌝ }
+    ensures { λ r. ⌜ r ≡ numberMet s (now (oldest .entry)) (now (set .entry)) (now (commit .entry)) c ⌝ }
+{
+    let k = layout::number_named(commit, c);
+    if k == 0 {
+        return true;
+    }
+    is_met(s, oldest, set, c as u32, k)
+}
+
+// Whether the numbers that a commit has, one for each core, are met.
+fn numbers_met(s: Shape, oldest: &[u32; 8], set: &[u16; 96], commit: &[u8]) -> bool
+    requires { ⌜ InRange s × (length (now commit) ≡ blockSize) ⌝ }
+    ensures { λ r. ⌜ r ≡ every 8 (numberMet s (now (oldest .entry)) (now (set .entry)) (now (commit .entry))) ⌝ }
+{
+    let mut c: usize = 0;
+    while c < 8 {
+        if !number_met(s, oldest, set, commit, c) {
+            return false;
+        }
+        c += 1;
+    }
+    true
+}
+
+// Whether each transaction that a commit names is met.
+fn commit_met(y: CommitLayout, s: Shape, oldest: &[u32; 8], set: &[u16; 96], commit: &[u8]) -> bool
+    requires { ⌜ InRange s × (length (now commit) ≡ blockSize) ⌝ }
+    ensures { λ r. ⌜ r ≡ commitMet y s (now (oldest .entry)) (now (set .entry)) (now (commit .entry)) ⌝ }
+{
+    match y {
+        CommitLayout::Lists => are_met(s, oldest, set, commit, layout::names_listed(commit)),
+        CommitLayout::Numbers => numbers_met(s, oldest, set, commit),
+    }
+}
+
+// Whether each that core c's transaction names is met, with v the position after its descriptor. Its number plays no
 // part: the one before it is not asked for here.
-fn names_met(s: Shape, disk: &[u8], numbers: &[u32; 8], set: &[u16; 96], c: u8, v: usize) -> bool
+fn names_met(
+    y: CommitLayout,
+    s: Shape,
+    disk: &[u8],
+    oldest: &[u32; 8],
+    set: &[u16; 96],
+    c: u8,
+    v: usize,
+) -> bool
     requires { ⌜ InRange s × (length (now disk) ≡ diskSize) × (c < s .cores) × (1 ≤ v) × (v ≤ 256) ⌝ }
     ensures { λ r. ⌜
-        ((k : ℕ) → r ≡ namesMet unordered s (now (disk .entry)) (numbered (now (numbers .entry)))
-        (entries s (now (disk .entry)) (now (numbers .entry)) (now (set .entry)))
+        ((k : ℕ) → r ≡ namesMet unordered y s (now (disk .entry)) (numbered (now (oldest .entry)))
+        (entries s (now (disk .entry)) (now (oldest .entry)) (now (set .entry)))
         (entry s (now (disk .entry)) c k v))
         ⌝ }
 {
@@ -90,8 +144,7 @@ fn names_met(s: Shape, disk: &[u8], numbers: &[u32; 8], set: &[u16; 96], c: u8, 
         Shape::MAX_TAKEN,
     );
     let commit = journal_part(s, disk, c, at + (count + 1));
-    let named = at_most(layout::name_count(commit), Shape::MAX_NAMES);
-    are_met(s, numbers, set, commit, named)
+    commit_met(y, s, oldest, set, commit)
 }
 
 // Whether the one before the transaction in slot i is met: in the slot before, or for its core's first below the tail.
@@ -106,9 +159,16 @@ fn before_met(s: Shape, set: &[u16; 96], i: usize) -> bool
 }
 
 // Slot i after one round: struck where the one before or a name is unmet.
-fn keep_slot(s: Shape, disk: &[u8], numbers: &[u32; 8], set: &[u16; 96], i: usize) -> u16
+fn keep_slot(
+    y: CommitLayout,
+    s: Shape,
+    disk: &[u8],
+    oldest: &[u32; 8],
+    set: &[u16; 96],
+    i: usize,
+) -> u16
     requires { ⌜ InRange s × (length (now disk) ≡ diskSize) × (i < 96) ⌝ }
-    ensures { λ r. ⌜ r ≡ keptSlot s (now (disk .entry)) (now (numbers .entry)) (now (set .entry)) i ⌝ }
+    ensures { λ r. ⌜ r ≡ keptSlot y s (now (disk .entry)) (now (oldest .entry)) (now (set .entry)) i ⌝ }
 {
     let v = slot_of(s, set, i);
     if v == 0 {
@@ -117,21 +177,27 @@ fn keep_slot(s: Shape, disk: &[u8], numbers: &[u32; 8], set: &[u16; 96], i: usiz
     if !before_met(s, set, i) {
         return 0;
     }
-    if names_met(s, disk, numbers, set, (i / 12) as u8, v) {
+    if names_met(y, s, disk, oldest, set, (i / 12) as u8, v) {
         return set[i];
     }
     0
 }
 
 // The set after one round.
-fn strike_unmet(s: Shape, disk: &[u8], numbers: &[u32; 8], set: &[u16; 96]) -> [u16; 96]
+fn strike_unmet(
+    y: CommitLayout,
+    s: Shape,
+    disk: &[u8],
+    oldest: &[u32; 8],
+    set: &[u16; 96],
+) -> [u16; 96]
     requires { ⌜ InRange s × (length (now disk) ≡ diskSize) ⌝ }
-    ensures { λ r. ⌜ r ≡ struck s (now (disk .entry)) (now (numbers .entry)) (now (set .entry)) ⌝ }
+    ensures { λ r. ⌜ r ≡ struck y s (now (disk .entry)) (now (oldest .entry)) (now (set .entry)) ⌝ }
 {
     let mut next = [0u16; 96];
     let mut i: usize = 0;
     while i < 96 {
-        next[i] = keep_slot(s, disk, numbers, set, i);
+        next[i] = keep_slot(y, s, disk, oldest, set, i);
         i += 1;
     }
     next
@@ -139,30 +205,39 @@ fn strike_unmet(s: Shape, disk: &[u8], numbers: &[u32; 8], set: &[u16; 96]) -> [
 
 // One round in place: its copy of the set is gone before the next one begins. It is called from two places, so the compiler
 // keeps it out of the recursion, whose frames stay small.
-fn strike_round(s: Shape, disk: &[u8], numbers: &[u32; 8], set: &mut [u16; 96])
-    requires { ⌜ InRange s × (length (now disk) ≡ diskSize) ⌝ }
-    ensures { λ _. ⌜ now (set .exit) ≡ struck s (now (disk .entry)) (now (numbers .entry)) (now (set .entry)) ⌝ }
+fn strike_round(both: LayoutAndShape, disk: &[u8], oldest: &[u32; 8], set: &mut [u16; 96])
+    requires { ⌜ InRange (both .shape) × (length (now disk) ≡ diskSize) ⌝ }
+    ensures { λ _. ⌜
+        now (set .exit) ≡ struck (both .layout) (both .shape) (now (disk .entry)) (now (oldest .entry)) (now (set .entry))
+        ⌝ }
 {
-    let next = strike_unmet(s, disk, numbers, set);
+    let y = both.layout;
+    let next = strike_unmet(y, both.shape, disk, oldest, set);
     *set = next;
 }
 
 // The largest part of the set in which all that is required is met: struck until none goes. The count of those remaining
 // falls with each call.
-fn shrink_set(s: Shape, disk: &[u8], numbers: &[u32; 8], set: &mut [u16; 96], count: usize)
-    requires { ⌜ InRange s × (length (now disk) ≡ diskSize) × (count ≡ filledFrom s (now set) 0 96) ⌝ }
+fn shrink_set(
+    both: LayoutAndShape,
+    disk: &[u8],
+    oldest: &[u32; 8],
+    set: &mut [u16; 96],
+    count: usize,
+)
+    requires { ⌜ InRange (both .shape) × (length (now disk) ≡ diskSize) × (count ≡ filledFrom (both .shape) (now set) 0 96) ⌝ }
     ensures { λ _. ⌜
-        entries s (now (disk .entry)) (now (numbers .entry)) (now (set .exit))
-        ≡ shrink (namesMet in-sequence s (now (disk .entry)) (numbered (now (numbers .entry))))
-        (entries s (now (disk .entry)) (now (numbers .entry)) (now (set .entry)))
+        entries (both .shape) (now (disk .entry)) (now (oldest .entry)) (now (set .exit))
+        ≡ shrink (namesMet in-sequence (both .layout) (both .shape) (now (disk .entry)) (numbered (now (oldest .entry))))
+        (entries (both .shape) (now (disk .entry)) (now (oldest .entry)) (now (set .entry)))
         ⌝ }
 {
-    strike_round(s, disk, numbers, set);
-    let left = count_slots(s, set, 0, 96);
+    strike_round(both, disk, oldest, set);
+    let left = count_slots(both.shape, set, 0, 96);
     if left == count {
         return;
     }
-    shrink_set(s, disk, numbers, set, left);
+    shrink_set(both, disk, oldest, set, left);
 }
 
 fn number_of(t: Tail) -> u32
@@ -172,17 +247,17 @@ fn number_of(t: Tail) -> u32
 }
 
 // The tail numbers: what the recursion hands on of the tails.
-fn numbers_of(tails: [Tail; 8]) -> [u32; 8]
+fn tail_numbers_of(tails: [Tail; 8]) -> [u32; 8]
     ensures { λ r. ⌜ r ≡ numbersOf tails ⌝ }
 {
-    let mut numbers = [0u32; 8];
+    let mut oldest = [0u32; 8];
     let mut c: usize = 0;
     while c < 8 {
         let t = tails[c];
-        numbers[c] = number_of(t);
+        oldest[c] = number_of(t);
         c += 1;
     }
-    numbers
+    oldest
 }
 
 // Whether two sets have the same slots.
@@ -200,22 +275,32 @@ fn same_slots(a: &[u16; 96], b: &[u16; 96]) -> bool
 }
 
 // The valid set of the transactions read; the first round is done here, and mostly none goes. No public entry.
-pub fn valid_slots(s: Shape, disk: &[u8], tails: [Tail; 8], committed: [u16; 96]) -> [u16; 96]
+pub fn valid_slots(
+    y: CommitLayout,
+    s: Shape,
+    disk: &[u8],
+    tails: [Tail; 8],
+    committed: [u16; 96],
+) -> [u16; 96]
     requires { ⌜ InRange s × (length (now disk) ≡ diskSize) ⌝ }
     ensures { λ r. ⌜
         entries s (now (disk .entry)) (numbersOf tails) r
-        ≡ validSet in-sequence s (now (disk .entry)) (numbered (numbersOf tails))
+        ≡ validSet in-sequence y s (now (disk .entry)) (numbered (numbersOf tails))
         (entries s (now (disk .entry)) (numbersOf tails) committed)
         ⌝ }
 {
-    let numbers = numbers_of(tails);
+    let oldest = tail_numbers_of(tails);
+    let both = LayoutAndShape {
+        layout: y,
+        shape: s,
+    };
     let mut set = committed;
-    strike_round(s, disk, &numbers, &mut set);
+    strike_round(both, disk, &oldest, &mut set);
     if same_slots(&committed, &set) {
         return set;
     }
     let left = count_slots(s, &set, 0, 96);
-    shrink_set(s, disk, &numbers, &mut set, left);
+    shrink_set(both, disk, &oldest, &mut set, left);
     set
 }
 

@@ -7,8 +7,8 @@ use card_library::stage::Implementation;
 use card_tests::command::{self, Command};
 use card_tests::few::Few;
 use card_tests::layout::{
-    begins_with_mark, block_at, commit, descriptor, escaped, master, read_master, Block, Name, Shape, Tail, Tails,
-    BLOCK, CORES, DISK, HOMES, LAST_NUMBER, LAST_TAIL, MEMORY, NAMES, TAKEN,
+    begins_with_mark, block_at, descriptor, escaped, master, number_commit, read_master, Block, Layout, Master, Name,
+    Shape, Tail, Tails, BLOCK, CORES, DISK, HOMES, LAST_NUMBER, LAST_TAIL, MEMORY, TAKEN,
 };
 
 #[derive(Clone, Copy, PartialEq)]
@@ -23,18 +23,14 @@ struct Transaction {
     number: u32,
     stamp: u64,
     blocks: Few<u8, TAKEN>,
-    names: Few<Name, NAMES>,
+    /// The highest number named of each core.
+    highest: [u32; CORES],
 }
 
 impl Transaction {
-    fn has_room_for(&self, name: Name) -> bool {
-        self.names.len() < NAMES || self.names.contains(&name)
-    }
-
     fn add_name(&mut self, name: Name) {
-        if !self.names.contains(&name) {
-            self.names.push(name);
-        }
+        let highest = &mut self.highest[name.core as usize];
+        *highest = name.number.max(*highest);
     }
 
     /// Journal blocks of its record.
@@ -103,7 +99,7 @@ impl Plain {
 
     /// Empty journals that begin at these tails, and a master that says so.
     fn come_up(&mut self, shape: Shape, tails: Tails, disk: &mut [u8]) {
-        put(disk, 0, &master(shape, &tails));
+        put(disk, 0, &master(&Master { layout: Layout::Numbers, shape, tails }));
         *self = Plain { phase: Phase::Up, shape, tails, stores: self.stores, ..Plain::blank() };
         for (core, tail) in self.cores.iter_mut().zip(tails) {
             core.next = tail.number;
@@ -121,8 +117,8 @@ impl Plain {
         (core < self.shape.cores).then_some(core as usize).ok_or(5)
     }
 
-    fn running(&self, name: Name) -> Option<&Transaction> {
-        self.cores[name.core as usize].running.as_ref().filter(|running| running.number == name.number)
+    fn is_running(&self, name: Name) -> bool {
+        self.cores[name.core as usize].running.is_some_and(|running| running.number == name.number)
     }
 
     fn write(&mut self, core: u8, block: u16, offset: u8, data: [u8; 4], disk: &[u8], memory: &mut [u8]) -> Answer {
@@ -136,9 +132,9 @@ impl Plain {
         let number = self.cores[c].running.map_or(self.cores[c].next, |running| running.number);
         let writer = Name { core, number };
         let other = self.holders[b].filter(|holder| *holder != writer);
-        let tied = other.filter(|holder| self.running(*holder).is_some());
+        let tied = other.filter(|holder| self.is_running(*holder));
         let takes = self.holders[b].is_none() || other.is_some() && tied.is_none();
-        self.refuse_write(writer, other, tied, takes)?;
+        self.refuse_write(writer, takes)?;
         if self.holders[b].is_none() {
             memory[b * BLOCK..(b + 1) * BLOCK].copy_from_slice(block_at(disk, 1 + b));
         }
@@ -147,17 +143,9 @@ impl Plain {
         Ok(0)
     }
 
-    /// Refusals 24 to 27.
-    fn refuse_write(&self, writer: Name, other: Option<Name>, tied: Option<Name>, takes: bool) -> Result<(), u8> {
+    /// Refusals 25 to 27.
+    fn refuse_write(&self, writer: Name, takes: bool) -> Result<(), u8> {
         let core = &self.cores[writer.core as usize];
-        let fits = |list: Option<&Transaction>, name: Option<Name>| match (list, name) {
-            (Some(list), Some(name)) => list.has_room_for(name),
-            _ => true,
-        };
-        let holder = tied.and_then(|name| self.running(name));
-        if !fits(core.running.as_ref(), other) || !fits(holder, Some(writer)) {
-            return Err(24);
-        }
         let taken = core.running.map_or(0, |running| running.blocks.len()) + takes as usize;
         if taken > TAKEN {
             return Err(25);
@@ -230,7 +218,7 @@ impl Plain {
             return Err(31);
         }
         let most = self.cores.map(|core| core.committed as usize);
-        let records = Records::read(disk, self.shape, &self.tails, &most);
+        let records = Records::read(disk, self.master(), &most);
         let first = records.first_of(c);
         if !records.valid(disk)[first] {
             return Err(32);
@@ -259,7 +247,7 @@ impl Plain {
         let c = name.core as usize;
         let position = (self.tails[c].position as usize + length) % self.shape.journal as usize;
         self.tails[c] = Tail { number: name.number + 1, position: position as u8 };
-        put(disk, 0, &master(self.shape, &self.tails));
+        put(disk, 0, &master(&self.master()));
         let core = &mut self.cores[c];
         core.committed -= 1;
         core.used -= length as u8;
@@ -269,9 +257,15 @@ impl Plain {
         }
     }
 
+    /// The master of a card that is up.
+    fn master(&self) -> Master {
+        Master { layout: Layout::Numbers, shape: self.shape, tails: self.tails }
+    }
+
     fn recover(&mut self, disk: &mut [u8]) -> Answer {
-        let (shape, tails) = read_master(disk).ok_or(8)?;
-        let records = Records::read(disk, shape, &tails, &[usize::MAX; CORES]);
+        let master = read_master(disk).ok_or(8)?;
+        let Master { shape, tails, .. } = master;
+        let records = Records::read(disk, master, &[usize::MAX; CORES]);
         let valid = records.valid(disk);
         for b in self.recovered..shape.blocks {
             if let Some(image) = records.newest(disk, &valid, b) {
@@ -347,7 +341,7 @@ fn record_block(closed: &Transaction, step: usize, c: usize, memory: &[u8]) -> B
     if step <= closed.blocks.len() {
         return escaped(copy(step - 1));
     }
-    commit(closed.number, closed.stamp, &closed.names)
+    number_commit(closed.number, closed.stamp, &closed.highest)
 }
 
 /// The memory block of the i-th closed copy of a core.

@@ -2,8 +2,8 @@
 
 use card_tests::few::Few;
 use card_tests::layout::{
-    block_at, unescaped, word, Block, Name, Shape, Tail, Tails, COMMIT, CORES, DESCRIPTOR, LAST_NUMBER, MARK, NAMES,
-    TAKEN,
+    block_at, unescaped, word, Block, Layout, Master, Name, Shape, Tail, COMMIT, CORES, DESCRIPTOR, LAST_NUMBER, MARK,
+    NAMES, TAKEN,
 };
 
 /// The most records that journals hold: twelve of two blocks each for eight cores.
@@ -16,7 +16,6 @@ pub struct Record {
     pub stamp: u64,
     position: u8,
     count: u8,
-    named: u8,
 }
 
 impl Record {
@@ -49,29 +48,28 @@ impl Record {
 
 /// The records of all journals, in order of core and number.
 pub struct Records {
-    shape: Shape,
-    tails: Tails,
+    master: Master,
     starts: [usize; CORES + 1],
     items: [Record; MOST],
 }
 
 impl Records {
     /// At most so many of each core, from its tail on.
-    pub fn read(disk: &[u8], shape: Shape, tails: &Tails, most: &[usize; CORES]) -> Records {
-        let mut records = Records { shape, tails: *tails, starts: [0; CORES + 1], items: [Record::default(); MOST] };
-        for c in 0..CORES {
-            let count = if c < shape.cores as usize { records.read_core(disk, c, most[c]) } else { 0 };
+    pub fn read(disk: &[u8], master: Master, most: &[usize; CORES]) -> Records {
+        let mut records = Records { master, starts: [0; CORES + 1], items: [Record::default(); MOST] };
+        for (c, most) in most.iter().enumerate() {
+            let count = if c < master.shape.cores as usize { records.read_core(disk, c, *most) } else { 0 };
             records.starts[c + 1] = records.starts[c] + count;
         }
         records
     }
 
     fn read_core(&mut self, disk: &[u8], c: usize, most: usize) -> usize {
-        let Tail { mut number, position } = self.tails[c];
+        let Tail { mut number, position } = self.master.tails[c];
         let (mut used, mut count) = (0, 0);
         while count < most {
             let name = Name { core: c as u8, number };
-            let Some(record) = read_record(disk, self.shape, name, position as usize, used) else { break };
+            let Some(record) = read_record(disk, &self.master, name, position as usize, used) else { break };
             self.items[self.starts[c] + count] = record;
             used += record.count as usize + 2;
             number += 1;
@@ -110,31 +108,40 @@ impl Records {
     }
 
     fn names_met(&self, disk: &[u8], record: &Record, valid: &[bool; MOST]) -> bool {
-        let commit = record.commit(disk, self.shape);
-        (0..record.named as usize).all(|i| {
-            let (c, number) = (word(commit, 24 + 8 * i) as usize, word(commit, 28 + 8 * i));
-            let Some(above) = number.checked_sub(self.tails[c].number) else { return true };
-            (above as usize) < self.count_of(c) && valid[self.starts[c] + above as usize]
-        })
+        let shape = self.master.shape;
+        let commit = record.commit(disk, shape);
+        let number = |c: usize| self.is_met(c, word(commit, 24 + 4 * c), valid);
+        let pair = |i: usize| self.is_met(word(commit, 24 + 8 * i) as usize, word(commit, 28 + 8 * i), valid);
+        match self.master.layout {
+            Layout::Numbers => (0..shape.cores as usize).all(number),
+            Layout::Lists => (0..word(commit, 20) as usize).all(pair),
+        }
+    }
+
+    /// Below the tail or valid; 0, which stands for none, is below every tail.
+    fn is_met(&self, c: usize, number: u32, valid: &[bool; MOST]) -> bool {
+        let Some(above) = number.checked_sub(self.master.tails[c].number) else { return true };
+        (above as usize) < self.count_of(c) && valid[self.starts[c] + above as usize]
     }
 
     /// Whether one of lower stamp took one of these blocks.
     pub fn shares_lower(&self, disk: &[u8], oldest: &Record, blocks: &[u8]) -> bool {
         let mut lower = self.all().iter().filter(|record| record.stamp < oldest.stamp);
-        lower.any(|record| blocks.iter().any(|block| record.place_of(disk, self.shape, *block).is_some()))
+        lower.any(|record| blocks.iter().any(|block| record.place_of(disk, self.master.shape, *block).is_some()))
     }
 
     /// The image of highest stamp in the valid set; of equal stamps the last.
     pub fn newest(&self, disk: &[u8], valid: &[bool; MOST], block: u8) -> Option<Block> {
         let members = self.all().iter().zip(valid).filter(|(_, is_valid)| **is_valid);
-        let images = members.filter_map(|(record, _)| Some((record, record.place_of(disk, self.shape, block)?)));
+        let images = members.filter_map(|(record, _)| Some((record, record.place_of(disk, self.master.shape, block)?)));
         let (record, i) = images.max_by_key(|(record, _)| record.stamp)?;
-        Some(record.image(disk, self.shape, i))
+        Some(record.image(disk, self.master.shape, i))
     }
 }
 
 /// The record that begins so many blocks past a tail's position, or a miss.
-fn read_record(disk: &[u8], shape: Shape, name: Name, tail: usize, used: usize) -> Option<Record> {
+fn read_record(disk: &[u8], master: &Master, name: Name, tail: usize, used: usize) -> Option<Record> {
+    let shape = master.shape;
     let start = (tail + used) % shape.journal as usize;
     if name.number > LAST_NUMBER || used + 2 > shape.journal as usize {
         return None;
@@ -143,8 +150,8 @@ fn read_record(disk: &[u8], shape: Shape, name: Name, tail: usize, used: usize) 
     if used + count + 2 > shape.journal as usize {
         return None;
     }
-    let (stamp, named) = read_commit(block_at(disk, shape.place(name.core, start + count + 1)), shape, name.number)?;
-    Some(Record { name, stamp, position: start as u8, count: count as u8, named: named as u8 })
+    let stamp = read_commit(block_at(disk, shape.place(name.core, start + count + 1)), master, name.number)?;
+    Some(Record { name, stamp, position: start as u8, count: count as u8 })
 }
 
 fn has_head(block: &[u8], kind: u32, number: u32) -> bool {
@@ -162,12 +169,17 @@ fn read_descriptor(block: &[u8], shape: Shape, number: u32) -> Option<usize> {
     (0..count).all(|i| fits(i) && is_new(i)).then_some(count)
 }
 
-fn read_commit(block: &[u8], shape: Shape, number: u32) -> Option<(u64, usize)> {
+/// The stamp of a commit whose fields are in range.
+fn read_commit(block: &[u8], master: &Master, number: u32) -> Option<u64> {
+    let (cores, named) = (master.shape.cores as usize, word(block, 20) as usize);
     let stamp = (word(block, 12) as u64) << 32 | word(block, 16) as u64;
-    let named = word(block, 20) as usize;
-    if !has_head(block, COMMIT, number) || stamp == 0 || named > NAMES {
+    if !has_head(block, COMMIT, number) || stamp == 0 {
         return None;
     }
-    let fits = |i: usize| word(block, 24 + 8 * i) < shape.cores as u32 && word(block, 28 + 8 * i) >= 1;
-    (0..named).all(fits).then_some((stamp, named))
+    let is_name = |i: usize| word(block, 24 + 8 * i) < cores as u32 && word(block, 28 + 8 * i) >= 1;
+    let fits = match master.layout {
+        Layout::Numbers => (cores..CORES).all(|c| word(block, 24 + 4 * c) == 0),
+        Layout::Lists => named <= NAMES && (0..named).all(is_name),
+    };
+    fits.then_some(stamp)
 }

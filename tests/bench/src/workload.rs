@@ -6,7 +6,7 @@ use card_library::stage::{Implementation, Stage};
 use card_tests::card::{Card, Phase};
 use card_tests::command::{from_hex, hex, Command};
 use card_tests::directed;
-use card_tests::layout::{Shape, DISK, MEMORY};
+use card_tests::layout::{Layout, Shape, DISK, MEMORY};
 use card_tests::shrink::tape_of;
 
 pub const LARGE: Shape = directed::LARGEST;
@@ -261,14 +261,16 @@ pub const RECORDS: [usize; 5] = [1, 8, 16, 32, 56];
 pub const BLOCKS: [usize; 4] = [1, 2, 4, 8];
 pub const LENGTHS: [usize; 3] = [100, 1_000, 10_000];
 
-/// RECOVER of a disk with 96 records without blocks: none is struck, or one a round.
+/// RECOVER of a disk with 96 records without blocks: none is struck, or one a round; with numbers, and with lists as on older disks.
 pub fn worst() -> Vec<Workload> {
-    let over = |name: &str, is_met: bool| {
-        let foreign = Some(directed::chain_disk(0, is_met));
-        let tape = tape_of(&[Command::Recover]);
-        Workload { name: name.to_string(), foreign, prepare: Vec::new(), tape, commands: 1 }
+    let over = |layout: Layout, is_met: bool| {
+        let kind = if is_met { "valid" } else { "struck one by one" };
+        let name = format!("RECOVER, 96 {kind}{}", if layout == Layout::Lists { ", lists" } else { "" });
+        let foreign = Some(directed::chain_disk(layout, 0, is_met));
+        Workload { name, foreign, prepare: Vec::new(), tape: tape_of(&[Command::Recover]), commands: 1 }
     };
-    vec![over("RECOVER, 96 valid", true), over("RECOVER, 96 struck one by one", false)]
+    let layouts = [Layout::Numbers, Layout::Lists].into_iter();
+    layouts.flat_map(|layout| [over(layout, true), over(layout, false)]).collect()
 }
 
 /// The first so many commands of the write-heavy tape.

@@ -2,22 +2,23 @@
 // field of a width; in a run the bits above it are 0, and where a caller put some there they have no meaning.
 
 use card_tests::card::{Card, Phase, Transaction};
-use card_tests::layout::{Name, CORES, HOMES, NAMES, TAKEN};
+use card_tests::layout::{highest, Name, CORES, HOMES, TAKEN};
 
-pub const CELLS: usize = 512;
+pub const CELLS: usize = 423;
 pub const PHASE: usize = 0;
 pub const SHAPE: usize = 1;
 pub const CLOSES: usize = 4;
 pub const RECOVERED: usize = 5;
 pub const STORES: usize = 6;
-/// Cells that no field has, up to the tails.
-pub const UNUSED: usize = 7;
-pub const TAIL: usize = 16;
-pub const HOLDER: usize = 32;
-pub const CORE: usize = 96;
-pub const CORE_SIZE: usize = 52;
+pub const TAIL: usize = 7;
+pub const HOLDER: usize = 23;
+pub const CORE: usize = 87;
+pub const CORE_SIZE: usize = 42;
 const RUNNING: usize = 4;
-const CLOSED: usize = 28;
+const CLOSED: usize = 23;
+/// In a transaction: its blocks, and for each core the highest number that it names.
+const BLOCKS: usize = 3;
+const HIGHEST: usize = BLOCKS + TAKEN;
 
 pub type Cells = [u64; CELLS];
 
@@ -29,13 +30,10 @@ fn put_transaction(cells: &mut [u64], transaction: &Transaction) {
     cells[0] = 1;
     cells[1] = transaction.stamp;
     cells[2] = transaction.blocks.len() as u64;
-    cells[3] = transaction.names.len() as u64;
-    for (cell, block) in cells[4..4 + TAKEN].iter_mut().zip(transaction.blocks.iter()) {
+    for (cell, block) in cells[BLOCKS..HIGHEST].iter_mut().zip(transaction.blocks.iter()) {
         *cell = *block as u64;
     }
-    for (cell, name) in cells[4 + TAKEN..].iter_mut().zip(transaction.names.iter()) {
-        *cell = name_cell(name);
-    }
+    cells[HIGHEST..HIGHEST + CORES].copy_from_slice(&highest(&transaction.names).map(u64::from));
 }
 
 /// The cells of the model's card after so many stores. The model keeps nothing for cores that its shape has not; the library has
@@ -73,7 +71,7 @@ pub enum Field {
     Phase,
     /// Zero or not.
     Flag,
-    /// So many bits; none for an unused cell.
+    /// So many bits.
     Bits(u32),
     /// 0 for none, else one above a name.
     Holder,
@@ -88,8 +86,7 @@ impl Field {
         match cell {
             PHASE => Field::Phase,
             CLOSES | STORES => Field::Bits(64),
-            UNUSED..TAIL => Field::Bits(0),
-            TAIL..HOLDER => Field::Bits([32, 8][cell % 2]),
+            TAIL..HOLDER => Field::Bits([32, 8][(cell - TAIL) % 2]),
             HOLDER..CORE => Field::Holder,
             CORE.. => Field::of_core((cell - CORE) % CORE_SIZE),
             _ => Field::Bits(8),
@@ -103,8 +100,8 @@ impl Field {
             _ => match (cell - RUNNING) % (CLOSED - RUNNING) {
                 0 => Field::Flag,
                 1 => Field::Bits(64),
-                i if i < 4 + TAKEN => Field::Bits(8),
-                _ => Field::Bits(NAME),
+                2..HIGHEST => Field::Bits(8),
+                _ => Field::Bits(32),
             },
         }
     }
@@ -136,6 +133,7 @@ pub fn difference(one: &Cells, other: &Cells) -> Option<String> {
     Some(format!("cell {i} is {}, not {}", one[i], other[i]))
 }
 
-const _: () = assert!(TAIL + 2 * CORES == HOLDER && HOLDER + HOMES == CORE && CORE + CORES * CORE_SIZE == CELLS);
-const _: () = assert!(CLOSED == RUNNING + 4 + TAKEN + NAMES && CORE_SIZE == CLOSED + 4 + TAKEN + NAMES);
+const _: () = assert!(TAIL == STORES + 1 && TAIL + 2 * CORES == HOLDER && HOLDER + HOMES == CORE);
+const _: () = assert!(CORE + CORES * CORE_SIZE == CELLS);
+const _: () = assert!(CLOSED == RUNNING + HIGHEST + CORES && CORE_SIZE == CLOSED + HIGHEST + CORES);
 const _: () = assert!(Phase::Blank as u64 == 0 && Phase::Up as u64 == 1 && Phase::Down as u64 == 2);

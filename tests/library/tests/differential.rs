@@ -3,13 +3,14 @@
 use card_library::cells::CELLS;
 use card_library::session::Session;
 use card_library::watcher::Library;
-use card_tests::checks::{Bench, Checks, Failure};
+use card_tests::card::Kind;
+use card_tests::checks::{Bench, Checks, Failure, Shares};
 use card_tests::command::from_hex;
 use card_tests::endings;
 use card_tests::layout::{DISK, MEMORY};
-use card_tests::order::{Order, Rules};
+use card_tests::older;
 use card_tests::random::Random;
-use card_tests::sequence::{self, TAPES};
+use card_tests::sequence;
 use card_tests::wrong::{caught_by_generated, words, Wrong};
 
 fn differs(wrong: Wrong, commands: u64, seed: u64) -> Option<String> {
@@ -34,18 +35,32 @@ fn the_library_recovers_made_endings_as_the_model_does() {
     }
 }
 
-/// The library beside the model of a rule, where the one before on a core makes a difference: on tapes made for it, and over disks
-/// whose later records name nothing and are left.
-fn in_sequence(order: Order) -> Result<(), Failure> {
+/// The library beside the model, or a wrong one, where the one before on a core makes a difference: on tapes made for it, and over
+/// disks whose later records name nothing and are left.
+fn in_sequence(wrong: Wrong) -> Result<(), Failure> {
     let mut library = Library::default();
-    let mut bench = Bench::under(Rules::throughout(order), Wrong::No, Checks::NONE, Some(&mut library));
+    let mut bench = Bench::new(wrong, Checks::NONE, Some(&mut library));
     sequence::run(&mut bench, 25, 1000)
 }
 
 #[test]
 fn the_library_keeps_a_beginning_of_each_journal_as_the_model_does() {
-    in_sequence(Order::InSequence).expect("the same");
-    assert!(in_sequence(Order::Unordered).is_err(), "the old rule is not told apart");
+    in_sequence(Wrong::No).expect("the same");
+    assert!(in_sequence(Wrong::NoSequence).is_err(), "the old rule is not told apart");
+}
+
+/// One service book goes from the card of request (c) on to the library, which has the model's disk after every command: after coming
+/// up the home area is the book's.
+#[test]
+fn the_library_recovers_what_older_cards_left_as_the_book_says() {
+    let mut library = Library::default();
+    let mut bench = Bench::new(Wrong::No, Checks::ALL, Some(&mut library));
+    older::run(&mut bench).expect("the same, and the book's area");
+    bench.set_shares(Shares { foreign: 0, older: 1000 });
+    bench.soak(400_000, 27).expect("the same, and the book's area");
+    let tally = bench.tally;
+    println!("{} disks of older cards, {} recoveries", tally.handed_over, tally.recoveries);
+    assert!(tally.handed_over > 1000 && tally.cuts_in_recovery > 1000);
 }
 
 #[test]
@@ -58,10 +73,20 @@ fn every_wrong_card_is_told_apart() {
 /// The old rule's card, and those that have the new one in part: generated tapes hardly meet it, so each has tapes of its own.
 #[test]
 fn every_card_wrong_in_the_sequence_is_told_apart() {
-    for (order, wrong, _, tape) in TAPES {
-        let (mut library, rules) = (Library::default(), Rules { card: *order, books: Order::default() });
-        let mut bench = Bench::under(rules, *wrong, Checks::NONE, Some(&mut library));
-        assert!(bench.run_tape(&from_hex(tape)).is_err(), "not told apart: {}, {order:?}", words(*wrong));
+    for (wrong, _, tape) in sequence::TAPES {
+        let mut library = Library::default();
+        let mut bench = Bench::new(*wrong, Checks::NONE, Some(&mut library));
+        assert!(bench.run_tape(&from_hex(tape)).is_err(), "not told apart: {}", words(*wrong));
+    }
+}
+
+#[test]
+fn every_card_wrong_over_older_disks_is_told_apart() {
+    for (wrong, _, older, tape) in older::TAPES {
+        let mut library = Library::default();
+        let mut bench = Bench::new(*wrong, Checks::NONE, Some(&mut library));
+        let is_told = bench.run_handed_over(Kind::older(Wrong::No), &from_hex(older), &from_hex(tape)).is_err();
+        assert!(is_told, "not told apart: {}", words(*wrong));
     }
 }
 

@@ -7,10 +7,11 @@ use card_tests::directed::{chain_disk, highest_disk};
 use card_tests::disks::{disk_after, each_disk, P1_UNCUT};
 use card_tests::endings;
 use card_tests::foreign::{self, SPOILS};
-use card_tests::layout::{put_word, read_master, BLOCK, DISK, HOMES};
-use card_tests::page::{line_at, page, Line};
+use card_tests::layout::{put_word, read_master, Layout, BLOCK, DISK, HOMES, LAYOUTS};
+use card_tests::page::{line_at, page, page_by, Line};
 use card_tests::random::Random;
 use card_tests::sequence;
+use card_tests::wrong::PAGES;
 
 /// Tells a kind by the fields of a line and how many transactions its page has.
 type IsMet = fn(&[&str], usize) -> bool;
@@ -35,7 +36,7 @@ const KINDS: [(&str, IsMet); 20] = [
     ("no block", |line, _| line.len() == 6 && line[3] == "0"),
     ("eight blocks", |line, _| line.len() == 6 && line[3] == "8"),
     ("no name", |line, _| line.len() == 6 && line[4] == "0"),
-    ("twelve names", |line, _| line.len() == 6 && line[4] == "12"),
+    ("eight cores named", |line, _| line.len() == 6 && line[4] == "8"),
     ("no transaction", |line, transactions| line.len() == 3 && transactions == 0),
     ("many transactions", |line, transactions| line.len() == 3 && transactions > 20),
     ("refused with 1", |line, _| line == ["1"]),
@@ -89,7 +90,7 @@ fn compared(disk: &[u8]) -> Vec<Line> {
 /// A copy with one to four bits flipped: in the master, anywhere, or mostly in the heads of blocks that its shape uses.
 fn damaged(random: &mut Random, disk: &[u8]) -> Vec<u8> {
     let mut copy = disk.to_vec();
-    let used = read_master(disk).map_or(DISK / BLOCK, |(shape, _)| shape.used());
+    let used = read_master(disk).map_or(DISK / BLOCK, |master| master.shape.used());
     for _ in 0..random.between(1, 4) {
         let at = match random.below(8) {
             0 => random.below(BLOCK),
@@ -146,6 +147,15 @@ fn the_ends_are_the_models() {
     }
 }
 
+#[test]
+fn every_wrong_page_is_told_apart() {
+    for (wrong, words) in PAGES {
+        let mut random = Random::new(55);
+        let mut disks = (0..200).map(|_| endings::disk(&mut random));
+        assert!(disks.any(|disk| compared(&disk) != page_by(*wrong, &disk)), "not told apart: {words}");
+    }
+}
+
 /// Records that name nothing behind one that is left.
 #[test]
 fn what_follows_one_that_is_left_is_left() {
@@ -171,9 +181,11 @@ fn the_page_is_the_models_on_many_disks() {
 
 #[test]
 fn full_journals_are_shown() {
-    assert_eq!(compared(&highest_disk()).len(), 17);
-    for (blocks, is_met, lines) in [(0, false, 105), (0, true, 105), (1, false, 73), (1, true, 73), (8, true, 25)] {
-        assert_eq!(compared(&chain_disk(blocks, is_met)).len(), lines);
+    for layout in LAYOUTS {
+        assert_eq!(compared(&highest_disk(layout)).len(), 17);
+        for (blocks, is_met, lines) in [(0, false, 105), (0, true, 105), (1, false, 73), (1, true, 73), (8, true, 25)] {
+            assert_eq!(compared(&chain_disk(layout, blocks, is_met)).len(), lines);
+        }
     }
 }
 
@@ -181,8 +193,8 @@ fn full_journals_are_shown() {
 #[test]
 fn a_flipped_bit_is_read_as_the_model_reads_it() {
     let first = 1 + HOMES;
-    let disks = [(p1_disk(), [0, 5, 7, 17, 18]), (highest_disk(), [0, first + 20, first + 5, first + 44, first + 29])];
-    for (mut disk, blocks) in disks {
+    let highest = LAYOUTS.map(|layout| (highest_disk(layout), [0, first + 20, first + 5, first + 44, first + 29]));
+    for (mut disk, blocks) in [(p1_disk(), [0, 5, 7, 17, 18])].into_iter().chain(highest) {
         for at in blocks.into_iter().flat_map(|block| block * BLOCK..(block + 1) * BLOCK) {
             for bit in 0..8 {
                 disk[at] ^= 1 << bit;
@@ -201,7 +213,7 @@ fn a_flipped_bit_is_read_as_the_model_reads_it() {
 /// The slice begins with a disk that has a page, or that is refused for its master too.
 #[test]
 fn a_disk_of_another_length_is_refused() {
-    for disk in [p1_disk(), highest_disk(), vec![0; DISK]] {
+    for disk in [p1_disk(), highest_disk(Layout::Numbers), vec![0; DISK]] {
         let twice = [&disk[..], &disk].concat();
         let near = (DISK - 16..=DISK + 16).filter(|length| *length != DISK);
         for length in near.chain([0, 1, BLOCK, 2 * DISK]) {
@@ -214,7 +226,7 @@ fn a_disk_of_another_length_is_refused() {
 #[test]
 fn only_a_buffer_of_65_bytes_is_touched() {
     let around: [u8; 200] = std::array::from_fn(|at| 128 | at as u8);
-    let disks = [p1_disk(), highest_disk(), vec![0; DISK], vec![0; DISK + 1], Vec::new()];
+    let disks = [p1_disk(), highest_disk(Layout::Lists), vec![0; DISK], vec![0; DISK + 1], Vec::new()];
     for (disk, length) in disks.iter().flat_map(|disk| (0..=130).map(move |length| (disk, length))) {
         let (right, before) = (page(disk), disk.clone());
         for i in (0..right.len() + 2).chain([1 << 8, 1 << 16, 1 << 32, usize::MAX]) {

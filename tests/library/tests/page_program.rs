@@ -7,7 +7,7 @@ use card_tests::directed::{chain_disk, highest_disk};
 use card_tests::disks::{disk_after, each_disk, P1_UNCUT};
 use card_tests::endings;
 use card_tests::foreign::{self, put};
-use card_tests::layout::{descriptor, put_word, Shape, BLOCK, DISK};
+use card_tests::layout::{descriptor, put_word, Layout, Shape, BLOCK, DISK};
 use card_tests::page::print_page;
 use card_tests::random::Random;
 use card_tests::sequence;
@@ -21,7 +21,8 @@ use std::time::Duration;
 /// name nothing and are left.
 fn disks() -> Vec<Vec<u8>> {
     let p1 = disk_after(&from_hex(P1_UNCUT));
-    let mut disks = vec![p1, highest_disk(), chain_disk(0, true), chain_disk(1, false), vec![0; DISK]];
+    let chains = [chain_disk(Layout::Numbers, 0, true), chain_disk(Layout::Lists, 1, false)];
+    let mut disks = [&[p1, highest_disk(Layout::Lists), vec![0; DISK]][..], &chains].concat();
     let (mut random, mut other, mut seen) = (Random::new(61), Random::new(62), 0);
     each_disk(30_000, 61, |disk| {
         seen += 1;
@@ -87,7 +88,7 @@ fn a_disk_of_zero_bytes_is_refused_for_its_master() {
 #[test]
 fn an_input_of_another_length_is_refused() {
     let refusal = format!("{:64}\n", " 1");
-    for disk in [highest_disk(), vec![0; DISK]] {
+    for disk in [highest_disk(Layout::Numbers), vec![0; DISK]] {
         let long = disk.repeat(32);
         let near = (DISK - 16..=DISK + 16).filter(|length| *length != DISK);
         for length in near.chain([0, 1, BLOCK, 2 * DISK, 1_000_000]) {
@@ -98,7 +99,7 @@ fn an_input_of_another_length_is_refused() {
 
 #[test]
 fn a_disk_that_comes_in_pieces_is_read_whole() {
-    let disk = chain_disk(1, true);
+    let disk = chain_disk(Layout::Numbers, 1, true);
     let mut child = begin("page");
     let mut input = child.stdin.take().expect("standard input");
     for piece in disk.chunks(3000) {
@@ -128,7 +129,7 @@ fn it_ends_while_a_longer_input_is_still_open() {
 fn a_failed_write_or_read_is_said() {
     let full = File::options().write(true).open("/dev/full").expect("a full device");
     let full = program("page").stdin(Stdio::piped()).stdout(full).stderr(Stdio::piped()).spawn();
-    let said = ended(full.expect("the program is built"), &highest_disk()).stderr;
+    let said = ended(full.expect("the program is built"), &highest_disk(Layout::Numbers)).stderr;
     assert_eq!(said, b"page: standard output cannot be written\n");
     let folder = File::open(ROOT).expect("a folder");
     let out = program("page").stdin(folder).output().expect("it ends");

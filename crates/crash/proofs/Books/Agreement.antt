@@ -53,7 +53,7 @@ cut-twice v = rw (empty-kept (v .book .begun .order) (λ (c : ℕ). 1))
 pub start-agrees : (o : Order) (s : Start) → Agrees (startService o s) (startLedger o s)
 unfolding startService startLedger emptyService blankLedger cutLedger freshLedger emptyBook
 start-agrees o (from-blank d m) = not-down (λ c. 0) refl (empty-renamed o (λ c. 0) (λ c. 1) (λ c. 1) (λ c. refl)) refl
-start-agrees o (from-down s m) = down refl refl (rw (empty-kept o (λ (c : ℕ). 1)) refl)
+start-agrees o (from-down y s m) = down refl refl (rw (empty-kept o (λ (c : ℕ). 1)) refl)
 
 -- ---- the commands
 module _ (v : Service) (l : Ledger) where

@@ -126,12 +126,6 @@ module _ (k : Book) (t : Name) where
   meets-same k′ same none = refl
   meets-same k′ same (some u) = rw (same u)
 
-pub running-or-not : {A : Type 0} (m : Meeting) (u : Name) → (m ≡ running-holder u → A) → (m ≢ running-holder u → A) → A
-running-or-not no-holder u f g = g (λ e. impossible cc)
-running-or-not own u f g = g (λ e. impossible cc)
-running-or-not (running-holder x) u f g = same-or-not x u (λ e. f (ap running-holder e)) (λ ne. g (λ e. ne (cc)))
-running-or-not (closed-holder x) u f g = g (λ e. impossible cc)
-
 naming-mem : (n x : Name) (e : Entry) → List·Memᴰ x ((naming n e) .names) → List·Memᴰ x (e .names) ⊎ (x ≡ n)
 naming-mem n x e m =
     cases (any (sameName n) (e .names))

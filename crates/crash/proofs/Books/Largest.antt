@@ -8,7 +8,7 @@ use mathlib.Core.List.{List, List·Memᴰ, Memᴰ·cast}
 use lib.Dec.{ltb}
 use Rattle.model.specs.Lists.{any, select}
 use Rattle.model.specs.Card.{sameName}
-use Rattle.model.specs.Shrink.{shrink, lists-it}
+use Rattle.model.specs.Shrink.{shrink, requires-it}
 use Rattle.model.specs.declared.Name.{Name}
 use Rattle.model.proofs.Lists.{cases, and-left, and-right, and-both, or-left, or-right, mem-all, mem-any, bool-ext}
 use Rattle.model.proofs.Select.{mem-select, select-mem}
@@ -137,7 +137,7 @@ largest-kept k =
           λ ts h t m. any-in nameEquality t _
           (l .max (λ t. List·Memᴰ t ts)
           (λ t m. in-any nameEquality (h .committed-ones t m))
-          (λ t u m n. inl (h .dependencies t u m (lists-it (any-in nameEquality u _ n))))
+          (λ t u m n. inl (h .dependencies t u m (requires-it (any-in nameEquality u _ n))))
           t m);
     }
 

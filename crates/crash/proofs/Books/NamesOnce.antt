@@ -1,33 +1,31 @@
--- 'A name stands once in a list.' Of every list of a book or ledger, whatever the commands and answers that it was fed;
--- and so, by the demands, of every list that the journals of a run hold.
-use Prim.Native.Nat.{ℕ, zero, suc, _+_, _-_, _<_}
-use mathlib.Core.Path.{_≡_, refl, sym, ap, _∙_, subst}
+-- 'A name stands once in a list.' Of every list of a book or ledger, whatever the commands and answers that it was fed. What a commit
+-- of numbers names has one name of a core at most, whatever its bytes.
+use Prim.Native.Nat.{ℕ, zero, suc, _<_}
+use native.Mathlib.Omega.{arith}
+use mathlib.Core.Path.{_≡_, refl, ap, _∙_, subst}
 use mathlib.Core.Bool.{Bool, true, false, cond, not, _&&_}
-use mathlib.Core.List.{List, [], _∷_, _++_}
+use mathlib.Core.List.{List, [], _∷_, _++_, map, map-append, append-nil, List·Memᴰ, Memᴰ·of-map}
+use lib.Dec.{leb}
 use borrow.Author.Tests.{not-true}
-use Rattle.model.specs.Lists.{below, all, any}
+use Rattle.model.specs.Lists.{below, any, select}
 use Rattle.model.specs.Bytes.{Bytes}
-use Rattle.model.specs.Card.{newName, sameName, isBlank}
+use Rattle.model.specs.Card.{newName, sameName}
+use Rattle.model.specs.Layout.{namesFrom}
 use Rattle.model.specs.Command.{World}
-use Rattle.model.specs.Journal.{journal, namesOf}
-use Rattle.model.specs.Recovery.{shapeOn, tailOn}
-use Rattle.model.specs.Tape.{Point, run, CHECKPOINT, CLOSE, CUT, Command, FORMAT, RECOVER, STORE, WRITE}
+use Rattle.model.specs.Tape.{Point, CHECKPOINT, CLOSE, CUT, Command, FORMAT, RECOVER, STORE, WRITE}
+use Rattle.model.specs.Valid.{Order}
+use Rattle.model.specs.declared.Name.{Name}
 use Rattle.model.proofs.Command.{of-cond}
 use Rattle.model.proofs.Tape.{heard-keeps}
-use Rattle.model.proofs.Lists.{cases, and-both, and-left, and-right, or-none, any-append, all-map, mem-all}
+use Rattle.model.proofs.Lists.{cases, and-both, and-left, and-right, or-none, any-append, mem-below}
+use Rattle.model.proofs.Select.{select-append, select-mem}
 use Rattle.model.proofs.Valid.{sameName-refl}
 use Rattle.crash.specs.Book.{Stage, Entry, Book, emptyBook, change, staged, taking, naming, hasRunning, hasClosed, hasCommitted, begin, bookHolder, Meeting, no-holder, own, running-holder, closed-holder, meets, ruled, note, writeBook, closeBook, storeBook, checkpointBook}
 use Rattle.crash.specs.Service.{Service, emptyService, noted, cutService, fed, served}
-use Rattle.crash.specs.Ledger.{Ledger, Stored, freshLedger, blankLedger, closeLedger, cutLedger, recoverLedger, entered, storedOf, storedSince, carriedOut}
-use Rattle.crash.specs.Claims.{fedPoint, readAs, JournalsRead, LedgerKept, OnRuns, Start, StartFits, from-blank, from-down, enteredPoint, startLedger, startWorld}
+use Rattle.crash.specs.Ledger.{Ledger, freshLedger, blankLedger, closeLedger, cutLedger, recoverLedger, entered, carriedOut}
+use Rattle.crash.specs.Claims.{fedPoint, Start, from-blank, from-down, enteredPoint, startLedger}
 use Rattle.crash.proofs.Books.BookEntries.{sameName-false, change-each}
-use Rattle.crash.proofs.Books.Tests.{clash}
-use Rattle.crash.proofs.Runs.Theorem.{demands}
-use Rattle.model.specs.Step.{stepAtBy}
-use Rattle.model.specs.declared.Name.{Name}
-use Rattle.model.specs.Valid.{Order}
-use Rattle.model.specs.declared.Shape.{Shape}
-use Rattle.model.specs.declared.Committed.{Committed}
+use Rattle.crash.proofs.Books.Tests.{clash, any-in, nameEquality}
 
 -- no name stands twice
 unfoldable pub once : List Name → Bool
@@ -38,18 +36,10 @@ once (n ∷ ns) = not (any (sameName n) ns) && once ns
 abbrev pub NamesOnce : Book → Type 0
 NamesOnce k = (t : Name) → once ((k .entry t) .names) ≡ true
 
--- in the lists that the journals of a card that is not blank hold
-abbrev pub ReadOnce : World → Type 0
-ReadOnce w =
-    let d = w .disk in
-    let s = shapeOn d in
-    isBlank (w .card .phase) ≡ false → (c : ℕ) → c < s .cores → all (λ (e : Committed). once (namesOf s d e)) (journal s d c (tailOn d c) (s .journal)) ≡ true
-
--- at every point of a run, and at its end
-abbrev pub OnceAlong : Ledger → World → List (Point World) → Type 0
-OnceAlong l w [] = NamesOnce (l .book) × ReadOnce w
-OnceAlong l w (p ∷ ps) =
-    NamesOnce (l .book) × ReadOnce w × OnceAlong (enteredPoint p l) (p .outcome .world) ps
+-- at every point, and at the end
+abbrev pub OnceEntered : Ledger → List (Point World) → Type 0
+OnceEntered l [] = NamesOnce (l .book)
+OnceEntered l (p ∷ ps) = NamesOnce (l .book) × OnceEntered (enteredPoint p l) ps
 
 abbrev pub OnceServed : Service → List (Point World) → Type 0
 OnceServed v [] = NamesOnce (v .book)
@@ -163,41 +153,18 @@ unfolding entered
 entered-once k zero l h = carried-once k l h
 entered-once k (suc n) l h = h
 
--- ---- the journals: each is read as the ledger's transactions
-stored-once : (l : Ledger) (c : ℕ) → NamesOnce (l .book) → all (λ (r : Stored). once (r .names)) (storedSince l c) ≡ true
-unfolding storedSince storedOf
-stored-once l c h =
-    let t : ℕ → Name = λ i. newName c (l .book .oldest c + i) in
-    let p : ℕ → Bool = λ i. once ((l .book .entry (t i)) .names) in
-    all-map (λ (i : ℕ). storedOf l (t i)) p (λ (r : Stored). once (r .names)) (λ i. refl) (below (l .book .uncommitted c - l .book .oldest c))
-    ∙ mem-all p (below (l .book .uncommitted c - l .book .oldest c)) (λ i m. h (t i))
-
-journals-once : (l : Ledger) (d : Bytes) → NamesOnce (l .book) → JournalsRead l d
-    → (c : ℕ) → c < (shapeOn d) .cores → all (λ (e : Committed). once (namesOf (shapeOn d) d e)) (journal (shapeOn d) d c (tailOn d c) ((shapeOn d) .journal)) ≡ true
-unfolding readAs
-journals-once l d h r =
-    subst (λ (s : Shape). (c : ℕ) → c < s .cores → all (λ (e : Committed). once (namesOf s d e)) (journal s d c (tailOn d c) (s .journal)) ≡ true)
-    (sym (r .shape))
-    (λ c b.
-    sym (all-map (readAs (l .shape) d) (λ (e : Committed). once (namesOf (l .shape) d e)) (λ (r : Stored). once (r .names)) (λ e. refl) (journal (l .shape) d c (tailOn d c) (l .shape .journal)))
-    ∙ ap (all (λ (r : Stored). once (r .names))) (r .records c b)
-    ∙ stored-once l c h)
-
--- ---- along a run
-along : (l : Ledger) (w : World) (ps : List (Point World)) → NamesOnce (l .book) → LedgerKept l w ps → OnceAlong l w ps
-along l w [] h k = (h, λ b. journals-once l (w .disk) h (k .journals b))
-along l w (p ∷ ps) h k = (
-  h,
-  λ b. journals-once l (w .disk) h (k .0 .between .journals b),
-  along (enteredPoint p l) (p .outcome .world) ps (unfold enteredPoint in heard-keeps entered (λ (l : Ledger). NamesOnce (l .book)) entered-once (p .read) (p .outcome .answer) l h) (k .1),
-)
+-- ---- along any points
+entered-along : (l : Ledger) (ps : List (Point World)) → NamesOnce (l .book) → OnceEntered l ps
+unfolding enteredPoint
+entered-along l [] h = h
+entered-along l (p ∷ ps) h =
+    (h, entered-along (enteredPoint p l) ps (heard-keeps entered (λ (l : Ledger). NamesOnce (l .book)) entered-once (p .read) (p .outcome .answer) l h))
 
 served-along : (v : Service) (ps : List (Point World)) → NamesOnce (v .book) → OnceServed v ps
 unfolding fedPoint
 served-along v [] h = h
 served-along v (p ∷ ps) h = (h, served-along (fedPoint p v) ps (heard-keeps fed (λ (v : Service). NamesOnce (v .book)) fed-once (p .read) (p .outcome .answer) v h))
 
--- the service book needs no run: any points do
 pub service-once : (o : Order) (n : ℕ) (ps : List (Point World)) → OnceServed (emptyService o n) ps
 unfolding emptyService
 service-once o n ps = served-along (emptyService o n) ps (empty-once _ _)
@@ -205,8 +172,40 @@ service-once o n ps = served-along (emptyService o n) ps (empty-once _ _)
 start-once : (o : Order) (s : Start) → NamesOnce ((startLedger o s) .book)
 unfolding startLedger blankLedger cutLedger freshLedger
 start-once o (from-blank d m) = empty-once _ _
-start-once o (from-down s m) = empty-once _ _
+start-once o (from-down y s m) = empty-once _ _
 
--- In every run, from a blank card and from one that is down over a formatted disk: no list has a name twice.
-pub names-once : (o : Order) → OnRuns StartFits startWorld (stepAtBy o) (λ (s : Start) (ps : List (Point World)). OnceAlong (startLedger o s) (startWorld s) ps)
-names-once o t b s h = along (startLedger o s) (startWorld s) (run (stepAtBy o) t (startWorld s)) (start-once o s) (demands o t b s h)
+-- From every start, whatever the points are: no list has a name twice.
+pub names-once : (o : Order) (s : Start) (ps : List (Point World)) → OnceEntered (startLedger o s) ps
+names-once o s ps = entered-along (startLedger o s) ps (start-once o s)
+
+-- ---- a commit of numbers
+module _ (f : ℕ → ℕ) where
+  named : ℕ → List Name
+  named n = select (λ (n : Name). leb 1 (n .number)) (map (λ (c : ℕ). newName c (f c)) (below n))
+
+  named-more : (n : ℕ) → named (suc n) ≡ named n ++ cond (leb 1 (f n)) (newName n (f n) ∷ []) []
+  unfolding named below select
+  named-more n =
+      ap (select (λ (n : Name). leb 1 (n .number))) (map-append (λ (c : ℕ). newName c (f c)) (below n) (n ∷ []))
+      ∙ select-append (λ (n : Name). leb 1 (n .number)) (map (λ (c : ℕ). newName c (f c)) (below n)) (newName n (f n) ∷ [])
+
+  named-below : (n : ℕ) (x : Name) → List·Memᴰ x (named n) → x .core < n
+  unfolding named
+  named-below n x m =
+      let r = Memᴰ·of-map (λ (c : ℕ). newName c (f c)) (below n) (select-mem (λ (n : Name). leb 1 (n .number)) _ x m .0) in
+      subst (λ (x : Name). x .core < n) (r .2) (mem-below n (r .1))
+
+  named-once : (n : ℕ) → once (named n) ≡ true
+  named-once zero = unfold named below select once in refl
+  named-once (suc n) =
+      rw (named-more n)
+      (cases (leb 1 (f n))
+      (λ h. rw h (once-added (newName n (f n)) (named n)
+      (cases (any (sameName (newName n (f n))) (named n))
+      (λ a. absurd (omega (arith, named-below n (newName n (f n)) (any-in nameEquality (newName n (f n)) (named n) a))))
+      (λ a. a)) (named-once n)))
+      (λ h. rw (h, append-nil (named n)) (named-once n)))
+
+  pub numbers-once : once (namesFrom f) ≡ true
+  unfolding namesFrom named
+  numbers-once = named-once 8

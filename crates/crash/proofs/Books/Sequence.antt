@@ -17,7 +17,7 @@ use Rattle.model.specs.declared.Name.{Name}
 use Rattle.model.proofs.Command.{of-cond}
 use Rattle.model.proofs.Tape.{heard-keeps}
 use Rattle.model.proofs.Required.{predecessor-required}
-use Rattle.model.proofs.Sequence.{all-earlier}
+use Rattle.model.proofs.Lists.{all-earlier}
 use Rattle.crash.specs.Book.{Beginning, Book, emptyBook, requiredIn, committedIn, kept}
 use Rattle.crash.specs.Service.{Service, emptyService, withNoted, cutService, served, fed}
 use Rattle.crash.specs.Claims.{Start, from-blank, from-down, startService, fedPoint, BeginsWith, KeptBegins}
@@ -97,7 +97,7 @@ begins-along v (p ∷ ps) h = (begins-with-one v h, begins-along (fedPoint p v) 
 start-one : (s : Start) → FromOne (startService in-sequence s)
 unfolding startService emptyService emptyBook
 start-one (from-blank d m) = refl
-start-one (from-down s m) = refl
+start-one (from-down y s m) = refl
 
 -- from every start, whatever the points are
 pub kept-begins : (s : Start) (ps : List (Point World)) → KeptBegins (startService in-sequence s) ps

@@ -6,30 +6,30 @@ use native.Mathlib.Omega.{arith}
 use native.Mathlib.Decide.{decLt}
 use mathlib.Core.Path.{_≡_, refl, ap, ap₂, _∙_, sym}
 use mathlib.Core.Logic.{_⊎_, inl, inr, _≢_}
-use mathlib.Core.Bool.{Bool, false, cond, not, _&&_, _||_}
+use mathlib.Core.Bool.{Bool, false, cond, not, _&&_}
 use mathlib.Core.List.{List, [], _∷_}
 use mathlib.Core.Option.{some}
 use lib.ListN.{length, length-append}
 use lib.Dec.{ltb, leb}
 use borrow.Author.Tests.{lt-ltb, le-ltb, le-leb, lt-leb, leb-false, ltb-false, ltb-true, not-false}
-use Rattle.model.specs.Lists.{any}
 use Rattle.model.specs.Bytes.{Bytes}
-use Rattle.model.specs.Card.{newName, sameName, lists, recordSize, coreOf}
+use Rattle.model.specs.Card.{newName, recordSize, coreOf}
 use Rattle.model.specs.Command.{World, refusal, notUp, noCore, noBlock}
-use Rattle.model.specs.Write.{writer, ruleFor, takesBlock, passesNames, listsFull, closedBlocks, journalFull, writeConditions}
+use Rattle.model.specs.Write.{writer, ruleFor, takesBlock, closedBlocks, journalFull, writeConditions}
 use Rattle.model.specs.Commit.{closeConditions, storeConditions}
 use Rattle.model.specs.Checkpoint.{checkpointConditions}
 use Rattle.model.specs.Limits.{maxNumber}
-use Rattle.model.proofs.Lists.{cases, or-none}
-use Rattle.crash.specs.Book.{absent, running, isRunning, Entry, Book, begin, staged, taking, naming, bookHolder, writeBook}
-use Rattle.crash.specs.Ledger.{Ledger, namesCount, holderNames, recordBlocks, notUpFor, writeRefusals, closeRefusals, storeRefusals, checkpointRefusals, blocksAfter, journalPasses, namesPass, numberPasses}
+use Rattle.model.specs.Valid.{in-sequence}
+use Rattle.model.proofs.Lists.{cases}
+use Rattle.crash.specs.Book.{absent, running, isRunning, Entry, Book, begin, staged, taking, bookHolder, writeBook}
+use Rattle.crash.specs.Ledger.{Ledger, recordBlocks, notUpFor, writeRefusals, closeRefusals, storeRefusals, checkpointRefusals, blocksAfter, journalPasses, numberPasses}
 use Rattle.crash.proofs.Books.BookEntries.{change-at, records-snoc, nextName}
-use Rattle.crash.proofs.Books.BookSteps.{begun, meeting}
+use Rattle.crash.proofs.Books.BookSteps.{begun}
 use Rattle.crash.proofs.Disk.Relation.{Matches, CardUp}
 use Rattle.crash.proofs.Disk.LedgerStages.{running-present}
 use Rattle.crash.proofs.Disk.ReadMaster.{shape-up}
 use Rattle.crash.proofs.Disk.ReadCheckpoint.{none-committed, oldest-valid, oldest-shares}
-use Rattle.crash.proofs.Commands.CardRules.{entry-free, entry-own, entry-running, entry-closed, entry-holder, live-runs, writer-name, writer-matches, met-none, met-own, met-running, met-closed, rule-met, writer-after, holder-matches}
+use Rattle.crash.proofs.Commands.CardRules.{entry-free, entry-own, entry-running, entry-closed, live-runs, writer-matches, met-none, met-own, met-running, met-closed, rule-met, writer-after}
 use Rattle.crash.proofs.Commands.CardCut.{right-length}
 use Rattle.model.specs.declared.Shape.{Shape}
 use Rattle.model.specs.declared.Name.{Name}
@@ -90,7 +90,7 @@ module _ {l : Ledger} {w : World} (u : CardUp l w) where
   unfolding storeConditions storeRefusals
   store-answers c = up-refusal c _ _ (λ h. then (ap not (closing-live c h)) (λ _. none-left))
 
-  pub checkpoint-answers : (c : ℕ) → refusal (checkpointConditions (l .book .begun .order) c w) ≡ refusal (checkpointRefusals c l)
+  pub checkpoint-answers : (c : ℕ) → refusal (checkpointConditions in-sequence c w) ≡ refusal (checkpointRefusals c l)
   unfolding checkpointConditions checkpointRefusals
   checkpoint-answers c =
       up-refusal c _ _
@@ -100,17 +100,10 @@ module _ {l : Ledger} {w : World} (u : CardUp l w) where
       let some : l .book .oldest c < l .book .uncommitted c = ltb-true _ _ (not-false _ e) in
       then (ap not (oldest-valid u c h some)) (λ _. then (oldest-shares u c h some) (λ _. none-left))))
 
--- ---- lists and blocks counted
+-- ---- blocks counted
 -- one more than so many
 more-test : (n m : ℕ) → ltb n (m + 1) ≡ leb n m
 more-test n m = elim (decLt m n) [ yes lt ↦ le-ltb n (m + 1) (omega arith) ∙ sym (lt-leb n m lt) | no ge ↦ lt-ltb n (m + 1) (omega arith) ∙ sym (le-leb n m (omega arith)) ]
-
-names-pass : {t : Transaction} {e : Entry} → Matches t e → (n : Name) → length (e .names) ≤ 12 → passesNames t n ≡ ltb 12 (length ((naming n e) .names))
-unfolding passesNames lists
-names-pass {t} {e} m n h =
-    cases (any (sameName n) (e .names))
-    (λ q. rw (m .names, q) (sym (le-ltb 12 (length (e .names)) h)))
-    (λ q. rw (m .names, q, m .named, length-append (e .names) (n ∷ [])) (sym (more-test 12 (length (e .names)))))
 
 blocks-pass : {t : Transaction} {e : Entry} → Matches t e → (b : ℕ) → leb 8 (t .count) ≡ ltb 8 (length ((taking b e) .blocks))
 blocks-pass {t} {e} m b = rw (m .count, length-append (e .blocks) (b ∷ [])) (sym (more-test 8 (length (e .blocks))))
@@ -130,40 +123,24 @@ module _ {l : Ledger} {w : World} (u : CardUp l w) (c : ℕ) (in-range : c < l .
   abbrev current : ((l .book .entry t) .stage ≡ absent) ⊎ ((l .book .entry t) .stage ≡ running)
   current = u .well-formed .ranks c in-range .current
 
-  -- the writer's lists before
-  few-before : (length (e₁ .blocks) ≤ 8) × (length (e₁ .names) ≤ 12)
+  -- the writer's blocks before
+  few-before : length (e₁ .blocks) ≤ 8
   unfolding begin
   few-before =
       elim current [
         | inl e ↦ (let z = u .well-formed .unopened t e in
             let q : e₁ ≡ staged running (l .book .entry t) =
             ap (λ (p : Bool). (cond p (l .book) (begin t (l .book))) .entry t) (ap isRunning e) ∙ change-at t (staged running) (l .book .entry) in
-            rw (q, z .0, z .1) (omega arith, omega arith))
+            rw (q, z .0) (omega arith))
         | inr e ↦ (let z = u .well-formed .limits t (running-present _ e) in
             let q : e₁ ≡ l .book .entry t = ap (λ (p : Bool). (cond p (l .book) (begin t (l .book))) .entry t) (ap isRunning e) in
-            rw q (z .few, z .short))
-      ]
-
-  lists-answer : listsFull (w .card) c b ≡ (ltb 12 (namesCount k₂ t) || ltb 12 (holderNames k₂ (meeting c b (l .book))))
-  unfolding listsFull namesCount holderNames
-  lists-answer =
-      let m = writer-matches u c in-range in
-      let short = le-ltb 12 (length (e₁ .names)) (few-before .1) in
-      elim (rule-met u c in-range b low opens) [
-        | met-none _ e r ↦ rw (r, e, entry-free (l .book) c current b o v e, short) refl
-        | met-own _ _ e r ↦ rw (r, e, entry-own (l .book) c current b o v e, short) refl
-        | met-running n h runs is _ e r ↦ (let y = holder-matches u c in-range b low opens n h runs is in
-            let z = u .well-formed .limits n (running-present _ runs) in
-            let own = entry-running (l .book) c current b o v n (h .other) e in
-            let back = entry-holder (l .book) c current b o v n (h .other) e in
-            rw (r, e, h .name, writer-name u c in-range, own, back, names-pass m n (few-before .1), names-pass y t (z .short)) refl)
-        | met-closed n h _ e r ↦ rw (r, e, h .name, entry-closed (l .book) c current b o v n (h .other) e, names-pass m n (few-before .1)) refl
+            rw q (z .few))
       ]
 
   blocks-answer : (takesBlock (ruleFor (w .card) c b) && leb 8 ((writer (w .card) c) .count)) ≡ ltb 8 (length ((k₂ .entry t) .blocks))
   blocks-answer =
       let m = writer-matches u c in-range in
-      let few = le-ltb 8 (length (e₁ .blocks)) (few-before .0) in
+      let few = le-ltb 8 (length (e₁ .blocks)) few-before in
       elim (rule-met u c in-range b low opens) [
         | met-none _ e r ↦ rw (r, entry-free (l .book) c current b o v e) (blocks-pass m b)
         | met-own _ _ e r ↦ rw (r, entry-own (l .book) c current b o v e) (sym few)
@@ -171,12 +148,12 @@ module _ {l : Ledger} {w : World} (u : CardUp l w) (c : ℕ) (in-range : c < l .
         | met-closed n h _ e r ↦ rw (r, entry-closed (l .book) c current b o v n (h .other) e) (blocks-pass m b)
       ]
 
-  journal-answer : length ((k₂ .entry t) .blocks) ≤ 8 → length ((k₂ .entry t) .names) ≤ 12
+  journal-answer : length ((k₂ .entry t) .blocks) ≤ 8
       → journalFull (w .card) c b
       ≡ ltb (l .shape .journal) (recordBlocks (l .book) c (l .book .oldest c) (l .book .next c - l .book .oldest c) + 2 + length ((k₂ .entry t) .blocks))
   unfolding journalFull recordSize
-  journal-answer few short =
-      let m = writer-after u c in-range b low opens o v few short in
+  journal-answer few =
+      let m = writer-after u c in-range b low opens o v few in
       let total = recordBlocks (l .book) c (l .book .oldest c) (l .book .next c - l .book .oldest c) in
       let n = length ((k₂ .entry t) .blocks) in
       let e : total + (n + 2) ≡ total + 2 + n = omega arith in
@@ -185,7 +162,7 @@ module _ {l : Ledger} {w : World} (u : CardUp l w) (c : ℕ) (in-range : c < l .
 pub write-answers : {l : Ledger} {w : World} → CardUp l w → (c b o : ℕ) (v : Bytes)
     → (b < l .shape .blocks → (n : Name) → bookHolder (l .book) b (l .book .writes) ≡ some n → (l .book .entry n) .stage ≢ absent)
     → refusal (writeConditions c b o w) ≡ refusal (writeRefusals c b o v l)
-unfolding writeConditions writeRefusals noBlock namesCount namesPass blocksAfter journalPasses numberPasses
+unfolding writeConditions writeRefusals noBlock blocksAfter journalPasses numberPasses
 write-answers {l} {w} u c b o v opens =
     let k₂ = writeBook c b o v (l .book) in
     let t = nextName c (l .book) in
@@ -196,11 +173,8 @@ write-answers {l} {w} u c b o v opens =
     let low : b < l .shape .blocks = leb-false (l .shape .blocks) b e in
     then refl
     (λ _.
-    then (lists-answer u c h b low (opens low) o v)
-    (λ names.
-    let short : length ((k₂ .entry t) .names) ≤ 12 = ltb-false 12 (length ((k₂ .entry t) .names)) (or-none _ _ names .0) in
     then (blocks-answer u c h b low (opens low) o v)
     (λ blocks.
-    then (journal-answer u c h b low (opens low) o v (ltb-false 8 (length ((k₂ .entry t) .blocks)) blocks) short)
+    then (journal-answer u c h b low (opens low) o v (ltb-false 8 (length ((k₂ .entry t) .blocks)) blocks))
     (λ _.
-    then (ap₂ (λ (p : Bool) (n : ℕ). not p && ltb maxNumber n) (live-runs u c h) (u .cores c h .next)) (λ _. none-left)))))))
+    then (ap₂ (λ (p : Bool) (n : ℕ). not p && ltb maxNumber n) (live-runs u c h) (u .cores c h .next)) (λ _. none-left))))))

@@ -16,6 +16,7 @@ use Rattle.model.specs.Command.{World, Outcome, storing}
 use Rattle.model.specs.Checkpoint.{homedCore, storedHome, released, retiredCore, retiredCard, storedMaster, checkpointed}
 use Rattle.model.specs.declared.Name.{Name}
 use Rattle.model.specs.declared.Tail.{Tail}
+use Rattle.model.specs.declared.CommitLayout.the-variants.{Numbers}
 use Rattle.model.specs.declared.Core.{Core}
 use Rattle.model.specs.declared.Holder.{Holder}
 use Rattle.model.specs.declared.Card.{Card}
@@ -89,7 +90,7 @@ module _ {l : Ledger} {w : World} (u : CardUp l w) (c : ℕ) (in-range : c < l .
     home-done : checkpointed c w ≡ storing w (withCore (w .card) c (homedCore x)) (homeBlock b) image
     unfolding checkpointed storedHome
     home-done =
-        let r : ReadAsLedger l (w .disk) c e = rw (oldest-of u c in-range some-committed) at (oldest-is u c in-range some-committed) in
+        let r : ReadAsLedger Numbers l (w .disk) c e = rw (oldest-of u c in-range some-committed) at (oldest-is u c in-range some-committed) in
         rw (oldest-of u c in-range some-committed, lt-ltb (x .homed) (length ((l .book .entry t) .blocks)) more, shape-up u, r .blocks, r .images (x .homed) more) refl
 
     home-low : b < l .shape .blocks
@@ -101,7 +102,7 @@ module _ {l : Ledger} {w : World} (u : CardUp l w) (c : ℕ) (in-range : c < l .
     abbrev l₂ : Ledger
     l₂ = advanced l t (committed (suc (x .homed))) (l .book .oldest)
 
-    home-disk : DiskStands l₂ (store (w .disk) (homeBlock b) image) (tailOf (w .card))
+    home-disk : DiskStands Numbers l₂ (store (w .disk) (homeBlock b) image) (tailOf (w .card))
     home-disk =
         let d = store (w .disk) (homeBlock b) image in
         let z = home-stands (u .well-formed) (u .disk) b home-low image image-block in
@@ -109,6 +110,7 @@ module _ {l : Ledger} {w : World} (u : CardUp l w) (c : ℕ) (in-range : c < l .
           size = z .size;
           bytes = z .bytes;
           master = z .master;
+          numbered = λ a h g. refl;
           journals =
               λ a h.
               journal-kept l t (committed (suc (x .homed))) (l .book .oldest) a (not-closing a) (not-current a) d d (tailOf (w .card) a) (λ q. refl) refl (z .journals a h);
@@ -156,7 +158,7 @@ module _ {l : Ledger} {w : World} (u : CardUp l w) (c : ℕ) (in-range : c < l .
     unfolding retiredCard shapeOf
     retired-shape = unfold shapeOf in shape-up u
 
-    master-done : checkpointed c w ≡ storing w card₂ 0 (masterBlock (l .shape) (tailOf card₂))
+    master-done : checkpointed c w ≡ storing w card₂ 0 (masterBlock Numbers (l .shape) (tailOf card₂))
     unfolding checkpointed storedMaster
     master-done = rw (oldest-of u c in-range some-committed, le-ltb (x .homed) (length ((l .book .entry t) .blocks)) (omega arith), retired-shape) refl
 
@@ -184,10 +186,10 @@ module _ {l : Ledger} {w : World} (u : CardUp l w) (c : ℕ) (in-range : c < l .
     holder-after b = List·getD-map (releasedFrom t) (w .card .holders) b noHolder
 
     abbrev block₂ : Bytes
-    block₂ = masterBlock (l .shape) (tailOf card₂)
+    block₂ = masterBlock Numbers (l .shape) (tailOf card₂)
 
     is-master : IsBlock block₂
-    is-master = master-block (u .well-formed .range) (tailOf card₂)
+    is-master = master-block Numbers (u .well-formed .range) (tailOf card₂)
 
     journals-stay : (a q : ℕ) → journalAt (l .shape) (store (w .disk) 0 block₂) a q ≡ journalAt (l .shape) (w .disk) a q
     journals-stay = low-journal (u .well-formed) (u .disk) 0 (omega arith) block₂ is-master
@@ -239,12 +241,13 @@ module _ {l : Ledger} {w : World} (u : CardUp l w) (c : ℕ) (in-range : c < l .
         (rw (raise-at c (l .book .oldest)) (omega (arith, fewer (l .book .next c) (omega (arith, u .well-formed .ranks c in-range .mid)))))
         j)
 
-    master-disk : DiskStands l₃ (store (w .disk) 0 block₂) (tailOf card₂)
+    master-disk : DiskStands Numbers l₃ (store (w .disk) 0 block₂) (tailOf card₂)
     master-disk =
         record {
           size = low-size (u .well-formed) (u .disk) 0 (omega arith) block₂ is-master;
           bytes = low-bytes (u .well-formed) (u .disk) 0 (omega arith) block₂ is-master;
           master = low-stored (u .well-formed) (u .disk) 0 (omega arith) block₂ is-master;
+          numbered = λ a h g. refl;
           journals =
               λ a h.
               elim (ℕ-discrete a c) [
@@ -327,7 +330,7 @@ module _ {l : Ledger} {w : World} (u : CardUp l w) (c : ℕ) (in-range : c < l .
         | yes more ↦ rw (home-done more, ap stageCount stage-now, lt-ltb (x .homed) (length bs) more) (refl, refl)
         | no none-left ↦ (let all : x .homed ≡ length bs = omega (arith, within) in
             rw (master-done all, ap stageCount stage-now, le-ltb (x .homed) (length bs) (omega arith))
-            (ap (store (w .disk) 0) (master-same (l .shape) (tailOf (card₂ all)) (tailsPast c l (w .disk)) (tails-past all)), refl))
+            (ap (store (w .disk) 0) (master-same Numbers (l .shape) (tailOf (card₂ all)) (tailsPast c l (w .disk)) (tails-past all)), refl))
       ]
 
   -- the disk, and the home blocks, by the ledger's count of checkpoints

@@ -6,9 +6,10 @@ use Rattle.model.proofs.Base.{subst, _∙_, _≢_, true, some, List, [], _∷_,
 use Rattle.model.proofs.Base.{getD-set-other, Bytes, map, List·Memᴰ·head, List·Memᴰ·tail}
 use native.Mathlib.Nat.{zero-add}
 use Rattle.model.specs.Bytes.{blockAt, store}
-use Rattle.model.specs.Card.{newName, freshCore, taken, listed, tailOf, coreOf, holderOf}
+use Rattle.model.specs.Card.{newName, freshCore, taken, highestOf, tailOf, coreOf, holderOf}
 use Rattle.model.specs.Command.{World}
 use Rattle.model.specs.Commit.{copyBlock, copied, closed as closedOutcome, closedCore, closedCard}
+use Rattle.model.specs.declared.CommitLayout.the-variants.{Numbers}
 use Rattle.model.specs.declared.Name.{Name}
 use Rattle.model.specs.declared.Core.{Core}
 use Rattle.model.specs.declared.Holder.{Holder}
@@ -182,13 +183,14 @@ module _ {l : Ledger} {w : World} (u : CardUp l w) (c : ℕ) (in-range : c < l .
         reserved = rw new-next (λ h. clash h (ap isRunning unopened));
       }
 
-  disk-stands : DiskStands l₂ (w .disk) (tailOf (w .card))
+  disk-stands : DiskStands Numbers l₂ (w .disk) (tailOf (w .card))
   unfolding closeLedger
   disk-stands =
       record {
         size = u .disk .size;
         bytes = u .disk .bytes;
         master = u .disk .master;
+        numbered = λ a h g. refl;
         journals =
             λ a h.
             elim (ℕ-discrete a c) [
@@ -250,7 +252,7 @@ module _ {l : Ledger} {w : World} (u : CardUp l w) (c : ℕ) (in-range : c < l .
   other-cores a ne = getD-set-other (w .card .cores) c a x₂ (freshCore 0) ne
 
   own-core : CoreUp l₂ m₂ c x₂
-  unfolding taken listed
+  unfolding taken highestOf
   own-core =
       let y = u .cores c in-range in
       let r = u .well-formed .ranks c in-range in
@@ -269,10 +271,9 @@ module _ {l : Ledger} {w : World} (u : CardUp l w) (c : ℕ) (in-range : c < l .
               live = matches .live;
               blocks = matches .blocks;
               count = matches .count;
-              names = matches .names;
-              named = matches .named;
+              highest = matches .highest;
               block-room = matches .block-room;
-              name-room = matches .name-room;
+              number-room = matches .number-room;
             });
         stored = rw (new-numbers .1 c, new-next, free, new-entry, close-stamp l c) (λ _. (refl, stamp));
         copies = rw (new-numbers .1 c, new-next, free, new-entry) (λ _. copied-image);

@@ -10,6 +10,7 @@ use Rattle.model.specs.Command.{World, unstored, wrongLength}
 use Rattle.model.specs.declared.Phase.{Phase}
 use Rattle.model.specs.declared.Phase.the-variants.{Down}
 use Rattle.model.specs.declared.Tail.{Tail}
+use Rattle.model.specs.declared.CommitLayout.{CommitLayout}
 use Rattle.model.proofs.Lists.{cases, mem-below}
 use Rattle.model.proofs.Select.{select-mem, select-same}
 use Rattle.crash.specs.Book.{Book}
@@ -30,8 +31,8 @@ module _ (p : Phase) (bs : List ℕ) {l : Ledger} where
   unfolding contents recordOf recordTags
   journal-withPhase j = record { number = j .number; position = j .position; stands = j .stands; clear = j .clear; room = j .room; reserved = j .reserved }
 
-  pub stands-withPhase : {d : Bytes} {tailAt : ℕ → Tail} → DiskStands l d tailAt → DiskStands (withPhase p bs l) d tailAt
-  stands-withPhase z = record { size = z .size; bytes = z .bytes; master = z .master; journals = λ c h. journal-withPhase (z .journals c h) }
+  pub stands-withPhase : {y : CommitLayout} {d : Bytes} {tailAt : ℕ → Tail} → DiskStands y l d tailAt → DiskStands y (withPhase p bs l) d tailAt
+  stands-withPhase z = record { size = z .size; bytes = z .bytes; master = z .master; numbered = z .numbered; journals = λ c h. journal-withPhase (z .journals c h) }
 
   pub newest-withPhase : {b : ℕ} → Newest l b → Newest (withPhase p bs l) b
   newest-withPhase {b} n =
@@ -64,7 +65,7 @@ pub record TargetsStand (l : Ledger) (d : Bytes) : Type 0 where
   pub held : (b : ℕ) → b < l .shape .blocks → List·Memᴰ b (blocksIn (l .shape .blocks) (l .book)) → Newest l b
   pub home : (b : ℕ) → b < l .shape .blocks → any (eqb b) (blocksIn (l .shape .blocks) (l .book)) ≡ false → blockAt d (homeBlock b) ≡ target l b
 
-module _ {l : Ledger} {d : Bytes} {tailAt : ℕ → Tail} (f : WellFormed l) (z : DiskStands l d tailAt) (g : TargetsStand l d) where
+module _ {y : CommitLayout} {l : Ledger} {d : Bytes} {tailAt : ℕ → Tail} (f : WellFormed l) (z : DiskStands y l d tailAt) (g : TargetsStand l d) where
   -- a card that is down over such a disk
   pub down-over : (m : Bytes) → length m ≡ 16384 → IsBytes m → CardDown (cutLedger l) (record { card = downCard; disk = d; memory = m })
   unfolding cutLedger downCard emptyCard freshCard
@@ -76,6 +77,7 @@ module _ {l : Ledger} {d : Bytes} {tailAt : ℕ → Tail} (f : WellFormed l) (z 
         memory = n;
         memory-bytes = b;
         well-formed = well-formed-cut l f;
+        layout = y;
         tailAt = tailAt;
         disk = stands-withPhase Down bs z;
         left = all-left bs;

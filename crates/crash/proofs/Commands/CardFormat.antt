@@ -10,19 +10,20 @@ use mathlib.Core.List.{List, [], List·Memᴰ, List·Memᴰ·not-nil}
 use lib.ListN.{length, take, drop, replicate, length-replicate, getD-replicate, replicate-append-replicate}
 use lib.Seq.{take-at, drop-at}
 use Rattle.model.specs.Lists.{below, any, select}
-use Rattle.model.specs.Valid.{Order}
+use Rattle.model.specs.Valid.{Order, in-sequence}
 use Rattle.model.specs.Bytes.{Bytes, number, part, be4, blockAt, zeroDisk, zeroMemory}
 use Rattle.model.specs.Shape.{inRange, homeBlock, journalBlock}
 use Rattle.model.specs.Card.{newTail}
-use Rattle.model.specs.Layout.{hasHead, masterBlock, isCommit}
+use Rattle.model.specs.Layout.{hasHead, masterBlock}
 use Rattle.model.specs.Journal.{journalAt}
 use Rattle.model.specs.Shrink.{shrink, shrinkIn}
-use Rattle.model.specs.Format.{formatted}
+use Rattle.model.specs.Format.{formattedDisk, formatted}
 use Rattle.model.specs.declared.Shape.{Shape}
 use Rattle.model.specs.declared.Tail.{Tail}
+use Rattle.model.specs.declared.CommitLayout.{CommitLayout}
+use Rattle.model.specs.declared.CommitLayout.the-variants.{Numbers}
 use Rattle.model.proofs.Limits.{InRange, range-test}
 use Rattle.model.proofs.Store.{length-store, block-stored, block-other}
-use Rattle.model.proofs.Encoding.{no-commit}
 use Rattle.model.proofs.Journal.{journal-low, home-apart}
 use Rattle.model.proofs.Select.{select-mem}
 use Rattle.crash.specs.Book.{Write, emptyBook, keptWrites, image, blank}
@@ -30,9 +31,9 @@ use Rattle.crash.specs.Ledger.{freshLedger, unretired, validIn, blocksIn
 use Rattle.crash.specs.Claims.{IsBytes, from-down, startWorld, startLedger}
 use Rattle.crash.proofs.Books.Tests.{clash}
 use Rattle.crash.proofs.Disk.BlockBytes.{bytes-store, zero-bytes}
-use Rattle.crash.proofs.Disk.Relation.{CardUp, target, CardDown, IsBlock}
+use Rattle.crash.proofs.Disk.Relation.{DiskStands, CardUp, target, CardDown, IsBlock}
 use Rattle.crash.proofs.Disk.ReadMaster.{master-block}
-use Rattle.crash.proofs.Commands.CardFresh.{ComeUp, fresh-up}
+use Rattle.crash.proofs.Commands.CardFresh.{ComeUp, fresh-journal, fresh-up}
 use Rattle.crash.proofs.Commands.CardCut.{TargetsStand, down-over}
 
 -- ---- blocks of zeros
@@ -50,55 +51,71 @@ zero-block : (n k m : ℕ) → n ≡ 128 * k + (128 + m) → blockAt (zeros n) k
 unfolding blockAt part
 zero-block n k m e = rw e (zero-part (128 * k) 128 m)
 
-zero-commit : (s : Shape) (i : ℕ) → isCommit s i (zeros 128) ≡ false
-zero-commit s i = no-commit s i (zeros 128) (unfold hasHead be4 part number in refl)
+zero-head : (i : ℕ) → hasHead 2 i (zeros 128) ≡ false
+unfolding hasHead be4 part number
+zero-head i = refl
 
-module _ (s : Shape) (r : InRange s) where
+module _ (y : CommitLayout) (s : Shape) (r : InRange s) where
   abbrev formatTail : ℕ → Tail
   formatTail c = newTail 1 0
 
   abbrev newDisk : Bytes
-  newDisk = (formatted s) .world .disk
+  newDisk = formattedDisk y s
 
   zero-fits : 128 * 0 + 128 ≤ length zeroDisk
   unfolding zeroDisk
   zero-fits = rw (length-replicate {A = ℕ} 32896 0) (omega arith)
 
-  is-master : IsBlock (masterBlock s formatTail)
-  is-master = master-block r formatTail
+  is-master : IsBlock (masterBlock y s formatTail)
+  is-master = master-block y r formatTail
 
   -- every block but the master is zero
   format-block : (k : ℕ) → k ≢ 0 → k < 257 → blockAt newDisk k ≡ zeros 128
-  unfolding formatted
+  unfolding formattedDisk
   format-block k ne h =
-      block-other zeroDisk 0 (masterBlock s formatTail) zero-fits (is-master .size) k ne
+      block-other zeroDisk 0 (masterBlock y s formatTail) zero-fits (is-master .size) k ne
       ∙ (unfold zeroDisk in zero-block 32896 k (128 * (256 - k)) (omega arith))
 
   pub format-home : (b : ℕ) → b < s .blocks → blockAt newDisk (homeBlock b) ≡ blank b
   unfolding blank
   format-home b h = format-block (homeBlock b) (λ e. omega arith) (omega (arith, r .few-blocks))
 
-  format-comes-up : ComeUp s (λ (c : ℕ). 1) ((formatted s) .world)
-  format-comes-up =
-      record {
-        tails = replicate 8 (newTail 1 0);
-        card = unfold formatted in refl;
-        eight = length-replicate 8 (newTail 1 0);
-        tail = λ c h. getD-replicate 8 c (newTail 1 0) (newTail 0 0) (omega (arith, r .few-cores));
-        memory = unfold formatted zeroMemory in length-replicate {A = ℕ} 16384 0;
-        memory-bytes = unfold formatted zeroMemory in zero-bytes 16384;
-        size = unfold formatted in (length-store zeroDisk 0 (masterBlock s formatTail) zero-fits (is-master .size) ∙ (unfold zeroDisk in length-replicate {A = ℕ} 32896 0));
-        bytes = unfold formatted in bytes-store zeroDisk 0 (masterBlock s formatTail) (unfold zeroDisk in zero-bytes 32896) (is-master .bytes);
-        master = unfold formatted in block-stored zeroDisk 0 (masterBlock s formatTail) zero-fits (is-master .size);
-        clear =
-            λ c h i q k.
-            let z : journalAt s newDisk c q ≡ zeros 128 =
-            unfold journalAt in format-block (journalBlock s c q) (λ e. home-apart s c q 0 (omega arith) (sym e)) (journal-low r c q h) in
-            ap (isCommit s i) z ∙ zero-commit s i;
-      }
+  format-size : length newDisk ≡ 32896
+  unfolding formattedDisk
+  format-size = length-store zeroDisk 0 (masterBlock y s formatTail) zero-fits (is-master .size) ∙ (unfold zeroDisk in length-replicate {A = ℕ} 32896 0)
 
-  pub format-up : (o : Order) → CardUp (freshLedger o s [] (λ (c : ℕ). 1)) ((formatted s) .world)
-  format-up o = fresh-up r format-comes-up o [] (λ w m. absurd (List·Memᴰ·not-nil m)) (λ c h. (omega arith, omega arith))
+  format-bytes : IsBytes newDisk
+  unfolding formattedDisk
+  format-bytes = bytes-store zeroDisk 0 (masterBlock y s formatTail) (unfold zeroDisk in zero-bytes 32896) (is-master .bytes)
+
+  format-master : blockAt newDisk 0 ≡ masterBlock y s formatTail
+  unfolding formattedDisk
+  format-master = block-stored zeroDisk 0 (masterBlock y s formatTail) zero-fits (is-master .size)
+
+  format-clear : (c : ℕ) → c < s .cores → (i q : ℕ) → 1 ≤ i → hasHead 2 i (journalAt s newDisk c q) ≡ false
+  format-clear c h i q k =
+      let z : journalAt s newDisk c q ≡ zeros 128 =
+      unfold journalAt in format-block (journalBlock s c q) (λ e. home-apart s c q 0 (omega arith) (sym e)) (journal-low r c q h) in
+      ap (hasHead 2 i) z ∙ zero-head i
+
+format-comes-up : (s : Shape) → InRange s → ComeUp s (λ (c : ℕ). 1) ((formatted s) .world)
+unfolding formatted
+format-comes-up s r =
+    record {
+      tails = replicate 8 (newTail 1 0);
+      card = refl;
+      eight = length-replicate 8 (newTail 1 0);
+      tail = λ c h. getD-replicate 8 c (newTail 1 0) (newTail 0 0) (omega (arith, r .few-cores));
+      memory = unfold zeroMemory in length-replicate {A = ℕ} 16384 0;
+      memory-bytes = unfold zeroMemory in zero-bytes 16384;
+      size = format-size Numbers s r;
+      bytes = format-bytes Numbers s r;
+      master = format-master Numbers s r;
+      clear = format-clear Numbers s r;
+    }
+
+pub format-up : (s : Shape) → InRange s → CardUp (freshLedger in-sequence s [] (λ (c : ℕ). 1)) ((formatted s) .world)
+format-up s r = fresh-up r (format-comes-up s r) [] (λ w m. absurd (List·Memᴰ·not-nil m)) (λ c h. (omega arith, omega arith))
 
 -- ---- a fresh ledger holds no block, and its kept writes are those saved
 fresh-valid : (o : Order) (first : ℕ → ℕ) → validIn (emptyBook o first) ≡ []
@@ -122,10 +139,22 @@ fresh-gives o s saved first d h =
       home = λ b k a. h b k ∙ sym (fresh-target o s saved first b);
     }
 
--- ---- a card that is down over a formatted disk
-pub down-start : (o : Order) (s : Shape) (m : Bytes) → inRange (s .cores) (s .blocks) (s .journal) ≡ true → IsBytes m → length m ≡ 16384 → CardDown (startLedger o (from-down s m)) (startWorld (from-down s m))
+-- ---- a card that is down over a formatted disk, of either layout: no record stands there
+down-stands : (y : CommitLayout) (s : Shape) → InRange s → DiskStands y (freshLedger in-sequence s [] (λ (c : ℕ). 1)) (formattedDisk y s) (λ (c : ℕ). newTail 1 0)
+unfolding freshLedger
+down-stands y s r =
+    record {
+      size = format-size y s r;
+      bytes = format-bytes y s r;
+      master = format-master y s r;
+      numbered = unfold emptyBook in λ c h g. absurd (omega arith);
+      journals = λ c h. fresh-journal r (λ (c : ℕ). 1) [] c h (newTail 1 0) refl (format-clear y s r c h);
+    }
+
+pub down-start : (y : CommitLayout) (s : Shape) (m : Bytes) → inRange (s .cores) (s .blocks) (s .journal) ≡ true → IsBytes m → length m ≡ 16384
+    → CardDown (startLedger in-sequence (from-down y s m)) (startWorld (from-down y s m))
 unfolding startLedger startWorld
-down-start o s m h b n =
+down-start y s m h b n =
     let r = range-test s h in
-    let u = format-up s r o in
-    down-over (u .well-formed) (u .disk) (fresh-gives o s [] (λ (c : ℕ). 1) ((formatted s) .world .disk) (λ b k. format-home s r b k ∙ (unfold image in refl))) m n b
+    let u = format-up s r in
+    down-over (u .well-formed) (down-stands y s r) (fresh-gives in-sequence s [] (λ (c : ℕ). 1) (formattedDisk y s) (λ b k. format-home y s r b k ∙ (unfold image in refl))) m n b

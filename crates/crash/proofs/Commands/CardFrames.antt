@@ -6,12 +6,14 @@ use Rattle.model.proofs.Base.{false, List, _++_, length, take, length-set, getD
 use Rattle.model.specs.Bytes.{blockAt, store}
 use Rattle.model.specs.Shape.{homeBlock, journalBlock}
 use Rattle.model.specs.Card.{newName, freshCore, coreOf, withCore, withRunning, tailOf, holderOf}
-use Rattle.model.specs.Layout.{isCommit}
+use Rattle.model.specs.Layout.{hasHead}
 use Rattle.model.specs.Journal.{journalAt}
 use Rattle.model.specs.Command.{World}
 use Rattle.model.specs.Commit.{copyBlock}
 use Rattle.model.specs.declared.Name.{Name}
 use Rattle.model.specs.declared.Tail.{Tail}
+use Rattle.model.specs.declared.CommitLayout.{CommitLayout}
+use Rattle.model.specs.declared.CommitLayout.the-variants.{Numbers}
 use Rattle.model.specs.declared.Transaction.{Transaction}
 use Rattle.model.specs.declared.Core.{Core}
 use Rattle.model.specs.declared.Card.{Card}
@@ -138,7 +140,7 @@ module _ (l : Ledger) (fine : WellFormed l) (c : ℕ) (in-range : c < l .shape .
             fine .limits (uncommittedName c (l .book)) (closed-present _ (ap isClosed (s .1))) .few
 
 -- ---- a store below the journals, of the master or of a home block
-module _ {l : Ledger} {d : Bytes} {tailAt : ℕ → Tail} (f : WellFormed l) (z : DiskStands l d tailAt) (k : ℕ) (low : k ≤ l .shape .blocks) (x : Bytes) (block : IsBlock x) where
+module _ {y : CommitLayout} {l : Ledger} {d : Bytes} {tailAt : ℕ → Tail} (f : WellFormed l) (z : DiskStands y l d tailAt) (k : ℕ) (low : k ≤ l .shape .blocks) (x : Bytes) (block : IsBlock x) where
   low-fits : 128 * k + 128 ≤ length d
   low-fits = rw (z .size) (omega (arith, f .range .few-blocks))
 
@@ -159,15 +161,16 @@ module _ {l : Ledger} {d : Bytes} {tailAt : ℕ → Tail} (f : WellFormed l) (z 
   low-bytes = bytes-store d k x (z .bytes) (block .bytes)
 
 -- a home store leaves the master and the journals
-pub home-stands : {l : Ledger} {d : Bytes} {tailAt : ℕ → Tail} → WellFormed l → DiskStands l d tailAt → (b : ℕ) → b < l .shape .blocks → (x : Bytes) → IsBlock x
-    → DiskStands l (store d (homeBlock b) x) tailAt
-home-stands {l} {tailAt = tailAt} f z b h x block =
+pub home-stands : {y : CommitLayout} {l : Ledger} {d : Bytes} {tailAt : ℕ → Tail} → WellFormed l → DiskStands y l d tailAt → (b : ℕ) → b < l .shape .blocks → (x : Bytes) → IsBlock x
+    → DiskStands y l (store d (homeBlock b) x) tailAt
+home-stands {l = l} {tailAt = tailAt} f z b h x block =
     let low : homeBlock b ≤ l .shape .blocks = omega arith in
     let at = low-journal f z (homeBlock b) low x block in
     record {
       size = low-size f z (homeBlock b) low x block;
       bytes = low-bytes f z (homeBlock b) low x block;
       master = low-other f z (homeBlock b) low x block 0 (omega arith) ∙ z .master;
+      numbered = z .numbered;
       journals =
           λ c g.
           let j = z .journals c g in
@@ -175,7 +178,7 @@ home-stands {l} {tailAt = tailAt} f z b h x block =
             number = j .number;
             position = j .position;
             stands = λ q k. at c ((tailAt c) .position + q) ∙ j .stands q k;
-            clear = λ i q k. ap (isCommit (l .shape) i) (at c q) ∙ j .clear i q k;
+            clear = λ i q k. ap (hasHead 2 i) (at c q) ∙ j .clear i q k;
             room = j .room;
             reserved = j .reserved;
           };
@@ -183,7 +186,7 @@ home-stands {l} {tailAt = tailAt} f z b h x block =
 
 -- ---- a card with one core replaced over another disk, where the book's writes and holders stay
 pub core-up : {l : Ledger} {w : World} → CardUp l w → (c : ℕ) (x : Core) (k : Book) (d : Bytes) → k .writes ≡ l .book .writes
-    → ((b : ℕ) → bookHolder k b (l .book .writes) ≡ bookHolder (l .book) b (l .book .writes)) → WellFormed (withBook l k) → DiskStands (withBook l k) d (tailOf (w .card))
+    → ((b : ℕ) → bookHolder k b (l .book .writes) ≡ bookHolder (l .book) b (l .book .writes)) → WellFormed (withBook l k) → DiskStands Numbers (withBook l k) d (tailOf (w .card))
     → ((a : ℕ) → a < l .shape .cores → CoreUp (withBook l k) (w .memory) a (coreOf (withCore (w .card) c x) a))
     → CardUp (withBook l k) (record { card = withCore (w .card) c x; disk = d; memory = w .memory })
 unfolding tailOf holderOf imageNow

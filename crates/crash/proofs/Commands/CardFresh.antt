@@ -2,18 +2,19 @@
 -- of such a number or a higher one lies in a journal, and there is no transaction, no holder and no image in memory.
 -- FORMAT and the last RECOVER both leave such a card.
 use Rattle.model.proofs.Base.{ℕ, _-_, _≤_, _<_, arith, _≡_, refl, sym, ap, _∙_, false, List, [], flatMap, List·Memᴰ, length, getD}
-use Rattle.model.proofs.Base.{length-map, length-replicate, List·getD-map, getD-replicate, below}
+use Rattle.model.proofs.Base.{Bytes, length-map, length-replicate, List·getD-map, getD-replicate, below}
 use native.Mathlib.Nat.{sub-self}
-use Rattle.model.specs.Valid.{Order}
+use Rattle.model.specs.Valid.{in-sequence}
 use Rattle.model.specs.Bytes.{blockAt}
 use Rattle.model.specs.Card.{newTail, freshCore, freshCard, noHolder, tailOf, coreOf, holderOf}
-use Rattle.model.specs.Layout.{masterBlock, isCommit}
+use Rattle.model.specs.Layout.{hasHead, masterBlock}
 use Rattle.model.specs.Journal.{journalAt}
 use Rattle.model.specs.Command.{World}
 use Rattle.model.specs.declared.Phase.the-variants.{Up}
 use Rattle.model.specs.declared.Shape.{Shape}
 use Rattle.model.specs.declared.Tail.{Tail}
 use Rattle.model.specs.declared.Card.{Card}
+use Rattle.model.specs.declared.CommitLayout.the-variants.{Numbers}
 use Rattle.model.proofs.Encoding.{master-same}
 use Rattle.model.proofs.Limits.{InRange}
 use Rattle.crash.specs.Book.{Write, emptyBook, bookHolder}
@@ -24,14 +25,28 @@ use Rattle.crash.proofs.Disk.Relation.{WriteFits, contents, JournalStan
 use Rattle.crash.proofs.Disk.LedgerFresh.{well-formed-fresh}
 
 -- the journals hold nothing
-module _ (o : Order) (s : Shape) (saved : List Write) (first : ℕ → ℕ) (c : ℕ) where
-  fresh-contents : contents (freshLedger o s saved first) c ≡ []
+module _ (s : Shape) (saved : List Write) (first : ℕ → ℕ) (c : ℕ) where
+  fresh-contents : contents (freshLedger in-sequence s saved first) c ≡ []
   unfolding contents freshLedger emptyBook below flatMap
   fresh-contents = rw (sub-self (first c))
 
-  fresh-records : recordBlocks (emptyBook o first) c (first c) (first c - first c) ≡ 0
+  fresh-records : recordBlocks (emptyBook in-sequence first) c (first c) (first c - first c) ≡ 0
   unfolding recordBlocks
   fresh-records = rw (sub-self (first c))
+
+-- over a disk where no commit of these numbers lies, the tail at the first position
+pub fresh-journal : {s : Shape} {d : Bytes} → InRange s → (first : ℕ → ℕ) (saved : List Write) (c : ℕ) → c < s .cores → (t : Tail) → t ≡ newTail (first c) 0
+    → ((i q : ℕ) → first c ≤ i → hasHead 2 i (journalAt s d c q) ≡ false) → JournalStands (freshLedger in-sequence s saved first) d c t
+unfolding freshLedger
+fresh-journal {s} r first saved c h t e clear =
+    record {
+      number = unfold emptyBook in ap (λ (t : Tail). t .number) e;
+      position = rw e (omega (arith, r .long));
+      stands = rw (fresh-contents s saved first c) (λ q k. absurd (omega arith));
+      clear = unfold emptyBook in clear;
+      room = unfold emptyBook in omega (arith, fresh-records s saved first c);
+      reserved = unfold emptyBook in λ k. impossible k;
+    }
 
 -- a world with a card that has just come up
 pub record ComeUp (s : Shape) (first : ℕ → ℕ) (w : World) : Type 0 where
@@ -43,8 +58,8 @@ pub record ComeUp (s : Shape) (first : ℕ → ℕ) (w : World) : Type 0 where
   pub memory-bytes : IsBytes (w .memory)
   pub size : length (w .disk) ≡ 32896
   pub bytes : IsBytes (w .disk)
-  pub master : blockAt (w .disk) 0 ≡ masterBlock s (λ (c : ℕ). newTail (first c) 0)
-  pub clear : (c : ℕ) → c < s .cores → (i q : ℕ) → first c ≤ i → isCommit s i (journalAt s (w .disk) c q) ≡ false
+  pub master : blockAt (w .disk) 0 ≡ masterBlock Numbers s (λ (c : ℕ). newTail (first c) 0)
+  pub clear : (c : ℕ) → c < s .cores → (i q : ℕ) → first c ≤ i → hasHead 2 i (journalAt s (w .disk) c q) ≡ false
 
 module _ {s : Shape} {first : ℕ → ℕ} {w : World} (r : InRange s) (u : ComeUp s first w) where
   fresh-tail : (c : ℕ) → c < s .cores → tailOf (w .card) c ≡ newTail (first c) 0
@@ -62,38 +77,26 @@ module _ {s : Shape} {first : ℕ → ℕ} {w : World} (r : InRange s) (u : Come
   unfolding holderOf freshCard
   fresh-holder b h = rw (u .card) (getD-replicate 64 b noHolder noHolder (omega (arith, r .few-blocks)))
 
-  module _ (o : Order) (saved : List Write) where
-    fresh-journal : (c : ℕ) → c < s .cores → JournalStands (freshLedger o s saved first) (w .disk) c (tailOf (w .card) c)
-    unfolding freshLedger
-    fresh-journal c h =
-        let t = fresh-tail c h in
-        record {
-          number = unfold emptyBook in ap (λ (t : Tail). t .number) t;
-          position = rw t (omega (arith, r .long));
-          stands = rw (fresh-contents o s saved first c) (λ q k. absurd (omega arith));
-          clear = unfold emptyBook in λ i q k. u .clear c h i q k;
-          room = unfold emptyBook in omega (arith, fresh-records o s saved first c);
-          reserved = unfold emptyBook in λ k. impossible k;
-        }
-
-    fresh-stands : DiskStands (freshLedger o s saved first) (w .disk) (tailOf (w .card))
+  module _ (saved : List Write) where
+    fresh-stands : DiskStands Numbers (freshLedger in-sequence s saved first) (w .disk) (tailOf (w .card))
     unfolding freshLedger
     fresh-stands =
         record {
           size = u .size;
           bytes = u .bytes;
-          master = u .master ∙ master-same s (λ (c : ℕ). newTail (first c) 0) (tailOf (w .card)) (λ c h. sym (fresh-tail c h));
-          journals = λ c h. fresh-journal c h;
+          master = u .master ∙ master-same Numbers s (λ (c : ℕ). newTail (first c) 0) (tailOf (w .card)) (λ c h. sym (fresh-tail c h));
+          numbered = λ c h g. refl;
+          journals = λ c h. fresh-journal r first saved c h (tailOf (w .card) c) (fresh-tail c h) (u .clear c h);
         }
 
-    fresh-core-up : (c : ℕ) → c < s .cores → CoreUp (freshLedger o s saved first) (w .memory) c (coreOf (w .card) c)
+    fresh-core-up : (c : ℕ) → c < s .cores → CoreUp (freshLedger in-sequence s saved first) (w .memory) c (coreOf (w .card) c)
     unfolding freshLedger emptyBook
     fresh-core-up c h =
         rw (fresh-core c h)
         (record {
           next = refl;
           one = omega arith;
-          used = sym (fresh-records o s saved first c);
+          used = sym (fresh-records s saved first c);
           runs = λ k. impossible k;
           idle = λ k. refl;
           closing = λ k. absurd (omega arith);
@@ -104,7 +107,7 @@ module _ {s : Shape} {first : ℕ → ℕ} {w : World} (r : InRange s) (u : Come
           none-homed = λ k. refl;
         })
 
-    pub fresh-up : ((x : Write) → List·Memᴰ x saved → WriteFits s x) → ((c : ℕ) → c < s .cores → (1 ≤ first c) × (first c ≤ 4000000001)) → CardUp (freshLedger o s saved first) w
+    pub fresh-up : ((x : Write) → List·Memᴰ x saved → WriteFits s x) → ((c : ℕ) → c < s .cores → (1 ≤ first c) × (first c ≤ 4000000001)) → CardUp (freshLedger in-sequence s saved first) w
     unfolding freshLedger freshCard emptyBook bookHolder
     fresh-up fits firsts =
         record {
@@ -117,7 +120,7 @@ module _ {s : Shape} {first : ℕ → ℕ} {w : World} (r : InRange s) (u : Come
           eight-tails = ap (λ (x : Card). length (x .tails)) (u .card) ∙ u .eight;
           eight-cores = ap (λ (x : Card). length (x .cores)) (u .card) ∙ length-map (u .tails) (λ (t : Tail). freshCore (t .number)) ∙ u .eight;
           holder-room = ap (λ (x : Card). length (x .holders)) (u .card) ∙ length-replicate 64 noHolder;
-          well-formed = well-formed-fresh o s saved first r fits firsts;
+          well-formed = well-formed-fresh s saved first r fits firsts;
           disk = fresh-stands;
           cores = fresh-core-up;
           holders = fresh-holder;

@@ -8,19 +8,19 @@ use Rattle.model.proofs.Base.{le-leb, lt-leb, leb-true, leb-false, below, any, 
 use Rattle.model.specs.Bytes.{blockAt, store}
 use Rattle.model.specs.Shape.{homeBlock}
 use Rattle.model.specs.Card.{isUp, newTail, freshCard}
-use Rattle.model.specs.Layout.{masterBlock, isCommit}
+use Rattle.model.specs.Layout.{hasHead, masterBlock}
 use Rattle.model.specs.Journal.{journal, journalAt}
 use Rattle.model.specs.Command.{World, Outcome, storing}
-use Rattle.model.specs.Recovery.{tailOn, blocksLeft, recoveredTo, emptiedTail, broughtUp, recoverStep, recovered}
+use Rattle.model.specs.Recovery.{tailOn, layoutOn, blocksLeft, recoveredTo, emptiedTail, broughtUp, recoverStep, recoveredBy, recovered}
 use Rattle.model.proofs.Encoding.{master-same}
 use Rattle.model.proofs.Lists.{cases, mem-below, length-below, getD-map-below}
 use Rattle.model.proofs.Select.{select-mem, select-same}
 use Rattle.crash.specs.Book.{keptWrites, blank}
-use Rattle.crash.specs.Ledger.{Ledger, blocksIn, firstNumber, recoverLedger, recoverStored}
+use Rattle.crash.specs.Ledger.{Ledger, freshLedger, blocksIn, firstNumber, recoverLedger, recoverStored}
 use Rattle.crash.proofs.Books.Tests.{impossible}
 use Rattle.crash.proofs.Disk.Relation.{IsBlock, WellFormed, CardUp, target, CardDown}
 use Rattle.crash.proofs.Disk.LedgerFresh.{image-block, blank-block, well-formed-home, withPhase, kept-fits}
-use Rattle.crash.proofs.Disk.ReadMaster.{shape-read, master-block}
+use Rattle.crash.proofs.Disk.ReadMaster.{shape-read, layout-read, master-block}
 use Rattle.crash.proofs.Disk.ReadRecords.{length-readList, few-records, journal-read}
 use Rattle.crash.proofs.Disk.ReadValid.{own-tails, blocks-on}
 use Rattle.crash.proofs.Disk.ReadNewest.{newest-image}
@@ -30,6 +30,9 @@ use Rattle.crash.proofs.Commands.CardCut.{stands-withPhase, target-with
 use Rattle.model.specs.declared.Phase.the-variants.{Up, Down}
 use Rattle.model.specs.declared.Shape.{Shape}
 use Rattle.model.specs.declared.Tail.{Tail}
+use Rattle.model.specs.declared.CommitLayout.{CommitLayout}
+use Rattle.model.specs.declared.CommitLayout.the-variants.{Numbers}
+use Rattle.model.specs.Valid.{Order, in-sequence}
 
 -- ---- ascending lists: those left after the first are those above it
 abbrev Ascending : List ℕ → Type 0
@@ -85,7 +88,10 @@ target-block l f b =
 
 -- ---- RECOVER
 module _ {l : Ledger} {w : World} (v : CardDown l w) where
-  left-read : blocksLeft (l .book .begun .order) w ≡ l .left
+  abbrev y : CommitLayout
+  y = layoutOn (w .disk)
+
+  left-read : blocksLeft in-sequence y w ≡ l .left
   unfolding blocksLeft
   left-read = rw (blocks-on (v .well-formed) (v .disk)) (sym (v .left))
 
@@ -97,13 +103,13 @@ module _ {l : Ledger} {w : World} (v : CardDown l w) where
     first-low : b < l .shape .blocks
     first-low = held-low (l .shape .blocks) (l .book) held-first
 
-    home-outcome : recovered (l .book .begun .order) w ≡ storing w (recoveredTo (w .card) (b + 1)) (homeBlock b) (target l b)
-    unfolding recovered recoverStep
+    home-outcome : recovered in-sequence w ≡ storing w (recoveredTo (w .card) (b + 1)) (homeBlock b) (target l b)
+    unfolding recovered recoveredBy recoverStep
     home-outcome =
-        ap (λ (xs : List ℕ). recoverStep (l .book .begun .order) xs w) (left-read ∙ e)
+        ap (λ (xs : List ℕ). recoverStep in-sequence y Numbers xs w) (left-read ∙ e)
         ∙ ap (storing w (recoveredTo (w .card) (b + 1)) (homeBlock b)) (newest-image (v .well-formed) (v .disk) (v .newest b held-first))
 
-    pub recover-home : CardDown (recoverLedger (b ∷ bs) l) ((recovered (l .book .begun .order) w) .world)
+    pub recover-home : CardDown (recoverLedger (b ∷ bs) l) ((recovered in-sequence w) .world)
     unfolding recoverLedger
     recover-home =
         let x = target l b in
@@ -115,6 +121,7 @@ module _ {l : Ledger} {w : World} (v : CardDown l w) where
           memory = v .memory;
           memory-bytes = v .memory-bytes;
           well-formed = well-formed-home b bs l (v .well-formed);
+          layout = v .layout;
           tailAt = v .tailAt;
           disk = stands-withPhase Down bs (home-stands (v .well-formed) (v .disk) b first-low x i);
           left = select-after (w .card .recovered) b bs (blocksIn (l .shape .blocks) (l .book)) (held-ascend l) (sym (v .left) ∙ e);
@@ -135,49 +142,49 @@ module _ {l : Ledger} {w : World} (v : CardDown l w) where
   firstTail c = newTail (firstNumber l c) 0
 
   -- 'two above the last committed one read in its journal'
-  emptied : (c : ℕ) → c < l .shape .cores → emptiedTail (w .disk) c ≡ firstTail c
+  emptied : (c : ℕ) → c < l .shape .cores → emptiedTail y (w .disk) c ≡ firstTail c
   unfolding emptiedTail
   emptied c h =
       let own = own-tails (v .well-formed) (v .disk) in
       let t = tailOn (w .disk) c in
-      let k : length (journal (l .shape) (w .disk) c t (l .shape .journal)) ≡ l .book .uncommitted c - l .book .oldest c =
+      let k : length (journal (v .layout) (l .shape) (w .disk) c t (l .shape .journal)) ≡ l .book .uncommitted c - l .book .oldest c =
       ap length (journal-read (v .well-formed) own c h (l .shape .journal) (few-records (v .well-formed) own c h)) ∙ length-readList l c t in
       let e : l .book .oldest c + (l .book .uncommitted c - l .book .oldest c + 1) ≡ l .book .uncommitted c + 1 = omega (arith, v .well-formed .ranks c h .low) in
-      rw (shape-read (v .well-formed) (v .disk), lt-ltb c (l .shape .cores) h, k, own .journals c h .number, e)
+      rw (layout-read (v .well-formed) (v .disk), shape-read (v .well-formed) (v .disk), lt-ltb c (l .shape .cores) h, k, own .journals c h .number, e)
 
-  is-master : IsBlock (masterBlock (l .shape) firstTail)
-  is-master = master-block (v .well-formed .range) firstTail
+  is-master : IsBlock (masterBlock Numbers (l .shape) firstTail)
+  is-master = master-block Numbers (v .well-formed .range) firstTail
 
   module _ (e : l .left ≡ []) where
-    master-outcome : recovered (l .book .begun .order) w ≡ storing w (broughtUp (w .disk)) 0 (masterBlock (l .shape) firstTail)
-    unfolding recovered recoverStep
+    master-outcome : recovered in-sequence w ≡ storing w (broughtUp y (w .disk)) 0 (masterBlock Numbers (l .shape) firstTail)
+    unfolding recovered recoveredBy recoverStep
     master-outcome =
-        ap (λ (xs : List ℕ). recoverStep (l .book .begun .order) xs w) (left-read ∙ e)
-        ∙ ap (storing w (broughtUp (w .disk)) 0)
-        (ap (λ (s : Shape). masterBlock s (emptiedTail (w .disk))) (shape-read (v .well-formed) (v .disk)) ∙ master-same (l .shape) (emptiedTail (w .disk)) firstTail emptied)
+        ap (λ (xs : List ℕ). recoverStep in-sequence y Numbers xs w) (left-read ∙ e)
+        ∙ ap (storing w (broughtUp y (w .disk)) 0)
+        (ap (λ (s : Shape). masterBlock Numbers s (emptiedTail y (w .disk))) (shape-read (v .well-formed) (v .disk)) ∙ master-same Numbers (l .shape) (emptiedTail y (w .disk)) firstTail emptied)
 
-    master-other : (k : ℕ) → k ≢ 0 → blockAt ((recovered (l .book .begun .order) w) .world .disk) k ≡ blockAt (w .disk) k
-    master-other k ne = rw master-outcome (low-other (v .well-formed) (v .disk) 0 (omega arith) (masterBlock (l .shape) firstTail) is-master k ne)
+    master-other : (k : ℕ) → k ≢ 0 → blockAt ((recovered in-sequence w) .world .disk) k ≡ blockAt (w .disk) k
+    master-other k ne = rw master-outcome (low-other (v .well-formed) (v .disk) 0 (omega arith) (masterBlock Numbers (l .shape) firstTail) is-master k ne)
 
     -- the home area is the one that the kept writes give
-    pub recovered-home : (b : ℕ) → b < l .shape .blocks → blockAt ((recovered (l .book .begun .order) w) .world .disk) (homeBlock b) ≡ target l b
+    pub recovered-home : (b : ℕ) → b < l .shape .blocks → blockAt ((recovered in-sequence w) .world .disk) (homeBlock b) ≡ target l b
     recovered-home b h = master-other (homeBlock b) (λ q. omega arith) ∙ v .at-home b h (rw e (unfold any in refl))
 
-    recovered-clear : (c : ℕ) → c < l .shape .cores → (i q : ℕ) → firstNumber l c ≤ i → isCommit (l .shape) i (journalAt (l .shape) ((recovered (l .book .begun .order) w) .world .disk) c q) ≡ false
+    recovered-clear : (c : ℕ) → c < l .shape .cores → (i q : ℕ) → firstNumber l c ≤ i → hasHead 2 i (journalAt (l .shape) ((recovered in-sequence w) .world .disk) c q) ≡ false
     recovered-clear c h i q k =
         let r = v .well-formed .ranks c h in
-        rw (master-outcome, low-journal (v .well-formed) (v .disk) 0 (omega arith) (masterBlock (l .shape) firstTail) is-master c q)
+        rw (master-outcome, low-journal (v .well-formed) (v .disk) 0 (omega arith) (masterBlock Numbers (l .shape) firstTail) is-master c q)
         (v .disk .journals c h .clear i q (omega (arith, r .mid, r .top)))
 
-    recovered-comes-up : ComeUp (l .shape) (firstNumber l) ((recovered (l .book .begun .order) w) .world)
+    recovered-comes-up : ComeUp (l .shape) (firstNumber l) ((recovered in-sequence w) .world)
     recovered-comes-up =
         let o = master-outcome in
-        let m = masterBlock (l .shape) firstTail in
+        let m = masterBlock Numbers (l .shape) firstTail in
         record {
-          tails = map (emptiedTail (w .disk)) (below 8);
-          card = rw o (unfold broughtUp in ap (λ (s : Shape). freshCard Up s (map (emptiedTail (w .disk)) (below 8))) (shape-read (v .well-formed) (v .disk)));
-          eight = length-map (below 8) (emptiedTail (w .disk)) ∙ length-below 8;
-          tail = λ c h. getD-map-below (emptiedTail (w .disk)) 8 c (newTail 0 0) (omega (arith, v .well-formed .range .few-cores)) ∙ emptied c h;
+          tails = map (emptiedTail y (w .disk)) (below 8);
+          card = rw o (unfold broughtUp in ap (λ (s : Shape). freshCard Up s (map (emptiedTail y (w .disk)) (below 8))) (shape-read (v .well-formed) (v .disk)));
+          eight = length-map (below 8) (emptiedTail y (w .disk)) ∙ length-below 8;
+          tail = λ c h. getD-map-below (emptiedTail y (w .disk)) 8 c (newTail 0 0) (omega (arith, v .well-formed .range .few-cores)) ∙ emptied c h;
           memory = rw o (v .memory);
           memory-bytes = rw o (v .memory-bytes);
           size = rw o (low-size (v .well-formed) (v .disk) 0 (omega arith) m is-master);
@@ -186,23 +193,24 @@ module _ {l : Ledger} {w : World} (v : CardDown l w) where
           clear = recovered-clear;
         }
 
-    pub recover-master : CardUp (recoverLedger [] l) ((recovered (l .book .begun .order) w) .world)
+    pub recover-master : CardUp (recoverLedger [] l) ((recovered in-sequence w) .world)
     unfolding recoverLedger
     recover-master =
-        fresh-up (v .well-formed .range) recovered-comes-up (l .book .begun .order) (keptWrites (l .book) ++ l .saved) (kept-fits l (v .well-formed)) (λ c h. (omega arith, omega arith))
+        subst (λ (o : Order). CardUp (freshLedger o (l .shape) (keptWrites (l .book) ++ l .saved) (firstNumber l)) ((recovered in-sequence w) .world)) (sym (v .well-formed .sequence))
+        (fresh-up (v .well-formed .range) recovered-comes-up (keptWrites (l .book) ++ l .saved) (kept-fits l (v .well-formed)) (λ c h. (omega arith, omega arith)))
 
   -- ---- the store that the ledger says, and when the card comes up
-  pub recovered-bytes : ((recovered (l .book .begun .order) w) .world .disk ≡ recoverStored (l .left) l (w .disk)) × ((recovered (l .book .begun .order) w) .stores ≡ 1)
+  pub recovered-bytes : ((recovered in-sequence w) .world .disk ≡ recoverStored (l .left) l (w .disk)) × ((recovered in-sequence w) .stores ≡ 1)
   unfolding recoverStored target
   recovered-bytes = go (l .left) refl
     where
-      go : (bs : List ℕ) → l .left ≡ bs → ((recovered (l .book .begun .order) w) .world .disk ≡ recoverStored bs l (w .disk)) × ((recovered (l .book .begun .order) w) .stores ≡ 1)
+      go : (bs : List ℕ) → l .left ≡ bs → ((recovered in-sequence w) .world .disk ≡ recoverStored bs l (w .disk)) × ((recovered in-sequence w) .stores ≡ 1)
       go [] e = (ap (λ (o : Outcome World). o .world .disk) (master-outcome e), ap (λ (o : Outcome World). o .stores) (master-outcome e))
       go (b ∷ bs) e = (ap (λ (o : Outcome World). o .world .disk) (home-outcome e), ap (λ (o : Outcome World). o .stores) (home-outcome e))
 
-  pub recover-up : isUp ((recovered (l .book .begun .order) w) .world .card .phase) ≡ eqb (length (l .left)) 0
+  pub recover-up : isUp ((recovered in-sequence w) .world .card .phase) ≡ eqb (length (l .left)) 0
   recover-up = go (l .left) refl
     where
-      go : (bs : List ℕ) → l .left ≡ bs → isUp ((recovered (l .book .begun .order) w) .world .card .phase) ≡ eqb (length bs) 0
+      go : (bs : List ℕ) → l .left ≡ bs → isUp ((recovered in-sequence w) .world .card .phase) ≡ eqb (length bs) 0
       go [] e = ap isUp (recover-master e .phase)
       go (b ∷ bs) e = ap isUp (recover-home e .phase) ∙ sym (ne-eqb (suc (length bs)) 0 (λ z. omega arith))

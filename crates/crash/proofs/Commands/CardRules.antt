@@ -2,17 +2,22 @@
 -- Running ones are the cores' current ones, in the card and in the ledger, and holders agree.
 -- What the rules do to a transaction of the card they do to its entry in the ledger.
 use Rattle.model.proofs.Base.{ℕ, _≤_, _<_, arith, ℕ-discrete, add-one, _≡_, refl, sym, ap, ap₂, _∙_, _≢_, _⊎_, inl, inr, true}
-use Rattle.model.proofs.Base.{false, Option, none, some, List, [], _∷_, _++_, length, length-set, length-append, eq-eqb, ne-eqb}
-use Rattle.model.proofs.Base.{any, Bytes}
+use Rattle.model.proofs.Base.{Option, none, some, List, [], _∷_, _++_, length, length-set, length-append, eq-eqb, ne-eqb}
+use Rattle.model.proofs.Base.{any, set, subst, cond, eqb, getD, getD-set-same, getD-set-other, getD-replicate, Bytes}
+use Prim.Native.Nat.{max}
+use native.Mathlib.Omega.{max-cases}
+use Rattle.model.specs.Layout.{highestIn}
 use mathlib.Core.Bool.{and-false, and-true}
 use lib.Seq.{take-suc-set}
-use Rattle.model.specs.Card.{newName, sameName, opened, taken, listed, lists, withBlock, withName, newHolder, coreOf, holderOf}
+use Rattle.model.specs.Card.{newName, sameName, opened, taken, highestOf, withBlock, withName, newHolder, coreOf, holderOf}
 use Rattle.model.specs.Command.{World}
 use Rattle.model.specs.Write.{writer, writerName, isRunningIn, ruleFor, writerAfter}
 use Rattle.model.specs.declared.Name.{Name}
 use Rattle.model.specs.declared.Transaction.{Transaction}
 use Rattle.model.specs.declared.Rule.the-variants.{Free, Own, Running, Closed}
 use Rattle.model.proofs.Lists.{cases}
+use Rattle.model.proofs.Highest.{highest-append, highest-again}
+use Rattle.crash.proofs.Books.Tests.{any-in, nameEquality}
 use Rattle.model.proofs.Valid.{sameName-refl}
 use Rattle.crash.specs.Book.{absent, running, isRunning, isClosed, Entry, Book, staged, taking, naming, begin, bookHolder, Meeting, no-holder, own, running-holder, closed-holder, meets, ruled, change, writeBook}
 use Rattle.crash.specs.Ledger.{Ledger}
@@ -23,42 +28,58 @@ use Rattle.crash.proofs.Disk.LedgerStages.{present-open, closed-idle, r
 
 -- ---- a transaction of the card and its entry
 matches-block : {t : Transaction} {e : Entry} → Matches t e → (b : ℕ) → length (e .blocks) < 8 → Matches (withBlock t b) (taking b e)
-unfolding taken listed
+unfolding taken highestOf
 matches-block {t} {e} m b h =
     let n : t .count < length (t .blocks) = omega (arith, m .count, m .block-room) in
     record {
       live = m .live;
       blocks = rw add-one (take-suc-set (t .blocks) (t .count) b n ∙ ap (λ (l : List ℕ). l ++ (b ∷ [])) (m .blocks));
       count = omega (arith, m .count, length-append (e .blocks) (b ∷ []));
-      names = m .names;
-      named = m .named;
+      highest = m .highest;
       block-room = length-set (t .blocks) (t .count) b ∙ m .block-room;
-      name-room = m .name-room;
+      number-room = m .number-room;
     }
 
-matches-name : {t : Transaction} {e : Entry} → Matches t e → (n : Name) → (any (sameName n) (e .names) ≡ false → length (e .names) < 12) → Matches (withName t n) (naming n e)
-unfolding taken listed withName lists
-matches-name {t} {e} m n h =
+-- the highest number of a core after one more name
+highest-named : (n : Name) (e : Entry) (c : ℕ) → highestIn ((naming n e) .names) c ≡ max (highestIn (e .names) c) (cond (eqb c (n .core)) (n .number) 0)
+highest-named n e c =
     cases (any (sameName n) (e .names))
-    (λ yes. rw (m .names, yes) (record { live = m .live; blocks = m .blocks; count = m .count; names = m .names; named = m .named; block-room = m .block-room; name-room = m .name-room }))
-    (λ no.
-    let g = h no in
-    let z : t .named < length (t .names) = omega (arith, m .named, m .name-room) in
-    rw (m .names, no)
-    (record {
+    (λ q.
+    let m = any-in nameEquality n (e .names) q in
+    rw q (sym (highest-again (e .names) n c m) ∙ highest-append (e .names) n c))
+    (λ q. rw q (highest-append (e .names) n c))
+
+max-zero : (k : ℕ) → max k 0 ≡ k
+max-zero k = max-cases k 0 (max k 0 ≡ k) (λ l e. omega arith) (λ l e. e)
+
+-- eight numbers with that of a name's core raised
+raised-at : (hs : List ℕ) (n : Name) (c k : ℕ) → length hs ≡ 8 → getD hs c 0 ≡ k → c < 8
+    → getD (set hs (n .core) (max (getD hs (n .core) 0) (n .number))) c 0 ≡ max k (cond (eqb c (n .core)) (n .number) 0)
+raised-at hs n c k size was b =
+    elim (ℕ-discrete c (n .core)) [
+      | yes q ↦ rw (eq-eqb c (n .core) q)
+          (subst (λ (i : ℕ). getD (set hs i (max (getD hs i 0) (n .number))) c 0 ≡ max k (n .number)) q
+          (getD-set-same hs c _ 0 (omega arith) ∙ ap (λ (k : ℕ). max k (n .number)) was))
+      | no ne ↦ rw (ne-eqb c (n .core) ne) (getD-set-other hs (n .core) c _ 0 ne ∙ was ∙ sym (max-zero k))
+    ]
+
+matches-name : {t : Transaction} {e : Entry} → Matches t e → (n : Name) → Matches (withName t n) (naming n e)
+unfolding taken withName highestOf
+matches-name {t} {e} m n =
+    record {
       live = m .live;
       blocks = m .blocks;
       count = m .count;
-      names = rw add-one (take-suc-set (t .names) (t .named) n z ∙ ap (λ (l : List Name). l ++ (n ∷ [])) (m .names));
-      named = omega (arith, m .named, length-append (e .names) (n ∷ []));
+      highest = λ c h. raised-at (t .highest) n c (highestIn (e .names) c) (m .number-room) (m .highest c h) h ∙ sym (highest-named n e c);
       block-room = m .block-room;
-      name-room = length-set (t .names) (t .named) n ∙ m .name-room;
-    }))
+      number-room = length-set (t .highest) (n .core) _ ∙ m .number-room;
+    }
 
 -- one just opened
 matches-opened : (e : Entry) → e .blocks ≡ [] → e .names ≡ [] → Matches opened e
-unfolding taken listed
-matches-opened e b n = record { live = refl; blocks = rw b refl; count = rw b refl; names = rw n refl; named = rw n refl; block-room = refl; name-room = refl }
+unfolding taken highestOf highestIn
+matches-opened e b n =
+    record { live = refl; blocks = rw b refl; count = rw b refl; highest = λ c h. rw n (getD-replicate 8 c 0 0 h); block-room = refl; number-room = refl }
 
 -- ---- entries after a WRITE
 module _ (k : Book) (c : ℕ) (current : ((k .entry (nextName c k)) .stage ≡ absent) ⊎ ((k .entry (nextName c k)) .stage ≡ running)) (b o : ℕ) (v : Bytes) where
@@ -99,9 +120,6 @@ module _ (k : Book) (c : ℕ) (current : ((k .entry (nextName c k)) .stage ≡ a
 -- a list that has grown by one at the most
 more-blocks : (b : ℕ) (e : Entry) → length ((taking b e) .blocks) ≤ 8 → length (e .blocks) < 8
 more-blocks b e h = omega (arith, length-append (e .blocks) (b ∷ []))
-
-more-names : (n : Name) (e : Entry) → length ((naming n e) .names) ≤ 12 → any (sameName n) (e .names) ≡ false → length (e .names) < 12
-more-names n e h q = let g : length (e .names ++ (n ∷ [])) ≤ 12 = rw q at h in omega (arith, length-append (e .names) (n ∷ []))
 
 -- ---- running ones
 module _ {l : Ledger} {w : World} (u : CardUp l w) where
@@ -194,23 +212,23 @@ module _ {l : Ledger} {w : World} (u : CardUp l w) where
         abbrev e₁ : Entry
         e₁ = begun c (l .book) .entry t₂
 
-        pub writer-after : length ((k₂ .entry t₂) .blocks) ≤ 8 → length ((k₂ .entry t₂) .names) ≤ 12 → Matches (writerAfter (w .card) c b) (k₂ .entry t₂)
+        pub writer-after : length ((k₂ .entry t₂) .blocks) ≤ 8 → Matches (writerAfter (w .card) c b) (k₂ .entry t₂)
         unfolding writerAfter
-        writer-after few short =
+        writer-after few =
             let current = u .well-formed .ranks c in-range .current in
             elim rule-met [
               | met-none _ e r ↦ (let q = entry-free (l .book) c current b o v e in
                   rw (r, q) (matches-block writer-matches b (more-blocks b e₁ (rw q at few))))
               | met-own _ _ e r ↦ (let q = entry-own (l .book) c current b o v e in rw (r, q) writer-matches)
               | met-running n h _ _ _ e r ↦ (let q = entry-running (l .book) c current b o v n (h .other) e in
-                  rw (r, q, h .name) (matches-name writer-matches n (more-names n e₁ (rw q at short))))
+                  rw (r, q, h .name) (matches-name writer-matches n))
               | met-closed n h _ e r ↦ (let q = entry-closed (l .book) c current b o v n (h .other) e in
-                  rw (r, q, h .name) (matches-block (matches-name writer-matches n (more-names n e₁ (rw q at short))) b (more-blocks b (naming n e₁) (rw q at few))))
+                  rw (r, q, h .name) (matches-block (matches-name writer-matches n) b (more-blocks b (naming n e₁) (rw q at few))))
             ]
 
         module _ (n : Name) (h : MetHolder n) (runs : (l .book .entry n) .stage ≡ running) (is : n ≡ nextName (n .core) (l .book)) where
-          pub holder-after : meeting c b (l .book) ≡ running-holder n → length ((k₂ .entry n) .names) ≤ 12
+          pub holder-after : meeting c b (l .book) ≡ running-holder n
               → Matches (withName ((coreOf (w .card) (n .core)) .running) (writerName (w .card) c)) (k₂ .entry n)
-          holder-after e short =
+          holder-after e =
               let q = entry-holder (l .book) c (u .well-formed .ranks c in-range .current) b o v n (h .other) e in
-              rw (q, writer-name) (matches-name (holder-matches n h runs is) t₂ (more-names t₂ (l .book .entry n) (rw q at short)))
+              rw (q, writer-name) (matches-name (holder-matches n h runs is) t₂)

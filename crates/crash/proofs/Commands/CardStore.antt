@@ -7,11 +7,13 @@ use Rattle.model.proofs.Base.{List·getD-append, take-all, take-suc, getD-at, l
 use lib.Seq.{length-take-le}
 use Rattle.model.specs.Bytes.{store, blockAt, part, number}
 use Rattle.model.specs.Shape.{homeBlock, journalBlock}
-use Rattle.model.specs.Card.{newName, recordSize, tailOf, coreOf, withCore}
-use Rattle.model.specs.Layout.{newTag, flagOf, isCommit}
+use Rattle.model.specs.Card.{newName, highestOf, recordSize, tailOf, coreOf, withCore}
+use Rattle.model.specs.Layout.{hasHead, newTag, highestIn, flagOf}
+use Rattle.model.proofs.Encoding.{commit-same}
 use Rattle.model.specs.Journal.{journalAt}
 use Rattle.model.specs.Command.{World}
 use Rattle.model.specs.Commit.{copyBlock, copyTags, nextStored, nextPosition, coreStored, stored}
+use Rattle.model.specs.declared.CommitLayout.the-variants.{Numbers}
 use Rattle.model.specs.declared.Name.{Name}
 use Rattle.model.specs.declared.Core.{Core}
 use Rattle.model.proofs.Lists.{cases, flatMap-append, map-below, flatMap-below}
@@ -82,7 +84,7 @@ module _ {l : Ledger} {w : World} (u : CardUp l w) (c : ℕ) (in-range : c < l .
       let d : x .stored - 1 ≡ i = omega arith in
       rw (ne-eqb (x .stored) 0 (omega arith), m .blocks, le-leb (x .stored) (length ((l .book .entry t) .blocks)) (omega arith), d, y .copies busy i (omega arith)) refl)
       (λ e.
-      rw (ne-eqb (x .stored) 0 (omega arith), m .blocks, lt-leb (x .stored) (length ((l .book .entry t) .blocks)) (omega arith), next-now, m .names, y .stored busy .1) refl)
+      rw (ne-eqb (x .stored) 0 (omega arith), m .blocks, lt-leb (x .stored) (length ((l .book .entry t) .blocks)) (omega arith), next-now, y .stored busy .1) (commit-same _ _ (highestOf (x .closed)) (highestIn ((l .book .entry t) .names)) (m .highest)))
       (x .stored) (omega (arith, within, size)) refl
 
   -- and stands after what the journal holds
@@ -261,13 +263,13 @@ module _ {l : Ledger} {w : World} (u : CardUp l w) (c : ℕ) (in-range : c < l .
             elim (ℕ-discrete (journalBlock (l .shape) c q) at) [
               | yes e ↦ (let z : blockAt d₂ (journalBlock (l .shape) c q) ≡ b = ap (blockAt d₂) e ∙ block-stored (w .disk) at b fits (is-block .size) in
                   rw z (record-clear (u .well-formed) t closed-now (x .stored) i (omega (arith, size, within)) (omega (arith, new-low)) (λ g. omega (arith, size, last-uncommitted (omega (arith, size))))))
-              | no ne ↦ ap (isCommit (l .shape) i) (elsewhere (journalBlock (l .shape) c q) ne) ∙ j .clear i q (omega (arith, new-low))
+              | no ne ↦ ap (hasHead 2 i) (elsewhere (journalBlock (l .shape) c q) ne) ∙ j .clear i q (omega (arith, new-low))
             ];
         room = rw (same-numbers .0 c, same-numbers .1 c, restages-records new c (l .book .oldest c) (l .book .next c - l .book .oldest c)) (j .room);
         reserved = rw (same-numbers .0 c, same-numbers .1 c, restages-records new c (l .book .oldest c) (l .book .next c - l .book .oldest c), running-stays) (j .reserved);
       }
 
-  disk-stands : DiskStands l₂ (store (w .disk) at b) (tailOf (w .card))
+  disk-stands : DiskStands Numbers l₂ (store (w .disk) at b) (tailOf (w .card))
   unfolding journalAt
   disk-stands =
       let d₂ = store (w .disk) at b in
@@ -276,6 +278,7 @@ module _ {l : Ledger} {w : World} (u : CardUp l w) (c : ℕ) (in-range : c < l .
         size = length-store (w .disk) at b fits (is-block .size) ∙ u .disk .size;
         bytes = bytes-store (w .disk) at b (u .disk .bytes) (is-block .bytes);
         master = elsewhere 0 (home-apart (l .shape) c p 0 (omega arith)) ∙ u .disk .master;
+        numbered = λ a h g. refl;
         journals =
             λ a h.
             elim (ℕ-discrete a c) [
@@ -310,7 +313,7 @@ module _ {l : Ledger} {w : World} (u : CardUp l w) (c : ℕ) (in-range : c < l .
         idle = rw (same-numbers .1 c, running-stays) (y .idle);
         closing =
             rw (same-numbers .1 c, v, e)
-            (λ _. record { live = m .live; blocks = m .blocks; count = m .count; names = m .names; named = m .named; block-room = m .block-room; name-room = m .name-room });
+            (λ _. record { live = m .live; blocks = m .blocks; count = m .count; highest = m .highest; block-room = m .block-room; number-room = m .number-room });
         stored = rw (same-numbers .1 c, v, e) (λ _. (ap closed (omega arith), y .stored busy .1));
         copies = rw (same-numbers .1 c, v, e) (y .copies);
         none-closing = rw (same-numbers .1 c, v) (y .none-closing);
@@ -360,7 +363,7 @@ module _ {l : Ledger} {w : World} (u : CardUp l w) (c : ℕ) (in-range : c < l .
   unfolding stored
   store-up fine =
       core-up u c (coreStored x) k₂ ((stored c w) .world .disk) (new .writes) (λ b. store-holder c (x .stored) (l .book) stage-now b (l .book .writes)) fine
-      (subst (λ (d : Bytes). DiskStands l₂ d (tailOf (w .card))) (sym stored-disk) disk-stands) store-core
+      (subst (λ (d : Bytes). DiskStands Numbers l₂ d (tailOf (w .card))) (sym stored-disk) disk-stands) store-core
 
   -- a journal block is no home block
   pub store-homes : (b : ℕ) → b < l .shape .blocks → blockAt ((stored c w) .world .disk) (homeBlock b) ≡ blockAt (w .disk) (homeBlock b)

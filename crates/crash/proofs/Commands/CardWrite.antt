@@ -263,7 +263,7 @@ module _ {l : Ledger} {w : World} (u : CardUp l w) (c : ℕ) (in-range : c < l .
 
   writer-core : (isNamedBack (ruleFor x c b) ≡ true → ((holderOf x b) .name) .core ≢ c) → CoreUp l₂ m₂ c (coreOf (writtenCard x c b) c)
   writer-core apart =
-      stays c in-range (writerAfter x c b) (written-writer x c b eight apart) (λ _. writer-after u c in-range b low opens o v (t-limits .few) (t-limits .short)) (clash runs-now)
+      stays c in-range (writerAfter x c b) (written-writer x c b eight apart) (λ _. writer-after u c in-range b low opens o v (t-limits .few)) (clash runs-now)
 
   -- a core that neither writes nor holds
   other-core-up : (a : ℕ) (h : a < l .shape .cores) → a ≢ c → (isNamedBack (ruleFor x c b) ≡ true → a ≢ ((holderOf x b) .name) .core)
@@ -292,12 +292,11 @@ module _ {l : Ledger} {w : World} (u : CardUp l w) (c : ℕ) (in-range : c < l .
           | met-running n g runs is apart m r ↦ elim (ℕ-discrete a (n .core)) [
             | yes e ↦ (let back : isNamedBack (ruleFor x c b) ≡ true = rw r refl in
                 let size : n .core < length (x .cores) = omega (arith, u .eight-cores, u .well-formed .range .few-cores, g .core) in
-                let n-limits : Limits (l .shape) n (k₂ .entry n) = fine .limits n (running-present _ (write-stage (l .book) c current b o v n (g .other) ∙ runs)) in
                 let run : isRunning ((k₂ .entry (nextName (n .core) (l .book))) .stage) ≡ true =
                 ap isRunning (other-stage (n .core) apart) ∙ (let z : isRunning ((l .book .entry (nextName (n .core) (l .book))) .stage) ≡ true = rw (← is) (ap isRunning runs) in z) in
                 subst (λ (i : ℕ). CoreUp l₂ m₂ i (coreOf (writtenCard x c b) i)) (sym e)
                 (stays (n .core) (g .core) (withName ((coreOf x (n .core)) .running) (writerName x c)) (written-holder x c b (n .core) (ap (λ (n : Name). n .core) (g .name)) size back apart)
-                (λ _. rw (← is) (holder-after u c in-range b low opens o v n g runs is m (n-limits .short))) (clash run)))
+                (λ _. rw (← is) (holder-after u c in-range b low opens o v n g runs is m)) (clash run)))
             | no away ↦ other-core-up a h ne (λ _ q. away (q ∙ ap (λ (n : Name). n .core) (g .name)))
                 (λ q. away (let s : n ≡ nextName a (l .book) = cc in sym (ap (λ (n : Name). n .core) s)))
           ]
@@ -360,7 +359,7 @@ module _ {l : Ledger} {w : World} (u : CardUp l w) (c : ℕ) (in-range : c < l .
         eight-cores = z .cores ∙ u .eight-cores;
         holder-room = z .holders ∙ u .holder-room;
         well-formed = fine;
-        disk = rw (z .tails) (record { size = u .disk .size; bytes = u .disk .bytes; master = u .disk .master; journals = journals-stand });
+        disk = rw (z .tails) (record { size = u .disk .size; bytes = u .disk .bytes; master = u .disk .master; numbered = λ a h g. refl; journals = journals-stand });
         cores = write-core;
         holders = same-after;
         images = images-now;

@@ -9,7 +9,7 @@ use mathlib.Core.Bool.{Bool, true, false}
 use mathlib.Core.List.{List, [], _∷_}
 use lib.ListN.{length}
 use Rattle.model.specs.Bytes.{blockAt}
-use Rattle.model.specs.Valid.{Order}
+use Rattle.model.specs.Valid.{in-sequence}
 use Rattle.model.specs.Card.{isBlank, isUp, isDown, freshCard, emptyCard, blankCard}
 use Rattle.model.specs.Layout.{isMaster}
 use Rattle.model.specs.Command.{World, refusal, wrongLength, notUp}
@@ -17,7 +17,7 @@ use Rattle.model.specs.Format.{formatConditions}
 use Rattle.model.specs.Write.{writeConditions}
 use Rattle.model.specs.Commit.{closeConditions, storeConditions}
 use Rattle.model.specs.Checkpoint.{checkpointConditions}
-use Rattle.model.specs.Recovery.{cutConditions, recoverConditions}
+use Rattle.model.specs.Recovery.{cutConditions, recoverConditions, recoverConditionsBy}
 use Rattle.crash.specs.Ledger.{Ledger, blankLedger, notUpFor, formatRefusals, writeRefusals, closeRefusals, storeRefusals, checkpointRefusals, refusalsOf}
 use Rattle.crash.proofs.Books.Tests.{clash}
 use Rattle.crash.proofs.Disk.Relation.{CardUp, CardDown}
@@ -52,14 +52,14 @@ module _ (l : Ledger) (w : World) (sizes : wrongLength w ≡ false) where
 
   recover-answer : (p : Phase) → (isDown p ≡ true → isMaster (blockAt (w .disk) 0) ≡ true) → w .card .phase ≡ p → l .phase ≡ p
       → refusal (recoverConditions w) ≡ refusal ((isBlank (l .phase), 20) ∷ (isUp (l .phase), 23) ∷ [])
-  unfolding refusal recoverConditions
+  unfolding refusal recoverConditionsBy
   recover-answer Blank m i j = rw (sizes, i, j)
   recover-answer Up m i j = rw (sizes, i, j)
   recover-answer Down m i j = rw (sizes, i, j, m refl)
 
   -- while the card is not up
   phase-answers : (p : Phase) → isUp p ≡ false → (isDown p ≡ true → isMaster (blockAt (w .disk) 0) ≡ true) → w .card .phase ≡ p → l .phase ≡ p
-      → (k : Command) → refusal (conditionsOf (l .book .begun .order) k w) ≡ refusal (refusalsOf k l)
+      → (k : Command) → refusal (conditionsOf in-sequence k w) ≡ refusal (refusalsOf k l)
   unfolding conditionsOf refusalsOf writeConditions writeRefusals closeConditions closeRefusals storeConditions storeRefusals checkpointConditions checkpointRefusals
   phase-answers p h m i j (FORMAT c b f) = format-answer c b f (i ∙ sym j)
   phase-answers p h m i j (WRITE c b o v) = not-up-answer p h i j c _ _
@@ -70,22 +70,22 @@ module _ (l : Ledger) (w : World) (sizes : wrongLength w ≡ false) where
   phase-answers p h m i j RECOVER = recover-answer p m i j
 
 -- ---- down: FORMAT 21, CUT and RECOVER 0, the others 22
-pub down-answers : {l : Ledger} {w : World} → CardDown l w → (k : Command) → refusal (conditionsOf (l .book .begun .order) k w) ≡ refusal (refusalsOf k l)
+pub down-answers : {l : Ledger} {w : World} → CardDown l w → (k : Command) → refusal (conditionsOf in-sequence k w) ≡ refusal (refusalsOf k l)
 down-answers {l} {w} v =
     phase-answers l w (right-length w (v .disk .size) (v .memory)) Down refl (λ h. master-stands (v .well-formed) (v .disk)) (v .phase) (v .ledger)
 
 -- ---- blank: FORMAT 0 or 4, the others 20
-pub blank-answers : (o : Order) (w : World) → w .card ≡ blankCard → length (w .disk) ≡ 32896 → length (w .memory) ≡ 16384 → (k : Command)
-    → refusal (conditionsOf o k w) ≡ refusal (refusalsOf k (blankLedger o))
+pub blank-answers : (w : World) → w .card ≡ blankCard → length (w .disk) ≡ 32896 → length (w .memory) ≡ 16384 → (k : Command)
+    → refusal (conditionsOf in-sequence k w) ≡ refusal (refusalsOf k (blankLedger in-sequence))
 unfolding blankCard emptyCard freshCard blankLedger emptyBook
-blank-answers o w e d m = phase-answers (blankLedger o) w (right-length w d m) Blank refl (λ h. clash h refl) (ap (λ (x : Card). x .phase) e) refl
+blank-answers w e d m = phase-answers (blankLedger in-sequence) w (right-length w d m) Blank refl (λ h. clash h refl) (ap (λ (x : Card). x .phase) e) refl
 
 -- ---- up: FORMAT 21, CUT 0, RECOVER 23; the others by what the transactions are
 module _ {l : Ledger} {w : World} (u : CardUp l w) (opens : (b : ℕ) (n : Name) → bookHolder (l .book) b (l .book .writes) ≡ some n → (l .book .entry n) .stage ≢ absent) where
   abbrev sizes : wrongLength w ≡ false
   sizes = right-length w (u .disk .size) (u .memory)
 
-  pub up-answers : (k : Command) → refusal (conditionsOf (l .book .begun .order) k w) ≡ refusal (refusalsOf k l)
+  pub up-answers : (k : Command) → refusal (conditionsOf in-sequence k w) ≡ refusal (refusalsOf k l)
   unfolding conditionsOf refusalsOf
   up-answers (FORMAT c b j) = format-answer l w sizes c b j (u .phase ∙ sym (u .ledger))
   up-answers (WRITE c b o v) = write-answers u c b o v (λ _. opens b)

@@ -4,7 +4,7 @@ use Rattle.model.proofs.Base.{ℕ, _+_, _≤_, _<_, arith, _≡_, refl, _∙_, 
 use Rattle.model.proofs.Base.{List·Memᴰ·tail, List·Memᴰ·not-nil, List·Memᴰ·append-cases, length, length-replicate, eqb, all}
 use Rattle.model.proofs.Base.{Bytes}
 use Rattle.model.specs.Bytes.{replaced}
-use Rattle.model.specs.Valid.{Order}
+use Rattle.model.specs.Valid.{in-sequence}
 use Rattle.model.specs.declared.Phase.{Phase}
 use Rattle.model.specs.declared.Phase.the-variants.{Down}
 use Rattle.model.specs.declared.Shape.{Shape}
@@ -46,11 +46,12 @@ now-block l f b =
     image-block (l .shape) (image blank (l .saved)) b (image-block (l .shape) blank b (blank-block b) (l .saved) (f .saved)) (l .book .writes) (f .writes)
 
 -- ---- a card that has come up, a cut, a home store of recovery
-pub well-formed-fresh : (o : Order) (s : Shape) (saved : List Write) (first : ℕ → ℕ) → InRange s → ((w : Write) → List·Memᴰ w saved → WriteFits s w)
-    → ((c : ℕ) → c < s .cores → (1 ≤ first c) × (first c ≤ 4000000001)) → WellFormed (freshLedger o s saved first)
+pub well-formed-fresh : (s : Shape) (saved : List Write) (first : ℕ → ℕ) → InRange s → ((w : Write) → List·Memᴰ w saved → WriteFits s w)
+    → ((c : ℕ) → c < s .cores → (1 ≤ first c) × (first c ≤ 4000000001)) → WellFormed (freshLedger in-sequence s saved first)
 unfolding freshLedger emptyBook
-well-formed-fresh o s saved first r fits firsts =
+well-formed-fresh s saved first r fits firsts =
     record {
+      sequence = refl;
       range = r;
       ranks = λ c h.
           let lo = firsts c h .0 in
@@ -93,6 +94,7 @@ withPhase p left l =
 well-formed-withPhase : (l : Ledger) (p : Phase) (left : List ℕ) → WellFormed l → WellFormed (withPhase p left l)
 well-formed-withPhase l p left f =
     record {
+      sequence = f .sequence;
       range = f .range;
       ranks = f .ranks;
       far = f .far;

@@ -17,8 +17,8 @@ use Rattle.crash.proofs.Disk.LedgerFresh.{now-block, same-frozen}
 use Rattle.crash.proofs.Disk.LedgerRanks.{sum-same, sum-raised, ranks-elsewhere, ranks-closed, ranks-stored, ranks-committed, ranks-homed, ranks-retired, store-by, checkpoint-by}
 
 -- ---- the ledger with one transaction's stage, numbers, stamps and images replaced
-pub limits-same : (s : Shape) (t : Name) (e e′ : Entry) → e′ .blocks ≡ e .blocks → e′ .names ≡ e .names → Limits s t e → Limits s t e′
-limits-same s t e e′ b n l =
+pub limits-same : (s : Shape) (t : Name) (e e′ : Entry) → e′ .blocks ≡ e .blocks → Limits s t e → Limits s t e′
+limits-same s t e e′ b l =
     record {
       core = l .core;
       low = l .low;
@@ -26,7 +26,6 @@ limits-same s t e e′ b n l =
       few = rw b (l .few);
       blocks = rw b (l .blocks);
       distinct = rw b (l .distinct);
-      short = rw n (l .short);
     }
 
 abbrev restagedLedger : Ledger → Name → Stage → (ℕ → ℕ) → (ℕ → ℕ) → (ℕ → ℕ) → ℕ → (Name → ℕ) → (Name → List Bytes) → Ledger
@@ -65,10 +64,11 @@ module _ (l : Ledger) (f : WellFormed l) (t : Name) (g : Stage) (was : (l .book 
       → closes ≤ sumNext (moved .book) (l .shape .cores) → WellFormed moved
   well-formed-moved ranks frozen stamps count =
       record {
+        sequence = f .sequence;
         range = f .range;
         ranks = ranks;
         far = λ u h. same-or-not u t (λ e. absurd (was (f .far t (rw e at h)))) (λ ne. rw (step .other u ne) (f .far u h));
-        limits = λ u h. limits-same (l .shape) u (l .book .entry u) (moved .book .entry u) (step .blocks u) (step .names u) (f .limits u (open-before u h));
+        limits = λ u h. limits-same (l .shape) u (l .book .entry u) (moved .book .entry u) (step .blocks u) (f .limits u (open-before u h));
         unopened = λ u h. rw (step .blocks u, step .names u) (f .unopened u (absent-before u h));
         named = λ u x m. open-after x (f .named u x (rw (step .names u) at m));
         frozen = frozen;

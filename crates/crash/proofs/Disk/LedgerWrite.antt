@@ -1,12 +1,12 @@
 -- WRITE keeps the ledger in order: it opens the number that is next, and the rules change no stage. The writer takes a
 -- block only where it does not hold it, so that its blocks stay distinct; only the writer and a running holder get a
--- name, and the refusals 24, 25 and 27 keep lists, blocks and numbers within the limits.
+-- name, and the refusals 25 and 27 keep blocks and numbers within the limits.
 use Prim.Native.Nat.{ℕ, _≤_, _<_}
 use native.Mathlib.Omega.{arith}
 use native.Mathlib.Decide.{decLt}
 use mathlib.Core.Path.{_≡_, refl, sym, ap, _∙_, subst}
 use mathlib.Core.Logic.{_⊎_, inl, inr, _≢_}
-use mathlib.Core.Bool.{true, false, not, _&&_, _||_}
+use mathlib.Core.Bool.{true, false, not, _&&_}
 use mathlib.Core.List.{List, [], _∷_, _++_, List·Memᴰ, List·Memᴰ·head, List·Memᴰ·tail, List·Memᴰ·not-nil, List·Memᴰ·cases-cons, List·Memᴰ·append-cases, List·Memᴰ·eq-of-singleton}
 use mathlib.Core.Option.{some}
 use lib.ListN.{length, getD, length-append, List·getD-append}
@@ -17,13 +17,13 @@ use Rattle.model.specs.Bytes.{Bytes}
 use Rattle.model.specs.Card.{newName}
 use Rattle.model.specs.Limits.{maxNumber}
 use Rattle.model.specs.declared.Name.{Name}
-use Rattle.model.proofs.Lists.{cases, getD-mem, or-none}
-use Rattle.crash.specs.Book.{absent, running, isRunning, isClosed, Entry, Book, change, staged, begin, bookHolder, Meeting, own, running-holder, meets, ruled, note, writeBook}
-use Rattle.crash.specs.Ledger.{Ledger, withBook, namesCount, holderNames}
+use Rattle.model.proofs.Lists.{cases, getD-mem}
+use Rattle.crash.specs.Book.{absent, running, isRunning, isClosed, Entry, Book, change, staged, begin, bookHolder, Meeting, own, meets, ruled, note, writeBook}
+use Rattle.crash.specs.Ledger.{Ledger, withBook}
 use Rattle.crash.specs.Claims.{IsBytes}
 use Rattle.crash.proofs.Books.Tests.{clash, impossible}
-use Rattle.crash.proofs.Books.BookEntries.{nextName, same-or-not, change-at, change-other, change-by, takes, metHolder, meets-met, meets-own, running-or-not, ruled-other, ruled-stage, ruled-blocks, ruled-blocks-other, ruled-names}
-use Rattle.crash.proofs.Books.BookSteps.{begun, begun-by, begun-fields, begun-same, begun-other, begun-running, begun-holder, begun-meets}
+use Rattle.crash.proofs.Books.BookEntries.{nextName, same-or-not, change-at, change-other, change-by, takes, metHolder, meets-met, meets-own, ruled-other, ruled-stage, ruled-blocks, ruled-blocks-other, ruled-names}
+use Rattle.crash.proofs.Books.BookSteps.{begun, begun-by, begun-fields, begun-same, begun-other, begun-running, begun-holder}
 use Rattle.crash.proofs.Disk.Relation.{Limits, WriteFits, WellFormed}
 use Rattle.crash.proofs.Disk.LedgerStages.{running-present}
 use Rattle.crash.proofs.Disk.LedgerFresh.{same-frozen}
@@ -82,8 +82,7 @@ module _ (l : Ledger) (f : WellFormed l) (t : Name) (last : t .number ≡ l .boo
       let q : takes m ≡ false = ap takes e in
       impossible cc
 
-  module _ (short : length ((after t) .names) ≤ 12) (holder-short : (u : Name) → m ≡ running-holder u → length ((after u) .names) ≤ 12)
-      (few : length ((after t) .blocks) ≤ 8) where
+  module _ (few : length ((after t) .blocks) ≤ 8) where
     writer-blocks : (P : List ℕ → Type 0) → (takes m ≡ true → P ((l .book .entry t) .blocks ++ (b ∷ []))) → P ((l .book .entry t) .blocks) → P ((after t) .blocks)
     writer-blocks P p q = rw (ruled-blocks m t b (l .book .entry)) (cases (takes m) (λ h. rw h (p h)) (λ h. rw h q))
 
@@ -102,7 +101,6 @@ module _ (l : Ledger) (f : WellFormed l) (t : Name) (last : t .number ≡ l .boo
           distinct = writer-blocks (λ bs. (i j : ℕ) → i < length bs → j < length bs → getD bs i 0 ≡ getD bs j 0 → i ≡ j)
               (λ h. snoc-distinct ((l .book .entry t) .blocks) b (z .distinct) (not-taken h))
               (z .distinct);
-          short = short;
         }
 
     other-limits : (u : Name) → u ≢ t → (l .book .entry u) .stage ≢ absent → Limits (l .shape) u (after u)
@@ -116,13 +114,13 @@ module _ (l : Ledger) (f : WellFormed l) (t : Name) (last : t .number ≡ l .boo
           few = rw e (z .few);
           blocks = rw e (z .blocks);
           distinct = rw e (z .distinct);
-          short = running-or-not m u (holder-short u) (λ nr. rw (ruled-other m t b (l .book .entry) u ne nr) (z .short));
         }
 
     well-formed-note : WellFormed (withBook l (note t b o v (l .book)))
     unfolding note
     well-formed-note =
         record {
+          sequence = f .sequence;
           range = f .range;
           ranks = λ a h.
               let r = f .ranks a h in
@@ -187,6 +185,7 @@ module _ (l : Ledger) (f : WellFormed l) (c : ℕ) (hc : c < l .shape .cores) wh
     unfolding begin
     well-formed-begin =
         record {
+          sequence = f .sequence;
           range = f .range;
           ranks = λ a h.
               let r = f .ranks a h in
@@ -204,7 +203,6 @@ module _ (l : Ledger) (f : WellFormed l) (c : ℕ) (hc : c < l .shape .cores) wh
               (λ e. let z = f .unopened w new in
               let r = f .ranks c hc in
               let none-taken : (opening w) .blocks ≡ [] = opening-blocks w ∙ z .0 in
-              let none-named : (opening w) .names ≡ [] = opening-names w ∙ z .1 in
               rw e (record {
                 core = hc;
                 low = omega arith;
@@ -212,9 +210,8 @@ module _ (l : Ledger) (f : WellFormed l) (c : ℕ) (hc : c < l .shape .cores) wh
                 few = rw none-taken (omega arith);
                 blocks = rw none-taken (λ b m. absurd (List·Memᴰ·not-nil m));
                 distinct = rw none-taken (λ i j p q w. absurd (omega arith));
-                short = rw none-named (omega arith);
               }))
-              (λ ne. limits-same (l .shape) u (k .entry u) (opening u) (opening-blocks u) (opening-names u) (f .limits u (rw (opening-other u ne) at h)));
+              (λ ne. limits-same (l .shape) u (k .entry u) (opening u) (opening-blocks u) (f .limits u (rw (opening-other u ne) at h)));
           unopened = λ u h.
               same-or-not u w
               (λ e. absurd (running-present _ (opening-at u e) h))
@@ -258,19 +255,14 @@ module _ (l : Ledger) (f : WellFormed l) (c : ℕ) (hc : c < l .shape .cores) wh
           (λ e. rw e (running-present _ (begun-running k c current)))
           (λ ne. rw (begun-other k c current u ne) (opens u x (sym (same-holder x) ∙ h)))
 
-    pub well-formed-write : (ltb 12 (namesCount (writeBook c b o v k) w) || ltb 12 (holderNames (writeBook c b o v k) (meets k w (bookHolder k b (k .writes))))) ≡ false
-        → ltb 8 (length ((writeBook c b o v k .entry w) .blocks)) ≡ false
+    pub well-formed-write : ltb 8 (length ((writeBook c b o v k .entry w) .blocks)) ≡ false
         → (not (isRunning ((k .entry w) .stage)) && ltb maxNumber (k .next c)) ≡ false
         → WellFormed (withBook l (writeBook c b o v k))
-    unfolding writeBook note namesCount holderNames
-    well-formed-write no-24 no-25 no-27 =
+    unfolding writeBook note
+    well-formed-write no-25 no-27 =
         let current = f .ranks c hc .current in
-        let short = or-none _ _ no-24 in
         let opened : WellFormed (withBook l open-book)
         = begun-by k c current (λ x. WellFormed (withBook l x)) (λ e. f) (λ e. well-formed-begin e (ltb-false maxNumber (k .next c) (rw (ap isRunning e) at no-27))) in
         well-formed-note (withBook l open-book) opened w (ap (λ (n : ℕ → ℕ). n c) (sym (begun-fields k c current .3))) b o v (begun-running k c current)
         (record { block = hb; offset = ho; size = size; bytes = is-bytes }) (still-holds current) (still-open current)
-        (ltb-false 12 _ (short .0))
-        (λ u e. let q : meets k w (bookHolder k b (k .writes)) ≡ running-holder u = sym (begun-meets k c current b) ∙ e in
-        ltb-false 12 _ (rw (q, holderNames, namesCount) at (short .1)))
         (ltb-false 8 _ no-25)

@@ -6,11 +6,12 @@ use Rattle.model.proofs.Base.{true, false, not, _&&_, List·Memᴰ, List·Mem�
 use Rattle.model.proofs.Base.{ltb-true, not-true, below, any}
 use Rattle.model.specs.Card.{newName, sameName, taken, shapeOf, tailOf, coreOf, committedCount}
 use Rattle.model.specs.Journal.{journals, nameOf, blocksOf}
-use Rattle.model.specs.Valid.{isIn, validSet}
+use Rattle.model.specs.Valid.{in-sequence, isIn, validSet}
 use Rattle.model.specs.Command.{World}
 use Rattle.model.specs.Checkpoint.{committedNow, validNow, committedOf, oldest, share, sharesLower}
 use Rattle.model.specs.declared.Shape.{Shape}
 use Rattle.model.specs.declared.Name.{Name}
+use Rattle.model.specs.declared.CommitLayout.the-variants.{Numbers}
 use Rattle.model.specs.declared.Committed.{Committed}
 use Rattle.model.proofs.Lists.{and-both, and-left, and-right, or-left, or-right, or-cases, any-mem, mem-any, mem-below, below-mem, bool-ext}
 use Rattle.crash.specs.Book.{isClosed, isRetired}
@@ -39,11 +40,11 @@ module _ {l : Ledger} {w : World} (u : CardUp l w) where
   count-enough : (c : ℕ) → c < l .shape .cores → l .book .uncommitted c - l .book .oldest c ≤ committedCount (w .card) c
   count-enough c h = omega (arith, count-up c h)
 
-  committed-now : committedNow w ≡ journals (l .shape) (w .disk) (tailOf (w .card)) (committedCount (w .card))
+  committed-now : committedNow w ≡ journals Numbers (l .shape) (w .disk) (tailOf (w .card)) (committedCount (w .card))
   unfolding committedNow
   committed-now = rw (shape-up u)
 
-  valid-now : validNow (l .book .begun .order) w ≡ validSet (l .book .begun .order) (l .shape) (w .disk) (tailOf (w .card)) (journals (l .shape) (w .disk) (tailOf (w .card)) (committedCount (w .card)))
+  valid-now : validNow in-sequence w ≡ validSet in-sequence Numbers (l .shape) (w .disk) (tailOf (w .card)) (journals Numbers (l .shape) (w .disk) (tailOf (w .card)) (committedCount (w .card)))
   unfolding validNow
   valid-now = rw (committed-now, shape-up u)
 
@@ -56,7 +57,7 @@ module _ {l : Ledger} {w : World} (u : CardUp l w) where
   unfolding oldest
   oldest-of c h g = ap oldest (committed-of c h ∙ readList-first l c (tailOf (w .card) c) g)
 
-  pub oldest-is : (c : ℕ) → c < l .shape .cores → l .book .oldest c < l .book .uncommitted c → ReadAsLedger l (w .disk) c (oldest (committedOf w c))
+  pub oldest-is : (c : ℕ) → c < l .shape .cores → l .book .oldest c < l .book .uncommitted c → ReadAsLedger Numbers l (w .disk) c (oldest (committedOf w c))
   oldest-is c h g =
       rw (oldest-of c h g)
       (readList-is (u .well-formed) (u .disk) c h (readRecord l (oldestName c (l .book)) ((tailOf (w .card) c) .position))
@@ -98,7 +99,7 @@ in-lower l t h =
       },
     )
 
-module _ {l : Ledger} {w : World} (u : CardUp l w) (c : ℕ) (e : Committed) (x : ReadAsLedger l (w .disk) c e) where
+module _ {l : Ledger} {w : World} (u : CardUp l w) (c : ℕ) (e : Committed) (x : ReadAsLedger Numbers l (w .disk) c e) where
   abbrev pub lowerRead : Committed → Bool
   lowerRead g = ltb (g .stamp) (e .stamp) && share (blocksOf (shapeOf (w .card)) (w .disk) e) (blocksOf (shapeOf (w .card)) (w .disk) g)
 
@@ -107,7 +108,7 @@ module _ {l : Ledger} {w : World} (u : CardUp l w) (c : ℕ) (e : Committed) (x 
       let t = (coreOf (w .card) i) .closed in
       t .live && ltb (t .stamp) (e .stamp) && share (blocksOf (shapeOf (w .card)) (w .disk) e) (taken t)
 
-  blocks-up : (g : Committed) (i : ℕ) → ReadAsLedger l (w .disk) i g → blocksOf (shapeOf (w .card)) (w .disk) g ≡ (l .book .entry (nameOf g)) .blocks
+  blocks-up : (g : Committed) (i : ℕ) → ReadAsLedger Numbers l (w .disk) i g → blocksOf (shapeOf (w .card)) (w .disk) g ≡ (l .book .entry (nameOf g)) .blocks
   blocks-up g i y = ap (λ (s : Shape). blocksOf s (w .disk) g) (shape-up u) ∙ y .blocks
 
   read-lower : (g : Committed) → List·Memᴰ g (committedNow w) → lowerRead g ≡ true → Lower l (nameOf e) (nameOf g)
@@ -140,7 +141,7 @@ module _ {l : Ledger} {w : World} (u : CardUp l w) (c : ℕ) (e : Committed) (x 
             })
       ]
 
-  lower-read : (g : Committed) (i : ℕ) → ReadAsLedger l (w .disk) i g → Lower l (nameOf e) (nameOf g) → lowerRead g ≡ true
+  lower-read : (g : Committed) (i : ℕ) → ReadAsLedger Numbers l (w .disk) i g → Lower l (nameOf e) (nameOf g) → lowerRead g ≡ true
   lower-read g i y r =
       and-both (lt-ltb (g .stamp) (e .stamp) (omega (arith, y .stamp, x .stamp, r .lower))) (ap₂ share (blocks-up e c x) (blocks-up g i y) ∙ r .shares)
 
@@ -198,7 +199,7 @@ module _ {l : Ledger} {w : World} (u : CardUp l w) (c : ℕ) (in-range : c < l .
     oldest-name = ap nameOf (oldest-of u c in-range some)
 
     -- '32'
-    pub oldest-valid : isIn (validNow (l .book .begun .order) w) (nameOf (oldest (committedOf w c))) ≡ any (sameName (oldestName c (l .book))) (validIn (l .book))
+    pub oldest-valid : isIn (validNow in-sequence w) (nameOf (oldest (committedOf w c))) ≡ any (sameName (oldestName c (l .book))) (validIn (l .book))
     oldest-valid =
         ap₂ isIn (valid-now u) oldest-name
         ∙ valid-same (u .well-formed) (u .disk) (committedCount (w .card)) (count-enough u) (oldestName c (l .book))

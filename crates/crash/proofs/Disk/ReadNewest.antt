@@ -6,11 +6,12 @@ use Rattle.model.proofs.Base.{List·Memᴰ, List·Memᴰ·head, List·Memᴰ·t
 use Rattle.model.proofs.Base.{List·Memᴰ·eq-of-singleton, Memᴰ·cast, length, getD, eqb, leb, eq-eqb, eqb-true, leb-true, leb-false}
 use Rattle.model.proofs.Base.{any, Bytes}
 use Rattle.model.specs.Journal.{journals, nameOf, blocksOf, took}
-use Rattle.model.specs.Valid.{validSet, later, newest}
-use Rattle.model.specs.Recovery.{shapeOn, validOnBy, placeOf, imageFound, newestImage}
+use Rattle.model.specs.Valid.{in-sequence, validSet, later, newest}
+use Rattle.model.specs.Recovery.{shapeOn, layoutOn, validOnBy, placeOf, imageFound, newestImage}
 use Rattle.model.specs.declared.Shape.{Shape}
 use Rattle.model.specs.declared.Tail.{Tail}
 use Rattle.model.specs.declared.Name.{Name}
+use Rattle.model.specs.declared.CommitLayout.{CommitLayout}
 use Rattle.model.specs.declared.Committed.{Committed}
 use Rattle.model.specs.declared.Found.{Found}
 use Rattle.model.specs.declared.Found.the-variants.{Whole, Miss}
@@ -119,37 +120,37 @@ place-in b (x ∷ bs) m =
     ])
 
 -- ---- the ledger's holder
-took-read : {l : Ledger} {d : Bytes} {c : ℕ} {e : Committed} (b : ℕ) → ReadAsLedger l d c e → took (l .shape) d b e ≡ any (eqb b) ((l .book .entry (nameOf e)) .blocks)
+took-read : {y : CommitLayout} {l : Ledger} {d : Bytes} {c : ℕ} {e : Committed} (b : ℕ) → ReadAsLedger y l d c e → took (l .shape) d b e ≡ any (eqb b) ((l .book .entry (nameOf e)) .blocks)
 unfolding took
 took-read b r = rw (r .blocks)
 
-module _ {l : Ledger} {d : Bytes} {tailAt : ℕ → Tail} (f : WellFormed l) (z : DiskStands l d tailAt) {b : ℕ} (n : Newest l b) where
+module _ {y : CommitLayout} {l : Ledger} {d : Bytes} {tailAt : ℕ → Tail} (f : WellFormed l) (z : DiskStands y l d tailAt) {b : ℕ} (n : Newest l b) where
   abbrev taken-by : List·Memᴰ b ((l .book .entry (n .holder)) .blocks)
   taken-by = Memᴰ·cast (sym (n .block)) (getD-mem ((l .book .entry (n .holder)) .blocks) (n .place) 0 (n .within))
 
   newest-read : (most : ℕ → ℕ) → ((c : ℕ) → c < l .shape .cores → l .book .uncommitted c - l .book .oldest c ≤ most c)
-      → (e : Committed) × (newest (l .shape) d b Miss (validSet (l .book .begun .order) (l .shape) d tailAt (journals (l .shape) d tailAt most)) ≡ Whole e)
-      × List·Memᴰ e (validSet (l .book .begun .order) (l .shape) d tailAt (journals (l .shape) d tailAt most)) × (nameOf e ≡ n .holder)
+      → (e : Committed) × (newest (l .shape) d b Miss (validSet in-sequence y (l .shape) d tailAt (journals y (l .shape) d tailAt most)) ≡ Whole e)
+      × List·Memᴰ e (validSet in-sequence y (l .shape) d tailAt (journals y (l .shape) d tailAt most)) × (nameOf e ≡ n .holder)
   newest-read most enough =
-      let vs = validSet (l .book .begun .order) (l .shape) d tailAt (journals (l .shape) d tailAt most) in
+      let vs = validSet in-sequence y (l .shape) d tailAt (journals y (l .shape) d tailAt most) in
       let h = valid-read f z most enough (n .holder) (n .valid) in
       let x = valid-are f z most enough (h .0) (h .1) in
       let t : took (l .shape) d b (h .0) ≡ true = took-read b x ∙ in-any blockEquality (rw (h .2) taken-by) in
       let r = newest-highest (l .shape) d b vs (h .0) (h .1) t in
       let e = r .0 in
       let v = r .2 in
-      let y = valid-are f z most enough e (v .among) in
+      let a = valid-are f z most enough e (v .among) in
       let m : l .stamp (nameOf e) ≤ l .stamp (n .holder) =
-      n .highest (nameOf e) (valid-name f z most enough e (v .among)) (any-in blockEquality b ((l .book .entry (nameOf e)) .blocks) (sym (took-read b y) ∙ v .took-it)) in
+      n .highest (nameOf e) (valid-name f z most enough e (v .among)) (any-in blockEquality b ((l .book .entry (nameOf e)) .blocks) (sym (took-read b a) ∙ v .took-it)) in
       let o : h .0 .stamp ≡ l .stamp (n .holder) = x .stamp ∙ ap (l .stamp) (h .2) in
       let closed : isClosed ((l .book .entry (n .holder)) .stage) ≡ true = rw (h .2) at (x .unretired .is-closed) in (
         e,
         r .1,
         v .among,
-        f .stamps (nameOf e) (n .holder) (y .unretired .is-closed) closed (omega (arith, y .stamp, v .most (h .0) (h .1) t)),
+        f .stamps (nameOf e) (n .holder) (a .unretired .is-closed) closed (omega (arith, a .stamp, v .most (h .0) (h .1) t)),
       )
 
-  image-found : (c : ℕ) (e : Committed) → ReadAsLedger l d c e → nameOf e ≡ n .holder → imageFound d b (Whole e) ≡ target l b
+  image-found : (c : ℕ) (e : Committed) → ReadAsLedger y l d c e → nameOf e ≡ n .holder → imageFound d b (Whole e) ≡ target l b
   unfolding imageFound
   image-found c e r h =
       let bs = (l .book .entry (n .holder)) .blocks in
@@ -162,11 +163,12 @@ module _ {l : Ledger} {d : Bytes} {tailAt : ℕ → Tail} (f : WellFormed l) (z 
       (r .images (n .place) (omega (arith, n .within)) ∙ ap (λ (t : Name). getD (l .images t) (n .place) []) h ∙ n .image)
 
 -- 'Each block held in the valid set gets the image of highest stamp': the target's
-pub newest-image : {l : Ledger} {d : Bytes} {tailAt : ℕ → Tail} → WellFormed l → DiskStands l d tailAt → {b : ℕ} → Newest l b → newestImage (l .book .begun .order) d b ≡ target l b
+pub newest-image : {y : CommitLayout} {l : Ledger} {d : Bytes} {tailAt : ℕ → Tail} → WellFormed l → DiskStands y l d tailAt → {b : ℕ} → Newest l b
+    → newestImage in-sequence (layoutOn d) d b ≡ target l b
 unfolding newestImage
-newest-image {l} {d} f z {b} n =
+newest-image {l = l} {d = d} f z {b} n =
     let own = own-tails f z in
     let few = few-records f z in
     let r = newest-read f own n (λ (c : ℕ). l .shape .journal) few in
-    let g : newest (shapeOn d) d b Miss (validOnBy (l .book .begun .order) d) ≡ Whole (r .0) = rw (shape-read f z, valid-on f z) (r .1) in
+    let g : newest (shapeOn d) d b Miss (validOnBy in-sequence (layoutOn d) d) ≡ Whole (r .0) = rw (shape-read f z, valid-on f z) (r .1) in
     ap (imageFound d b) g ∙ image-found f z n (r .0 .core) (r .0) (valid-are f own (λ (c : ℕ). l .shape .journal) few (r .0) (r .2)) (r .3)

@@ -8,22 +8,25 @@ use Rattle.model.proofs.Base.{length-append, List·getD-map, List·getD-append,
 use lib.Seq.{getD-append-add}
 use Rattle.model.specs.Bytes.{number}
 use Rattle.model.specs.Card.{newName}
-use Rattle.model.specs.Layout.{Tag, newTag, isCommit}
+use Rattle.model.specs.Layout.{Tag, newTag, hasHead, highestIn, namesFrom}
 use Rattle.model.specs.Journal.{journalAt, recordAt, recordsFrom, journal, nameOf, tagsOf, blocksOf, namesOf, imageOf}
 use Rattle.model.specs.declared.Shape.{Shape}
 use Rattle.model.specs.declared.Tail.{Tail}
 use Rattle.model.specs.declared.Name.{Name}
+use Rattle.model.specs.declared.CommitLayout.{CommitLayout}
+use Rattle.model.specs.declared.CommitLayout.the-variants.{Numbers}
 use Rattle.model.specs.declared.Committed.{Committed}
 use Rattle.model.specs.declared.Found.the-variants.{Whole}
 use Rattle.model.proofs.Lists.{getD-mem, flatMap-append, length-below, getD-map-below}
-use Rattle.model.proofs.Journal.{encodedRecord as storedBlocks, Stands, journal-wrap, record-read, tags-read, names-read, image-read, records-miss, records-hit, miss-commit, record-stands}
+use Rattle.model.proofs.Journal.{encodedRecord as storedBlocks, Stands, asRead, journal-wrap, record-read, tags-read, names-read, image-read, records-miss, records-hit, miss-commit, record-stands}
+use Rattle.model.proofs.Encoding.{no-commit}
 use Rattle.crash.specs.Book.{isClosed, Book}
 use Rattle.crash.specs.Ledger.{Ledger, recordBlocks, storedOf, storedSince, recordTags, recordOf}
 use Rattle.crash.specs.Claims.{readAs, JournalsRead}
 use Rattle.crash.proofs.Books.BookEntries.{oldestName}
 use Rattle.crash.proofs.Disk.Relation.{WellFormed, contents, DiskStands}
 use Rattle.crash.proofs.Disk.LedgerStages.{Unretired, stored-unretired}
-use Rattle.crash.proofs.Disk.ReadMaster.{shape-read, tail-read}
+use Rattle.crash.proofs.Disk.ReadMaster.{shape-read, tail-read, layout-read}
 use Rattle.crash.proofs.Disk.RecordFormat.{readRecord, readFrom, readList, recordsOf, length-recordTags, getD-recordTags, record-sound, record-images, length-record, as-read}
 
 -- ---- blocks that stand one after the other, from a position on
@@ -83,12 +86,12 @@ length-records {l} f c i (suc n) g =
     length-append (recordOf l (newName c i)) (recordsOf l c (suc i) n)
     ∙ omega (arith, length-record f (newName c i) (g i (omega arith) (omega arith)), length-records f c (suc i) n (λ j a b. g j (omega arith) (omega arith)))
 
-module _ {l : Ledger} (f : WellFormed l) (d : Bytes) (c : ℕ) where
+module _ (y : CommitLayout) {l : Ledger} (f : WellFormed l) (d : Bytes) (c : ℕ) where
   abbrev Standing : ℕ → ℕ → ℕ → Type 0
   Standing i p n = ClosedFrom l c i n × BlocksStand (l .shape) d c p (recordsOf l c i n)
 
   first-stands : (i p n : ℕ) → Standing i p (suc n)
-      → Stands (l .shape) d c p i (recordTags l (newName c i)) (l .stamp (newName c i)) ((l .book .entry (newName c i)) .names) (l .images (newName c i))
+      → Stands (l .shape) d c p i (recordTags l (newName c i)) (l .stamp (newName c i)) (highestIn ((l .book .entry (newName c i)) .names)) (l .images (newName c i))
   unfolding recordsOf
   first-stands i p n z =
       let t = newName c i in
@@ -107,34 +110,35 @@ module _ {l : Ledger} (f : WellFormed l) (d : Bytes) (c : ℕ) where
   )
 
   -- the reading of n records, with none of the next number
-  records-are : (most i p left n : ℕ) → n ≤ most → Standing i p n → recordBlocks (l .book) c i n ≤ left
-      → ((q : ℕ) → isCommit (l .shape) (i + n) (journalAt (l .shape) d c q) ≡ false) → recordsFrom most (l .shape) d c i p left ≡ readFrom l c i p n
+  records-are : (most i p left n : ℕ) → n ≤ most → (0 < n → y ≡ Numbers) → Standing i p n → recordBlocks (l .book) c i n ≤ left
+      → ((q : ℕ) → hasHead 2 (i + n) (journalAt (l .shape) d c q) ≡ false) → recordsFrom most y (l .shape) d c i p left ≡ readFrom l c i p n
   unfolding readFrom recordBlocks
-  records-are most i p left zero h z r g =
-      let none : (q : ℕ) → isCommit (l .shape) i (journalAt (l .shape) d c q) ≡ false = λ q. rw add-zero at (g q) in
-      records-miss (l .shape) d c i p left most (miss-commit (l .shape) d c i p left (none _))
-  records-are zero i p left (suc n) h z r g = absurd (omega arith)
-  records-are (suc most) i p left (suc n) h z r g =
+  records-are most i p left zero h y-is z r g =
+      let none : (q : ℕ) → hasHead 2 i (journalAt (l .shape) d c q) ≡ false = λ q. rw add-zero at (g q) in
+      records-miss y (l .shape) d c i p left most (miss-commit y (l .shape) d c i p left (no-commit y (l .shape) i _ (none _)))
+  records-are zero i p left (suc n) h y-is z r g = absurd (omega arith)
+  records-are (suc most) i p left (suc n) h y-is z r g =
       let t = newName c i in
       let x = z .0 i (omega arith) (omega arith) in
       let e = length-recordTags l t in
-      let hit : recordAt (l .shape) d c i p left ≡ Whole (readRecord l t p) =
-      record-read (record-sound f t x) (first-stands i p n z) left (omega arith) ∙ ap Whole (as-read l t p) in
+      let hit : recordAt y (l .shape) d c i p left ≡ Whole (readRecord l t p) =
+      subst (λ (y : CommitLayout). recordAt y (l .shape) d c i p left ≡ Whole (readRecord l t p)) (sym (y-is (omega arith)))
+      (record-read (record-sound f t x) (first-stands i p n z) left (omega arith) ∙ ap Whole (as-read l t p)) in
       let s : i + suc n ≡ suc i + n = omega arith in
-      records-hit (l .shape) d c i p left most (readRecord l t p) hit
+      records-hit y (l .shape) d c i p left most (readRecord l t p) hit
       ∙ rw add-one
       (ap (λ (r : List Committed). readRecord l t p ∷ r)
-      (records-are most (suc i) _ (left - (length ((l .book .entry t) .blocks) + 2)) n (omega arith) (rest-stands i p n z) (omega arith) (λ q. rw s at (g q))))
+      (records-are most (suc i) _ (left - (length ((l .book .entry t) .blocks) + 2)) n (omega arith) (λ _. y-is (omega arith)) (rest-stands i p n z) (omega arith) (λ q. rw s at (g q))))
 
 -- ---- one record that is read
 -- what the ledger has for its transaction is what its record gives
-pub record ReadAsLedger (l : Ledger) (d : Bytes) (c : ℕ) (e : Committed) : Type 0 where
+pub record ReadAsLedger (y : CommitLayout) (l : Ledger) (d : Bytes) (c : ℕ) (e : Committed) : Type 0 where
   pub core : e .core ≡ c
   pub unretired : Unretired ((l .book .entry (nameOf e)) .stage)
   pub count : e .count ≡ length ((l .book .entry (nameOf e)) .blocks)
   pub stamp : e .stamp ≡ l .stamp (nameOf e)
   pub blocks : blocksOf (l .shape) d e ≡ (l .book .entry (nameOf e)) .blocks
-  pub names : namesOf (l .shape) d e ≡ (l .book .entry (nameOf e)) .names
+  pub names : namesOf y (l .shape) d e ≡ namesFrom (highestIn ((l .book .entry (nameOf e)) .names))
   pub images : (i : ℕ) → i < e .count → imageOf (l .shape) d e i ≡ getD (l .images (nameOf e)) i []
 
 recordTags-blocks : (l : Ledger) (t : Name) → map (λ (h : Tag). h .block) (recordTags l t) ≡ (l .book .entry t) .blocks
@@ -148,11 +152,11 @@ blocks-read : (l : Ledger) (t : Name) (d : Bytes) (e : Committed) → tagsOf (l 
 unfolding blocksOf
 blocks-read l t d e h = ap (map (λ (h : Tag). h .block)) h ∙ recordTags-blocks l t
 
-module _ {l : Ledger} (f : WellFormed l) (d : Bytes) (c : ℕ) (in-range : c < l .shape .cores) where
-  record-is : (i p : ℕ) → l .book .oldest c ≤ i → i < l .book .uncommitted c
-      → Stands (l .shape) d c p i (recordTags l (newName c i)) (l .stamp (newName c i)) ((l .book .entry (newName c i)) .names) (l .images (newName c i))
-      → ReadAsLedger l d c (readRecord l (newName c i) p)
-  record-is i p a b st =
+module _ (y : CommitLayout) {l : Ledger} (f : WellFormed l) (d : Bytes) (c : ℕ) (in-range : c < l .shape .cores) where
+  record-is : (i p : ℕ) → y ≡ Numbers → l .book .oldest c ≤ i → i < l .book .uncommitted c
+      → Stands (l .shape) d c p i (recordTags l (newName c i)) (l .stamp (newName c i)) (highestIn ((l .book .entry (newName c i)) .names)) (l .images (newName c i))
+      → ReadAsLedger y l d c (readRecord l (newName c i) p)
+  record-is i p y-is a b st =
       let t = newName c i in
       let u = stored-unretired (f .ranks c in-range) i a b in
       let x = record-sound f t (u .is-closed) in
@@ -164,21 +168,28 @@ module _ {l : Ledger} (f : WellFormed l) (d : Bytes) (c : ℕ) (in-range : c < l
         count = refl;
         stamp = refl;
         blocks = blocks-read l t d (readRecord l t p) held;
-        names = subst (λ (r : Committed). namesOf (l .shape) d r ≡ (l .book .entry t) .names) e (names-read x st);
+        names = ap (λ (y : CommitLayout). namesOf y (l .shape) d (readRecord l t p)) y-is ∙ names-is (readRecord l t p) e;
         images =
             λ j h.
             subst (λ (r : Committed). imageOf (l .shape) d r j ≡ getD (l .images t) j []) e
             (image-read x st (record-images f t (u .is-closed)) j (omega (arith, length-recordTags l t)));
       }
+    where
+      names-is : (r : Committed) → asRead c p i (recordTags l (newName c i)) (l .stamp (newName c i)) ≡ r
+          → namesOf Numbers (l .shape) d r ≡ namesFrom (highestIn ((l .book .entry (newName c i)) .names))
+      names-is r e =
+          let x = record-sound f (newName c i) (stored-unretired (f .ranks c in-range) i a b .is-closed) in
+          subst (λ (r : Committed). namesOf Numbers (l .shape) d r ≡ namesFrom (highestIn ((l .book .entry (newName c i)) .names))) e
+          (names-read x st)
 
-  each-is : (i p n : ℕ) → Standing f d c i p n → l .book .oldest c ≤ i → i + n ≤ l .book .uncommitted c
-      → (e : Committed) → List·Memᴰ e (readFrom l c i p n) → ReadAsLedger l d c e
+  each-is : (i p n : ℕ) → (0 < n → y ≡ Numbers) → Standing y f d c i p n → l .book .oldest c ≤ i → i + n ≤ l .book .uncommitted c
+      → (e : Committed) → List·Memᴰ e (readFrom l c i p n) → ReadAsLedger y l d c e
   unfolding readFrom
-  each-is i p zero st a b e m = absurd (List·Memᴰ·not-nil m)
-  each-is i p (suc n) st a b e m =
+  each-is i p zero y-is st a b e m = absurd (List·Memᴰ·not-nil m)
+  each-is i p (suc n) y-is st a b e m =
       elim (List·Memᴰ·cases-cons m) [
-        | inl q ↦ subst (λ (r : Committed). ReadAsLedger l d c r) (sym q) (record-is i p a (omega arith) (first-stands f d c i p n st))
-        | inr r ↦ each-is (suc i) _ n (rest-stands f d c i p n st) (omega arith) (omega arith) e r
+        | inl q ↦ subst (λ (r : Committed). ReadAsLedger y l d c r) (sym q) (record-is i p (y-is (omega arith)) a (omega arith) (first-stands y f d c i p n st))
+        | inr r ↦ each-is (suc i) _ n (λ _. y-is (omega arith)) (rest-stands y f d c i p n st) (omega arith) (omega arith) e r
       ]
 
 module _ (l : Ledger) (c : ℕ) where
@@ -231,14 +242,14 @@ module _ (l : Ledger) (c : ℕ) where
         ap (readFrom l c (l .book .oldest c) (t .position)) e
 
 -- ---- the reading of a journal
-module _ {l : Ledger} {d : Bytes} {tailAt : ℕ → Tail} (f : WellFormed l) (z : DiskStands l d tailAt) (c : ℕ) (in-range : c < l .shape .cores) where
+module _ {y : CommitLayout} {l : Ledger} {d : Bytes} {tailAt : ℕ → Tail} (f : WellFormed l) (z : DiskStands y l d tailAt) (c : ℕ) (in-range : c < l .shape .cores) where
   abbrev count-of : ℕ
   count-of = l .book .uncommitted c - l .book .oldest c
 
   pub stored-closed : ClosedFrom l c (l .book .oldest c) count-of
   stored-closed j a b = stored-unretired (f .ranks c in-range) j a (omega arith) .is-closed
 
-  journal-standing : Standing f d c (l .book .oldest c) ((tailAt c) .position) count-of
+  journal-standing : Standing y f d c (l .book .oldest c) ((tailAt c) .position) count-of
   journal-standing = (
     stored-closed,
     (unfold contents in
@@ -258,25 +269,26 @@ module _ {l : Ledger} {d : Bytes} {tailAt : ℕ → Tail} (f : WellFormed l) (z 
         blocks-more k c (k .oldest c) count-of (k .next c - k .oldest c) (omega (arith, f .ranks c in-range .mid)),
       )
 
-  pub journal-read : (most : ℕ) → l .book .uncommitted c - l .book .oldest c ≤ most → journal (l .shape) d c (tailAt c) most ≡ readList l c (tailAt c)
+  pub journal-read : (most : ℕ) → l .book .uncommitted c - l .book .oldest c ≤ most → journal y (l .shape) d c (tailAt c) most ≡ readList l c (tailAt c)
   unfolding journal readList
   journal-read most h =
       let k = l .book in
       let j = z .journals c in-range in
       let r = f .ranks c in-range in
       rw (j .number)
-      (records-are f d c most (k .oldest c) ((tailAt c) .position) (l .shape .journal) count-of h journal-standing
+      (records-are y f d c most (k .oldest c) ((tailAt c) .position) (l .shape .journal) count-of h (λ g. z .numbered c in-range (omega arith)) journal-standing
       (omega (arith, r .mid, j .room, blocks-more k c (k .oldest c) count-of (k .next c - k .oldest c) (omega (arith, r .mid))))
       (λ q. j .clear (k .oldest c + count-of) q (omega (arith, r .low))))
 
-  pub readList-is : (e : Committed) → List·Memᴰ e (readList l c (tailAt c)) → ReadAsLedger l d c e
+  pub readList-is : (e : Committed) → List·Memᴰ e (readList l c (tailAt c)) → ReadAsLedger y l d c e
   unfolding readList
-  readList-is = each-is f d c in-range (l .book .oldest c) ((tailAt c) .position) count-of journal-standing (omega arith) (omega (arith, f .ranks c in-range .low))
+  readList-is =
+      each-is y f d c in-range (l .book .oldest c) ((tailAt c) .position) count-of (λ g. z .numbered c in-range (omega arith)) journal-standing (omega arith) (omega (arith, f .ranks c in-range .low))
 
 -- ---- demand 2
-stored-as : {l : Ledger} (f : WellFormed l) (d : Bytes) (c : ℕ) (e : Committed) → ReadAsLedger l d c e → readAs (l .shape) d e ≡ storedOf l (nameOf e)
+stored-as : {y : CommitLayout} {l : Ledger} (f : WellFormed l) (d : Bytes) (c : ℕ) (e : Committed) → ReadAsLedger y l d c e → readAs y (l .shape) d e ≡ storedOf l (nameOf e)
 unfolding readAs storedOf
-stored-as {l} f d c e r =
+stored-as {l = l} f d c e r =
     let t = nameOf e in
     let z = f .frozen t (r .unretired .is-closed) in
     let n : length (map (imageOf (l .shape) d e) (below (e .count))) ≡ e .count = length-map (below (e .count)) (imageOf (l .shape) d e) ∙ length-below (e .count) in
@@ -285,32 +297,32 @@ stored-as {l} f d c e r =
     (λ i h. getD-map-below (imageOf (l .shape) d e) (e .count) i [] (omega arith) ∙ r .images i (omega arith)) in
     rw (r .blocks, i, r .names, r .stamp)
 
-module _ {l : Ledger} {d : Bytes} {tailAt : ℕ → Tail} (f : WellFormed l) (z : DiskStands l d tailAt) where
-  list-stored : (c : ℕ) → c < l .shape .cores → map (readAs (l .shape) d) (readList l c (tailAt c)) ≡ storedSince l c
+module _ {y : CommitLayout} {l : Ledger} {d : Bytes} {tailAt : ℕ → Tail} (f : WellFormed l) (z : DiskStands y l d tailAt) where
+  list-stored : (c : ℕ) → c < l .shape .cores → map (readAs y (l .shape) d) (readList l c (tailAt c)) ≡ storedSince l c
   unfolding storedSince
   list-stored c h =
-      let none : Committed = record { core = 0; number = 0; position = 0; count = 0; stamp = 0; named = 0 } in
+      let none : Committed = record { core = 0; number = 0; position = 0; count = 0; stamp = 0 } in
       let es = readList l c (tailAt c) in
       let o = l .book .oldest c in
       let n = l .book .uncommitted c - o in
       let k = length-readList l c (tailAt c) in
-      let m = length-map es (readAs (l .shape) d) in
-      ext-getD (readAs (l .shape) d none) (map (readAs (l .shape) d) es) (map (λ (i : ℕ). storedOf l (newName c (o + i))) (below n))
+      let m = length-map es (readAs y (l .shape) d) in
+      ext-getD (readAs y (l .shape) d none) (map (readAs y (l .shape) d) es) (map (λ (i : ℕ). storedOf l (newName c (o + i))) (below n))
       (m ∙ k ∙ sym (length-map (below n) (λ (i : ℕ). storedOf l (newName c (o + i))) ∙ length-below n))
       (λ i g.
       let b : i < n = omega arith in
       let e = getD es i none in
       let x = readList-is f z c h e (getD-mem es i none (omega arith)) in
-      let y : nameOf e ≡ newName c (o + i) = rw (x .core, readList-at l c (tailAt c) i none b) in
-      List·getD-map (readAs (l .shape) d) es i none
+      let same : nameOf e ≡ newName c (o + i) = rw (x .core, readList-at l c (tailAt c) i none b) in
+      List·getD-map (readAs y (l .shape) d) es i none
       ∙ stored-as f d c e x
-      ∙ ap (storedOf l) y
-      ∙ sym (getD-map-below (λ (i : ℕ). storedOf l (newName c (o + i))) n i (readAs (l .shape) d none) b))
+      ∙ ap (storedOf l) same
+      ∙ sym (getD-map-below (λ (i : ℕ). storedOf l (newName c (o + i))) n i (readAs y (l .shape) d none) b))
 
   pub journals-read : JournalsRead l d
   journals-read =
       record {
         shape = shape-read f z;
         tails = λ c h. ap (λ (t : Tail). t .number) (tail-read f z c h) ∙ z .journals c h .number;
-        records = λ c h. rw (tail-read f z c h, journal-read f z c h (l .shape .journal) (few-records f z c h)) (list-stored c h);
+        records = λ c h. rw (layout-read f z, tail-read f z c h, journal-read f z c h (l .shape .journal) (few-records f z c h)) (list-stored c h);
       }

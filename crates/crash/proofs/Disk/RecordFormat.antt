@@ -2,10 +2,10 @@
 -- for it: blocks, names, stamp and images. Each of its blocks is 128 bytes; none is a commit of a higher number.
 use Rattle.model.proofs.Base.{ℕ, zero, suc, _+_, _-_, _%_, _≤_, _<_, arith, _≡_, refl, sym, ap, _∙_, true, false, not, List, []}
 use Rattle.model.proofs.Base.{_∷_, _++_, map, List·Memᴰ, length, getD, length-map, List·getD-map, ext-getD, eqb, ltb, ne-eqb}
-use Rattle.model.proofs.Base.{lt-ltb, ltb-true, le-leb, below, Bytes}
+use Rattle.model.proofs.Base.{inl, inr, lt-ltb, ltb-true, le-leb, below, Bytes}
 use Rattle.model.specs.Bytes.{be4, part, number}
 use Rattle.model.specs.Card.{newName}
-use Rattle.model.specs.Layout.{Tag, newTag, distinct, isTag, isListable, flagOf, mark, hasHead, escaped, descriptorBlock, commitBlock, isCommit}
+use Rattle.model.specs.Layout.{Tag, newTag, distinct, isTag, flagOf, mark, hasHead, escaped, descriptorBlock, commitBlock, highestIn}
 use Rattle.model.specs.Journal.{journal}
 use Rattle.model.specs.declared.Shape.{Shape}
 use Rattle.model.specs.declared.Tail.{Tail}
@@ -14,7 +14,8 @@ use Rattle.model.specs.declared.Committed.{Committed}
 use Rattle.model.specs.Lists.{Each}
 use Rattle.model.proofs.Lists.{cases, and-both, all-mem, mem-all, getD-mem, mem-getD, length-below, getD-map-below, getD-each, mem-each}
 use Rattle.model.proofs.Words.{IsByte, IsWord, each-block}
-use Rattle.model.proofs.Encoding.{Encodable, length-descriptor, length-commit, length-escaped, descriptor-head, commit-head, head-other, no-commit, escaped-head}
+use Rattle.model.proofs.Encoding.{Encodable, length-descriptor, length-commit, length-escaped, descriptor-head, commit-head, head-other, escaped-head}
+use Rattle.model.proofs.Highest.{highest-member}
 use Rattle.model.proofs.Journal.{encodedRecord as storedBlocks, IsLong as HasBlockSize, Images, asRead, length-encodedRecord, encodedRecord-each}
 use Rattle.crash.specs.Book.{isClosed}
 use Rattle.crash.specs.Ledger.{Ledger, recordTags, recordOf}
@@ -33,7 +34,6 @@ readRecord l t p =
       position = p;
       count = length ((l .book .entry t) .blocks);
       stamp = l .stamp t;
-      named = length ((l .book .entry t) .names);
     }
 
 -- those of n transactions of core c, from number i and a position on
@@ -74,10 +74,6 @@ is-held : (s : Shape) (b g : ℕ) → b < s .blocks → g ≤ 1 → isTag s (new
 unfolding isTag
 is-held s b g h z = and-both (lt-ltb b (s .blocks) h) (le-leb g 1 z)
 
-is-listable : (s : Shape) (n : Name) → n .core < s .cores → 1 ≤ n .number → isListable s n ≡ true
-unfolding isListable
-is-listable s n h z = and-both (lt-ltb (n .core) (s .cores) h) (le-leb 1 (n .number) z)
-
 distinct-of : (hs : List Tag) (z : Tag)
     → ((i j : ℕ) → i < length hs → j < length hs → (getD hs i z) .block ≡ (getD hs j z) .block → i ≡ j) → distinct hs ≡ true
 unfolding distinct
@@ -92,11 +88,23 @@ distinct-of (h ∷ hs) z f =
     (λ e. let y : 0 ≡ suc (x .0) = f 0 (suc (x .0)) (omega arith) (omega (arith, x .1)) (e ∙ ap (λ (u : Tag). u .block) (sym (x .2))) in omega arith))))
     (distinct-of hs z (λ i j a b e. let y : suc i ≡ suc j = f (suc i) (suc j) (omega arith) (omega arith) e in omega arith))
 
+-- ---- the highest number of each core that it names
+module _ (l : Ledger) (t : Name) (named : (u : Name) → List·Memᴰ u ((l .book .entry t) .names) → Limits (l .shape) u (l .book .entry u)) where
+  highest-high : (c : ℕ) → IsWord (highestIn ((l .book .entry t) .names) c)
+  highest-high c =
+      elim (highest-member ((l .book .entry t) .names) c) [
+        | inl z ↦ omega arith
+        | inr m ↦ omega (arith, named _ m .high)
+      ]
+
+  highest-far : (c : ℕ) → l .shape .cores ≤ c → highestIn ((l .book .entry t) .names) c ≡ 0
+  highest-far c g = elim (highest-member ((l .book .entry t) .names) c) [ inl z ↦ z | inr m ↦ absurd (omega (arith, named _ m .core)) ]
+
 module _ {l : Ledger} (f : WellFormed l) (t : Name) (h : isClosed ((l .book .entry t) .stage) ≡ true) where
   abbrev limits-of : Limits (l .shape) t (l .book .entry t)
   limits-of = f .limits t (closed-present _ h)
 
-  pub record-sound : Encodable (l .shape) (t .number) (recordTags l t) (l .stamp t) ((l .book .entry t) .names)
+  pub record-sound : Encodable (l .shape) (t .number) (recordTags l t) (l .stamp t) (highestIn ((l .book .entry t) .names))
   record-sound =
       let m = limits-of in
       let n = length-recordTags l t in
@@ -122,11 +130,8 @@ module _ {l : Ledger} (f : WellFormed l) (t : Name) (h : isClosed ((l .book .ent
         stamped = z .low;
         stamp-fits =
             omega (arith, z .high, f .closes, f .range .few-cores, sum-low (l .book) (l .shape .cores) (λ c g. f .ranks c g .top));
-        short = m .short;
-        listable =
-            mem-all (isListable (l .shape)) ((l .book .entry t) .names)
-            (λ u x. is-listable (l .shape) u (named u x .core) (named u x .low));
-        numbers = mem-each (λ (n : Name). IsWord (n .number)) ((l .book .entry t) .names) (λ u x. omega (arith, named u x .high));
+        cores = λ c _. highest-far l t named c;
+        numbers = λ c _. highest-high l t named c;
       }
 
   pub record-images : Images (recordTags l t) (l .images t)
@@ -149,25 +154,25 @@ module _ {l : Ledger} (f : WellFormed l) (t : Name) (h : isClosed ((l .book .ent
   pub length-record : length (recordOf l t) ≡ length ((l .book .entry t) .blocks) + 2
   unfolding recordOf storedBlocks
   length-record =
-      length-encodedRecord (t .number) (recordTags l t) (l .stamp t) ((l .book .entry t) .names) (l .images t) ∙ ap (λ (n : ℕ). n + 2) (f .frozen t h .count)
+      length-encodedRecord (t .number) (recordTags l t) (l .stamp t) (highestIn ((l .book .entry t) .names)) (l .images t) ∙ ap (λ (n : ℕ). n + 2) (f .frozen t h .count)
 
-pub as-read : (l : Ledger) (t : Name) (p : ℕ) → asRead (t .core) p (t .number) (recordTags l t) (l .stamp t) ((l .book .entry t) .names) ≡ readRecord l t p
+pub as-read : (l : Ledger) (t : Name) (p : ℕ) → asRead (t .core) p (t .number) (recordTags l t) (l .stamp t) ≡ readRecord l t p
 as-read l t p = rw (length-recordTags l t)
 
 -- ---- the blocks of a record, one by one
 module _ (l : Ledger) (t : Name) where
   record-size : length (recordOf l t) ≡ length (l .images t) + 2
   unfolding recordOf storedBlocks
-  record-size = length-encodedRecord (t .number) (recordTags l t) (l .stamp t) ((l .book .entry t) .names) (l .images t)
+  record-size = length-encodedRecord (t .number) (recordTags l t) (l .stamp t) (highestIn ((l .book .entry t) .names)) (l .images t)
 
   pub record-each : (P : ℕ → Bytes → Type 0) → P 0 (descriptorBlock (t .number) (recordTags l t))
       → ((i : ℕ) → i < length (l .images t) → P (suc i) (escaped (getD (l .images t) i [])))
-      → P (suc (length (l .images t))) (commitBlock (t .number) (l .stamp t) ((l .book .entry t) .names))
+      → P (suc (length (l .images t))) (commitBlock (t .number) (l .stamp t) (highestIn ((l .book .entry t) .names)))
       → (i : ℕ) → i < length (recordOf l t) → P i (getD (recordOf l t) i [])
   unfolding recordOf storedBlocks
   record-each P a b c i g =
-      encodedRecord-each (t .number) (recordTags l t) (l .stamp t) ((l .book .entry t) .names) (l .images t) P a b c i
-      (omega (arith, length-encodedRecord (t .number) (recordTags l t) (l .stamp t) ((l .book .entry t) .names) (l .images t)))
+      encodedRecord-each (t .number) (recordTags l t) (l .stamp t) (highestIn ((l .book .entry t) .names)) (l .images t) P a b c i
+      (omega (arith, length-encodedRecord (t .number) (recordTags l t) (l .stamp t) (highestIn ((l .book .entry t) .names)) (l .images t)))
 
 module _ {l : Ledger} (f : WellFormed l) (t : Name) (h : isClosed ((l .book .entry t) .stage) ≡ true) where
   pub record-blocks : (i : ℕ) → i < length (recordOf l t) → IsBlock (getD (recordOf l t) i [])
@@ -179,17 +184,16 @@ module _ {l : Ledger} (f : WellFormed l) (t : Name) (h : isClosed ((l .book .ent
       (record { size = length-descriptor (t .number) (recordTags l t) (s .few); bytes = each-isBytes _ (each-block _) })
       (λ i g. let x = z .images i g in
       record { size = length-escaped (getD (l .images t) i []) (omega (arith, x .size)) ∙ x .size; bytes = escaped-bytes (getD (l .images t) i []) (x .bytes) })
-      (record { size = length-commit (t .number) (l .stamp t) ((l .book .entry t) .names) (s .short); bytes = each-isBytes _ (each-block _) })
+      (record { size = length-commit (t .number) (l .stamp t) (highestIn ((l .book .entry t) .names)); bytes = each-isBytes _ (each-block _) })
 
   -- none is a commit of a higher number; only the last is a commit
   pub record-clear : (i n : ℕ) → i < length (recordOf l t) → t .number ≤ n → (suc i ≡ length (recordOf l t) → t .number < n)
-      → isCommit (l .shape) n (getD (recordOf l t) i []) ≡ false
+      → hasHead 2 n (getD (recordOf l t) i []) ≡ false
   record-clear i n g low last =
       let s = record-sound f t h in
       let size = record-size l t in
-      no-commit (l .shape) n (getD (recordOf l t) i [])
-      (record-each l t (λ (j : ℕ) (b : Bytes). (suc j ≡ length (recordOf l t) → t .number < n) → hasHead 2 n b ≡ false)
+      record-each l t (λ (j : ℕ) (b : Bytes). (suc j ≡ length (recordOf l t) → t .number < n) → hasHead 2 n b ≡ false)
       (λ _. head-other 1 (t .number) 2 n _ (descriptor-head s) (λ e _. omega arith))
       (λ j _ _. escaped-head (getD (l .images t) j []) 2 n)
       (λ z. head-other 2 (t .number) 2 n _ (commit-head s) (λ _ e. omega (arith, z (omega arith))))
-      i g last)
+      i g last

@@ -13,14 +13,17 @@ use lib.Dec.{leb, eqb}
 use Rattle.model.specs.Lists.{below, any, select}
 use Rattle.model.specs.Bytes.{Bytes, blockAt}
 use Rattle.model.specs.Shape.{homeBlock}
-use Rattle.model.specs.Card.{newName, taken, listed, noHolder, newHolder, tailOf, coreOf, holderOf}
-use Rattle.model.specs.Layout.{masterBlock, isCommit}
+use Rattle.model.specs.Card.{newName, taken, highestOf, noHolder, newHolder, tailOf, coreOf, holderOf}
+use Rattle.model.specs.Layout.{hasHead, masterBlock, highestIn}
 use Rattle.model.specs.Journal.{journalAt}
 use Rattle.model.specs.Command.{World}
 use Rattle.model.specs.Commit.{copyBlock}
 use Rattle.model.specs.declared.Phase.the-variants.{Up, Down}
 use Rattle.model.specs.declared.Shape.{Shape}
 use Rattle.model.specs.declared.Tail.{Tail}
+use Rattle.model.specs.declared.CommitLayout.{CommitLayout}
+use Rattle.model.specs.declared.CommitLayout.the-variants.{Numbers}
+use Rattle.model.specs.Valid.{in-sequence}
 use Rattle.model.specs.declared.Name.{Name}
 use Rattle.model.specs.declared.Transaction.{Transaction}
 use Rattle.model.specs.declared.Core.{Core}
@@ -45,7 +48,6 @@ pub record Limits (s : Shape) (t : Name) (e : Entry) : Type 0 where
   pub few : length (e .blocks) ≤ 8
   pub blocks : (b : ℕ) → List·Memᴰ b (e .blocks) → b < s .blocks
   pub distinct : (i j : ℕ) → i < length (e .blocks) → j < length (e .blocks) → getD (e .blocks) i 0 ≡ getD (e .blocks) j 0 → i ≡ j
-  pub short : length (e .names) ≤ 12
 
 -- a write within its block
 pub record WriteFits (s : Shape) (w : Write) : Type 0 where
@@ -94,6 +96,7 @@ sumNext k zero = 0
 sumNext k (suc n) = sumNext k n + k .next n
 
 pub record WellFormed (l : Ledger) : Type 0 where
+  pub sequence : l .book .begun .order ≡ in-sequence
   pub range : InRange (l .shape)
   pub ranks : (c : ℕ) → c < l .shape .cores → Ranks (l .book) c
   pub far : (t : Name) → l .shape .cores ≤ t .core → (l .book .entry t) .stage ≡ absent
@@ -122,16 +125,18 @@ pub record JournalStands (l : Ledger) (d : Bytes) (c : ℕ) (t : Tail) : Type 0 
   pub position : t .position < l .shape .journal
   pub stands : (q : ℕ) → q < length (contents l c) → journalAt (l .shape) d c (t .position + q) ≡ getD (contents l c) q []
   -- no commit of an uncommitted number lies anywhere in the journal: so a torn or stale record is never read
-  pub clear : (i q : ℕ) → l .book .uncommitted c ≤ i → isCommit (l .shape) i (journalAt (l .shape) d c q) ≡ false
+  pub clear : (i q : ℕ) → l .book .uncommitted c ≤ i → hasHead 2 i (journalAt (l .shape) d c q) ≡ false
   -- the records of all closed ones fit, and so will that of the running one
   pub room : recordBlocks (l .book) c (l .book .oldest c) (l .book .next c - l .book .oldest c) ≤ l .shape .journal
   pub reserved : isRunning ((l .book .entry (nextName c (l .book))) .stage) ≡ true
       → recordBlocks (l .book) c (l .book .oldest c) (l .book .next c - l .book .oldest c) + (length ((l .book .entry (nextName c (l .book))) .blocks) + 2) ≤ l .shape .journal
 
-pub record DiskStands (l : Ledger) (d : Bytes) (tailAt : ℕ → Tail) : Type 0 where
+pub record DiskStands (y : CommitLayout) (l : Ledger) (d : Bytes) (tailAt : ℕ → Tail) : Type 0 where
   pub size : length d ≡ 32896
   pub bytes : IsBytes d
-  pub master : blockAt d 0 ≡ masterBlock (l .shape) tailAt
+  pub master : blockAt d 0 ≡ masterBlock y (l .shape) tailAt
+  -- where a record stands, the master says numbers
+  pub numbered : (c : ℕ) → c < l .shape .cores → l .book .oldest c < l .book .uncommitted c → y ≡ Numbers
   pub journals : (c : ℕ) → c < l .shape .cores → JournalStands l d c (tailAt c)
 
 -- ---- card and memory agree with the ledger
@@ -139,10 +144,9 @@ pub record Matches (t : Transaction) (e : Entry) : Type 0 where
   pub live : t .live ≡ true
   pub blocks : taken t ≡ e .blocks
   pub count : t .count ≡ length (e .blocks)
-  pub names : listed t ≡ e .names
-  pub named : t .named ≡ length (e .names)
+  pub highest : (c : ℕ) → c < 8 → highestOf t c ≡ highestIn (e .names) c
   pub block-room : length (t .blocks) ≡ 8
-  pub name-room : length (t .names) ≡ 12
+  pub number-room : length (t .highest) ≡ 8
 
 pub record CoreUp (l : Ledger) (m : Bytes) (c : ℕ) (k : Core) : Type 0 where
   pub next : k .next ≡ l .book .next c
@@ -175,7 +179,7 @@ pub record CardUp (l : Ledger) (w : World) : Type 0 where
   pub eight-cores : length (w .card .cores) ≡ 8
   pub holder-room : length (w .card .holders) ≡ 64
   pub well-formed : WellFormed l
-  pub disk : DiskStands l (w .disk) (tailOf (w .card))
+  pub disk : DiskStands Numbers l (w .disk) (tailOf (w .card))
   pub cores : (c : ℕ) → c < l .shape .cores → CoreUp l (w .memory) c (coreOf (w .card) c)
   pub holders : (b : ℕ) → b < l .shape .blocks → holderOf (w .card) b ≡ holderAs (bookHolder (l .book) b (l .book .writes))
   pub images : (b : ℕ) → b < l .shape .blocks → (holderOf (w .card) b) .held ≡ true → blockAt (w .memory) b ≡ imageNow l b
@@ -201,8 +205,9 @@ pub record CardDown (l : Ledger) (w : World) : Type 0 where
   pub memory : length (w .memory) ≡ 16384
   pub memory-bytes : IsBytes (w .memory)
   pub well-formed : WellFormed l
+  pub layout : CommitLayout
   pub tailAt : ℕ → Tail
-  pub disk : DiskStands l (w .disk) tailAt
+  pub disk : DiskStands layout l (w .disk) tailAt
   pub left : l .left ≡ select (leb (w .card .recovered)) (blocksIn (l .shape .blocks) (l .book))
   pub newest : (b : ℕ) → List·Memᴰ b (blocksIn (l .shape .blocks) (l .book)) → Newest l b
   pub at-home : (b : ℕ) → b < l .shape .blocks → any (eqb b) (l .left) ≡ false → blockAt (w .disk) (homeBlock b) ≡ target l b

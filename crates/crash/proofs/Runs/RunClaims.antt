@@ -15,17 +15,16 @@ use Rattle.model.specs.Shape.{homeBlock}
 use Rattle.model.specs.Card.{isBlank, isUp, isDown}
 use Rattle.model.specs.Command.{Outcome, refusal, refusedWith, World, wrongLength}
 use Rattle.model.specs.Tape.{Command, FORMAT, WRITE, CLOSE, STORE, CHECKPOINT, CUT, RECOVER, Read, whole, unknown, early, isUnknown, isEarly, readAt, operandsAt, TapeStep, Point, obeyed, commandAt, heard, commandByte, operandLength}
-use Rattle.model.specs.Valid.{Order}
+use Rattle.model.specs.Valid.{Order, in-sequence}
 use Rattle.model.specs.Reading.{readConditions, readNumber, blockReader}
-use Rattle.model.specs.Step.{conditionsOf, doneBy, stepBy, stepAtBy}
+use Rattle.model.specs.Step.{conditionsOf, doneBy, stepBy, step, stepAtBy, stepAt}
 use Rattle.model.proofs.Lists.{cases, flatMap-append, flatMap-below}
 use Rattle.model.proofs.Command.{unless-done, refusal-passed, step-answer, step-refused, step-done}
 use Rattle.model.proofs.Tape.{OfData, whole-data, length-data, whole-injective, Runs, at-end, one-more, run-runs}
-use Rattle.crash.specs.Book.{emptyBook, keptWrites, image, blank, hasRunning}
+use Rattle.crash.specs.Book.{keptWrites, image, blank, hasRunning}
 use Rattle.crash.specs.Service.{Service, emptyService, cutService, served, fed, bookArea}
 use Rattle.crash.specs.Ledger.{Ledger, freshLedger, blankLedger, closeLedger, cutLedger, recoverLedger, carriedOut, entered, writeRefusals, closeRefusals, storeRefusals, checkpointRefusals, refusalsOf, answerOf}
 use Rattle.crash.specs.Claims.{IsBytes, Start, StartFits, startWorld, startService, startLedger, from-blank, from-down, homeArea, fedPoint, AreaKept, Claim, enteredPoint, Between, DoneAs, PointKept, LedgerKept, Demands, ReadsNow, ReadingsKept, Readings}
-use Rattle.crash.proofs.Books.BookOrder.{heard-order}
 use Rattle.crash.proofs.Books.Agreement.{Agrees, PhaseFor, start-agrees, heard-agrees, area-same}
 use Rattle.crash.proofs.Disk.BlockBytes.{bytes-take, bytes-drop}
 use Rattle.crash.proofs.Books.Tests.{clash}
@@ -49,15 +48,15 @@ HomeGiven l w = l .left ≡ [] → (b : ℕ) → b < l .shape .blocks → blockA
 
 -- a command carried out
 pub record Carried (Related : Ledger → World → Type 0) (l : Ledger) (w : World) (k : Command) : Type 0 where
-  pub next : Related (carriedOut k l) ((doneBy (l .book .begun .order) k w) .world)
-  pub done : DoneAs k l w (doneBy (l .book .begun .order) k w)
-  pub home : k ≡ RECOVER → HomeGiven l ((doneBy (l .book .begun .order) k w) .world)
+  pub next : Related (carriedOut k l) ((doneBy in-sequence k w) .world)
+  pub done : DoneAs k l w (doneBy in-sequence k w)
+  pub home : k ≡ RECOVER → HomeGiven l ((doneBy in-sequence k w) .world)
 
 pub record Simulation (Related : Ledger → World → Type 0) : Type 0 where
   pub sizes : (l : Ledger) (w : World) → Related l w → wrongLength w ≡ false
   pub between : (l : Ledger) (w : World) → Related l w → Between l w
   pub reads : (l : Ledger) (w : World) → Related l w → ReadsNow blockReader l w
-  pub answers : (l : Ledger) (w : World) → Related l w → (k : Command) → refusal (conditionsOf (l .book .begun .order) k w) ≡ refusal (refusalsOf k l)
+  pub answers : (l : Ledger) (w : World) → Related l w → (k : Command) → refusal (conditionsOf in-sequence k w) ≡ refusal (refusalsOf k l)
   pub carries : (l : Ledger) (w : World) → Related l w → (k : Command) → HasData k → refusal (refusalsOf k l) ≡ 0 → Carried Related l w k
 
 module _ (Related : Ledger → World → Type 0) where
@@ -69,9 +68,9 @@ module _ (Related : Ledger → World → Type 0) where
     pub next : Related (heard entered r (o .answer) l) (o .world)
     pub home : r ≡ whole RECOVER → o .answer ≡ 0 → HomeGiven l (o .world)
 
-  -- a card each of whose commands goes so, by a ledger of the rule
-  abbrev pub CardKeeps : Order → TapeStep World → Type 0
-  CardKeeps o f = (t : Bytes) → IsBytes t → (at : ℕ) (l : Ledger) (w : World) → l .book .begun .order ≡ o → Related l w → PointKeeps l w (readAt t at) (f t at w)
+  -- a card each of whose commands goes so
+  abbrev pub CardKeeps : TapeStep World → Type 0
+  CardKeeps f = (t : Bytes) → IsBytes t → (at : ℕ) (l : Ledger) (w : World) → Related l w → PointKeeps l w (readAt t at) (f t at w)
 
   module _ (r : Simulation Related) (l : Ledger) (w : World) (here : Related l w) where
     unknown-keeps : PointKeeps l w unknown (refusedWith 2 w)
@@ -83,13 +82,13 @@ module _ (Related : Ledger → World → Type 0) where
     early-keeps = record { answer = refl; refused = λ n. refl; done = λ k e. absurd (true≢false (ap isEarly e)); next = here; home = λ e. absurd (true≢false (ap isEarly e)) }
 
     module _ (k : Command) (fits : HasData k) where
-      answer-same : (stepBy (l .book .begun .order) k w) .answer ≡ refusal (refusalsOf k l)
-      answer-same = step-answer (l .book .begun .order) k w ∙ r .answers l w here k
+      answer-same : (stepBy in-sequence k w) .answer ≡ refusal (refusalsOf k l)
+      answer-same = step-answer in-sequence k w ∙ r .answers l w here k
 
-      refused-keeps : (n : ℕ) → (stepBy (l .book .begun .order) k w) .answer ≡ suc n → PointKeeps l w (whole k) (stepBy (l .book .begun .order) k w)
+      refused-keeps : (n : ℕ) → (stepBy in-sequence k w) .answer ≡ suc n → PointKeeps l w (whole k) (stepBy in-sequence k w)
       unfolding answerOf heard entered
       refused-keeps n e =
-          let o : stepBy (l .book .begun .order) k w ≡ refusedWith ((stepBy (l .book .begun .order) k w) .answer) w = step-refused (l .book .begun .order) k w (omega (arith, e)) .2 in
+          let o : stepBy in-sequence k w ≡ refusedWith ((stepBy in-sequence k w) .answer) w = step-refused in-sequence k w (omega (arith, e)) .2 in
           record {
             answer = answer-same;
             refused = λ z. o;
@@ -98,64 +97,63 @@ module _ (Related : Ledger → World → Type 0) where
             home = λ q z. absurd (omega (arith, e, z));
           }
 
-      done-keeps : (stepBy (l .book .begun .order) k w) .answer ≡ 0 → PointKeeps l w (whole k) (stepBy (l .book .begun .order) k w)
+      done-keeps : (stepBy in-sequence k w) .answer ≡ 0 → PointKeeps l w (whole k) (stepBy in-sequence k w)
       unfolding answerOf heard entered
       done-keeps e =
-          let o : stepBy (l .book .begun .order) k w ≡ doneBy (l .book .begun .order) k w = step-done (l .book .begun .order) k w e .1 in
+          let o : stepBy in-sequence k w ≡ doneBy in-sequence k w = step-done in-sequence k w e .1 in
           let c = r .carries l w here k fits (sym answer-same ∙ e) in
           record {
             answer = answer-same;
             refused = λ z. absurd (z e);
-            done = λ m q z. subst (λ (x : Outcome World). DoneAs m l w x) (sym o) (subst (λ (m : Command). DoneAs m l w (doneBy (l .book .begun .order) k w)) (whole-injective q) (c .done));
+            done = λ m q z. subst (λ (x : Outcome World). DoneAs m l w x) (sym o) (subst (λ (m : Command). DoneAs m l w (doneBy in-sequence k w)) (whole-injective q) (c .done));
             next = rw e (subst (Related (carriedOut k l)) (sym (ap (λ (o : Outcome World). o .world) o)) (c .next));
             home = λ q z. subst (λ (x : Outcome World). HomeGiven l (x .world)) (sym o) (c .home (whole-injective q));
           }
 
-      whole-keeps : PointKeeps l w (whole k) (stepBy (l .book .begun .order) k w)
-      whole-keeps = by-answer ((stepBy (l .book .begun .order) k w) .answer) refl
+      whole-keeps : PointKeeps l w (whole k) (stepBy in-sequence k w)
+      whole-keeps = by-answer ((stepBy in-sequence k w) .answer) refl
         where
-          by-answer : (n : ℕ) → (stepBy (l .book .begun .order) k w) .answer ≡ n → PointKeeps l w (whole k) (stepBy (l .book .begun .order) k w)
+          by-answer : (n : ℕ) → (stepBy in-sequence k w) .answer ≡ n → PointKeeps l w (whole k) (stepBy in-sequence k w)
           by-answer zero e = done-keeps e
           by-answer (suc n) e = refused-keeps n e
 
-    obeyed-keeps : (x : Read) → ((k : Command) → x ≡ whole k → HasData k) → PointKeeps l w x (obeyed (stepBy (l .book .begun .order)) x w)
+    obeyed-keeps : (x : Read) → ((k : Command) → x ≡ whole k → HasData k) → PointKeeps l w x (obeyed (stepBy in-sequence) x w)
     unfolding obeyed
     obeyed-keeps (whole k) h = whole-keeps k (h k refl)
     obeyed-keeps unknown h = unknown-keeps
     obeyed-keeps early h = early-keeps
 
   -- the model's card does
-  pub point-keeps : (r : Simulation Related) (o : Order) → CardKeeps o (stepAtBy o)
+  pub point-keeps : Simulation Related → CardKeeps stepAt
   unfolding stepAtBy commandAt refusal
-  point-keeps r o t b at l w rule here =
-      subst (λ (o : Order). PointKeeps l w (readAt t at) (stepAtBy o t at w)) rule
-      (subst (PointKeeps l w (readAt t at))
-      (sym (unless-done ((wrongLength w, 1) ∷ []) w (obeyed (stepBy (l .book .begun .order)) (readAt t at) w) (rw (r .sizes l w here))))
-      (obeyed-keeps r l w here (readAt t at) (whole-bytes t b at)))
+  point-keeps r t b at l w here =
+      subst (PointKeeps l w (readAt t at))
+      (sym (unless-done ((wrongLength w, 1) ∷ []) w (obeyed step (readAt t at) w) (rw (r .sizes l w here))))
+      (obeyed-keeps r l w here (readAt t at) (whole-bytes t b at))
 
   -- so does every card that is the same function
-  pub same-keeps : (r : Simulation Related) (o : Order) (f : TapeStep World) → ((t : Bytes) (at : ℕ) (w : World) → f t at w ≡ stepAtBy o t at w) → CardKeeps o f
-  same-keeps r o f same t b at l w rule here = subst (PointKeeps l w (readAt t at)) (sym (same t at w)) (point-keeps r o t b at l w rule here)
+  pub same-keeps : Simulation Related → (f : TapeStep World) → ((t : Bytes) (at : ℕ) (w : World) → f t at w ≡ stepAt t at w) → CardKeeps f
+  same-keeps r f same t b at l w here = subst (PointKeeps l w (readAt t at)) (sym (same t at w)) (point-keeps r t b at l w here)
 
-  module _ (r : Simulation Related) (o : Order) (f : TapeStep World) (go : CardKeeps o f) where
+  module _ (r : Simulation Related) (f : TapeStep World) (go : CardKeeps f) where
     -- Demands 1 and 2 and the course of recovery, at every point of a run.
-    ledger-kept : (t : Bytes) → IsBytes t → {at n : ℕ} {l : Ledger} {w : World} {ps : List (Point World)} → l .book .begun .order ≡ o → Related l w → Runs f t at n w ps → LedgerKept l w ps
+    ledger-kept : (t : Bytes) → IsBytes t → {at n : ℕ} {l : Ledger} {w : World} {ps : List (Point World)} → Related l w → Runs f t at n w ps → LedgerKept l w ps
     unfolding enteredPoint
-    ledger-kept t b {l = l} {w = w} rule here (at-end h) = r .between l w here
-    ledger-kept t b {at} {n} {l} {w} rule here (one-more {p = p} {ps = ps} h e rest) =
-        let g = go t b at l w rule here in (
+    ledger-kept t b {l = l} {w = w} here (at-end h) = r .between l w here
+    ledger-kept t b {at} {n} {l} {w} here (one-more {p = p} {ps = ps} h e rest) =
+        let g = go t b at l w here in (
           subst (PointKept l w) (sym e)
               (record { between = r .between l w here; answer = g .answer; refused = g .refused; done = g .done }),
-          ledger-kept t b (heard-order (p .read) (p .outcome .answer) l ∙ rule) (subst (λ (p : Point World). Related (heard entered (p .read) (p .outcome .answer) l) (p .outcome .world)) (sym e) (g .next)) rest,
+          ledger-kept t b (subst (λ (p : Point World). Related (heard entered (p .read) (p .outcome .answer) l) (p .outcome .world)) (sym e) (g .next)) rest,
         )
 
     -- What reading gives, at every point of a run.
-    readings-kept : (t : Bytes) → IsBytes t → {at n : ℕ} {l : Ledger} {w : World} {ps : List (Point World)} → l .book .begun .order ≡ o → Related l w → Runs f t at n w ps → ReadingsKept blockReader l w ps
+    readings-kept : (t : Bytes) → IsBytes t → {at n : ℕ} {l : Ledger} {w : World} {ps : List (Point World)} → Related l w → Runs f t at n w ps → ReadingsKept blockReader l w ps
     unfolding enteredPoint
-    readings-kept t b {l = l} {w = w} rule here (at-end h) = r .reads l w here
-    readings-kept t b {at} {n} {l} {w} rule here (one-more {p = p} {ps = ps} h e rest) =
-        let g = go t b at l w rule here in
-        (r .reads l w here, readings-kept t b (heard-order (p .read) (p .outcome .answer) l ∙ rule) (subst (λ (p : Point World). Related (heard entered (p .read) (p .outcome .answer) l) (p .outcome .world)) (sym e) (g .next)) rest)
+    readings-kept t b {l = l} {w = w} here (at-end h) = r .reads l w here
+    readings-kept t b {at} {n} {l} {w} here (one-more {p = p} {ps = ps} h e rest) =
+        let g = go t b at l w here in
+        (r .reads l w here, readings-kept t b (subst (λ (p : Point World). Related (heard entered (p .read) (p .outcome .answer) l) (p .outcome .world)) (sym e) (g .next)) rest)
 
 -- ---- the home area by its blocks
 area-blocks : (d : Bytes) (n : ℕ) → part 128 (128 * n) d ≡ flatMap (λ (b : ℕ). blockAt d (homeBlock b)) (below n)
@@ -261,34 +259,29 @@ module _ (Related : Ledger → World → Type 0) (r : Simulation Related) where
           ∙ ap (λ (n : ℕ). flatMap (image blank (v₂ .saved)) (below n)) (sym after)
 
   -- At every point of a run where the card comes up, the home area is the book's area.
-  area-kept : (o : Order) (f : TapeStep World) → CardKeeps Related o f → (t : Bytes) → IsBytes t → {at n : ℕ} {v : Service} {l : Ledger} {w : World} {ps : List (Point World)} → l .book .begun .order ≡ o → Related l w → Agrees v l
+  area-kept : (f : TapeStep World) → CardKeeps Related f → (t : Bytes) → IsBytes t → {at n : ℕ} {v : Service} {l : Ledger} {w : World} {ps : List (Point World)} → Related l w → Agrees v l
       → v .blocks ≡ l .shape .blocks → Runs f t at n w ps → AreaKept v ps
   unfolding fedPoint
-  area-kept o f go t b rule here agrees same (at-end h) = tt
-  area-kept o f go t b {at} {n} {v} {l} {w} rule here agrees same (one-more {p = p} h e rest) =
-      let g : PointKeeps Related l w (p .read) (p .outcome) = subst (λ (p : Point World). PointKeeps Related l w (p .read) (p .outcome)) (sym e) (go t b at l w rule here) in (
+  area-kept f go t b here agrees same (at-end h) = tt
+  area-kept f go t b {at} {n} {v} {l} {w} here agrees same (one-more {p = p} h e rest) =
+      let g : PointKeeps Related l w (p .read) (p .outcome) = subst (λ (p : Point World). PointKeeps Related l w (p .read) (p .outcome)) (sym e) (go t b at l w here) in (
         λ c. area-at v l w (p .read) (p .outcome) g agrees (c .is-recover) (c .is-done) (c .is-up) same,
-        area-kept o f go t b (heard-order (p .read) (p .outcome .answer) l ∙ rule) (g .next) (agrees-after v l w (p .read) (p .outcome) g agrees) (heard-blocks v l same (p .read) (p .outcome .answer)) rest,
+        area-kept f go t b (g .next) (agrees-after v l w (p .read) (p .outcome) g agrees) (heard-blocks v l same (p .read) (p .outcome .answer)) rest,
       )
 
 -- ---- from every start
-pub start-order : (o : Order) (s : Start) → (startLedger o s) .book .begun .order ≡ o
-unfolding startLedger blankLedger cutLedger freshLedger emptyBook
-start-order o (from-blank d m) = refl
-start-order o (from-down s m) = refl
-
 start-blocks : (o : Order) (s : Start) → (startService o s) .blocks ≡ (startLedger o s) .shape .blocks
 unfolding startService startLedger emptyService cutLedger freshLedger blankLedger
 start-blocks o (from-blank d m) = refl
-start-blocks o (from-down s m) = refl
+start-blocks o (from-down y s m) = refl
 
-module _ (Related : Ledger → World → Type 0) (r : Simulation Related) (starts : (o : Order) (s : Start) → StartFits s → Related (startLedger o s) (startWorld s))
-    (o : Order) (f : TapeStep World) (go : CardKeeps Related o f) where
-  pub claim-kept : Claim o f
-  claim-kept t b s h = area-kept Related r o f go t b (start-order o s) (starts o s h) (start-agrees o s) (start-blocks o s) (run-runs f t (startWorld s))
+module _ (Related : Ledger → World → Type 0) (r : Simulation Related) (starts : (s : Start) → StartFits s → Related (startLedger in-sequence s) (startWorld s))
+    (f : TapeStep World) (go : CardKeeps Related f) where
+  pub claim-kept : Claim in-sequence f
+  claim-kept t b s h = area-kept Related r f go t b (starts s h) (start-agrees in-sequence s) (start-blocks in-sequence s) (run-runs f t (startWorld s))
 
-  pub demands-kept : Demands o f
-  demands-kept t b s h = ledger-kept Related r o f go t b (start-order o s) (starts o s h) (run-runs f t (startWorld s))
+  pub demands-kept : Demands in-sequence f
+  demands-kept t b s h = ledger-kept Related r f go t b (starts s h) (run-runs f t (startWorld s))
 
-  pub reading : Readings o blockReader f
-  reading t b s h = readings-kept Related r o f go t b (start-order o s) (starts o s h) (run-runs f t (startWorld s))
+  pub reading : Readings in-sequence blockReader f
+  reading t b s h = readings-kept Related r f go t b (starts s h) (run-runs f t (startWorld s))

@@ -14,12 +14,13 @@ use Rattle.model.specs.Bytes.{Bytes}
 use Rattle.model.specs.Shape.{between, inRange, newShape}
 use Rattle.model.specs.Card.{blankCard, isBlank, isUp, isDown, emptyCard, freshCard, shapeOf}
 use Rattle.model.specs.Command.{World, refusal, wrongLength, Clear, noBlock}
-use Rattle.model.specs.Valid.{Order}
+use Rattle.model.specs.Valid.{Order, in-sequence}
 use Rattle.model.specs.Format.{formatted}
 use Rattle.model.specs.Write.{written}
 use Rattle.model.specs.Commit.{closed, stored}
-use Rattle.model.specs.Recovery.{recovered, blocksLeft}
-use Rattle.model.proofs.Limits.{range-test}
+use Rattle.model.specs.Recovery.{layoutOn, recovered, recoveredBy, blocksLeft}
+use Rattle.model.specs.declared.CommitLayout.the-variants.{Numbers}
+use Rattle.model.proofs.Limits.{InRange, range-test}
 use Rattle.model.proofs.Lists.{cases}
 use Rattle.model.proofs.Command.{Numbered, refusal-clear, refusal-passed}
 use Rattle.crash.specs.Book.{Write, image, keptWrites, emptyBook, hasRunning, running}
@@ -40,7 +41,7 @@ use Rattle.crash.proofs.Disk.LedgerStages.{running-is}
 use Rattle.model.specs.Tape.{CHECKPOINT, CLOSE, CUT, Command, FORMAT, RECOVER, STORE, TapeStep, WRITE}
 use Rattle.crash.proofs.Runs.UpSteps.{RelatedUp, checkpoint-at, close-at, close-memory, cut-at, fresh-at, holder-open, store-at, up-reads, write-at, write-memory}
 use Rattle.model.proofs.Sizes.{checkpointed-memory, recoverStep-memory}
-use Rattle.model.specs.Step.{conditionsOf, doneBy, stepAtBy}
+use Rattle.model.specs.Step.{conditionsOf, doneBy, stepAt}
 use Rattle.model.specs.Reading.{readBlock, blockReader, readConditions, readNumber}
 use Rattle.crash.proofs.Books.BookEntries.{nextName}
 use Rattle.crash.proofs.Disk.ReadMaster.{shape-up}
@@ -52,7 +53,7 @@ use Rattle.model.specs.declared.Phase.{Phase}
 -- ---- blank, up or down
 pub record RelatedBlank (l : Ledger) (w : World) : Type 0 where
   pub card : w .card ≡ blankCard
-  pub ledger : l ≡ blankLedger (l .book .begun .order)
+  pub ledger : l ≡ blankLedger in-sequence
   pub disk : length (w .disk) ≡ 32896
   pub memory : length (w .memory) ≡ 16384
 
@@ -62,7 +63,7 @@ pub data Related (l : Ledger) (w : World) : Type 0 where
   related-down : CardDown l w → Related l w
 
 -- of a command other than RECOVER
-plain : {l : Ledger} {w : World} {k : Command} → (k ≡ RECOVER → ⊥) → Related (carriedOut k l) ((doneBy (l .book .begun .order) k w) .world) → DoneAs k l w (doneBy (l .book .begun .order) k w) → Carried Related l w k
+plain : {l : Ledger} {w : World} {k : Command} → (k ≡ RECOVER → ⊥) → Related (carriedOut k l) ((doneBy in-sequence k w) .world) → DoneAs k l w (doneBy in-sequence k w) → Carried Related l w k
 plain n h d = record { next = h; done = d; home = λ e. absurd (n e) }
 
 isRecover : Command → Bool
@@ -85,6 +86,12 @@ module _ {l : Ledger} {w : World} (b : RelatedBlank l w) where
   unfolding blankLedger
   not-done ts h = clash (rw (b .ledger) refl) (refusal-passed (isBlank (l .phase)) 20 ts (omega arith) h .0)
 
+  at-format : (s : Shape) → InRange s → RelatedUp (freshLedger (l .book .begun .order) s [] (λ (c : ℕ). 1)) ((formatted s) .world)
+  unfolding blankLedger emptyBook image formatted
+  at-format s r =
+      let o : l .book .begun .order ≡ in-sequence = ap (λ (x : Ledger). x .book .begun .order) (b .ledger) in
+      rw o (fresh-at in-sequence s [] (λ (c : ℕ). 1) ((formatted s) .world) (format-up s r) (format-home Numbers s r))
+
   format-carried : (c n j : ℕ) → refusal (formatRefusals c n j l) ≡ 0 → Carried Related l w (FORMAT c n j)
   unfolding formatRefusals refusal doneBy carriedOut image blankLedger diskAfter memoryAfter storeCount formatted isRecover
   format-carried c n j h =
@@ -93,7 +100,7 @@ module _ {l : Ledger} {w : World} (b : RelatedBlank l w) where
       cases (inRange c n j) (λ e. e)
       (λ e. absurd (let p : isBlank (l .phase) ≡ true = rw (b .ledger) refl in let z : 4 ≡ 0 = rw (p, e) at h in omega arith)) in
       let r = range-test s ok in
-      plain (other refl) (related-up (fresh-at (l .book .begun .order) s [] (λ (c : ℕ). 1) ((formatted s) .world) (format-up s r (l .book .begun .order)) (format-home s r))) (record { disk = refl; memory = refl; stores = refl })
+      plain (other refl) (related-up (at-format s r)) (record { disk = refl; memory = refl; stores = refl })
 
   blank-carries : (k : Command) → refusal (refusalsOf k l) ≡ 0 → Carried Related l w k
   unfolding refusalsOf writeRefusals closeRefusals storeRefusals checkpointRefusals
@@ -114,20 +121,20 @@ module _ {l : Ledger} {w : World} (d : CardDown l w) where
   refused-22 : {A : Type 0} (ts : List (Bool × ℕ)) → refusal ((isBlank (l .phase), 20) ∷ (isDown (l .phase), 22) ∷ ts) ≡ 0 → A
   refused-22 ts h = clash (ap isDown (d .ledger)) (refusal-passed _ 22 ts (omega arith) (refusal-passed _ 20 _ (omega arith) h .1) .0)
 
-  recover-next : (left : List ℕ) → l .left ≡ left → Related (recoverLedger (l .left) l) ((recovered (l .book .begun .order) w) .world)
+  recover-next : (left : List ℕ) → l .left ≡ left → Related (recoverLedger (l .left) l) ((recovered in-sequence w) .world)
   unfolding target
   recover-next [] e =
-      let up : CardUp (recoverLedger [] l) ((recovered (l .book .begun .order) w) .world) = recover-master d e in
-      subst (λ (left : List ℕ). Related (recoverLedger left l) ((recovered (l .book .begun .order) w) .world)) (sym e)
-      (related-up (unfold recoverLedger in fresh-at (l .book .begun .order) (l .shape) (keptWrites (l .book) ++ l .saved) _ ((recovered (l .book .begun .order) w) .world) up (recovered-home d e)))
-  recover-next (b ∷ left) e = subst (λ (left : List ℕ). Related (recoverLedger left l) ((recovered (l .book .begun .order) w) .world)) (sym e) (related-down (recover-home d e))
+      let up : CardUp (recoverLedger [] l) ((recovered in-sequence w) .world) = recover-master d e in
+      subst (λ (left : List ℕ). Related (recoverLedger left l) ((recovered in-sequence w) .world)) (sym e)
+      (related-up (unfold recoverLedger in fresh-at (l .book .begun .order) (l .shape) (keptWrites (l .book) ++ l .saved) _ ((recovered in-sequence w) .world) up (recovered-home d e)))
+  recover-next (b ∷ left) e = subst (λ (left : List ℕ). Related (recoverLedger left l) ((recovered in-sequence w) .world)) (sym e) (related-down (recover-home d e))
 
   recover-carried : Carried Related l w RECOVER
-  unfolding doneBy carriedOut diskAfter memoryAfter storeCount target recovered
+  unfolding doneBy carriedOut diskAfter memoryAfter storeCount target recovered recoveredBy
   recover-carried =
       record {
         next = recover-next (l .left) refl;
-        done = record { disk = recovered-bytes d .0; memory = recoverStep-memory (l .book .begun .order) (blocksLeft (l .book .begun .order) w) w; stores = recovered-bytes d .1 };
+        done = record { disk = recovered-bytes d .0; memory = recoverStep-memory in-sequence (layoutOn (w .disk)) Numbers (blocksLeft in-sequence (layoutOn (w .disk)) w) w; stores = recovered-bytes d .1 };
         home = λ _ e b h. recovered-home d e b h;
       }
 
@@ -152,13 +159,13 @@ module _ {l : Ledger} {w : World} (u : RelatedUp l w) where
   write-carried : (c b o : ℕ) (v : Bytes) → HasData (WRITE c b o v) → refusal (writeRefusals c b o v l) ≡ 0 → Carried Related l w (WRITE c b o v)
   unfolding writeRefusals doneBy carriedOut noted diskAfter memoryAfter storeCount written isRecover
   write-carried c b o v fits h =
-      let z = in-range-of c _ (omega arith, (omega arith, (omega arith, (omega arith, (omega arith, (omega arith, tt)))))) h in
+      let z = in-range-of c _ (omega arith, (omega arith, (omega arith, (omega arith, (omega arith, tt))))) h in
       let y = z .1 in
       let low : b < l .shape .blocks = leb-false (l .shape .blocks) b (y .0) in
       let inside : o ≤ 124 = ltb-false 124 o (y .1 .0) in
       plain (other refl)
-      (related-up (write-at u c (z .0) b low o inside v fits (y .1 .1 .0) (y .1 .1 .1 .0) (y .1 .1 .1 .1 .0) (y .1 .1 .1 .1 .1 .0)))
-      (record { disk = refl; memory = write-memory u c (z .0) b low o inside v fits (y .1 .1 .0) (y .1 .1 .1 .0) (y .1 .1 .1 .1 .0) (y .1 .1 .1 .1 .1 .0); stores = refl })
+      (related-up (write-at u c (z .0) b low o inside v fits (y .1 .1 .0) (y .1 .1 .1 .0) (y .1 .1 .1 .1 .0)))
+      (record { disk = refl; memory = write-memory u c (z .0) b low o inside v fits (y .1 .1 .0) (y .1 .1 .1 .0) (y .1 .1 .1 .1 .0); stores = refl })
 
   close-carried : (c : ℕ) → refusal (closeRefusals c l) ≡ 0 → Carried Related l w (CLOSE c)
   unfolding closeRefusals doneBy carriedOut diskAfter memoryAfter storeCount closed isRecover
@@ -248,10 +255,9 @@ related-simulation = record { sizes = sizes; between = λ l w h. record { phase 
     journals l w (related-up u) h = journals-read (u .up .well-formed) (u .up .disk)
     journals l w (related-down d) h = journals-read (d .well-formed) (d .disk)
 
-    answers : (l : Ledger) (w : World) → Related l w → (k : Command) → refusal (conditionsOf (l .book .begun .order) k w) ≡ refusal (refusalsOf k l)
+    answers : (l : Ledger) (w : World) → Related l w → (k : Command) → refusal (conditionsOf in-sequence k w) ≡ refusal (refusalsOf k l)
     answers l w (related-blank b) k =
-        subst (λ (x : Ledger). refusal (conditionsOf (x .book .begun .order) k w) ≡ refusal (refusalsOf k x)) (sym (b .ledger))
-        (unfold blankLedger emptyBook in blank-answers (l .book .begun .order) w (b .card) (b .disk) (b .memory) k)
+        subst (λ (x : Ledger). refusal (conditionsOf in-sequence k w) ≡ refusal (refusalsOf k x)) (sym (b .ledger)) (blank-answers w (b .card) (b .disk) (b .memory) k)
     answers l w (related-up u) k = up-answers (u .up) (holder-open u) k
     answers l w (related-down d) k = down-answers d k
 
@@ -260,38 +266,38 @@ related-simulation = record { sizes = sizes; between = λ l w h. record { phase 
     carries l w (related-up u) k fits h = up-carries u k fits h
     carries l w (related-down d) k fits h = down-carries d k h
 
-pub starts : (o : Order) (s : Start) → StartFits s → Related (startLedger o s) (startWorld s)
+pub starts : (s : Start) → StartFits s → Related (startLedger in-sequence s) (startWorld s)
 unfolding startLedger startWorld blankLedger emptyBook
-starts o (from-blank d m) h = related-blank (record { card = refl; ledger = refl; disk = h .stated .0; memory = h .stated .1 })
-starts o (from-down s m) h = related-down (down-start o s m (h .stated .0) (h .memory) (h .stated .1))
+starts (from-blank d m) h = related-blank (record { card = refl; ledger = refl; disk = h .stated .0; memory = h .stated .1 })
+starts (from-down y s m) h = related-down (down-start y s m (h .stated .0) (h .memory) (h .stated .1))
 
--- a card whose commands go as the model's of a rule meets the claims of that rule
-module _ (o : Order) (f : TapeStep World) (go : CardKeeps Related o f) where
-  pub claim-of : Claim o f
-  claim-of = claim-kept Related related-simulation starts o f go
+-- a card whose commands go as the model's meets the claims
+module _ (f : TapeStep World) (go : CardKeeps Related f) where
+  pub claim-of : Claim in-sequence f
+  claim-of = claim-kept Related related-simulation starts f go
 
-  pub demands-of : Demands o f
-  demands-of = demands-kept Related related-simulation starts o f go
+  pub demands-of : Demands in-sequence f
+  demands-of = demands-kept Related related-simulation starts f go
 
-  pub readings-of : Readings o blockReader f
-  readings-of = reading Related related-simulation starts o f go
+  pub readings-of : Readings in-sequence blockReader f
+  readings-of = reading Related related-simulation starts f go
 
--- Demand 3, under either rule throughout: whenever recovery brings the card up, the home area is the blank one with the kept writes,
+-- Demand 3, with request (c) in force: whenever recovery brings the card up, the home area is the blank one with the kept writes,
 -- in issue order.
-pub claim : (o : Order) → Claim o (stepAtBy o)
-claim o = claim-of o (stepAtBy o) (point-keeps Related related-simulation o)
+pub claim : Claim in-sequence stepAt
+claim = claim-of stepAt (point-keeps Related related-simulation)
 
 -- Demands 1 and 2 of the ledger, and the course of recovery.
-pub demands : (o : Order) → Demands o (stepAtBy o)
-demands o = demands-of o (stepAtBy o) (point-keeps Related related-simulation o)
+pub demands : Demands in-sequence stepAt
+demands = demands-of stepAt (point-keeps Related related-simulation)
 
 -- What reading gives.
-pub readings : (o : Order) → Readings o blockReader (stepAtBy o)
-readings o = readings-of o (stepAtBy o) (point-keeps Related related-simulation o)
+pub readings : Readings in-sequence blockReader stepAt
+readings = readings-of stepAt (point-keeps Related related-simulation)
 
--- Whatever is the same function of tape, offset and world meets them too: nobody need believe how `stepAtBy` is defined.
-pub same-meets : (o : Order) (f : TapeStep World) → ((t : Bytes) (at : ℕ) (w : World) → f t at w ≡ stepAtBy o t at w) → Claim o f × Demands o f × Readings o blockReader f
-same-meets o f h = let g = same-keeps Related related-simulation o f h in (claim-of o f g, demands-of o f g, readings-of o f g)
+-- Whatever is the same function of tape, offset and world meets them too: nobody need believe how `stepAt` is defined.
+pub same-meets : (f : TapeStep World) → ((t : Bytes) (at : ℕ) (w : World) → f t at w ≡ stepAt t at w) → Claim in-sequence f × Demands in-sequence f × Readings in-sequence blockReader f
+same-meets f h = let g = same-keeps Related related-simulation f h in (claim-of f g, demands-of f g, readings-of f g)
 
 -- 'A transaction uncommitted at a cut never commits': a card that has come up reads no transaction in any journal, and
 -- by `demands` none ever but those opened since. A later bearer of its number is another one.

@@ -22,7 +22,7 @@ use Rattle.model.specs.Commit.{closed, stored, copied}
 use Rattle.model.specs.Checkpoint.{checkpointed}
 use Rattle.model.proofs.Lists.{cases, and-left, getD-mem}
 use Rattle.crash.specs.Book.{Book, Write, absent, running, committed, requiredIn, kept, image, blank, isClosed, isCommitted, isRetired, bookHolder, storeBook, checkpointBook, writeBook}
-use Rattle.crash.specs.Ledger.{Ledger, freshLedger, cutLedger, withBook, closeLedger, validIn, sharesLowerIn, blocksAfter, copiesStored, imageNow, journalPasses, namesPass, numberPasses}
+use Rattle.crash.specs.Ledger.{Ledger, freshLedger, cutLedger, withBook, closeLedger, validIn, sharesLowerIn, blocksAfter, copiesStored, imageNow, journalPasses, numberPasses}
 use Rattle.crash.proofs.Commands.CardWrite.{write-up, memory-written}
 use Rattle.crash.proofs.Disk.LedgerWrite.{well-formed-write}
 use Rattle.crash.proofs.Books.Tests.{clash, any-in, in-any, nameEquality, blockEquality}
@@ -115,14 +115,14 @@ module _ {l : Ledger} {w : World} (u : RelatedUp l w) where
 
   -- WRITE
   module _ (c : ℕ) (in-range : c < l .shape .cores) (b : ℕ) (low : b < l .shape .blocks) (o : ℕ) (inside : o ≤ 124) (v : Bytes) (fits : HasData (WRITE c b o v))
-      (no-24 : namesPass c b k (writeBook c b o v k) ≡ false) (no-25 : ltb 8 (blocksAfter c k (writeBook c b o v k)) ≡ false)
+      (no-25 : ltb 8 (blocksAfter c k (writeBook c b o v k)) ≡ false)
       (no-26 : journalPasses c (l .shape) k (writeBook c b o v k) ≡ false) (no-27 : numberPasses c k ≡ false) where
     home-image : bookHolder k b (k .writes) ≡ none → blockAt (w .disk) (homeBlock b) ≡ imageNow l b
     home-image h = u .homes b low ∙ home-current (u .inv) b h
 
     well-formed-after : WellFormed (withBook l (writeBook c b o v k))
-    unfolding namesPass blocksAfter numberPasses
-    well-formed-after = well-formed-write l (u .up .well-formed) c in-range b o v low inside (fits .0) (fits .1) running-holds (λ n x h. holder-open x n h) no-24 no-25 no-27
+    unfolding blocksAfter numberPasses
+    well-formed-after = well-formed-write l (u .up .well-formed) c in-range b o v low inside (fits .0) (fits .1) running-holds (λ n x h. holder-open x n h) no-25 no-27
 
     pub write-memory : writtenMemory w c b o v ≡ store (w .memory) b (replaced o 4 (imageNow l b) v)
     unfolding journalPasses blocksAfter

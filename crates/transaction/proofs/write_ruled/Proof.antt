@@ -1,5 +1,5 @@
 -- `transaction::write_ruled` meets its contract: refused for want of room, or the four bytes in memory and the cells by the rule.
-use Rattle.transaction.proofs.CommandLaws.{found-own, room, ruled-refused, ruled-done}
+use Rattle.transaction.proofs.CommandLaws.{found-own, no-ninth, ruled-refused, ruled-done}
 use borrow.Author.Needs.{needs}
 use Rattle.transaction.proofs.write_ruled.Statement.{statement}
 use Rattle.transaction.proofs.write_ruled.Tie as tie
@@ -8,7 +8,10 @@ returns : tie.Need-returns
 returns c = search (needs, ruled-refused)
 
 write-state-requires : tie.Need-write-state-requires
-write-state-requires c κs = (search needs, search needs, search (needs, found-own), room _ _ _ (c .before .before .before .before .before .before .room-refusal .ensures) (c .before .before .before .before .before .if1 .left))
+write-state-requires c κs =
+    let roomy = c .before .before .before .before .before in
+    let refusal = roomy .before .room-refusal in
+    (search needs, search needs, found-own _ _ _ _ (roomy .before .before .before .find .ensures .0), no-ninth _ (roomy .before .before .before .find .result) _ (refusal .ensures) (roomy .if1 .left))
 
 returns-2 : tie.Need-returns-2
 returns-2 c = search (needs, ruled-done)

@@ -1,10 +1,11 @@
 // long: library and model compared for long, in parts with a seed each: `long [FIRST] [LAST]` runs the parts from FIRST to LAST,
-// 1 to 200 where none are given. All 200 have 200 million commands, a million foreign disks and a million calls over made-up cells.
+// 1 to 200 where none are given. All 200 have 200 million commands, a million foreign disks, some thousands that older cards left, and
+// a million calls over made-up cells.
 // A run that was stopped goes on from the part after the last one printed; parts can be split among processes.
 
 use card_library::made_up::MadeUp;
 use card_library::watcher::{give_up, Library};
-use card_tests::checks::{Bench, Checks, Tally, Watcher};
+use card_tests::checks::{Bench, Checks, Shares, Tally, Watcher};
 use card_tests::wrong::Wrong;
 
 const COMMANDS: u64 = 1_000_000;
@@ -12,13 +13,14 @@ const DISKS: u64 = 5_000;
 const MADE_UP: u64 = 5_000;
 
 /// Most starts of a part's first half are over foreign disks.
-const FOREIGN_SHARE: usize = 970;
+const FOREIGN: Shares = Shares { foreign: 950, older: 30 };
 
 /// What the parts had, in sum.
 #[derive(Default)]
 struct Sum {
     commands: u64,
     disks: u64,
+    handed_over: u64,
     recoveries: u64,
     refused: u64,
     made_up: u64,
@@ -28,23 +30,24 @@ impl Sum {
     fn add(&mut self, tally: &Tally) {
         self.commands += tally.commands;
         self.disks += tally.foreign_disks;
+        self.handed_over += tally.handed_over;
         self.recoveries += tally.recoveries;
         self.refused += tally.commands - tally.answers[0];
     }
 
     fn text(&self) -> String {
-        let Sum { commands, disks, recoveries, refused, made_up } = self;
+        let Sum { commands, disks, handed_over, recoveries, refused, made_up } = self;
         format!(
-            "{commands} commands ({refused} refused), {disks} foreign disks, {recoveries} recoveries, \
+            "{commands} commands ({refused} refused), {disks} foreign disks, {handed_over} of older cards, {recoveries} recoveries, \
              {made_up} calls over made-up cells: no difference"
         )
     }
 }
 
 /// One soak with a seed of its own.
-fn run(watcher: &mut dyn Watcher, seed: u64, share: Option<usize>, is_enough: impl Fn(&Tally) -> bool) -> Tally {
+fn run(watcher: &mut dyn Watcher, seed: u64, shares: Shares, is_enough: impl Fn(&Tally) -> bool) -> Tally {
     let mut bench = Bench::new(Wrong::No, Checks::NONE, Some(watcher));
-    share.into_iter().for_each(|share| bench.set_foreign_share(share));
+    bench.set_shares(shares);
     bench.soak_until(seed, is_enough).unwrap_or_else(|failure| give_up(&failure));
     bench.tally
 }
@@ -56,12 +59,12 @@ fn main() {
     let mut sum = Sum::default();
     for part in first..=last {
         let mut library = Library::default();
-        let foreign = run(&mut library, 2 * part, Some(FOREIGN_SHARE), |tally| tally.foreign_disks >= DISKS);
+        let foreign = run(&mut library, 2 * part, FOREIGN, |tally| tally.foreign_disks >= DISKS);
         let rest = COMMANDS.saturating_sub(foreign.commands);
-        let other = run(&mut library, 2 * part + 1, None, |tally| tally.commands >= rest);
+        let other = run(&mut library, 2 * part + 1, Shares::USUAL, |tally| tally.commands >= rest);
         sum.add(&foreign);
         sum.add(&other);
-        sum.made_up += run(&mut MadeUp::new(part), 2 * part, None, |tally| tally.commands >= MADE_UP).commands;
+        sum.made_up += run(&mut MadeUp::new(part), 2 * part, Shares::USUAL, |tally| tally.commands >= MADE_UP).commands;
         println!("part {part} of {first} to {last}, {:.0} s: {}", start.elapsed().as_secs_f64(), sum.text());
     }
     println!("parts {first} to {last}: {}", sum.text());

@@ -8,7 +8,7 @@ use card_library::stage::Stage;
 use card_tests::checks::{Bench, Checks, Seen, Watcher};
 use card_tests::command::Command;
 use card_tests::directed;
-use card_tests::layout::MEMORY;
+use card_tests::layout::{Layout, LAYOUTS, MEMORY};
 use card_tests::shrink::tape_of;
 use card_tests::wrong::Wrong;
 use std::sync::atomic::{AtomicUsize, Ordering};
@@ -127,6 +127,20 @@ fn recovered(name: &str, disk: &[u8]) -> Gauge {
     gauge
 }
 
+/// The worst disks of a layout.
+fn recovered_chains(layout: Layout) -> [Gauge; 5] {
+    let chain = |words: &str, blocks, is_met| {
+        recovered(&format!("{layout:?}: {words}"), &directed::chain_disk(layout, blocks, is_met))
+    };
+    [
+        chain("96 struck one by one", 0, false),
+        chain("96 valid", 0, true),
+        chain("64 with a block, struck", 1, false),
+        chain("64 with a block, valid", 1, true),
+        chain("16 with eight blocks, valid", 8, true),
+    ]
+}
+
 /// A tape, then a CHECKPOINT of each core, then a cut and recovery.
 fn checkpointed(name: &str, commands: &[Command], change: impl FnOnce(&mut [u8])) -> Gauge {
     let mut gauge = Gauge::default();
@@ -153,17 +167,13 @@ fn main() {
     println!("{:<34} {}", "", names.map(|name| format!("{name:>10}")).join(" "));
     let (chain, links) = directed::chain_tape();
     let full = directed::full_tape();
-    let all = [
-        recovered("disk: 96 struck one by one", &directed::chain_disk(0, false)),
-        recovered("disk: 96 valid", &directed::chain_disk(0, true)),
-        recovered("disk: 64 with a block, struck", &directed::chain_disk(1, false)),
-        recovered("disk: 64 with a block, valid", &directed::chain_disk(1, true)),
-        recovered("disk: 16 with eight blocks, valid", &directed::chain_disk(8, true)),
+    let mut all: Vec<Gauge> = LAYOUTS.into_iter().flat_map(recovered_chains).collect();
+    all.extend([
         checkpointed(&format!("tape: {links} struck one by one"), &chain, |_| ()),
         checkpointed("tape: 94 without blocks", &full, |_| ()),
         checkpointed("the same over a chain of 94", &full, |disk| directed::put_chain(disk, directed::FULL, 0, false)),
         generated(commands),
-    ];
+    ]);
     let most = all.iter().flat_map(Gauge::figures).max().unwrap_or(0);
     println!("the most of all: {most} bytes; the limit is {LIMIT}");
     std::process::exit((LIMIT < most) as i32);

@@ -9,7 +9,7 @@ abbrev Inv-loop : tie.InvT-loop
 Inv-loop w₀ at i₀ w i = Cleared w₀ at w i
 
 abbrev μ-loop : tie.MeasureT-loop
-μ-loop w₀ at i₀ w i = 24 - i
+μ-loop w₀ at i₀ w i = 19 - i
 
 pub clear-spec : {M : Type 1} → statement M
 clear-spec = tie.close (tie.spec Inv-loop μ-loop (λ c. cleared-start _ _) (λ c. search needs) (λ c. search needs) (λ c. search needs) (λ c. search needs) (λ c. search needs) (λ c. search (needs, cleared-more)) (λ c. search needs) (λ c. (search (needs, cleared-all), search needs)))

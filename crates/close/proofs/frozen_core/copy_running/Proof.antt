@@ -11,7 +11,7 @@ abbrev Inv-loop : tie.InvT-loop
 Inv-loop w₀ c from to i₀ w i = (from ≡ runningPlace c) × (to ≡ closedPlace c) × Moved w₀ c w i
 
 abbrev μ-loop : tie.MeasureT-loop
-μ-loop w₀ c from to i₀ w i = 24 - i
+μ-loop w₀ c from to i₀ w i = 19 - i
 
 loop-holds : tie.Need-loop-holds Inv-loop μ-loop
 loop-holds c = (search needs, search needs, moved-start _ _)

@@ -7,6 +7,5 @@ use Rattle.commit.proofs.next_block.write_last.Tie as tie
 pub write-last-spec : {M : Type 1} → statement M
 write-last-spec =
     tie.close
-    (tie.spec (λ c κs. search needs) (λ c. search needs) (λ c κs. search needs) (λ c. search needs)
-    (λ c. search needs) (λ c. search needs) (λ c κs. search needs) (λ c. search needs)
+    (tie.spec (λ c κs. search needs) (λ c. search needs) (λ c. search needs) (λ c. search needs) (λ c κs. search needs) (λ c. search needs)
     (λ c. search (needs, last-written)))

@@ -13,10 +13,10 @@ returns-5 c =
     let a : _ = b .before .before .before in
     let f : _ = a .before .before .before .before in
     let z : a .before .before .read-descriptor .result ≡ Blocks (a .count .given .0 .0) = search needs in
-    let y : c .before .before .before .read-commit .result ≡ Stamped (c .before .stamp .given .0 .0) (c .before .stamp .given .0 .1 .0) = search needs in
-    whole-record _ _ _ _ _ _ _ _ (f .before .journal-part .ensures .0) (f .lacks-descriptor .ensures) (a .before .before .before .if1 .left) _
+    let y : c .before .before .before .read-commit .result ≡ Stamped (c .before .stamp .given .0 .0) = search needs in
+    whole-record _ _ _ _ _ _ _ _ _ (f .before .journal-part .ensures .0) (f .lacks-descriptor .ensures) (a .before .before .before .if1 .left) _
     (a .before .before .read-descriptor .ensures) _ z _ _ (b .before .if2 .left) (b .journal-part2 .ensures .0)
-    (c .before .before .before .read-commit .ensures) _ _ y
+    (c .before .before .before .read-commit .ensures) _ y
 
 pub read-record-spec : {M : Type 1} → statement M
 read-record-spec =

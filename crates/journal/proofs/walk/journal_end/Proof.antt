@@ -7,10 +7,10 @@ use Rattle.journal.proofs.walk.journal_end.Statement.{statement}
 use Rattle.journal.proofs.walk.journal_end.Tie as tie
 
 abbrev Inv-loop : tie.InvT-loop
-Inv-loop s disk c w₀ w = SameEnd s disk c w₀ w
+Inv-loop y s disk c w₀ w = SameEnd y s disk c w₀ w
 
 abbrev μ-loop : tie.MeasureT-loop
-μ-loop s disk c w₀ w = w .most
+μ-loop y s disk c w₀ w = w .most
 
 pub journal-end-spec : {M : Type 1} → statement M
 unfolding start

@@ -6,13 +6,13 @@ use Rattle.journal.proofs.walk.read_journals.Statement.{statement}
 use Rattle.journal.proofs.walk.read_journals.Tie as tie
 
 abbrev Inv-loop : tie.InvT-loop
-Inv-loop s disk tails most slots₀ w₀ i₀ slots w i = Reading s disk tails most slots w i
+Inv-loop y s disk tails most slots₀ w₀ i₀ slots w i = Reading y s disk tails most slots w i
 
 abbrev μ-loop : tie.MeasureT-loop
-μ-loop s disk tails most slots₀ w₀ i₀ slots w i = 96 - i
+μ-loop y s disk tails most slots₀ w₀ i₀ slots w i = 96 - i
 
 loop-holds : tie.Need-loop-holds Inv-loop μ-loop
-loop-holds c = reading-none _ _ _ _ _ _ (search needs)
+loop-holds c = reading-none _ _ _ _ _ _ _ (search needs)
 
 pub read-journals-spec : {M : Type 1} → statement M
 read-journals-spec =

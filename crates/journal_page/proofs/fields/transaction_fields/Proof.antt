@@ -8,5 +8,4 @@ pub transaction-fields-spec : {M : Type 1} → statement M
 transaction-fields-spec =
     tie.close
     (tie.spec (λ c. search needs) (λ c κs. search needs) (λ c κs. search needs) (λ c κs. search needs) (λ c. search needs)
-    (λ c κs. search needs) (λ c. search needs) (λ c κs. search needs) (λ c κs. search needs)
-    (λ c. search (needs, transaction-is)))
+    (λ c κs. search needs) (λ c κs. search needs) (λ c κs. search needs) (λ c. search (needs, transaction-is)))

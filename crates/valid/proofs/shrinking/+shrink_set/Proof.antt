@@ -15,7 +15,7 @@ use Rattle.valid.proofs.shrinking.+shrink_set.{statement}
 use Rattle.valid.proofs.shrinking.+shrink_set.Tie.{close}
 
 abbrev μ-shrink-set : Measures 3 shrink-set-kinds.ps ℕ
-μ-shrink-set κs a = filledFrom (a .0) (now (a .1 .1 .1 .0)) 0 96
+μ-shrink-set κs a = filledFrom (a .0 .shape) (now (a .1 .1 .1 .0)) 0 96
 
 abbrev shrink-set-at : ℕ → In 3 shrink-set-kinds.ps
 shrink-set-at t =
@@ -43,5 +43,5 @@ pub +shrink-set-spec : {M : Type 1} → statement M
     let n : _ = c .before .before in
     let w : _ = n .before .before in
     let z : _ = w .before .before .before in
-    (rw (← (z .pre .0)) (shrink-falls _ _ _ _ _ _ _ (w .strike-round .ensures) (n .count-slots .ensures .0) (z .pre .1 .2) (c .before .if1 .left)), (z .pre .1 .0, z .pre .1 .1, n .count-slots .ensures .0)))
+    (rw (← (z .pre .0)) (shrink-falls _ _ _ _ _ _ _ _ (w .strike-round .ensures) (n .count-slots .ensures .0) (z .pre .1 .2) (c .before .if1 .left)), (z .pre .1 .0, z .pre .1 .1, n .count-slots .ensures .0)))
     (λ c. search (needs, shrink-less))

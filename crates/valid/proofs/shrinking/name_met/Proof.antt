@@ -1,5 +1,5 @@
 -- `valid::name_met` meets its contract: the name is the one that the commit lists.
-use Rattle.valid.proofs.Sets.{name-is}
+use Rattle.valid.proofs.Names.{name-is}
 use borrow.Author.Needs.{needs}
 use Rattle.valid.proofs.shrinking.name_met.Statement.{statement}
 use Rattle.valid.proofs.shrinking.name_met.Tie as tie

@@ -8,10 +8,10 @@ use Rattle.valid.proofs.shrinking.strike_unmet.Statement.{statement}
 use Rattle.valid.proofs.shrinking.strike_unmet.Tie as tie
 
 abbrev Inv-loop : tie.InvT-loop
-Inv-loop s disk numbers set next₀ i₀ next i = Filled (keptSlot s disk numbers set) 96 next i
+Inv-loop y s disk ks set next₀ i₀ next i = Filled (keptSlot y s disk ks set) 96 next i
 
 abbrev μ-loop : tie.MeasureT-loop
-μ-loop s disk numbers set next₀ i₀ next i = 96 - i
+μ-loop y s disk ks set next₀ i₀ next i = 96 - i
 
 pub strike-unmet-spec : {M : Type 1} → statement M
 strike-unmet-spec =

@@ -1,0 +1,2 @@
+-- Laws of the running transaction: opened, a number raised, a block taken.
+pub mod RunningLaws
