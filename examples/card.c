@@ -1,5 +1,6 @@
 /* card.c: a card is formatted, written, committed, loses its power and is recovered; then the block is read where it stands.
- * Prints each command with its answer, the journal page of the disk that the power left, and what came back. README.md, 'The library', says how it is built. */
+ * Prints each command with its answer, how much work it would be to empty the journals, the journal page of the disk that the power left,
+ * and what came back. README.md, 'The library', says how it is built. */
 #include <assert.h>
 #include <stdio.h>
 
@@ -57,11 +58,25 @@ static void print_page(void) {
     }
 }
 
+static void print_plan(void) {
+    uint64_t plan[REV_D_PLAN];
+    rev_d_plan(cells, disk, sizeof disk, memory, sizeof memory, plan);
+    printf("to empty the journals: answer %llu, %llu commands, %llu stores, transactions in order:", (unsigned long long)plan[0],
+           (unsigned long long)plan[1], (unsigned long long)plan[2]);
+    for (uint64_t i = 0; i < plan[3]; i++) {
+        printf(" %llu of core %llu%s", (unsigned long long)(plan[4 + i] / 8), (unsigned long long)(plan[4 + i] % 8), i + 1 < plan[3] ? "," : "");
+    }
+    printf("\n");
+}
+
 int main(void) {
     rev_d_blank(cells);
     run(0, 31);
     print_block(3);
-    run(31, 40);
+    run(31, 39);
+    print_plan();
+    run(39, 40);
+    print_plan();
     print_page();
     run(40, sizeof tape);
     print_block(3);

@@ -6,10 +6,10 @@
  *
  * What is asked of a caller, at every entry:
  * - No pointer is null, also where its length is 0. A pointer with a length has that many bytes behind it, `cells` has 423 cells
- *   and is aligned to 8, `out` has 128 bytes.
+ *   and is aligned to 8, `out` has 128 bytes, that of rev_d_plan 116 cells and is aligned to 8.
  * - rev_d_command and rev_d_tape write cells, disk and memory: no two of cells, tape, disk and memory overlap.
- * - A reading writes nothing but `out`, which overlaps none of the others; rev_d_page_line nothing but `buffer`, which does not
- *   overlap the disk.
+ * - A reading and rev_d_plan write nothing but `out`, which overlaps none of the others; rev_d_page_line nothing but `buffer`, which
+ *   does not overlap the disk.
  * Nothing else is: slices of any length, any tape, any offset and any value in any cell have an answer.
  */
 #ifndef REV_D_H
@@ -22,15 +22,17 @@
 extern "C" {
 #endif
 
-/* Cells, and bytes of the two slices: commands and readings answer slices of another length with 1. A block has 128 bytes, a line of
- * the journal page 65. */
+/* Cells, and bytes of the two slices: commands, readings and the planner answer slices of another length with 1. A block has 128 bytes,
+ * a line of the journal page 65, a plan 116 cells. */
 #define REV_D_CELLS 423
 #define REV_D_DISK 32896
 #define REV_D_MEMORY 16384
 #define REV_D_BLOCK 128
 #define REV_D_LINE 65
+#define REV_D_PLAN 116
 
-/* What a number stands for: 0 is done, any other a refusal, which changes no cell and no byte.
+/* What a number stands for: 0 is done, any other a refusal, which changes no cell of the card and no byte of its slices. rev_d_plan has
+ * its number in `out`, which a refusal fills too.
  *
  *  1  disk slice not 32,896 bytes, or memory slice not 16,384
  *  2  unknown command byte
@@ -44,7 +46,7 @@ extern "C" {
  *     looked at
  * 20  blank (all but FORMAT)
  * 21  FORMAT, not blank
- * 22  down (WRITE, CLOSE, STORE, CHECKPOINT, reading)
+ * 22  down (WRITE, CLOSE, STORE, CHECKPOINT, reading), and the planner
  * 23  RECOVER while up
  * 25  a ninth block
  * 26  journal full: blocks of the records of closed unretired transactions, stored yet or not, plus 2 and the blocks of the
@@ -143,6 +145,17 @@ struct rev_d_part rev_d_read_part(const uint64_t *cells, uint16_t block, const u
 
 uint8_t rev_d_read_block(const uint64_t *cells, uint16_t block, const uint8_t *disk, size_t disk_length, const uint8_t *memory,
                          size_t memory_length, uint8_t *out);
+
+/* How much work it is until the journals are empty and nothing is closed or runs, if nobody writes meanwhile: nothing is done, `out` is
+ * filled. Its cells: the number (0, 1, 20 or 22); how many CLOSE, STORE and CHECKPOINT commands; how many of them store; how many
+ * transactions are not retired; from cell 4 on their names (8 * number + core) in the order in which they may be checkpointed. All other
+ * cells are 0. Where refused, cell 0 has the number and all others are 0.
+ *
+ * On a disk that the card formatted the figure is met by STORE for the lowest core with a closed transaction, else CLOSE for the lowest
+ * with a running one, else CHECKPOINT for the core of the first name of the order that is not yet retired; none of these is refused, and
+ * no shorter run of such commands empties the journals. */
+void rev_d_plan(const uint64_t *cells, const uint8_t *disk, size_t disk_length, const uint8_t *memory, size_t memory_length,
+                uint64_t *out);
 
 /* The journal page of a disk, for the service log: how many lines it has, and line i, from 0, laid into `buffer`: 64 columns and a
  * line feed. A buffer that is not 65 bytes long is answered 1 and stays as it was; one of 65 bytes is answered 0, whatever the disk.

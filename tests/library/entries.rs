@@ -9,5 +9,6 @@ entries! {
     "rev_d_read_part",
     "rev_d_read_block",
     "rev_d_page_lines",
-    "rev_d_page_line"
+    "rev_d_page_line",
+    "rev_d_plan"
 }

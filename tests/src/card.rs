@@ -8,7 +8,7 @@ use crate::layout::{
 };
 use crate::wrong::Wrong;
 
-#[derive(Clone, Copy, PartialEq, Eq, Debug)]
+#[derive(Clone, Copy, PartialEq, Eq, Hash, Debug)]
 pub enum Phase {
     Blank,
     Up,
@@ -16,7 +16,7 @@ pub enum Phase {
 }
 
 /// A transaction that is running or closed and not yet committed; committed ones are on the disk only.
-#[derive(Clone, Copy, PartialEq, Eq, Debug, Default)]
+#[derive(Clone, Copy, PartialEq, Eq, Hash, Debug, Default)]
 pub struct Transaction {
     pub number: u32,
     pub stamp: u64,
@@ -25,7 +25,7 @@ pub struct Transaction {
     pub names: Few<Name, NAMES>,
 }
 
-#[derive(Clone, Copy, PartialEq, Eq, Debug, Default)]
+#[derive(Clone, Copy, PartialEq, Eq, Hash, Debug, Default)]
 pub struct Core {
     pub tail: Tail,
     /// The number that the next WRITE to open a transaction gives it.
@@ -42,7 +42,7 @@ pub struct Core {
 }
 
 /// What a card is throughout: the layout that it writes, and what is wrong with it.
-#[derive(Clone, Copy, PartialEq, Eq, Debug, Default)]
+#[derive(Clone, Copy, PartialEq, Eq, Hash, Debug, Default)]
 pub struct Kind {
     pub layout: Layout,
     pub wrong: Wrong,
@@ -62,7 +62,7 @@ impl From<Wrong> for Kind {
 }
 
 /// The card's state, apart from the lent slices.
-#[derive(Clone, Copy, PartialEq, Eq, Debug)]
+#[derive(Clone, Copy, PartialEq, Eq, Hash, Debug)]
 pub struct Card {
     pub phase: Phase,
     pub shape: Shape,

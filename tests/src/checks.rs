@@ -105,6 +105,8 @@ pub struct Bench<'w> {
     /// Another card runs, whose disk will be handed over.
     is_other: bool,
     shares: Shares,
+    /// Makes the disk that every start is over, where disks are given.
+    given_disk: Option<fn(&mut Random) -> Vec<u8>>,
     /// RECOVERs carried out since the last cut or start.
     recovers: usize,
     tape: Vec<u8>,
@@ -162,6 +164,7 @@ impl<'w> Bench<'w> {
             is_foreign: false,
             is_other: false,
             shares: Shares::USUAL,
+            given_disk: None,
             recovers: 0,
             tape: Vec::new(),
             before: Vec::new(),

@@ -2,7 +2,7 @@
 
 use std::ops::{Deref, DerefMut};
 
-#[derive(Clone, Copy, PartialEq, Eq, Debug)]
+#[derive(Clone, Copy, PartialEq, Eq, Hash, Debug)]
 pub struct Few<T: Copy + Default, const N: usize> {
     items: [T; N],
     count: u8,

@@ -20,14 +20,14 @@ pub type Block = [u8; BLOCK];
 pub const ZERO: Block = [0; BLOCK];
 
 /// A transaction by its core and number.
-#[derive(Clone, Copy, PartialEq, Eq, Debug, Default)]
+#[derive(Clone, Copy, PartialEq, Eq, Hash, Debug, Default)]
 pub struct Name {
     pub core: u8,
     pub number: u32,
 }
 
 /// Where a journal begins: the number expected there and its position.
-#[derive(Clone, Copy, PartialEq, Eq, Debug, Default)]
+#[derive(Clone, Copy, PartialEq, Eq, Hash, Debug, Default)]
 pub struct Tail {
     pub number: u32,
     pub position: u8,
@@ -36,7 +36,7 @@ pub struct Tail {
 pub type Tails = [Tail; CORES];
 
 /// How a commit holds what its transaction names. Bytes 8 to 11 of the master say which: 0 or 1, and nothing else is fit.
-#[derive(Clone, Copy, PartialEq, Eq, Debug, Default)]
+#[derive(Clone, Copy, PartialEq, Eq, Hash, Debug, Default)]
 pub enum Layout {
     /// Paper 01: up to twelve names.
     Lists = 0,
@@ -66,7 +66,7 @@ pub struct Master {
 }
 
 /// C, B and J, within their limits.
-#[derive(Clone, Copy, PartialEq, Eq, Debug, Default)]
+#[derive(Clone, Copy, PartialEq, Eq, Hash, Debug, Default)]
 pub struct Shape {
     pub cores: u8,
     pub blocks: u8,

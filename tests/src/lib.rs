@@ -1,5 +1,5 @@
 // lib.rs: an independent model of the revision D storage card, with a service book, a ledger, tapes and checks,
-// and with the journal page of a disk.
+// and with the journal page of a disk and the plan of a card.
 
 pub mod book;
 pub mod card;
@@ -7,16 +7,20 @@ pub mod checks;
 pub mod command;
 pub mod directed;
 pub mod disks;
+pub mod emptying;
 pub mod endings;
 pub mod few;
 pub mod foreign;
 pub mod generator;
 pub mod journal;
 pub mod layout;
+pub mod least;
 pub mod ledger;
 pub mod older;
 pub mod order;
 pub mod page;
+pub mod planner;
+pub mod plans;
 pub mod program;
 pub mod random;
 pub mod second_reader;

@@ -1,4 +1,6 @@
-// random.rs: a small deterministic source of numbers (splitmix64), so that a seed names a run.
+// random.rs: a small deterministic source of numbers (splitmix64), so that a seed names a run; and a quick hash of a value.
+
+use std::hash::{Hash, Hasher};
 
 #[derive(Clone)]
 pub struct Random(u64);
@@ -43,5 +45,35 @@ impl Random {
             let word = self.draw().to_le_bytes();
             chunk.copy_from_slice(&word[..chunk.len()]);
         }
+    }
+}
+
+/// Tells values apart, some millions of them; a disk is hashed in microseconds.
+pub fn hash_of(value: impl Hash) -> u64 {
+    let mut mixed = Mixed::default();
+    value.hash(&mut mixed);
+    mixed.finish()
+}
+
+#[derive(Default)]
+struct Mixed(u64);
+
+impl Mixed {
+    fn mix(&mut self, word: u64) {
+        self.0 = (self.0.rotate_left(23) ^ word).wrapping_mul(0x9E37_79B9_7F4A_7C15);
+    }
+}
+
+impl Hasher for Mixed {
+    fn write(&mut self, bytes: &[u8]) {
+        for chunk in bytes.chunks(8) {
+            let mut word = [0; 8];
+            word[..chunk.len()].copy_from_slice(chunk);
+            self.mix(u64::from_le_bytes(word));
+        }
+    }
+
+    fn finish(&self) -> u64 {
+        Random(self.0).draw()
     }
 }

@@ -1,9 +1,9 @@
-// wrong.rs: the switches that make a card wrong in one rule, and those of a journal reader and of the journal page.
+// wrong.rs: the switches that make a card wrong in one rule, and those of a journal reader, of the journal page and of a planner.
 
 macro_rules! switches {
     ($kind:ident, $all:ident: $($name:ident = $words:expr),* $(,)?) => {
         /// `No` is the right one; every other one breaks a single rule.
-        #[derive(Clone, Copy, PartialEq, Eq, Debug, Default)]
+        #[derive(Clone, Copy, PartialEq, Eq, Hash, Debug, Default)]
         pub enum $kind {
             #[default]
             No,
@@ -101,6 +101,16 @@ switches! {
     NamesCounted = "the page counts names, not the cores named",
 }
 
+switches! {
+    WrongPlanner, PLANNERS:
+    ByCoreAndNumber = "the order by core and number",
+    Bound = "the bound in place of the figure",
+    DoneNotTakenOff = "work done not taken off",
+    RunningLeftOut = "running ones left out",
+    ValidAlone = "only valid ones counted",
+    TiesReversed = "of equal stamps the higher core and number first",
+}
+
 /// Wrong in what request (c) of paper 02 asks for; their tapes stand in `sequence.rs`.
 pub const SEQUENCE: [Wrong; 5] = [
     Wrong::NoSequence,
@@ -113,6 +123,11 @@ pub const SEQUENCE: [Wrong; 5] = [
 /// Those that generated tapes catch. They hardly meet what the sequence changes, and the equivalent card is never caught.
 pub fn caught_by_generated() -> impl Iterator<Item = &'static (Wrong, &'static str)> {
     ALL.iter().filter(|(wrong, _)| *wrong != Wrong::Only33Committed && !SEQUENCE.contains(wrong))
+}
+
+/// Those that runs tell apart. `TiesReversed` takes a card that no run made: in runs all stamps differ.
+pub fn told_by_runs() -> impl Iterator<Item = &'static (WrongPlanner, &'static str)> {
+    PLANNERS.iter().filter(|(wrong, _)| *wrong != WrongPlanner::TiesReversed)
 }
 
 pub fn words(wrong: Wrong) -> &'static str {

@@ -1,2 +1,3 @@
 -- Laws that the proofs of sessions cite.
 pub mod RunLaws
+pub mod PlanLaws

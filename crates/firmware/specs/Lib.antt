@@ -1,2 +1,3 @@
--- What the contracts of the library's entries say beyond crates `model`, `cells`, `command` and `crash`.
+-- What the contracts of the library's entries say beyond crates `model`, `cells`, `command`, `planner` and `crash`.
 pub mod Session
+pub mod Plans

@@ -7,6 +7,7 @@ ghost use Rattle.model.specs.Reading.{readNumber};
 ghost use Rattle.model.specs.JournalPage.{pageOf, lineAt, layNumber, laid};
 ghost use Rattle.cells.specs.Cells.{cellsOf, worldIn};
 ghost use Rattle.firmware.specs.Session.{readInto, RunsCommand, RunsTape, partIn};
+ghost use Rattle.firmware.specs.Plans.{PlansCard};
 use crate::session::Part;
 use crate::session::Reply;
 use crate::session::Stop;
@@ -92,6 +93,15 @@ pub extern "C" fn rev_d_read_block<'a>(
         ⌝ }
 {
     crate::session::copy_block(w, b, disk, memory, out)
+}
+
+// How much work it is until the journals are empty: number, commands, stores, count, then the names in order, each 8 * number + core, and
+// zeros.
+#[no_mangle]
+pub extern "C" fn rev_d_plan(w: &[u64; 423], disk: &[u8], memory: &[u8], out: &mut [u64; 116])
+    ensures { λ _. ⌜ PlansCard (now (w .entry)) (now (disk .entry)) (now (memory .entry)) (now (out .exit)) ⌝ }
+{
+    crate::session::lay_plan(w, disk, memory, out);
 }
 
 // How many lines the journal page of a disk has.

@@ -5,6 +5,7 @@ ghost use Rattle.model.specs.Card.{blankCard, downCard};
 ghost use Rattle.model.specs.Reading.{readNumber, readBlock};
 ghost use Rattle.cells.specs.Cells.{cellsOf, storesIn, worldIn};
 ghost use Rattle.firmware.specs.Session.{readInto, RunsCommand, RunsTape, partIn};
+ghost use Rattle.firmware.specs.Plans.{PlansCard};
 use model::Shape;
 
 // What came of one command: the offset of the next one, the number answered (0 if done) and the command's byte.
@@ -123,6 +124,13 @@ pub fn copy_block<'a>(
     let block = read_block(w, b, disk, memory);
     layout::copy_block(out, block);
     0
+}
+
+// How much work it is until the journals are empty, laid into a lent buffer.
+pub fn lay_plan(w: &[u64; 423], disk: &[u8], memory: &[u8], out: &mut [u64; 116])
+    ensures { λ _. ⌜ PlansCard (now (w .entry)) (now (disk .entry)) (now (memory .entry)) (now (out .exit)) ⌝ }
+{
+    planner::lay_plan(w, disk, memory, out);
 }
 
 // Every command of a tape.

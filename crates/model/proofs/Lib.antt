@@ -14,6 +14,9 @@ pub mod Journal
 pub mod JournalEnds
 pub mod EndReasons
 pub mod Select
+pub mod Each
+pub mod Totals
+pub mod Sorting
 pub mod Shrink
 pub mod SameShrink
 pub mod Required

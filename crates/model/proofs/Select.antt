@@ -1,4 +1,4 @@
--- Those of a list that meet a test: which elements they are, and how many.
+-- Those of a list that meet a test: which elements they are, and how many; under `++`, with one in its place, and of images.
 use Prim.Native.Nat.{suc, _≤_}
 use native.Mathlib.Omega.{arith}
 use mathlib.Core.Path.{_≡_, refl, sym, ap, _∙_}
@@ -62,6 +62,13 @@ module _ {A : Type 0} (p : A → Bool) where
   unfolding select
   select-append [] ys = refl
   select-append (x ∷ xs) ys = cases (p x) (λ e. rw e (ap (λ (l : List A). x ∷ l) (select-append xs ys))) (λ e. rw e (select-append xs ys))
+
+  -- one that meets it in its place, and one that does not
+  pub select-in : (xs ys : List A) (x : A) → p x ≡ true → select p (xs ++ (x ∷ ys)) ≡ select p xs ++ (x ∷ select p ys)
+  select-in xs ys x h = select-append xs (x ∷ ys) ∙ ap (λ (l : List A). select p xs ++ l) (select-yes x ys h)
+
+  pub select-out : (xs ys : List A) (x : A) → p x ≡ false → select p (xs ++ (x ∷ ys)) ≡ select p xs ++ select p ys
+  select-out xs ys x h = select-append xs (x ∷ ys) ∙ ap (λ (l : List A). select p xs ++ l) (select-no x ys h)
 
 -- the images of those that meet the test are those images that meet theirs
 pub select-map : {A B : Type 0} (f : A → B) (p : A → Bool) (q : B → Bool) → ((x : A) → q (f x) ≡ p x) → (xs : List A) → select q (map f xs) ≡ map f (select p xs)

@@ -77,7 +77,7 @@ card-tail : (x : Card) (c : ℕ) → c < (shapeOf x) .cores → tailFor (x .tail
 unfolding tailOf
 card-tail x c h = refl
 
-card-bound : (x : Card) (d : Bytes) (c : ℕ) → c < (shapeOf x) .cores
+pub card-bound : (x : Card) (d : Bytes) (c : ℕ) → c < (shapeOf x) .cores
     → journal Numbers (shapeOf x) d c (tailOf x c) (getD (counts x) c 0) ≡ journal Numbers (shapeOf x) d c (tailOf x c) (committedCount x c)
 unfolding countAt
 card-bound x d c h = rw (count-in x c (core-low x c h)) (journal-capped (shapeOf x) d c (tailOf x c) (committedCount x c) (shape-limits x))

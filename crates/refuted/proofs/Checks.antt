@@ -27,22 +27,30 @@ use Rattle.crash.proofs.Books.Tests.{clash, impossible}
 use Rattle.crash.proofs.Runs.Theorem.{claim, demands, readings}
 use Rattle.refuted.specs.Parts.{byteOf}
 
-unfoldable pub sameBytes : Bytes → Bytes → Bool
-sameBytes [] [] = true
-sameBytes [] (y ∷ ys) = false
-sameBytes (x ∷ xs) [] = false
-sameBytes (x ∷ xs) (y ∷ ys) = eqb x y && sameBytes xs ys
+-- two lists that a test finds the same in every place
+unfoldable pub sameList : {A : Type 0} → (A → A → Bool) → List A → List A → Bool
+sameList same [] [] = true
+sameList same [] (y ∷ ys) = false
+sameList same (x ∷ xs) [] = false
+sameList same (x ∷ xs) (y ∷ ys) = same x y && sameList same xs ys
 
-same-itself : (s : Bytes) → sameBytes s s ≡ true
-unfolding sameBytes
-same-itself [] = refl
-same-itself (x ∷ xs) = and-both (eq-eqb x x refl) (same-itself xs)
+module _ {A : Type 0} (same : A → A → Bool) (itself : (x : A) → same x x ≡ true) where
+  same-itself : (xs : List A) → sameList same xs xs ≡ true
+  unfolding sameList
+  same-itself [] = refl
+  same-itself (x ∷ xs) = and-both (itself x) (same-itself xs)
+
+  pub same-lists : {xs ys : List A} → xs ≡ ys → sameList same xs ys ≡ true
+  same-lists {xs} e = subst (λ (ys : List A). sameList same xs ys ≡ true) e (same-itself xs)
+
+abbrev sameBytes : Bytes → Bytes → Bool
+sameBytes = sameList eqb
 
 same-bytes : {s t : Bytes} → s ≡ t → sameBytes s t ≡ true
-same-bytes {s} e = subst (λ (t : Bytes). sameBytes s t ≡ true) e (same-itself s)
+same-bytes = same-lists eqb (λ x. eq-eqb x x refl)
 
 -- a test that is asked for where another holds, and where it does not
-asked : (b : Bool) {t : Bool} → (b ≡ true → t ≡ true) → cond b t true ≡ true
+pub asked : (b : Bool) {t : Bool} → (b ≡ true → t ≡ true) → cond b t true ≡ true
 asked true h = h refl
 asked false h = refl
 
@@ -255,10 +263,10 @@ leaves o f h n t w =
     (λ e. same-bytes (ap (λ (x : Outcome World). take n (x .world .disk)) (decided-done (h t 0 w) (eqb-true _ _ e))))
 
 -- ---- a run that fails a test
-abbrev blankStart : Start
+abbrev pub blankStart : Start
 blankStart = from-blank zeroDisk zeroMemory
 
-blank-fits : StartFits blankStart
+pub blank-fits : StartFits blankStart
 unfolding startWorld zeroDisk zeroMemory
 blank-fits =
     record {
@@ -294,7 +302,7 @@ areBytes t = all (λ (x : ℕ). ltb x 256) t
 abbrev pub Fails : Bytes → Bool → Type 0
 Fails t passed = (areBytes t && not passed) ≡ true
 
-failed : (t : Bytes) (passed : Bool) → Fails t passed → (IsBytes t → passed ≡ true) → ⊥
+pub failed : (t : Bytes) (passed : Bool) → Fails t passed → (IsBytes t → passed ≡ true) → ⊥
 failed t passed h k = clash (k (and-left (areBytes t) _ h)) (not-true _ (and-right (areBytes t) _ h))
 
 pub refutes-claim : (o : Order) (f : TapeStep World) (t : Bytes) → Fails t (areaHolds (emptyService o 0) (run f t blankWorld)) → Claim o f → ⊥

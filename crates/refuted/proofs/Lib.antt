@@ -1,4 +1,4 @@
--- Why the wrong cards fail, and computed runs of the right one that need the same tests.
+-- Why the wrong cards and planners fail, and computed runs of the right one that need the same tests.
 pub mod Checks
 pub mod Parts
 pub mod Tapes
@@ -10,3 +10,6 @@ pub mod NumberCards
 pub mod LongLists
 pub mod CapMissing
 pub mod Committed33
+pub mod PlanChecks
+pub mod Planners
+pub mod PlanExamples

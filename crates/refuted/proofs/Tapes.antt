@@ -8,10 +8,10 @@ use Rattle.crash.specs.Claims.{homeArea, startWorld, startService, startLedger,
 use Rattle.crash.specs.Service.{bookArea}
 use Rattle.crash.specs.Ledger.{blankLedger, freshLedger, imageNow, closeLedger, unretired, metIn, validIn, blocksIn, cutLedger, recoverLedger, carriedOut, entered, storedOf, storedSince, recordTags, recordOf, recordBlocks, recordStored, tailsPast, checkpointStored, recoverStored, diskAfter, storeCount, copiesStored, memoryAfter, formatRefusals, blocksAfter, journalPasses, numberPasses, writeRefusals, closeRefusals, storeRefusals, sharesLowerIn, checkpointRefusals, refusalsOf, answerOf, readNow, readRefusals}
 use Rattle.crash.proofs.Books.BookExamples.{books}
-use Rattle.refuted.proofs.Checks.{sameBytes, isRecover, comesUp, areaHolds, answerTest, usedBytes, imageBytes, sameWorld, refusedTest, ofDone, countTest, bytesTest, memoryTest, holds, readsTest, readsHold, decidesTest, leavesTest}
+use Rattle.refuted.proofs.Checks.{sameList, isRecover, comesUp, areaHolds, answerTest, usedBytes, imageBytes, sameWorld, refusedTest, ofDone, countTest, bytesTest, memoryTest, holds, readsTest, readsHold, decidesTest, leavesTest}
 
 unfoldable pub tests : Unit {0}
-unfolding books readRefusals readNow homeArea startWorld startService startLedger fedPoint enteredPoint bookArea blankLedger freshLedger imageNow closeLedger unretired metIn validIn blocksIn cutLedger recoverLedger carriedOut entered storedOf storedSince recordTags recordOf recordBlocks recordStored tailsPast checkpointStored recoverStored diskAfter storeCount copiesStored memoryAfter formatRefusals blocksAfter journalPasses numberPasses writeRefusals closeRefusals storeRefusals sharesLowerIn checkpointRefusals refusalsOf answerOf sameBytes isRecover comesUp areaHolds answerTest usedBytes imageBytes sameWorld refusedTest ofDone countTest bytesTest memoryTest holds readsTest readsHold decidesTest leavesTest
+unfolding books readRefusals readNow homeArea startWorld startService startLedger fedPoint enteredPoint bookArea blankLedger freshLedger imageNow closeLedger unretired metIn validIn blocksIn cutLedger recoverLedger carriedOut entered storedOf storedSince recordTags recordOf recordBlocks recordStored tailsPast checkpointStored recoverStored diskAfter storeCount copiesStored memoryAfter formatRefusals blocksAfter journalPasses numberPasses writeRefusals closeRefusals storeRefusals sharesLowerIn checkpointRefusals refusalsOf answerOf sameList isRecover comesUp areaHolds answerTest usedBytes imageBytes sameWorld refusedTest ofDone countTest bytesTest memoryTest holds readsTest readsHold decidesTest leavesTest
 tests = tt
 
 -- ---- commands of a tape

@@ -1,8 +1,8 @@
-// cells.rs: where the library keeps a card in its cells, the cells of the model's card, and what any cells mean. Each cell has a
-// field of a width; in a run the bits above it are 0, and where a caller put some there they have no meaning.
+// cells.rs: where the library keeps a card in its cells, the cells of the model's card, and what any cells mean, also as a card of
+// the model. Each cell has a field of a width; in a run the bits above it are 0, and where a caller put some there they have no meaning.
 
-use card_tests::card::{Card, Phase, Transaction};
-use card_tests::layout::{highest, Name, CORES, HOMES, TAKEN};
+use card_tests::card::{Card, Core, Kind, Phase, Transaction};
+use card_tests::layout::{highest, Name, Shape, Tail, CORES, HOMES, TAKEN};
 
 pub const CELLS: usize = 423;
 pub const PHASE: usize = 0;
@@ -14,16 +14,20 @@ pub const TAIL: usize = 7;
 pub const HOLDER: usize = 23;
 pub const CORE: usize = 87;
 pub const CORE_SIZE: usize = 42;
-const RUNNING: usize = 4;
-const CLOSED: usize = 23;
+pub const RUNNING: usize = 4;
+pub const CLOSED: usize = 23;
 /// In a transaction: its blocks, and for each core the highest number that it names.
 const BLOCKS: usize = 3;
 const HIGHEST: usize = BLOCKS + TAKEN;
 
 pub type Cells = [u64; CELLS];
 
-fn name_cell(name: &Name) -> u64 {
+pub fn name_cell(name: &Name) -> u64 {
     8 * name.number as u64 + name.core as u64
+}
+
+pub fn name_in(cell: u64) -> Name {
+    Name { core: (cell % 8) as u8, number: (cell / 8) as u32 }
 }
 
 fn put_transaction(cells: &mut [u64], transaction: &Transaction) {
@@ -125,6 +129,53 @@ fn low(value: u64, width: u32) -> u64 {
 /// The cells of a run that mean the same.
 pub fn meaning(cells: &Cells) -> Cells {
     std::array::from_fn(|i| Field::at(i).meaning(cells[i]))
+}
+
+/// The transaction of this number in a core's cells, where there is one.
+fn transaction_in(cells: &[u64], number: u32) -> Option<Transaction> {
+    let mut found = Transaction { number, stamp: cells[1], ..Transaction::default() };
+    cells[BLOCKS..HIGHEST].iter().take(cells[2] as usize).for_each(|block| found.blocks.push(*block as u8));
+    let named = cells[HIGHEST..HIGHEST + CORES].iter().enumerate().filter(|(_, number)| **number != 0);
+    named.for_each(|(core, number)| found.names.push(Name { core: core as u8, number: *number as u32 }));
+    (cells[0] != 0).then_some(found)
+}
+
+fn core_in(cells: &Cells, c: usize) -> Core {
+    let own = &cells[CORE + CORE_SIZE * c..CORE + CORE_SIZE * (c + 1)];
+    let tail = Tail { number: cells[TAIL + 2 * c] as u32, position: cells[TAIL + 2 * c + 1] as u8 };
+    // the running one has the next number until it closes, the closed one that before it; the rest from the tail on is committed
+    let next = own[0] as u32;
+    let running = transaction_in(&own[RUNNING..CLOSED], next);
+    let closed = transaction_in(&own[CLOSED..], next.saturating_sub(1));
+    let committed = next.saturating_sub(tail.number).saturating_sub(closed.is_some() as u32);
+    Core {
+        tail,
+        next: next.saturating_add(running.is_some() as u32),
+        running,
+        closed,
+        stored: own[2] as u8,
+        // no journal has as many records
+        committed: committed.min(u8::MAX as u32) as u8,
+        length: own[1] as u8,
+        home: own[3] as u8,
+    }
+}
+
+/// The model's card that any cells mean. The shape is read within its limits.
+pub fn to_card(cells: &Cells) -> Card {
+    let cells = meaning(cells);
+    let phase = [Phase::Blank, Phase::Up, Phase::Down][cells[PHASE] as usize];
+    let [cores, blocks, journal] =
+        [(0, 1, 8), (1, 1, 64), (2, 4, 24)].map(|(i, low, high)| cells[SHAPE + i].clamp(low, high) as u8);
+    let holder = |cell: u64| cell.checked_sub(1).map(name_in);
+    Card {
+        shape: Shape { cores, blocks, journal },
+        cores: std::array::from_fn(|c| core_in(&cells, c)),
+        holders: std::array::from_fn(|b| holder(cells[HOLDER + b])),
+        closes: cells[CLOSES],
+        place: cells[RECOVERED] as u8,
+        ..Card::with(phase, Kind::default())
+    }
 }
 
 /// The first cell in which two differ.

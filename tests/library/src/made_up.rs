@@ -1,7 +1,9 @@
 // made_up.rs: cells that no run made, over any disk and memory, and any command. There is no fault; a command answers one of its
-// numbers; a refusal changes nothing; and what has no meaning, bits above a field's width, changes nothing else.
+// numbers; a refusal changes nothing; and what has no meaning, bits above a field's width, changes nothing else. The plan is the
+// model's, of the card that the cells mean.
 
-use crate::cells::{difference, meaning, Cells, Field, CELLS, PHASE, SHAPE};
+use crate::cells::{difference, meaning, to_card, Cells, Field, CELLS, PHASE, SHAPE};
+use crate::planner::{check_plan, plan};
 use crate::session::{Done, Part, Session, Stop};
 use crate::stage::Stage;
 use card_tests::checks::{Seen, Watcher};
@@ -115,6 +117,7 @@ impl MadeUp {
     fn attempt(&mut self) -> Result<(), String> {
         let cells = self.any_cells();
         let before = Stage { card: Session::of_cells(cells), disk: self.any_disk(), memory: self.any_memory() };
+        check_plan(plan, &cells, &to_card(&cells), &before.disk, &before.memory)?;
         let tape = self.any_tape();
         let at = self.any_offset(&tape);
         let mut after = before.clone();
@@ -152,7 +155,7 @@ fn any_value(random: &mut Random) -> u64 {
 }
 
 /// A value that means the same in a cell.
-fn alike(field: Field, value: u64, random: &mut Random) -> u64 {
+pub(crate) fn alike(field: Field, value: u64, random: &mut Random) -> u64 {
     match field {
         Field::Phase if value < 2 => value,
         Field::Phase => random.draw().max(2),

@@ -1,5 +1,5 @@
-// starts.rs: what a tape starts on: a blank card, one that is down over a foreign disk, or one that is handed over the disk of another
-// card.
+// starts.rs: what a tape starts on: a blank card, one that is down over a foreign disk or a given one, or one that is handed over the
+// disk of another card.
 
 use super::{Bench, Failure};
 use crate::book::Book;
@@ -8,6 +8,7 @@ use crate::foreign;
 use crate::generator::Generator;
 use crate::ledger::{Ledger, Rules};
 use crate::order::Order;
+use crate::random::Random;
 use crate::wrong::Wrong;
 
 /// How many of a thousand starts are over a foreign disk, and how many over one that an older card left; the others are blank.
@@ -27,6 +28,11 @@ impl Bench<'_> {
         self.shares = shares;
     }
 
+    /// Every start will be down over a disk made by this, whatever the shares.
+    pub fn set_disks(&mut self, disk: fn(&mut Random) -> Vec<u8>) {
+        self.given_disk = Some(disk);
+    }
+
     /// Runs a tape by another card, cuts it, and runs one over its disk, with one book for both.
     pub fn run_handed_over(&mut self, other: Kind, before: &[u8], tape: &[u8]) -> Result<(), Failure> {
         self.begin_other(other);
@@ -37,8 +43,13 @@ impl Bench<'_> {
         self.run_from(0)
     }
 
-    /// A start of a kind chosen by the shares.
+    /// A start over a given disk, or of a kind chosen by the shares.
     pub(super) fn start_any(&mut self, generator: &mut Generator) -> Result<(), Failure> {
+        if let Some(disk) = self.given_disk {
+            let disk = disk(&mut self.random);
+            self.start_over(disk);
+            return Ok(());
+        }
         match self.random.below(1000) {
             n if n < self.shares.foreign => self.start_foreign(),
             n if n < self.shares.foreign + self.shares.older => return self.start_older(generator),

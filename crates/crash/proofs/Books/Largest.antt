@@ -156,7 +156,7 @@ module _ (k : Book) (opened : (t : Name) → So (isCommitted (stageOf k t)) → 
   unretired-is = member-select (λ t. isCommitted (stageOf k t) && not (isRetired (stageOf k t))) (k .opened) (λ t h. opened t (and-left _ _ h))
 
   module _ (numbered : RetiredBelow k) where
-    valid-largest : Largest (λ t. isCommitted (stageOf k t) && not (isRetired (stageOf k t))) (requires k) (λ t. isRetired (stageOf k t)) (memberOf (validIn k))
+    pub valid-largest : Largest (λ t. isCommitted (stageOf k t) && not (isRetired (stageOf k t))) (requires k) (λ t. isRetired (stageOf k t)) (memberOf (validIn k))
     unfolding validIn metIn
     valid-largest =
         largest-same _ _ (requires k) _ _ _ unretired-is (λ t u h n. numbered t u (and-left _ _ (rw (unretired-is t) at h)) n)

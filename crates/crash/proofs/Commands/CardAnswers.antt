@@ -55,7 +55,7 @@ module _ {l : Ledger} {w : World} (u : CardUp l w) where
       rw (right-length w (u .disk .size) (u .memory), shape-up u, u .phase, u .ledger) (same-refusal same)
 
   module _ (c : ℕ) (in-range : c < l .shape .cores) where
-    closing-live : (coreOf (w .card) c) .closed .live ≡ ltb (l .book .uncommitted c) (l .book .next c)
+    pub closing-live : (coreOf (w .card) c) .closed .live ≡ ltb (l .book .uncommitted c) (l .book .next c)
     closing-live =
         let y = u .cores c in-range in
         elim (decLt (l .book .uncommitted c) (l .book .next c)) [

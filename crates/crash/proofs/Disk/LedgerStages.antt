@@ -12,7 +12,7 @@ use borrow.Author.Tests.{lt-ltb, le-ltb}
 use Rattle.model.specs.Card.{newName}
 use Rattle.crash.specs.Book.{Stage, absent, running, closed, committed, retired, isRunning, isClosed, isCommitted, isRetired, Book}
 use Rattle.crash.proofs.Books.Tests.{clash, impossible}
-use Rattle.crash.proofs.Books.BookEntries.{by-stage, uncommittedName}
+use Rattle.crash.proofs.Books.BookEntries.{by-stage, nextName, uncommittedName}
 use Rattle.crash.proofs.Disk.Relation.{first-waiting, Ranks}
 
 pub closed-present : (g : Stage) → isClosed g ≡ true → g ≢ absent
@@ -98,6 +98,16 @@ module _ {k : Book} {c : ℕ} (r : Ranks k c) (i : ℕ) where
       (λ _ _ _ e. clash h (ap isRunning e))
       (λ e _. e)
       (λ e. clash h (ap isRunning e))
+
+  -- where none runs and none is closed and uncommitted, an open one is committed
+  pub quiescent-committed : k .uncommitted c ≡ k .next c → isRunning ((k .entry (nextName c k)) .stage) ≡ false → stage ≢ absent → isCommitted stage ≡ true
+  quiescent-committed none-closed none-running h =
+      by-rank
+      (λ _ o. elim o [ inl e ↦ absurd (h e) | inr e ↦ ap isCommitted e ])
+      (λ _ _ _ e. ap isCommitted e)
+      (λ a b _ _. absurd (omega (arith, a, b, none-closed)))
+      (λ q o. elim o [ inl e ↦ absurd (h e) | inr e ↦ clash (ap isRunning (subst (λ (j : ℕ). (k .entry (newName c j)) .stage ≡ running) q e)) none-running ])
+      (λ e. absurd (h e))
 
   -- an open one lies below the oldest number exactly if it is retired
   pub below-oldest : stage ≢ absent → ltb i (k .oldest c) ≡ isRetired stage

@@ -9,6 +9,7 @@ use Rattle.model.specs.declared.Name.{Name}
 use Rattle.model.proofs.Lists.{getD-mem}
 use Rattle.crash.specs.Book.{Stage, absent, running, closed, committed, retired, isClosed, Entry, Book, raise, closeBook, storeBook, checkpointBook}
 use Rattle.crash.specs.Ledger.{Ledger, withBook, imageNow, closeLedger}
+use Rattle.crash.proofs.Books.Tests.{clash}
 use Rattle.crash.proofs.Books.BookEntries.{nextName, same-or-not, raise-other}
 use Rattle.crash.proofs.Books.BookSteps.{Restages, restaged, restages, restages-keep, close-stamp, close-images, close-stamp-other, close-images-other}
 use Rattle.crash.proofs.Disk.Relation.{IsBlock, Limits, Frozen, Ranks, sumNext, WellFormed}
@@ -61,8 +62,10 @@ module _ (l : Ledger) (f : WellFormed l) (t : Name) (g : Stage) (was : (l .book 
 
   well-formed-moved : ((c : ℕ) → c < l .shape .cores → Ranks (moved .book) c) → ((u : Name) → isClosed ((moved .book .entry u) .stage) ≡ true → Frozen moved u)
       → ((u x : Name) → isClosed ((moved .book .entry u) .stage) ≡ true → isClosed ((moved .book .entry x) .stage) ≡ true → stamp u ≡ stamp x → u ≡ x)
+      → ((a i j : ℕ) → i < j → isClosed ((moved .book .entry (newName a i)) .stage) ≡ true → isClosed ((moved .book .entry (newName a j)) .stage) ≡ true
+      → stamp (newName a i) < stamp (newName a j))
       → closes ≤ sumNext (moved .book) (l .shape .cores) → WellFormed moved
-  well-formed-moved ranks frozen stamps count =
+  well-formed-moved ranks frozen stamps ascending count =
       record {
         sequence = f .sequence;
         range = f .range;
@@ -73,6 +76,7 @@ module _ (l : Ledger) (f : WellFormed l) (t : Name) (g : Stage) (was : (l .book 
         named = λ u x m. open-after x (f .named u x (rw (step .names u) at m));
         frozen = frozen;
         stamps = stamps;
+        ascending = ascending;
         closes = count;
         opened = λ u m. open-after u (f .opened u m);
         known = λ u h. f .known u (open-before u h);
@@ -139,6 +143,25 @@ module _ (l : Ledger) (f : WellFormed l) (c : ℕ) (hc : c < l .shape .cores) wh
         (λ d. absurd (newest u ne hu x d (sym s)))
         (λ nd. f .stamps u x (was-closed u ne hu) (was-closed x nd hx) (sym (close-stamp-other l c u ne) ∙ s ∙ close-stamp-other l c x nd)))
 
+    -- the one closed has the highest stamp, and none above it is open
+    closed-ascending : (a i j : ℕ) → i < j → isClosed ((closeBook c k .entry (newName a i)) .stage) ≡ true
+        → isClosed ((closeBook c k .entry (newName a j)) .stage) ≡ true
+        → (closeLedger c l) .stamp (newName a i) < (closeLedger c l) .stamp (newName a j)
+    closed-ascending a i j lt hi hj =
+        same-or-not (newName a j) t
+        (λ e. let ne : newName a i ≢ t = λ d. (let p : i ≡ j = ap (λ (n : Name). n .number) (d ∙ sym e) in omega arith) in
+        let top : (closeLedger c l) .stamp (newName a j) ≡ suc (l .closes) = rw e (close-stamp l c) in
+        let same = close-stamp-other l c (newName a i) ne in
+        omega (arith, f .frozen (newName a i) (was-closed (newName a i) ne hi) .high))
+        (λ nj. same-or-not (newName a i) t
+        (λ e. let p : a ≡ c = ap (λ (n : Name). n .core) e in
+        let q : i ≡ k .next c = ap (λ (n : Name). n .number) e in
+        let above = f .ranks c hc .rest j (omega arith) in
+        clash (was-closed (newName a j) nj hj) (ap isClosed (subst (λ (x : ℕ). (k .entry (newName x j)) .stage ≡ absent) (sym p) above)))
+        (λ ni. let si = close-stamp-other l c (newName a i) ni in
+        let sj = close-stamp-other l c (newName a j) nj in
+        omega (arith, f .ascending a i j lt (was-closed (newName a i) ni hi) (was-closed (newName a j) nj hj))))
+
     pub well-formed-close : WellFormed (closeLedger c l)
     unfolding closeLedger closeBook
     well-formed-close =
@@ -150,6 +173,7 @@ module _ (l : Ledger) (f : WellFormed l) (c : ℕ) (hc : c < l .shape .cores) wh
         ])
         (λ u h. same-or-not u t (λ e. subst (λ (u : Name). Frozen (closeLedger c l) u) (sym e) frozen-closed) (λ ne. still-frozen u ne h))
         closed-stamps
+        closed-ascending
         (let h = sum-raised k (closeBook c k) c refl (l .shape .cores) .1 hc in let g = f .closes in omega arith)
 
   -- STORE and CHECKPOINT: the closed one stays closed
@@ -169,6 +193,7 @@ module _ (l : Ledger) (f : WellFormed l) (c : ℕ) (hc : c < l .shape .cores) wh
         ])
         (λ x h. same-frozen l (withBook l after) x refl refl refl (step .blocks x) (f .frozen x (before x h)))
         (λ x y hx hy. f .stamps x y (before x hx) (before y hy))
+        (λ a x y lt hx hy. f .ascending a x y lt (before (newName a x) hx) (before (newName a y) hy))
         (let e = sum-same k after (λ a. refl) (l .shape .cores) in let h = f .closes in omega arith)
 
   pub well-formed-store : k .uncommitted c < k .next c → WellFormed (withBook l (storeBook c k))

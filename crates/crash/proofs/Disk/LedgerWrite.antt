@@ -142,6 +142,7 @@ module _ (l : Ledger) (f : WellFormed l) (t : Name) (last : t .number ≡ l .boo
               same-frozen l (withBook l (note t b o v (l .book))) u refl refl refl
               (ruled-blocks-other m t b (l .book .entry) u (not-writer u (λ e. clash g (ap isClosed e)))) (f .frozen u g);
           stamps = λ u x hu hx. f .stamps u x (rw (after-stage u) at hu) (rw (after-stage x) at hx);
+          ascending = λ a i j lt hi hj. f .ascending a i j lt (rw (after-stage (newName a i)) at hi) (rw (after-stage (newName a j)) at hj);
           closes = (let e = sum-same (l .book) (note t b o v (l .book)) (λ a. refl) (l .shape .cores) in let h = f .closes in omega arith);
           opened = λ u p. rw (after-stage u) (f .opened u p);
           known = λ u h. f .known u (rw (after-stage u) at h);
@@ -219,6 +220,7 @@ module _ (l : Ledger) (f : WellFormed l) (c : ℕ) (hc : c < l .shape .cores) wh
           named = λ u x m. opens-after x (f .named u x (rw (opening-names u) at m));
           frozen = λ u h. same-frozen l (withBook l (begin w k)) u refl refl refl (opening-blocks u) (f .frozen u (sym (opening-closed u) ∙ h));
           stamps = λ u x hu hx. f .stamps u x (sym (opening-closed u) ∙ hu) (sym (opening-closed x) ∙ hx);
+          ascending = λ a i j lt hi hj. f .ascending a i j lt (sym (opening-closed (newName a i)) ∙ hi) (sym (opening-closed (newName a j)) ∙ hj);
           closes = (let e = sum-same k (begin w k) (λ a. refl) (l .shape .cores) in let h = f .closes in omega arith);
           opened = λ u m. elim (List·Memᴰ·cases-cons m) [ inl e ↦ running-present _ (opening-at u e) | inr p ↦ opens-after u (f .opened u p) ];
           known = λ u h.

@@ -48,7 +48,7 @@ module _ {l : Ledger} {w : World} (u : CardUp l w) where
   unfolding validNow
   valid-now = rw (committed-now, shape-up u)
 
-  committed-of : (c : ℕ) → c < l .shape .cores → committedOf w c ≡ readList l c (tailOf (w .card) c)
+  pub committed-of : (c : ℕ) → c < l .shape .cores → committedOf w c ≡ readList l c (tailOf (w .card) c)
   unfolding committedOf
   committed-of c h = rw (shape-up u) (journal-read (u .well-formed) (u .disk) c h (committedCount (w .card) c) (count-enough c h))
 
@@ -80,7 +80,7 @@ lower-in {l} f t v r =
     mem-any (lowerTest l t) (f .known v (closed-present _ (r .is-closed)))
     (and-both (and-both (and-both (r .is-closed) (ap not (r .not-retired))) (lt-ltb _ _ (r .lower))) (r .shares))
 
-in-lower : (l : Ledger) (t : Name) → sharesLowerIn l t ≡ true → (v : Name) × Lower l t v
+pub in-lower : (l : Ledger) (t : Name) → sharesLowerIn l t ≡ true → (v : Name) × Lower l t v
 unfolding sharesLowerIn
 in-lower l t h =
     let r = any-mem (lowerTest l t) (l .book .opened) h in

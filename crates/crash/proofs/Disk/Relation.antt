@@ -105,6 +105,9 @@ pub record WellFormed (l : Ledger) : Type 0 where
   pub named : (t u : Name) → List·Memᴰ u ((l .book .entry t) .names) → (l .book .entry u) .stage ≢ absent
   pub frozen : (t : Name) → isClosed ((l .book .entry t) .stage) ≡ true → Frozen l t
   pub stamps : (t u : Name) → isClosed ((l .book .entry t) .stage) ≡ true → isClosed ((l .book .entry u) .stage) ≡ true → l .stamp t ≡ l .stamp u → t ≡ u
+  -- of two closed transactions of a core the higher number has the higher stamp
+  pub ascending : (c i j : ℕ) → i < j → isClosed ((l .book .entry (newName c i)) .stage) ≡ true → isClosed ((l .book .entry (newName c j)) .stage) ≡ true
+      → l .stamp (newName c i) < l .stamp (newName c j)
   pub closes : l .closes ≤ sumNext (l .book) (l .shape .cores)
   pub opened : (t : Name) → List·Memᴰ t (l .book .opened) → (l .book .entry t) .stage ≢ absent
   pub known : (t : Name) → (l .book .entry t) .stage ≢ absent → List·Memᴰ t (l .book .opened)

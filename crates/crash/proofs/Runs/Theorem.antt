@@ -8,12 +8,12 @@ use mathlib.Core.Bool.{Bool, true, false, not}
 use mathlib.Core.List.{List, [], _∷_, _++_}
 use lib.ListN.{length}
 use lib.Dec.{leb}
-use borrow.Author.Tests.{ne-eqb, ltb-true, ltb-false, leb-false, not-false}
+use borrow.Author.Tests.{ne-eqb, ltb-false, leb-false, lt-ltb}
 use Rattle.model.specs.Lists.{below}
 use Rattle.model.specs.Bytes.{Bytes}
 use Rattle.model.specs.Shape.{between, inRange, newShape}
 use Rattle.model.specs.Card.{blankCard, isBlank, isUp, isDown, emptyCard, freshCard, shapeOf}
-use Rattle.model.specs.Command.{World, refusal, wrongLength, Clear, noBlock}
+use Rattle.model.specs.Command.{World, refusal, wrongLength, noBlock}
 use Rattle.model.specs.Valid.{Order, in-sequence}
 use Rattle.model.specs.Format.{formatted}
 use Rattle.model.specs.Write.{written}
@@ -22,10 +22,10 @@ use Rattle.model.specs.Recovery.{layoutOn, recovered, recoveredBy, blocksLeft}
 use Rattle.model.specs.declared.CommitLayout.the-variants.{Numbers}
 use Rattle.model.proofs.Limits.{InRange, range-test}
 use Rattle.model.proofs.Lists.{cases}
-use Rattle.model.proofs.Command.{Numbered, refusal-clear, refusal-passed}
-use Rattle.crash.specs.Book.{Write, image, keptWrites, emptyBook, hasRunning, running}
+use Rattle.model.proofs.Command.{refusal-passed}
+use Rattle.crash.specs.Book.{Write, image, keptWrites, emptyBook, isRunning}
 use Rattle.crash.specs.Service.{noted}
-use Rattle.crash.specs.Ledger.{Ledger, freshLedger, blankLedger, refusalsOf, recoverLedger, formatRefusals, writeRefusals, closeRefusals, storeRefusals, checkpointRefusals, notUpFor, storedSince, diskAfter, storeCount, carriedOut, memoryAfter, readNow, readRefusals}
+use Rattle.crash.specs.Ledger.{Ledger, freshLedger, blankLedger, refusalsOf, recoverLedger, formatRefusals, writeRefusals, closeRefusals, storeRefusals, checkpointRefusals, storedSince, diskAfter, storeCount, carriedOut, memoryAfter, readNow, readRefusals}
 use Rattle.crash.specs.Claims.{JournalsRead, Claim, Demands, DoneAs, Readings, Start, StartFits, from-blank, from-down, startLedger, startWorld}
 use Rattle.crash.proofs.Commands.CardFormat.{format-home, format-up, down-start}
 use Rattle.crash.proofs.Commands.CardRecover.{recover-home, recovered-home, recover-master, recovered-bytes}
@@ -37,13 +37,12 @@ use Rattle.crash.proofs.Disk.Relation.{CardUp, CardDown, target}
 use Rattle.crash.proofs.Commands.CardCut.{cut-down, right-length}
 use Rattle.crash.proofs.Commands.CardStore.{stored-bytes}
 use Rattle.crash.proofs.Commands.CardCheckpoint.{checkpointed-bytes}
-use Rattle.crash.proofs.Disk.LedgerStages.{running-is}
 use Rattle.model.specs.Tape.{CHECKPOINT, CLOSE, CUT, Command, FORMAT, RECOVER, STORE, TapeStep, WRITE}
+use Rattle.crash.proofs.Runs.Unrefused.{in-range-of, may-close, may-store, may-checkpoint}
 use Rattle.crash.proofs.Runs.UpSteps.{RelatedUp, checkpoint-at, close-at, close-memory, cut-at, fresh-at, holder-open, store-at, up-reads, write-at, write-memory}
 use Rattle.model.proofs.Sizes.{checkpointed-memory, recoverStep-memory}
 use Rattle.model.specs.Step.{conditionsOf, doneBy, stepAt}
 use Rattle.model.specs.Reading.{readBlock, blockReader, readConditions, readNumber}
-use Rattle.crash.proofs.Books.BookEntries.{nextName}
 use Rattle.crash.proofs.Disk.ReadMaster.{shape-up}
 use Rattle.model.specs.declared.Shape.{Shape}
 use Rattle.model.specs.declared.Card.{Card}
@@ -150,16 +149,10 @@ module _ {l : Ledger} {w : World} (d : CardDown l w) where
 
 -- ---- up
 module _ {l : Ledger} {w : World} (u : RelatedUp l w) where
-  -- what is known where no condition up to 5 holds
-  in-range-of : (c : ℕ) (ts : List (Bool × ℕ)) → Numbered ts → refusal (notUpFor c l ts) ≡ 0 → (c < l .shape .cores) × Clear ts
-  in-range-of c ts n h =
-      let z = refusal-clear (notUpFor c l ts) (omega arith, (omega arith, (omega arith, n))) h in
-      (leb-false (l .shape .cores) c (z .1 .1 .0), z .1 .1 .1)
-
   write-carried : (c b o : ℕ) (v : Bytes) → HasData (WRITE c b o v) → refusal (writeRefusals c b o v l) ≡ 0 → Carried Related l w (WRITE c b o v)
   unfolding writeRefusals doneBy carriedOut noted diskAfter memoryAfter storeCount written isRecover
   write-carried c b o v fits h =
-      let z = in-range-of c _ (omega arith, (omega arith, (omega arith, (omega arith, (omega arith, tt))))) h in
+      let z = in-range-of u c _ (omega arith, (omega arith, (omega arith, (omega arith, (omega arith, tt))))) h in
       let y = z .1 in
       let low : b < l .shape .blocks = leb-false (l .shape .blocks) b (y .0) in
       let inside : o ≤ 124 = ltb-false 124 o (y .1 .0) in
@@ -168,30 +161,25 @@ module _ {l : Ledger} {w : World} (u : RelatedUp l w) where
       (record { disk = refl; memory = write-memory u c (z .0) b low o inside v fits (y .1 .1 .0) (y .1 .1 .1 .0) (y .1 .1 .1 .1 .0); stores = refl })
 
   close-carried : (c : ℕ) → refusal (closeRefusals c l) ≡ 0 → Carried Related l w (CLOSE c)
-  unfolding closeRefusals doneBy carriedOut diskAfter memoryAfter storeCount closed isRecover
+  unfolding doneBy carriedOut diskAfter memoryAfter storeCount closed isRecover
   close-carried c h =
-      let z = in-range-of c _ (omega arith, (omega arith, tt)) h in
-      let has-running : hasRunning (l .book) c ≡ true = not-false _ (z .1 .0) in
-      let runs : (l .book .entry (nextName c (l .book))) .stage ≡ running = running-is _ has-running in
-      let free : l .book .uncommitted c ≡ l .book .next c =
-      omega (arith, ltb-false (l .book .uncommitted c) (l .book .next c) (z .1 .1 .0), u .up .well-formed .ranks c (z .0) .mid) in
-      plain (other refl) (rw has-running (related-up (close-at u c (z .0) runs free))) (record { disk = refl; memory = close-memory u c (z .0) runs free; stores = refl })
+      let m = may-close u c h in
+      plain (other refl) (rw (ap isRunning (m .runs)) (related-up (close-at u c (m .in-range) (m .runs) (m .none-closed))))
+      (record { disk = refl; memory = close-memory u c (m .in-range) (m .runs) (m .none-closed); stores = refl })
 
   store-carried : (c : ℕ) → refusal (storeRefusals c l) ≡ 0 → Carried Related l w (STORE c)
-  unfolding storeRefusals doneBy carriedOut noted diskAfter memoryAfter storeCount stored isRecover
+  unfolding doneBy carriedOut noted diskAfter memoryAfter storeCount stored isRecover
   store-carried c h =
-      let z = in-range-of c _ (omega arith, tt) h in
-      let busy = not-false _ (z .1 .0) in
-      plain (other refl) (rw busy (related-up (store-at u c (z .0) (ltb-true _ _ busy))))
-      (record { disk = stored-bytes (u .up) c (z .0) (ltb-true _ _ busy); memory = refl; stores = refl })
+      let m = may-store u c h in
+      plain (other refl) (rw (lt-ltb _ _ (m .some-closed)) (related-up (store-at u c (m .in-range) (m .some-closed))))
+      (record { disk = stored-bytes (u .up) c (m .in-range) (m .some-closed); memory = refl; stores = refl })
 
   checkpoint-carried : (c : ℕ) → refusal (checkpointRefusals c l) ≡ 0 → Carried Related l w (CHECKPOINT c)
-  unfolding checkpointRefusals doneBy carriedOut noted diskAfter memoryAfter storeCount isRecover
+  unfolding doneBy carriedOut noted diskAfter memoryAfter storeCount isRecover
   checkpoint-carried c h =
-      let z = in-range-of c _ (omega arith, (omega arith, (omega arith, tt))) h in
-      let some-committed = not-false _ (z .1 .0) in
-      let b = checkpointed-bytes (u .up) c (z .0) (ltb-true _ _ some-committed) in
-      plain (other refl) (rw some-committed (related-up (checkpoint-at u c (z .0) (ltb-true _ _ some-committed) (not-false _ (z .1 .1 .0)) (z .1 .1 .1 .0))))
+      let m = may-checkpoint u c h in
+      let b = checkpointed-bytes (u .up) c (m .in-range) (m .some-committed) in
+      plain (other refl) (rw (lt-ltb _ _ (m .some-committed)) (related-up (checkpoint-at u c (m .in-range) (m .some-committed) (m .valid) (m .none-shared))))
       (record { disk = b .0; memory = checkpointed-memory c w; stores = b .1 })
 
   -- FORMAT is refused with 21, RECOVER with 23

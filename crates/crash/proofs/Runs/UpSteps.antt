@@ -70,7 +70,7 @@ before-there l f t h low =
           (λ d. closed-present _ (stored-unretired r (t .number - 1) (omega arith) (omega (arith, committed-rank r (t .number) h d .1)) .is-closed))
     ]
 
-required-there : (l : Ledger) → WellFormed l → (t u : Name) → isCommitted ((l .book .entry t) .stage) ≡ true → List·Memᴰ u (requiredIn (l .book) t)
+pub required-there : (l : Ledger) → WellFormed l → (t u : Name) → isCommitted ((l .book .entry t) .stage) ≡ true → List·Memᴰ u (requiredIn (l .book) t)
     → (l .book .entry u) .stage ≢ absent
 required-there l f t u h m =
     elim (book-required-cases (l .book) t u m) [

@@ -1,5 +1,6 @@
-// frames: the stack that the library's code reserves: the frame of each function, read from its instructions by `objdump` of
-// binutils, and for each exported entry the deepest path of calls. It is a bound: `stack` sees what runs touch.
+// frames: the stack that the library's code reserves: the frame of each function and what it writes below it, read from its
+// instructions by `objdump` of binutils, and for each exported entry the deepest path of calls. It is a bound: `stack` sees what runs
+// touch.
 
 use std::collections::BTreeMap;
 use std::process::Command;
@@ -15,6 +16,8 @@ const PAGE: usize = 4096;
 struct Function {
     /// Bytes of its frame, with the return address.
     frame: usize,
+    /// Bytes below the stack pointer that it writes where it calls nothing: the platform leaves 128 there to such a function.
+    beyond: usize,
     calls: Vec<String>,
 }
 
@@ -27,9 +30,10 @@ fn functions(listing: &str) -> Functions {
     for line in listing.lines() {
         if let Some(header) = line.strip_suffix(">:") {
             name = header.split('<').nth(1).unwrap_or("").to_string();
-            all.insert(name.clone(), Function { frame: 8, calls: Vec::new() });
+            all.insert(name.clone(), Function { frame: 8, ..Function::default() });
         } else if let Some(function) = all.get_mut(&name) {
             function.frame += reserved(line);
+            function.beyond = function.beyond.max(beyond(line));
             function.calls.extend(called(line));
         }
     }
@@ -48,6 +52,12 @@ fn reserved(line: &str) -> usize {
         },
         _ => 0,
     }
+}
+
+/// How far below the stack pointer an operand lies, as in `-0x6c(%rsp)`.
+fn beyond(line: &str) -> usize {
+    let below = line.split_once("(%rsp)").and_then(|(before, _)| before.rsplit_once("-0x"));
+    below.and_then(|(_, bytes)| usize::from_str_radix(bytes, 16).ok()).unwrap_or(0)
 }
 
 fn hex(operand: &str) -> Option<usize> {
@@ -74,6 +84,10 @@ fn deepest(all: &Functions, name: &str) -> (usize, Vec<(String, usize)>) {
     let own = function.frame * if calls_itself { LEVELS } else { 1 };
     let others = function.calls.iter().filter(|other| *other != name).map(|other| deepest(all, other));
     let (bytes, mut path) = others.max_by_key(|(bytes, _)| *bytes).unwrap_or_default();
+    if bytes < function.beyond {
+        let own = own + function.beyond;
+        return (own, vec![(name.to_string(), own)]);
+    }
     path.insert(0, (name.to_string(), own));
     (own + bytes, path)
 }

@@ -1,8 +1,10 @@
 // stack: how much stack the entries of the library use, over generated tapes and over the worst disks and tapes that are
 // known. `frames` gives the bound that the code itself has.
 
+use card_library::made_up_plans;
 use card_library::page;
 use card_library::paint::{touched, Touched};
+use card_library::planner;
 use card_library::session::Session;
 use card_library::stage::Stage;
 use card_tests::checks::{Bench, Checks, Seen, Watcher};
@@ -50,6 +52,7 @@ struct Gauge {
     tape: usize,
     /// And of the journal page: its count of lines, and some of them.
     page: usize,
+    plan: usize,
 }
 
 impl Gauge {
@@ -67,6 +70,7 @@ impl Gauge {
             used(|| _ = card.read_block(0, disk, memory, &mut block)),
         ];
         self.reading = readings.into_iter().fold(self.reading, usize::max);
+        self.plan = self.plan.max(used(|| _ = planner::plan(card.cells(), disk, memory)));
         self.lay_page();
         next
     }
@@ -93,9 +97,9 @@ impl Gauge {
         }
     }
 
-    /// Of each command, of a tape, of reading, of the page.
+    /// Of each command, of a tape, of reading, of the page, of the plan.
     fn figures(&self) -> impl Iterator<Item = usize> + '_ {
-        self.most[1..].iter().copied().chain([self.tape, self.reading, self.page])
+        self.most[1..].iter().copied().chain([self.tape, self.reading, self.page, self.plan])
     }
 
     fn print(&self, name: &str) {
@@ -160,10 +164,20 @@ fn generated(commands: u64) -> Gauge {
     gauge
 }
 
+/// The plan of a card that shows as many transactions as any.
+fn planned_fullest() -> Gauge {
+    let (cells, disk) = made_up_plans::fullest();
+    let plan = used(|| _ = planner::plan(&cells, &disk, &[0; MEMORY]));
+    let gauge = Gauge { plan, ..Gauge::default() };
+    gauge.print("made up: 112 to plan");
+    gauge
+}
+
 fn main() {
     let commands = std::env::args().nth(1).map_or(50_000, |arg| arg.parse().expect("a number"));
     println!("bytes of stack below the call of an entry");
-    let names = ["FORMAT", "WRITE", "CLOSE", "STORE", "CHECKPOINT", "CUT", "RECOVER", "tape", "reading", "page"];
+    let names =
+        ["FORMAT", "WRITE", "CLOSE", "STORE", "CHECKPOINT", "CUT", "RECOVER", "tape", "reading", "page", "plan"];
     println!("{:<34} {}", "", names.map(|name| format!("{name:>10}")).join(" "));
     let (chain, links) = directed::chain_tape();
     let full = directed::full_tape();
@@ -172,6 +186,7 @@ fn main() {
         checkpointed(&format!("tape: {links} struck one by one"), &chain, |_| ()),
         checkpointed("tape: 94 without blocks", &full, |_| ()),
         checkpointed("the same over a chain of 94", &full, |disk| directed::put_chain(disk, directed::FULL, 0, false)),
+        planned_fullest(),
         generated(commands),
     ]);
     let most = all.iter().flat_map(Gauge::figures).max().unwrap_or(0);

@@ -1,0 +1,7 @@
+-- What the proofs of the functions cite.
+pub mod InsertLaws
+pub mod WorkLaws
+pub mod TallyLaws
+pub mod PlaceLaws
+pub mod AnswerLaws
+pub mod BufferLaws
