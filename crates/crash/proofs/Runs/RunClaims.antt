@@ -24,7 +24,7 @@ use Rattle.model.proofs.Tape.{OfData, whole-data, length-data, whole-injective,
 use Rattle.crash.specs.Book.{keptWrites, image, blank, hasRunning}
 use Rattle.crash.specs.Service.{Service, emptyService, cutService, served, fed, bookArea}
 use Rattle.crash.specs.Ledger.{Ledger, freshLedger, blankLedger, closeLedger, cutLedger, recoverLedger, carriedOut, entered, writeRefusals, closeRefusals, storeRefusals, checkpointRefusals, refusalsOf, answerOf}
-use Rattle.crash.specs.Claims.{IsBytes, Start, StartFits, startWorld, startService, startLedger, from-blank, from-down, homeArea, fedPoint, AreaKept, Claim, enteredPoint, Between, DoneAs, PointKept, LedgerKept, Demands, ReadsNow, ReadingsKept, Readings}
+use Rattle.crash.specs.Claims.{IsBytes, Start, StartFits, startWorld, startService, startLedger, from-blank, from-down, homeArea, fedPoint, AreaKept, Claim, enteredPoint, Between, DoneAs, LedgerKept, Demands, ReadsNow, ReadingsKept, Readings}
 use Rattle.crash.proofs.Books.Agreement.{Agrees, PhaseFor, start-agrees, heard-agrees, area-same}
 use Rattle.crash.proofs.Disk.BlockBytes.{bytes-take, bytes-drop}
 use Rattle.crash.proofs.Books.Tests.{clash}
@@ -135,25 +135,29 @@ module _ (Related : Ledger → World → Type 0) where
   pub same-keeps : Simulation Related → (f : TapeStep World) → ((t : Bytes) (at : ℕ) (w : World) → f t at w ≡ stepAt t at w) → CardKeeps f
   same-keeps r f same t b at l w here = subst (PointKeeps l w (readAt t at)) (sym (same t at w)) (point-keeps r t b at l w here)
 
-  module _ (r : Simulation Related) (f : TapeStep World) (go : CardKeeps f) where
-    -- Demands 1 and 2 and the course of recovery, at every point of a run.
-    ledger-kept : (t : Bytes) → IsBytes t → {at n : ℕ} {l : Ledger} {w : World} {ps : List (Point World)} → Related l w → Runs f t at n w ps → LedgerKept l w ps
+  -- What holds along a run: it holds at the end, and at a point where it does from there on.
+  module _ (f : TapeStep World) (go : CardKeeps f) (Kept : Ledger → World → List (Point World) → Type 0)
+      (ended : (l : Ledger) (w : World) → Related l w → Kept l w [])
+      (more : (l : Ledger) (w : World) (p : Point World) (ps : List (Point World)) → Related l w → PointKeeps l w (p .read) (p .outcome)
+      → Kept (enteredPoint p l) (p .outcome .world) ps → Kept l w (p ∷ ps)) where
+    pub kept-along : (t : Bytes) → IsBytes t → {at n : ℕ} {l : Ledger} {w : World} {ps : List (Point World)} → Related l w → Runs f t at n w ps → Kept l w ps
     unfolding enteredPoint
-    ledger-kept t b {l = l} {w = w} here (at-end h) = r .between l w here
-    ledger-kept t b {at} {n} {l} {w} here (one-more {p = p} {ps = ps} h e rest) =
-        let g = go t b at l w here in (
-          subst (PointKept l w) (sym e)
-              (record { between = r .between l w here; answer = g .answer; refused = g .refused; done = g .done }),
-          ledger-kept t b (subst (λ (p : Point World). Related (heard entered (p .read) (p .outcome .answer) l) (p .outcome .world)) (sym e) (g .next)) rest,
-        )
+    kept-along t b {l = l} {w = w} here (at-end h) = ended l w here
+    kept-along t b {at} {n} {l} {w} here (one-more {p = p} {ps = ps} h e rest) =
+        let g : PointKeeps l w (p .read) (p .outcome) = subst (λ (p : Point World). PointKeeps l w (p .read) (p .outcome)) (sym e) (go t b at l w here) in
+        more l w p ps here g (kept-along t b (g .next) rest)
+
+  module _ (r : Simulation Related) (f : TapeStep World) (go : CardKeeps f) (t : Bytes) (b : IsBytes t) {at n : ℕ} {l : Ledger} {w : World}
+      {ps : List (Point World)} (here : Related l w) (run : Runs f t at n w ps) where
+    -- Demands 1 and 2 and the course of recovery, at every point of a run.
+    ledger-kept : LedgerKept l w ps
+    ledger-kept =
+        kept-along f go LedgerKept (r .between)
+        (λ l w p ps here g rest. (record { between = r .between l w here; answer = g .answer; refused = g .refused; done = g .done }, rest)) t b here run
 
     -- What reading gives, at every point of a run.
-    readings-kept : (t : Bytes) → IsBytes t → {at n : ℕ} {l : Ledger} {w : World} {ps : List (Point World)} → Related l w → Runs f t at n w ps → ReadingsKept blockReader l w ps
-    unfolding enteredPoint
-    readings-kept t b {l = l} {w = w} here (at-end h) = r .reads l w here
-    readings-kept t b {at} {n} {l} {w} here (one-more {p = p} {ps = ps} h e rest) =
-        let g = go t b at l w here in
-        (r .reads l w here, readings-kept t b (subst (λ (p : Point World). Related (heard entered (p .read) (p .outcome .answer) l) (p .outcome .world)) (sym e) (g .next)) rest)
+    readings-kept : ReadingsKept blockReader l w ps
+    readings-kept = kept-along f go (ReadingsKept blockReader) (r .reads) (λ l w p ps here g rest. (r .reads l w here, rest)) t b here run
 
 -- ---- the home area by its blocks
 area-blocks : (d : Bytes) (n : ℕ) → part 128 (128 * n) d ≡ flatMap (λ (b : ℕ). blockAt d (homeBlock b)) (below n)

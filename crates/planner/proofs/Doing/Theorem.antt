@@ -1,18 +1,17 @@
 -- The theorem: at every point of every run our plan is met.
-use Prim.Native.Nat.{ℕ}
-use mathlib.Core.Path.{_≡_, sym, ap, subst}
+use mathlib.Core.Path.{_≡_, ap}
 use mathlib.Core.List.{List, [], _∷_}
 use mathlib.Core.Bool.{true}
 use Rattle.model.specs.Bytes.{Bytes}
 use Rattle.model.specs.Card.{isUp}
 use Rattle.model.specs.Command.{World}
 use Rattle.model.specs.Step.{stepAt}
-use Rattle.model.specs.Tape.{TapeStep, Point, run, worldAfter, heard}
-use Rattle.model.proofs.Tape.{Runs, at-end, one-more, run-runs}
-use Rattle.crash.specs.Ledger.{Ledger, entered}
+use Rattle.model.specs.Tape.{TapeStep, Point, run, worldAfter}
+use Rattle.model.proofs.Tape.{run-runs}
+use Rattle.crash.specs.Ledger.{Ledger}
 use Rattle.crash.specs.Claims.{IsBytes, Start, StartFits, startWorld}
 use Rattle.crash.proofs.Books.Tests.{clash}
-use Rattle.crash.proofs.Runs.RunClaims.{CardKeeps, point-keeps}
+use Rattle.crash.proofs.Runs.RunClaims.{CardKeeps, point-keeps, kept-along}
 use Rattle.crash.proofs.Runs.Theorem.{Related, related-blank, related-up, related-down, related-simulation, starts, blank-phase}
 use Rattle.planner.specs.Plan.{plan}
 use Rattle.planner.specs.Met.{Planner, PlanUp, PlanMet, PlansMet, Plans}
@@ -27,17 +26,11 @@ plan-met l w r = record { sizes = related-simulation .sizes l w r; answers = pla
     up (related-blank b) h = clash h (ap isUp (blank-phase b))
     up (related-down d) h = clash h (ap isUp (d .phase))
 
--- ---- along a run
-module _ (f : TapeStep World) (go : CardKeeps Related f) where
-  plans-kept : (t : Bytes) → IsBytes t → {at n : ℕ} {l : Ledger} {w : World} {ps : List (Point World)} → Related l w → Runs f t at n w ps → PlansMet plan w ps
-  plans-kept t b {l = l} {w = w} here (at-end h) = plan-met l w here
-  plans-kept t b {at} {n} {l} {w} here (one-more {p = p} {ps = ps} h e rest) =
-      let g = go t b at l w here in
-      (plan-met l w here, plans-kept t b (subst (λ (p : Point World). Related (heard entered (p .read) (p .outcome .answer) l) (p .outcome .world)) (sym e) (g .next)) rest)
-
-  -- of every card whose commands go as the model's
-  plans-of : Plans plan f
-  plans-of t b s h = plans-kept t b (starts s h) (run-runs f t (startWorld s))
+-- of every card whose commands go as the model's
+plans-of : (f : TapeStep World) → CardKeeps Related f → Plans plan f
+plans-of f go t b s h =
+    kept-along Related f go (λ (l : Ledger) (w : World) (ps : List (Point World)). PlansMet plan w ps) plan-met (λ l w p ps here g rest. (plan-met l w here, rest))
+    t b (starts s h) (run-runs f t (startWorld s))
 
 -- Paper 02, (e): our plan is met at every point of every run.
 pub plans : Plans plan stepAt
