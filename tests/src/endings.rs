@@ -128,7 +128,7 @@ impl Journal<'_> {
 }
 
 /// One block alone holds no record, so that all but one left is as good as all.
-fn blocks_left(random: &mut Random, journal: usize) -> usize {
+pub(crate) fn blocks_left(random: &mut Random, journal: usize) -> usize {
     let left = match random.below(8) {
         0 => 0,
         1 => 1,
@@ -143,7 +143,7 @@ fn blocks_left(random: &mut Random, journal: usize) -> usize {
 }
 
 /// Lengths of records that fill so many blocks, which are not just one.
-fn record_lengths(random: &mut Random, blocks: usize, most: usize) -> Vec<usize> {
+pub(crate) fn record_lengths(random: &mut Random, blocks: usize, most: usize) -> Vec<usize> {
     let (mut lengths, mut rest) = (Vec::new(), blocks);
     while rest > 0 {
         let fits = |length: &usize| *length <= rest && rest - length != 1;

@@ -1,16 +1,19 @@
-// foreign.rs: disks written elsewhere, in both layouts: random bytes, disks of runs with damage, and crafted masters and records.
+// foreign.rs: disks written elsewhere, in both layouts: random bytes, disks of runs with damage, crafted masters and records, and those
+// of `wide.rs`.
 
 use crate::layout::{
     commit, descriptor, master, put_word, Block, Layout, Master, Name, Shape, Tail, Tails, BLOCK, CORES, DISK,
     LAST_NUMBER, LAST_TAIL, LAYOUTS,
 };
 use crate::random::Random;
+use crate::wide;
 
 /// A foreign disk; `run` is a disk that some run left.
 pub fn disk(random: &mut Random, run: &[u8]) -> Vec<u8> {
-    match random.below(8) {
+    match random.below(9) {
         0 => random_bytes(random),
         1..=3 => damaged(random, run),
+        4 => wide::disk(random).disk,
         _ => crafted(random),
     }
 }

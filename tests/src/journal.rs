@@ -186,13 +186,35 @@ impl Reader<'_> {
         if left == 0 || number > LAST_NUMBER || !is_headed(first, DESCRIPTOR, number) {
             return Err(End::NoDescriptor);
         }
-        read_entries(first, shape, &mut record).ok_or(End::UnfitDescriptor)?;
+        self.entries(first, &mut record).ok_or(End::UnfitDescriptor)?;
         if left < record.length() {
             return Err(End::TooFewLeft);
         }
         let last = block_at(self.disk, shape.place(core, start + record.blocks.len() + 1));
         self.commit(last, &mut record).ok_or(End::NoCommit)?;
         Ok(record)
+    }
+
+    fn entries(&self, block: &[u8], record: &mut Record) -> Option<()> {
+        let (count, mut taken) = (word(block, 12), Few::<u32, TAKEN>::new());
+        if count > TAKEN as u32 {
+            return None;
+        }
+        for i in 0..count as usize {
+            let (number, flag) = (word(block, 16 + 8 * i), word(block, 20 + 8 * i));
+            let (home, told_apart) = match self.wrong {
+                Wrong::NarrowedFirst => (number % 256, number % 256),
+                Wrong::NarrowedForRange => (number % 256, number),
+                _ => (number, number),
+            };
+            if home >= self.master.shape.blocks as u32 || flag > 1 || taken.contains(&told_apart) {
+                return None;
+            }
+            taken.push(told_apart);
+            record.blocks.push(home as u8);
+            record.flags.push(flag == 1);
+        }
+        Some(())
     }
 
     fn commit(&self, block: &[u8], record: &mut Record) -> Option<()> {
@@ -242,20 +264,4 @@ impl Reader<'_> {
 
 fn is_headed(block: &[u8], kind: u32, number: u32) -> bool {
     word(block, 0) == MARK && word(block, 4) == kind && word(block, 8) == number
-}
-
-fn read_entries(block: &[u8], shape: Shape, record: &mut Record) -> Option<()> {
-    let count = word(block, 12);
-    if count > TAKEN as u32 {
-        return None;
-    }
-    for i in 0..count as usize {
-        let (home, flag) = (word(block, 16 + 8 * i), word(block, 20 + 8 * i));
-        if home >= shape.blocks as u32 || flag > 1 || record.took(home as u8) {
-            return None;
-        }
-        record.blocks.push(home as u8);
-        record.flags.push(flag == 1);
-    }
-    Some(())
 }

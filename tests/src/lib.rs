@@ -27,6 +27,7 @@ pub mod second_reader;
 pub mod sequence;
 pub mod shrink;
 pub mod twin;
+pub mod wide;
 pub mod wrong;
 
 mod recovery;

@@ -44,6 +44,8 @@ switches! {
     CoreBeyondUnread = "a number for a core not below C passed over",
     CoreBeyondNamed = "a number for a core not below C taken as a name",
     UnusedBytesRead = "no commit where bytes 20-23 are not zero",
+    NarrowedFirst = "block numbers narrowed before the range is tested",
+    NarrowedForRange = "the range on the low byte, a block twice on all four",
     StampAtOpen = "stamp given at open",
     StampAtCommit = "stamp given at commit",
     StampsGoOn = "stamps going on after recovery",

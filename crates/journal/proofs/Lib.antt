@@ -2,5 +2,6 @@
 pub mod OneRecord
 pub mod Slots
 pub mod Entries
+pub mod Tested
 pub mod Ending
 pub mod Reading

@@ -21,9 +21,10 @@ use Rattle.model.proofs.Journal.{KnownRecord, descriptor-number, record-known, 
 use Rattle.model.proofs.Limits.{InRange}
 use Rattle.journal.specs.declared.walk.Walk.{Walk}
 use Rattle.journal.specs.declared.walk.WalkStep.{WalkStep}
-use Rattle.journal.specs.Slots.{tailFor, numbersOf, slotOf, foundAt, listOf, entriesOf}
+use Rattle.journal.specs.Slots.{tailFor, numbersOf, slotOf, foundAt, listOf, entriesOf, SlotsTested}
 use Rattle.journal.specs.Walk.{walkRecord, ended, stepOf, start, resumed, Reads}
 use Rattle.journal.proofs.Slots.{number-at, entry-read, empty-slot, filled-slot, entries-before}
+use Rattle.journal.proofs.Tested.{reads-tested}
 
 none-left : (l : List Committed) → 2 * length l ≤ 0 → l ≡ []
 none-left [] h = refl
@@ -167,6 +168,9 @@ module _ (y : CommitLayout) (s : Shape) (d : Bytes) (ts : List Tail) (most : Lis
   pub reading-all : InRange s → (out : List ℕ) (w : Walk) (i : ℕ) → Reading out w i → 96 ≤ i → Reads y s d ts most out
   unfolding Reads
   reading-all l out w i v h c g = v .done c (omega (arith, l .few-cores)) g
+
+  pub reading-tested : InRange s → (out : List ℕ) (w : Walk) (i : ℕ) → Reading out w i → 96 ≤ i → SlotsTested s d out
+  reading-tested l out w i v h = reads-tested y s d ts most out (reading-all l out w i v h) l
 
 -- ---- one step of the code
 module _ (y : CommitLayout) (s : Shape) (d : Bytes) (c : ℕ) (w : Walk) where

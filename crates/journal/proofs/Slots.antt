@@ -1,8 +1,9 @@
 -- What a slot gives: the record that was read there; a store to one slot leaves the others; the slots of the cores, one
 -- after another, are all slots.
-use Rattle.model.proofs.Base.{ℕ, zero, suc, _+_, _-_, _*_, _/_, _%_, _≤_, _<_, min, arith, add-zero, _≡_, refl, _≢_, List, []}
+use Rattle.model.proofs.Base.{ℕ, zero, suc, _+_, _-_, _*_, _/_, _%_, _≤_, _<_, min, arith, decLt, add-zero, _≡_, refl, _≢_, List, []}
 use Rattle.model.proofs.Base.{_++_, append-assoc, append-nil, getD, set, getD-set-other, eq-eqb, ne-eqb, le-ltb, flatMap, below}
-use Rattle.model.proofs.Base.{Bytes}
+use Rattle.model.proofs.Base.{List·Memᴰ, List·Memᴰ·head, Bytes}
+use mathlib.Core.List.{Memᴰ·append-left, Memᴰ·append-right}
 use Rattle.model.specs.Layout.{blockCount}
 use Rattle.model.specs.Journal.{journalAt, recordAt, journal, journals}
 use Rattle.model.specs.declared.Shape.{Shape}
@@ -53,6 +54,16 @@ module _ (s : Shape) (d : Bytes) (ks : List ℕ) where
   unfolding entriesOf
   entries-before out i x c zero h = refl
   entries-before out i x c (suc n) h = rw (entries-before out i x c n (omega arith), found-other out i x (12 * c + n) (omega arith))
+
+  -- what a slot gives is one of those that the slots give
+  pub entries-mem : (set : List ℕ) (n i : ℕ) (e : Committed) → i < n → foundAt s d ks set i ≡ Whole e → List·Memᴰ e (entriesTo s d ks set n)
+  unfolding entriesTo listOf
+  entries-mem set zero i e l h = absurd (omega arith)
+  entries-mem set (suc n) i e l h =
+      elim (decLt i n) [
+        | yes lt ↦ Memᴰ·append-left (listOf (foundAt s d ks set n)) (entries-mem set n i e lt h)
+        | no ge ↦ let z : n ≡ i = omega arith in Memᴰ·append-right (entriesTo s d ks set n) (rw (z, h) (List·Memᴰ·head refl))
+      ]
 
   -- ---- core by core
   pub entries-split : (set : List ℕ) (c n : ℕ) → entriesTo s d ks set (12 * c + n) ≡ entriesTo s d ks set (12 * c) ++ entriesOf s d ks set c n

@@ -2,7 +2,8 @@
 -- its descriptor, 0 for none. The same slots with some of them zero are a smaller set.
 use Prim.Native.Nat.{ℕ, zero, suc, _+_, _*_, _-_, _/_, _%_, _≤_, _<_, min}
 use mathlib.Core.List.{List, [], _∷_, _++_, map}
-use mathlib.Core.Bool.{Bool, cond, not}
+use mathlib.Core.Bool.{Bool, true, cond, not}
+use mathlib.Core.Path.{_≡_}
 use lib.ListN.{getD}
 use lib.Dec.{ltb, eqb}
 use Rattle.model.specs.Lists.{below}
@@ -15,6 +16,7 @@ use Rattle.model.specs.declared.Tail.{Tail}
 use Rattle.model.specs.declared.Committed.{Committed}
 use Rattle.model.specs.declared.Found.{Found}
 use Rattle.model.specs.declared.Found.the-variants.{Whole, Miss}
+use Rattle.layout.specs.Narrow.{BlocksBelow}
 
 -- ---- tails as an array holds them
 abbrev pub tailFor : List Tail → ℕ → Tail
@@ -70,6 +72,17 @@ pub record SizedCommitted (s : Shape) (e : Committed) : Type 0 where
   pub core : e .core < s .cores
   pub few : e .count ≤ 8
 
+-- ---- paper 02, (f): block numbers 'become single bytes once the range has been tested'
+-- the descriptor of a transaction has passed the range test: each block that it took is below B
+unfoldable pub RangeTested : Shape → Bytes → Committed → Type 0
+RangeTested s d e = BlocksBelow (s .blocks) (journalAt s d (e .core) (e .position)) (e .count)
+
+-- the descriptor of every filled slot has passed it: what functions over slots ask for, since a slot that no reading filled may lead to any
+-- block number. The transaction's own number plays no part, so i % 12 stands for it
+unfoldable pub SlotsTested : Shape → Bytes → List ℕ → Type 0
+SlotsTested s d set = (i : ℕ) → i < 96 → isFilled s set i ≡ true → RangeTested s d (entry s d (i / 12) (i % 12) (slotOf s set i))
+
+-- ---- how many, and which blocks
 -- how many of the n slots from a on are not empty
 unfoldable pub filledFrom : Shape → List ℕ → ℕ → ℕ → ℕ
 filledFrom s set a zero = 0

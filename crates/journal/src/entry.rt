@@ -7,7 +7,8 @@ ghost use Rattle.model.proofs.Limits.{InRange};
 ghost use Rattle.model.specs.Journal.{blocksOf, took};
 ghost use Rattle.model.specs.Recovery.{placeOf};
 ghost use Rattle.model.specs.Limits.{blockSize, diskSize, maxTaken};
-ghost use Rattle.journal.specs.Slots.{slotOf, isFilled, entry, foundAt, SizedCommitted, filledFrom, descriptorBlocks};
+ghost use Rattle.layout.specs.Narrow.{BlocksBelow};
+ghost use Rattle.journal.specs.Slots.{slotOf, isFilled, entry, foundAt, SizedCommitted, RangeTested, filledFrom, descriptorBlocks};
 use crate::record::journal_part;
 use model::Committed;
 use model::Found;
@@ -116,13 +117,13 @@ pub fn entry_at(s: Shape, disk: &[u8], set: &[u16; 96], i: usize) -> Found
 }
 
 // The place of block b among the first n of a descriptor, or n.
-fn place_in(block: &[u8], n: usize, b: u32) -> usize
-    requires { ⌜ (length (now block) ≡ blockSize) × (n ≤ maxTaken) ⌝ }
+fn place_in(block: &[u8], n: usize, b: u8) -> usize
+    requires { ⌜ (length (now block) ≡ blockSize) × (n ≤ maxTaken) × BlocksBelow 256 (now block) n ⌝ }
     ensures { λ r. ⌜ (r ≡ placeOf b (descriptorBlocks (now (block .entry)) n)) × (r ≤ n) ⌝ }
 {
     let mut i: usize = 0;
     while i < n {
-        if layout::tag_block(block, i) == b {
+        if layout::block_byte(block, i) == b {
             return i;
         }
         i += 1;
@@ -131,8 +132,8 @@ fn place_in(block: &[u8], n: usize, b: u32) -> usize
 }
 
 // The place of block b among those that a transaction took, or their count.
-pub fn place_of(s: Shape, disk: &[u8], e: Committed, b: u32) -> usize
-    requires { ⌜ InRange s × (length (now disk) ≡ diskSize) × SizedCommitted s e ⌝ }
+pub fn place_of(s: Shape, disk: &[u8], e: Committed, b: u8) -> usize
+    requires { ⌜ InRange s × (length (now disk) ≡ diskSize) × SizedCommitted s e × RangeTested s (now disk) e ⌝ }
     ensures { λ r. ⌜ (r ≡ placeOf b (blocksOf s (now (disk .entry)) e)) × (r ≤ e .count) ⌝ }
 {
     let block = journal_part(s, disk, e.core, e.position as usize);
@@ -140,8 +141,8 @@ pub fn place_of(s: Shape, disk: &[u8], e: Committed, b: u32) -> usize
 }
 
 // Whether a transaction took block b. No public entry.
-pub fn took_block(s: Shape, disk: &[u8], e: Committed, b: u32) -> bool
-    requires { ⌜ InRange s × (length (now disk) ≡ diskSize) × SizedCommitted s e ⌝ }
+pub fn took_block(s: Shape, disk: &[u8], e: Committed, b: u8) -> bool
+    requires { ⌜ InRange s × (length (now disk) ≡ diskSize) × SizedCommitted s e × RangeTested s (now disk) e ⌝ }
     ensures { λ r. ⌜ r ≡ took s (now (disk .entry)) b e ⌝ }
 {
     place_of(s, disk, e, b) < e.count as usize

@@ -5,6 +5,7 @@ ghost use lib.ListN.{length};
 ghost use Rattle.model.proofs.Limits.{InRange};
 ghost use Rattle.model.specs.JournalEnds.{journalEnd};
 ghost use Rattle.model.specs.declared.Found.the-variants.{Whole};
+ghost use Rattle.journal.specs.Slots.{SlotsTested};
 ghost use Rattle.journal.specs.Walk.{walkRecord, stepOf, resumed, Reads};
 ghost use Rattle.model.specs.Limits.{diskSize, maxNumber};
 use crate::record::read_record;
@@ -102,7 +103,7 @@ pub fn read_journals(
     most: [u8; 8],
 ) -> [u16; 96]
     requires { ⌜ InRange s × (length (now disk) ≡ diskSize) ⌝ }
-    ensures { λ r. ⌜ Reads y s (now (disk .entry)) tails most r ⌝ }
+    ensures { λ r. ⌜ Reads y s (now (disk .entry)) tails most r × SlotsTested s (now (disk .entry)) r ⌝ }
 {
     let mut slots = [0u16; 96];
     let mut w = Walk {

@@ -4,5 +4,6 @@ pub mod Tests
 pub mod Blocks
 pub mod Pairs
 pub mod Readers
+pub mod Narrow
 pub mod Counting
 pub mod DiskLaws

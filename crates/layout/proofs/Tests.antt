@@ -1,7 +1,7 @@
 -- Conditions joined by and, and the tests in them, from what calls answered: the rules by which a chain of early
 -- returns is a chain of conditions.
 use Rattle.model.proofs.Base.{ℕ, _≤_, _<_, arith, _≡_, refl, sym, _∙_, Bool, true, false, cond, not, _&&_, eqb, ltb, leb, eq-eqb}
-use Rattle.model.proofs.Base.{ne-eqb, le-ltb, le-leb, lt-leb, not-true, not-false}
+use Rattle.model.proofs.Base.{ne-eqb, lt-ltb, le-ltb, le-leb, lt-leb, not-true, not-false}
 use Rattle.model.proofs.Lists.{and-both}
 
 -- ---- and
@@ -42,6 +42,9 @@ module _ (g a k : ℕ) (e : g ≡ a) where
   pub le-no : k < g → leb a k ≡ false
   le-no h = lt-leb a k (omega arith)
 
+  pub lt-yes : g < k → ltb a k ≡ true
+  lt-yes h = lt-ltb a k (omega arith)
+
   pub lt-no : k ≤ g → ltb a k ≡ false
   lt-no h = le-ltb a k (omega arith)
 
@@ -78,6 +81,7 @@ pub ruleset tests = (
   eq-no,
   le-yes,
   le-no,
+  lt-yes,
   lt-no,
   ge-yes,
   ge-no,

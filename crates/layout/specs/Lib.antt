@@ -2,4 +2,5 @@
 pub mod Loops
 pub mod Words
 pub mod Distinct
+pub mod Narrow
 pub mod Named

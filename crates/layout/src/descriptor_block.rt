@@ -1,7 +1,7 @@
 // The descriptor of a record: the blocks that its transaction took, each with its escape flag.
 ghost use mathlib.Core.Path.{_≡_};
 ghost use mathlib.Core.List.{map};
-ghost use Prim.Native.Nat.{ℕ, _≤_, _<_, min};
+ghost use Prim.Native.Nat.{ℕ, _+_, _≤_, _<_, min};
 ghost use lib.ListN.{length, getD};
 ghost use Rattle.model.specs.Lists.{below};
 ghost use Rattle.model.specs.Layout.{newTag, descriptorBlock, pairAt, isTag, blockCount};
@@ -10,6 +10,7 @@ ghost use Rattle.model.specs.Limits.{blockSize, maxTaken};
 ghost use Rattle.layout.specs.Words.{descriptorFrom};
 ghost use Rattle.layout.specs.Loops.{every};
 ghost use Rattle.layout.specs.Distinct.{isNew};
+ghost use Rattle.layout.specs.Narrow.{BlocksBelow};
 use crate::words::MARK;
 use crate::words::at_most;
 use crate::words::get_word;
@@ -70,12 +71,20 @@ pub fn block_count(block: &[u8]) -> u32
     get_word(block, 12)
 }
 
-// The i-th block of a descriptor.
-pub fn tag_block(block: &[u8], i: usize) -> u32
+// The i-th block of a descriptor, all four bytes of it: what the range test looks at.
+fn tag_block(block: &[u8], i: usize) -> u32
     requires { ⌜ (length (now block) ≡ blockSize) × (i < maxTaken) ⌝ }
     ensures { λ r. ⌜ r ≡ (pairAt newTag (now (block .entry)) 16 i) .block ⌝ }
 {
     get_word(block, 16 + 8 * i)
+}
+
+// The i-th block of a descriptor, once its range has been tested: of the four bytes the last one is left.
+pub fn block_byte(block: &[u8], i: usize) -> u8
+    requires { ⌜ (length (now block) ≡ blockSize) × (i < maxTaken) × ((pairAt newTag (now block) 16 i) .block < 256) ⌝ }
+    ensures { λ r. ⌜ r ≡ (pairAt newTag (now (block .entry)) 16 i) .block ⌝ }
+{
+    block[16 + 8 * i + 3]
 }
 
 // The flag of the i-th block of a descriptor.
@@ -91,10 +100,10 @@ fn is_tag(s: Shape, block: &[u8], i: usize) -> bool
     requires { ⌜ (length (now block) ≡ blockSize) × (i < maxTaken) ⌝ }
     ensures { λ r. ⌜ r ≡ isTag s (pairAt newTag (now (block .entry)) 16 i) ⌝ }
 {
-    if s.blocks as u32 <= tag_block(block, i) {
-        return false;
+    if tag_block(block, i) < s.blocks as u32 {
+        return tag_flag(block, i) <= 1;
     }
-    tag_flag(block, i) <= 1
+    false
 }
 
 fn are_tags(s: Shape, block: &[u8], n: usize) -> bool
@@ -111,15 +120,15 @@ fn are_tags(s: Shape, block: &[u8], n: usize) -> bool
     true
 }
 
-// The i-th block is none of those before it.
+// The i-th block is none of those before it. The range of all of them has been tested.
 fn is_new(block: &[u8], i: usize) -> bool
-    requires { ⌜ (length (now block) ≡ blockSize) × (i < maxTaken) ⌝ }
+    requires { ⌜ (length (now block) ≡ blockSize) × (i < maxTaken) × BlocksBelow 256 (now block) (i + 1) ⌝ }
     ensures { λ r. ⌜ r ≡ isNew (now (block .entry)) i ⌝ }
 {
-    let x = tag_block(block, i);
+    let x = block_byte(block, i);
     let mut j: usize = 0;
     while j < i {
-        if tag_block(block, j) == x {
+        if block_byte(block, j) == x {
             return false;
         }
         j += 1;
@@ -128,7 +137,7 @@ fn is_new(block: &[u8], i: usize) -> bool
 }
 
 fn are_new(block: &[u8], n: usize) -> bool
-    requires { ⌜ (length (now block) ≡ blockSize) × (n ≤ maxTaken) ⌝ }
+    requires { ⌜ (length (now block) ≡ blockSize) × (n ≤ maxTaken) × BlocksBelow 256 (now block) n ⌝ }
     ensures { λ r. ⌜ r ≡ every n (isNew (now (block .entry))) ⌝ }
 {
     let mut i: usize = 0;

@@ -10,11 +10,11 @@ use crate::data::write_image;
 use model::Shape;
 
 // Home block b becomes the image.
-pub fn store_home(s: Shape, b: usize, image: [u8; Shape::BLOCK_SIZE], disk: &mut [u8])
+pub fn store_home(s: Shape, b: u8, image: [u8; Shape::BLOCK_SIZE], disk: &mut [u8])
     requires { ⌜ InRange s × (length (now disk) ≡ diskSize) × (b < 64) ⌝ }
     ensures { λ _. ⌜ now (disk .exit) ≡ store (now (disk .entry)) (homeBlock b) image ⌝ }
 {
-    let from = Shape::BLOCK_SIZE * s.home_block(b as u8);
+    let from = Shape::BLOCK_SIZE * s.home_block(b);
     let to = from + Shape::BLOCK_SIZE;
     write_image(&mut disk[from..to], image);
 }

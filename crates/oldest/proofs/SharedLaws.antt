@@ -1,23 +1,26 @@
 -- The blocks of a transaction read from its record; whether a transaction in cells took one; two that share one, asked block by
 -- block. One of lower stamp shares a block: a committed one in its slots, or a core's closed one.
-use Rattle.model.proofs.Base.{ℕ, _+_, _≤_, _<_, arith, _≡_, sym, ap, subst, _∙_, Bool, true, false, not, List, [], map, length}
-use Rattle.model.proofs.Base.{take, getD, List·getD-map, eqb, eq-eqb, ne-eqb, lt-ltb, le-ltb, not-true, not-false, below, any}
+use Rattle.model.proofs.Base.{ℕ, _+_, _≤_, _<_, arith, _≡_, sym, ap, subst, _∙_, Bool, true, false, not, List, [], length}
+use Rattle.model.proofs.Base.{take, getD, eqb, eq-eqb, ne-eqb, lt-ltb, le-ltb, not-true, not-false, below, any}
 use Rattle.model.proofs.Base.{Bytes}
 use Rattle.model.specs.Card.{taken, shapeOf}
-use Rattle.model.specs.Layout.{Tag, newTag, pairAt, pairsIn, tagsIn}
+use Rattle.model.specs.Layout.{newTag, pairAt}
 use Rattle.model.specs.Journal.{journalAt, tagsOf, blocksOf}
 use Rattle.model.specs.Checkpoint.{share}
 use Rattle.model.specs.declared.Shape.{Shape}
 use Rattle.model.specs.declared.Card.{Card}
 use Rattle.model.specs.declared.CommitLayout.the-variants.{Numbers}
 use Rattle.model.specs.declared.Committed.{Committed}
-use Rattle.model.proofs.Lists.{any-mem, mem-any, getD-mem, mem-getD, mem-below, below-mem, getD-map-below, bool-ext}
+use Rattle.model.proofs.Lists.{any-mem, mem-any, getD-mem, mem-getD, mem-below, below-mem, bool-ext}
 use Rattle.model.proofs.OneStore.{shape-limits}
 use Rattle.model.proofs.Limits.{InRange}
 use Rattle.model.proofs.Records.{length-blocksOf, known-below}
 use Rattle.layout.specs.Loops.{some}
 use Rattle.layout.proofs.Loops.{some-none, some-no, some-in, some-out}
-use Rattle.journal.specs.Slots.{entries, SizedCommitted}
+use Rattle.layout.proofs.Narrow.{block-below}
+use Rattle.journal.specs.Slots.{entries, SizedCommitted, RangeTested, descriptorBlocks}
+use Rattle.journal.proofs.Entries.{block-at}
+use Rattle.journal.proofs.Tested.{known-tested, tested-bytes}
 use Rattle.valid.specs.Newest.{sharesBelow}
 use Rattle.cells.specs.Cells.{transactionSize, blockPlace, byteIn, transactionIn, cardIn, closedPlace}
 use Rattle.cells.proofs.Parts.{any-hit, any-more, any-none, any-all}
@@ -32,22 +35,20 @@ pub core-low : (x : Card) (c : ℕ) → c < (shapeOf x) .cores → c < 8
 core-low x c h = omega (arith, shape-limits x .few-cores)
 
 -- ---- a transaction read
-block-there : (f : Bytes) (n i : ℕ) → i < n → getD (map (λ (h : Tag). h .block) (tagsIn f n)) i 0 ≡ (pairAt newTag f 16 i) .block
-unfolding tagsIn pairsIn
-block-there f n i h =
-    List·getD-map (λ (x : Tag). x .block) (map (pairAt newTag f 16) (below n)) i (newTag 0 0) ∙ rw (getD-map-below (pairAt newTag f 16) n i (newTag 0 0) h)
+pub is-tested : (s : Shape) (d : Bytes) (e : Committed) → IsRead s d e → RangeTested s d e
+is-tested s d e r = known-tested Numbers s d (e .core) (e .number) e (r .known)
 
-module _ (s : Shape) (d : Bytes) (e : Committed) (r : IsRead s d e) (i : ℕ) (b : Bytes) (p : b ≡ journalAt s d (e .core) (e .position)) (v : ℕ)
-    (q : v ≡ (pairAt newTag b 16 i) .block) (h : i < e .count) where
-  pub block-is : v ≡ getD (blocksOf s d e) i 0
-  unfolding blocksOf tagsOf
-  block-is = q ∙ rw p (sym (block-there (journalAt s d (e .core) (e .position)) (e .count) i h))
+module _ (s : Shape) (d : Bytes) (e : Committed) (r : IsRead s d e) (i : ℕ) (b : Bytes) (p : b ≡ journalAt s d (e .core) (e .position)) (h : i < e .count) where
+  pub block-fits : (pairAt newTag b 16 i) .block < 256
+  block-fits = block-below 256 b (e .count) (tested-bytes s d e (is-tested s d e r) (r .range) b p) i h
 
-  pub block-low : v < 64
-  block-low = omega (arith, block-is, known-below Numbers s d (e .core) (e .number) e (r .known) i h, r .range .few-blocks)
+  module _ (v : ℕ) (q : v ≡ (pairAt newTag b 16 i) .block) where
+    pub block-is : v ≡ getD (blocksOf s d e) i 0
+    unfolding blocksOf tagsOf descriptorBlocks
+    block-is = q ∙ rw p (sym (block-at (journalAt s d (e .core) (e .position)) (e .count) i h))
 
-  pub block-fits : v < 256
-  block-fits = omega (arith, block-low)
+    pub block-low : v < 64
+    block-low = omega (arith, block-is, known-below Numbers s d (e .core) (e .number) e (r .known) i h, r .range .few-blocks)
 
 pub is-sized : (s : Shape) (d : Bytes) (e : Committed) → IsRead s d e → SizedCommitted s e
 is-sized s d e r = record { core = r .core; few = r .known .few }

@@ -8,6 +8,7 @@ ghost use Rattle.model.specs.Card.{taken};
 ghost use Rattle.model.specs.Journal.{blocksOf};
 ghost use Rattle.model.specs.Checkpoint.{share};
 ghost use Rattle.layout.specs.Loops.{some};
+ghost use Rattle.journal.specs.Slots.{SlotsTested};
 ghost use Rattle.cells.specs.Cells.{transactionSize, transactionIn, cardIn};
 ghost use Rattle.oldest.specs.Oldest.{IsRead, lowerClosed, closedLower, lowerShares};
 use cells::BLOCKS;
@@ -19,13 +20,13 @@ use cells::is_live;
 use model::Committed;
 use model::Shape;
 
-// The block that a transaction took as its i-th. It was read from a record, so the number fits.
+// The block that a transaction took as its i-th. It was read from a record, so its range has been tested.
 pub fn block_at(s: Shape, disk: &[u8], e: Committed, i: usize) -> u8
     requires { ⌜ IsRead s (now disk) e × (i < e .count) ⌝ }
     ensures { λ r. ⌜ (r ≡ getD (blocksOf s (now (disk .entry)) e) i 0) × (r < 64) ⌝ }
 {
     let block = journal::journal_part(s, disk, e.core, e.position as usize);
-    layout::tag_block(block, i) as u8
+    layout::block_byte(block, i)
 }
 
 // Whether the transaction at a place took block b.
@@ -93,7 +94,7 @@ fn any_closed(w: &[u64], s: Shape, disk: &[u8], e: Committed) -> bool
 
 // Whether an unretired transaction of lower stamp, committed or closed, shares a block. The slots are the committed ones.
 pub fn shares_lower(w: &[u64], s: Shape, e: Committed, disk: &[u8], slots: &[u16; 96]) -> bool
-    requires { ⌜ (length (now w) ≡ 423) × IsRead s (now disk) e ⌝ }
+    requires { ⌜ (length (now w) ≡ 423) × IsRead s (now disk) e × SlotsTested s (now disk) (now slots) ⌝ }
     ensures { λ r. ⌜ r ≡ lowerShares (cardIn (now (w .entry))) s (now (disk .entry)) (now (slots .entry)) e ⌝ }
 {
     if valid::shares_lower(s, disk, slots, e) {

@@ -17,8 +17,9 @@ use Rattle.model.specs.declared.Found.the-variants.{Miss}
 use Rattle.model.proofs.Lists.{cases, map-below, getD-map-below}
 use Rattle.model.proofs.Limits.{InRange}
 use Rattle.master_block.specs.Tails.{tailOrNone}
-use Rattle.journal.specs.Slots.{numbersOf, entries, filledFrom}
+use Rattle.journal.specs.Slots.{numbersOf, entries, SlotsTested, filledFrom}
 use Rattle.journal.specs.Walk.{Reads}
+use Rattle.journal.proofs.Tested.{reads-tested}
 use Rattle.valid.specs.declared.newest.Image.{Image}
 use Rattle.valid.specs.Sets.{numbered}
 use Rattle.valid.specs.Newest.{foundImage, firstOr, heldFrom}
@@ -115,9 +116,16 @@ module _ (d : Bytes) (s : Shape) (g : Shaped s d) (y : CommitLayout) (ts : List 
   unfolding numbersOn
   same-numbers = ap numbersOf (r .tails)
 
-  pub all-valid : (v : List ℕ) → entries s d (numbersOf ts) v ≡ validSet in-sequence y s d (numbered (numbersOf ts)) (entries s d (numbersOf ts) set) → IsValid s d v
-  all-valid v q =
-      record { valid = valid-read d s (g .shape) (g .range) ts (master-tails-read d s y ts set r) (layoutOn d) set (slots-on d s y ts set r) v (rw (r .layout) at q) }
+  -- the whole disk was read, so the descriptor of every filled slot has passed the range test
+  pub all-tested : SlotsTested s d set
+  all-tested = reads-tested y s d ts (replicate 8 (s .journal)) set (r .slots) (g .range)
+
+  pub all-valid : (v : List ℕ) → entries s d (numbersOf ts) v ≡ validSet in-sequence y s d (numbered (numbersOf ts)) (entries s d (numbersOf ts) set) → SlotsTested s d v → IsValid s d v
+  all-valid v q t =
+      record {
+        valid = valid-read d s (g .shape) (g .range) ts (master-tails-read d s y ts set r) (layoutOn d) set (slots-on d s y ts set r) v (rw (r .layout) at q);
+        tested = t;
+      }
 
 -- ---- images
 module _ (d : Bytes) (s : Shape) (g : Shaped s d) (set : List ℕ) (v : IsValid s d set) where

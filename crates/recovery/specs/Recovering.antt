@@ -15,7 +15,7 @@ use Rattle.model.specs.declared.Tail.{Tail}
 use Rattle.model.specs.declared.CommitLayout.{CommitLayout}
 use Rattle.model.proofs.Limits.{InRange}
 use Rattle.master_block.specs.Tails.{tailOrNone}
-use Rattle.journal.specs.Slots.{numbersOf, entries, filledFrom}
+use Rattle.journal.specs.Slots.{numbersOf, entries, SlotsTested, filledFrom}
 use Rattle.journal.specs.Walk.{Reads}
 
 -- the tail numbers of a disk's master
@@ -40,6 +40,7 @@ pub record OnDisk (s : Shape) (d : Bytes) (y : CommitLayout) (ts : List Tail) (s
   pub tails : ts ≡ map (tailOrNone (blockAt d 0)) (below 8)
   pub slots : Reads y s d ts (replicate 8 (s .journal)) set
 
--- slots that are the valid set of a disk
+-- slots that are the valid set of a disk; the descriptors of its transactions have passed the range test
 pub record IsValid (s : Shape) (d : Bytes) (set : List ℕ) : Type 0 where
   pub valid : entries s d (numbersOn d) set ≡ validOn d
+  pub tested : SlotsTested s d set

@@ -67,7 +67,7 @@ fn restore_block(w: &mut [u64], s: Shape, disk: &mut [u8], valid: &[u16; 96], b:
         ⌝ }
 {
     let image = newest_block(s, disk, valid, b);
-    store_home(s, b as usize, image, disk);
+    store_home(s, b, image, disk);
     w[RECOVERED] = b as u64 + 1;
 }
 

@@ -1,11 +1,10 @@
 -- Sets as slots and as lists: which transactions a set has, a name looked up by its slot, one round of striking, and how
 -- many are left.
 use Rattle.model.proofs.Base.{ℕ, zero, suc, _+_, _-_, _*_, _/_, _%_, _≤_, _<_, arith, decLt, _≡_, refl, sym, ap}
-use Rattle.model.proofs.Base.{_∙_, inl, inr, Bool, true, false, cond, not, _&&_, List, [], _∷_, _++_, List·Memᴰ}
-use Rattle.model.proofs.Base.{List·Memᴰ·head, List·Memᴰ·not-nil, List·Memᴰ·append-cases, List·Memᴰ·eq-of-singleton, length}
+use Rattle.model.proofs.Base.{_∙_, inl, inr, Bool, true, false, false≢true, cond, not, _&&_, List, [], _∷_, _++_, List·Memᴰ}
+use Rattle.model.proofs.Base.{List·Memᴰ·not-nil, List·Memᴰ·append-cases, List·Memᴰ·eq-of-singleton, length}
 use Rattle.model.proofs.Base.{getD, length-append, eqb, ltb, eqb-true, eqb-false, eq-eqb, ne-eqb, lt-ltb, le-ltb, ltb-true}
-use Rattle.model.proofs.Base.{ltb-false, not-true, not-false, below, all, select, Bytes}
-use mathlib.Core.List.{Memᴰ·append-left, Memᴰ·append-right}
+use Rattle.model.proofs.Base.{ltb-false, not-true, not-false, all, select, Bytes}
 use Rattle.model.specs.Card.{newName, sameName}
 use Rattle.model.specs.Journal.{nameOf}
 use Rattle.model.specs.Shrink.{strike}
@@ -21,10 +20,10 @@ use Rattle.model.proofs.Lists.{cases, bool-ext, and-left, and-right, any-mem, m
 use Rattle.model.proofs.Limits.{InRange}
 use Rattle.model.proofs.Valid.{sameName-true, sameName-refl}
 use Rattle.layout.proofs.Loops.{Filled, filled-all}
-use Rattle.journal.specs.Slots.{tailFor, numbersOf, slotOf, isFilled, entry, foundAt, listOf, entriesTo, entries, entriesOf, filledFrom}
+use Rattle.journal.specs.Slots.{tailFor, numbersOf, slotOf, isFilled, entry, foundAt, listOf, entriesTo, entries, entriesOf, SlotsTested, filledFrom}
 use Rattle.valid.specs.Sets.{tailNumber, numbered, isHere, slotMet, beforeMet, keepsSlot, keptSlot, struck, SameTo}
-use Rattle.journal.proofs.Slots.{empty-slot, filled-slot}
-use Rattle.journal.proofs.Entries.{slot-core}
+use Rattle.journal.proofs.Slots.{empty-slot, filled-slot, entries-mem}
+use Rattle.journal.proofs.Entries.{slot-zero, slot-core}
 
 -- ---- a name's slot
 module _ (s : Shape) (set : List ℕ) (n c k : ℕ) where
@@ -78,15 +77,6 @@ module _ (s : Shape) (d : Bytes) (ks set : List ℕ) where
       last : (f : Found) → List·Memᴰ e (listOf f) → f ≡ Whole e
       last Miss q = absurd (List·Memᴰ·not-nil q)
       last (Whole x) q = ap Whole (sym (List·Memᴰ·eq-of-singleton q))
-
-  pub entries-mem : (n i : ℕ) (e : Committed) → i < n → foundAt s d ks set i ≡ Whole e → List·Memᴰ e (entriesTo s d ks set n)
-  unfolding entriesTo listOf
-  entries-mem zero i e l h = absurd (omega arith)
-  entries-mem (suc n) i e l h =
-      elim (decLt i n) [
-        | yes lt ↦ Memᴰ·append-left (listOf (foundAt s d ks set n)) (entries-mem n i e lt h)
-        | no ge ↦ let z : n ≡ i = omega arith in Memᴰ·append-right (entriesTo s d ks set n) (rw (z, h) (List·Memᴰ·head refl))
-      ]
 
   -- ---- how many
   pub empty-found : (n : ℕ) → isFilled s set n ≡ false → foundAt s d ks set n ≡ Miss
@@ -157,7 +147,7 @@ module _ (s : Shape) (d : Bytes) (ks set : List ℕ) where
         let x = entry s d (i / 12) (getD ks (i / 12) 0 + i % 12) (slotOf s set i) in
         let k : getD ks (i / 12) 0 + i % 12 ≡ n .number = rw (q, r, ← in-range (n .core) c) (omega arith) in
         let same : nameOf x ≡ n = ap (λ (y : ℕ). newName y (getD ks (i / 12) 0 + i % 12)) q ∙ ap (newName (n .core)) k in
-        mem-any (λ (e : Committed). sameName n (nameOf e)) (entries-mem 96 i x low (holds-found i f)) (rw same (sameName-refl n))
+        mem-any (λ (e : Committed). sameName n (nameOf e)) (entries-mem s d ks set 96 i x low (holds-found i f)) (rw same (sameName-refl n))
 
     -- a name at or above its core's tail number is that of a transaction in the set exactly where its slot is filled
     pub in-slot : (n : Name) → tailNumber ks (n .core) ≤ n .number → isIn (entries s d ks set) n ≡ isHere s set (tailNumber ks (n .core)) (n .core) (n .number)
@@ -209,14 +199,17 @@ module _ {A : Type 0} (p : A → Bool) where
       (λ h. rw h (ap (λ (l : List A). x ∷ l) (select-append xs ys)))
       (λ h. rw h (select-append xs ys))
 
+slot-equal : (s : Shape) (a b : List ℕ) (i : ℕ) → getD a i 0 ≡ getD b i 0 → slotOf s a i ≡ slotOf s b i
+unfolding slotOf
+slot-equal s a b i h = rw h
+
 module _ (s : Shape) (d : Bytes) (ks : List ℕ) where
   slot-same : (a b : List ℕ) (i : ℕ) → getD a i 0 ≡ getD b i 0 → foundAt s d ks a i ≡ foundAt s d ks b i
-  unfolding foundAt slotOf
-  slot-same a b i h = rw h
+  unfolding foundAt
+  slot-same a b i h = rw (slot-equal s a b i h)
 
   slot-none : (a : List ℕ) (i : ℕ) → getD a i 0 ≡ 0 → foundAt s d ks a i ≡ Miss
-  unfolding slotOf
-  slot-none a i h = empty-slot s d ks a i (rw h (cases (ltb (i / 12) (s .cores)) (λ t. rw t) (λ t. rw t)))
+  slot-none a i h = empty-slot s d ks a i (sym (slot-zero s a i h))
 
 module _ (y : CommitLayout) (s : Shape) (d : Bytes) (ks set : List ℕ) where
   abbrev stays : Committed → Bool
@@ -244,6 +237,18 @@ module _ (y : CommitLayout) (s : Shape) (d : Bytes) (ks set : List ℕ) where
   struck-to (suc n) h =
       rw (struck-to n (omega arith), left-of n (foundAt s d ks set n) refl (omega arith), left-list (foundAt s d ks set n))
       (sym (select-append stays (entriesTo s d ks set n) (listOf (foundAt s d ks set n))))
+
+  -- a round keeps slots whose descriptors have passed the range test: each is as it was, or empty
+  struck-tested : SlotsTested s d set → SlotsTested s d (struck y s d ks set)
+  unfolding SlotsTested isFilled
+  struck-tested t i h f =
+      let a = struck y s d ks set in
+      cases (keepsSlot y s d ks set (foundAt s d ks set i))
+      (λ k. let z : slotOf s a i ≡ slotOf s set i = slot-equal s a set i (struck-at i h ∙ rw k) in rw z (t i h (rw z at f)))
+      (λ k. let z : slotOf s a i ≡ 0 = sym (slot-zero s a i (struck-at i h ∙ rw k)) in absurd (false≢true (rw z at f)))
+
+  pub round-tested : (next : List ℕ) → next ≡ struck y s d ks set → SlotsTested s d set → SlotsTested s d next
+  round-tested next e t = rw e (struck-tested t)
 
   -- a round over slots is one over the list
   pub struck-entries : entries s d ks (struck y s d ks set) ≡ strike (namesMet in-sequence y s d (numbered ks)) (entries s d ks set)

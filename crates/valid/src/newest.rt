@@ -10,7 +10,8 @@ ghost use Rattle.model.specs.Valid.{newest};
 ghost use Rattle.model.specs.Checkpoint.{share};
 ghost use Rattle.model.specs.declared.Found.the-variants.{Miss};
 ghost use Rattle.model.specs.Limits.{blockSize, diskSize, maxTaken};
-ghost use Rattle.journal.specs.Slots.{foundAt, entries, SizedCommitted, descriptorBlocks};
+ghost use Rattle.layout.specs.Narrow.{BlocksBelow};
+ghost use Rattle.journal.specs.Slots.{foundAt, entries, SizedCommitted, RangeTested, SlotsTested, descriptorBlocks};
 ghost use Rattle.valid.specs.Newest.{imageAt, foundImage, laterOf, laterFound, heldFrom, sharesBelow, asks};
 use journal::entry_at;
 use journal::journal_part;
@@ -43,10 +44,12 @@ pub fn image_at(s: Shape, disk: &[u8], e: Committed, i: usize) -> Image
 
 // The later of two images of block b: the best so far, and the one that a transaction has. Of equal stamps the last wins.
 fn later_of(s: Shape, disk: &[u8], e: Committed, b: u8, best: Image) -> Image
-    requires { ⌜ InRange s × (length (now disk) ≡ diskSize) × SizedCommitted s e × (best .block < 257) ⌝ }
+    requires { ⌜
+        InRange s × (length (now disk) ≡ diskSize) × SizedCommitted s e × RangeTested s (now disk) e × (best .block < 257)
+        ⌝ }
     ensures { λ r. ⌜ (r ≡ laterOf s (now (disk .entry)) b e best) × (r .block < 257) ⌝ }
 {
-    let i = place_of(s, disk, e, b as u32);
+    let i = place_of(s, disk, e, b);
     if e.count as usize <= i {
         return best;
     }
@@ -57,7 +60,9 @@ fn later_of(s: Shape, disk: &[u8], e: Committed, b: u8, best: Image) -> Image
 }
 
 fn later_in(s: Shape, disk: &[u8], set: &[u16; 96], i: usize, b: u8, best: Image) -> Image
-    requires { ⌜ InRange s × (length (now disk) ≡ diskSize) × (i < 96) × (best .block < 257) ⌝ }
+    requires { ⌜
+        InRange s × (length (now disk) ≡ diskSize) × SlotsTested s (now disk) (now set) × (i < 96) × (best .block < 257)
+        ⌝ }
     ensures { λ r. ⌜
         (r ≡ laterFound s (now (disk .entry)) b (foundAt s (now (disk .entry)) [] (now (set .entry)) i) best)
         × (r .block < 257)
@@ -71,7 +76,7 @@ fn later_in(s: Shape, disk: &[u8], set: &[u16; 96], i: usize, b: u8, best: Image
 
 // The newest image of block b in a set, the one at home where no transaction of it took the block. No public entry.
 pub fn newest_image(s: Shape, disk: &[u8], set: &[u16; 96], b: u8) -> Image
-    requires { ⌜ InRange s × (length (now disk) ≡ diskSize) ⌝ }
+    requires { ⌜ InRange s × (length (now disk) ≡ diskSize) × SlotsTested s (now disk) (now set) ⌝ }
     ensures { λ r. ⌜
         (r ≡ foundImage s (now (disk .entry)) b
         (newest s (now (disk .entry)) b Miss (entries s (now (disk .entry)) [] (now (set .entry)))))
@@ -93,7 +98,7 @@ pub fn newest_image(s: Shape, disk: &[u8], set: &[u16; 96], b: u8) -> Image
 
 // Whether the transaction in slot i took block b.
 fn slot_took(s: Shape, disk: &[u8], set: &[u16; 96], i: usize, b: u8) -> bool
-    requires { ⌜ InRange s × (length (now disk) ≡ diskSize) × (i < 96) ⌝ }
+    requires { ⌜ InRange s × (length (now disk) ≡ diskSize) × SlotsTested s (now disk) (now set) × (i < 96) ⌝ }
     ensures { λ r. ⌜
         r ≡ asks (took s (now (disk .entry)) b) (foundAt s (now (disk .entry)) [] (now (set .entry)) i)
         ⌝ }
@@ -101,12 +106,12 @@ fn slot_took(s: Shape, disk: &[u8], set: &[u16; 96], i: usize, b: u8) -> bool
     let Found::Whole(e) = entry_at(s, disk, set, i) else {
         return false;
     };
-    took_block(s, disk, e, b as u32)
+    took_block(s, disk, e, b)
 }
 
 // Whether a transaction of the set took block b.
 fn is_held(s: Shape, disk: &[u8], set: &[u16; 96], b: u8) -> bool
-    requires { ⌜ InRange s × (length (now disk) ≡ diskSize) ⌝ }
+    requires { ⌜ InRange s × (length (now disk) ≡ diskSize) × SlotsTested s (now disk) (now set) ⌝ }
     ensures { λ r. ⌜
         r ≡ any (took s (now (disk .entry)) b) (entries s (now (disk .entry)) [] (now (set .entry)))
         ⌝ }
@@ -123,7 +128,7 @@ fn is_held(s: Shape, disk: &[u8], set: &[u16; 96], b: u8) -> bool
 
 // The lowest block from a place on that the set holds, or B. No public entry.
 pub fn next_held(s: Shape, disk: &[u8], set: &[u16; 96], from: u8) -> u8
-    requires { ⌜ InRange s × (length (now disk) ≡ diskSize) ⌝ }
+    requires { ⌜ InRange s × (length (now disk) ≡ diskSize) × SlotsTested s (now disk) (now set) ⌝ }
     ensures { λ r. ⌜
         r ≡ heldFrom s (now (disk .entry)) (entries s (now (disk .entry)) [] (now (set .entry))) from
         ⌝ }
@@ -141,13 +146,14 @@ pub fn next_held(s: Shape, disk: &[u8], set: &[u16; 96], from: u8) -> u8
 // Whether a transaction took one of the first n blocks of a descriptor.
 fn share_in(s: Shape, disk: &[u8], block: &[u8], n: usize, f: Committed) -> bool
     requires { ⌜
-        InRange s × (length (now disk) ≡ diskSize) × (length (now block) ≡ blockSize) × (n ≤ maxTaken) × SizedCommitted s f
+        InRange s × (length (now disk) ≡ diskSize) × (length (now block) ≡ blockSize) × (n ≤ maxTaken)
+        × BlocksBelow 256 (now block) n × SizedCommitted s f × RangeTested s (now disk) f
         ⌝ }
     ensures { λ r. ⌜ r ≡ share (descriptorBlocks (now (block .entry)) n) (blocksOf s (now (disk .entry)) f) ⌝ }
 {
     let mut i: usize = 0;
     while i < n {
-        if took_block(s, disk, f, layout::tag_block(block, i)) {
+        if took_block(s, disk, f, layout::block_byte(block, i)) {
             return true;
         }
         i += 1;
@@ -157,7 +163,10 @@ fn share_in(s: Shape, disk: &[u8], block: &[u8], n: usize, f: Committed) -> bool
 
 // Whether the transaction in slot i has a lower stamp than e and shares a block with it.
 fn slot_shares(s: Shape, disk: &[u8], set: &[u16; 96], i: usize, e: Committed) -> bool
-    requires { ⌜ InRange s × (length (now disk) ≡ diskSize) × (i < 96) × SizedCommitted s e ⌝ }
+    requires { ⌜
+        InRange s × (length (now disk) ≡ diskSize) × SlotsTested s (now disk) (now set) × (i < 96)
+        × SizedCommitted s e × RangeTested s (now disk) e
+        ⌝ }
     ensures { λ r. ⌜
         r ≡ asks (sharesBelow s (now (disk .entry)) e) (foundAt s (now (disk .entry)) [] (now (set .entry)) i)
         ⌝ }
@@ -174,7 +183,10 @@ fn slot_shares(s: Shape, disk: &[u8], set: &[u16; 96], i: usize, e: Committed) -
 
 // Whether a transaction of the set has a lower stamp than e and shares a block with it. No public entry.
 pub fn shares_lower(s: Shape, disk: &[u8], set: &[u16; 96], e: Committed) -> bool
-    requires { ⌜ InRange s × (length (now disk) ≡ diskSize) × SizedCommitted s e ⌝ }
+    requires { ⌜
+        InRange s × (length (now disk) ≡ diskSize) × SlotsTested s (now disk) (now set)
+        × SizedCommitted s e × RangeTested s (now disk) e
+        ⌝ }
     ensures { λ r. ⌜
         r ≡ any (sharesBelow s (now (disk .entry)) e) (entries s (now (disk .entry)) [] (now (set .entry)))
         ⌝ }

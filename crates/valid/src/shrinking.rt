@@ -9,7 +9,7 @@ ghost use Rattle.model.specs.Shrink.{shrink};
 ghost use Rattle.model.specs.Valid.{unordered, in-sequence, namesMet, validSet};
 ghost use Rattle.model.specs.Limits.{blockSize, diskSize, maxNames};
 ghost use Rattle.layout.specs.Loops.{every};
-ghost use Rattle.journal.specs.Slots.{numbersOf, entry, entries, isFilled, filledFrom};
+ghost use Rattle.journal.specs.Slots.{numbersOf, entry, entries, isFilled, SlotsTested, filledFrom};
 ghost use Rattle.valid.specs.Sets.{numbered, isHere, slotMet, nameMet, numberMet, commitMet, beforeMet, keptSlot, struck, SameTo};
 use journal::at_most;
 use journal::count_slots;
@@ -206,9 +206,10 @@ fn strike_unmet(
 // One round in place: its copy of the set is gone before the next one begins. It is called from two places, so the compiler
 // keeps it out of the recursion, whose frames stay small.
 fn strike_round(both: LayoutAndShape, disk: &[u8], oldest: &[u32; 8], set: &mut [u16; 96])
-    requires { ⌜ InRange (both .shape) × (length (now disk) ≡ diskSize) ⌝ }
+    requires { ⌜ InRange (both .shape) × (length (now disk) ≡ diskSize) × SlotsTested (both .shape) (now disk) (now set) ⌝ }
     ensures { λ _. ⌜
-        now (set .exit) ≡ struck (both .layout) (both .shape) (now (disk .entry)) (now (oldest .entry)) (now (set .entry))
+        (now (set .exit) ≡ struck (both .layout) (both .shape) (now (disk .entry)) (now (oldest .entry)) (now (set .entry)))
+        × SlotsTested (both .shape) (now (disk .entry)) (now (set .exit))
         ⌝ }
 {
     let y = both.layout;
@@ -225,11 +226,15 @@ fn shrink_set(
     set: &mut [u16; 96],
     count: usize,
 )
-    requires { ⌜ InRange (both .shape) × (length (now disk) ≡ diskSize) × (count ≡ filledFrom (both .shape) (now set) 0 96) ⌝ }
+    requires { ⌜
+        InRange (both .shape) × (length (now disk) ≡ diskSize) × SlotsTested (both .shape) (now disk) (now set)
+        × (count ≡ filledFrom (both .shape) (now set) 0 96)
+        ⌝ }
     ensures { λ _. ⌜
-        entries (both .shape) (now (disk .entry)) (now (oldest .entry)) (now (set .exit))
+        (entries (both .shape) (now (disk .entry)) (now (oldest .entry)) (now (set .exit))
         ≡ shrink (namesMet in-sequence (both .layout) (both .shape) (now (disk .entry)) (numbered (now (oldest .entry))))
-        (entries (both .shape) (now (disk .entry)) (now (oldest .entry)) (now (set .entry)))
+        (entries (both .shape) (now (disk .entry)) (now (oldest .entry)) (now (set .entry))))
+        × SlotsTested (both .shape) (now (disk .entry)) (now (set .exit))
         ⌝ }
 {
     strike_round(both, disk, oldest, set);
@@ -282,11 +287,12 @@ pub fn valid_slots(
     tails: [Tail; 8],
     committed: [u16; 96],
 ) -> [u16; 96]
-    requires { ⌜ InRange s × (length (now disk) ≡ diskSize) ⌝ }
+    requires { ⌜ InRange s × (length (now disk) ≡ diskSize) × SlotsTested s (now disk) committed ⌝ }
     ensures { λ r. ⌜
-        entries s (now (disk .entry)) (numbersOf tails) r
+        (entries s (now (disk .entry)) (numbersOf tails) r
         ≡ validSet in-sequence y s (now (disk .entry)) (numbered (numbersOf tails))
-        (entries s (now (disk .entry)) (numbersOf tails) committed)
+        (entries s (now (disk .entry)) (numbersOf tails) committed))
+        × SlotsTested s (now (disk .entry)) r
         ⌝ }
 {
     let oldest = tail_numbers_of(tails);

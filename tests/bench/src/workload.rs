@@ -66,6 +66,8 @@ pub fn measured_tape(stage: &mut Stage<Session>, tape: &[u8]) {
 struct Script {
     shape: Shape,
     commands: Vec<Command>,
+    /// The model's answer to the last one.
+    answer: u8,
     card: Card,
     disk: Vec<u8>,
     memory: Vec<u8>,
@@ -74,13 +76,13 @@ struct Script {
 impl Script {
     fn new(shape: Shape) -> Script {
         let (disk, memory) = (vec![0; DISK], vec![0; MEMORY]);
-        let mut script = Script { shape, commands: Vec::new(), card: Card::blank(), disk, memory };
+        let mut script = Script { shape, commands: Vec::new(), answer: 0, card: Card::blank(), disk, memory };
         script.issue(Command::Format { cores: shape.cores, blocks: shape.blocks, journal: shape.journal });
         script
     }
 
     fn issue(&mut self, command: Command) {
-        self.card.command(&mut self.disk, &mut self.memory, &tape_of(&[command]), 0);
+        self.answer = self.card.command(&mut self.disk, &mut self.memory, &tape_of(&[command]), 0).answer;
         self.commands.push(command);
     }
 
@@ -88,6 +90,7 @@ impl Script {
         let count = self.commands.len();
         let data = (count as u32).to_be_bytes();
         self.issue(Command::Write { core, block: block as u16, offset: 4 * (count % 32) as u8, data });
+        assert_eq!(self.answer, 0, "WRITE of core {core} into block {block}");
     }
 
     fn commit(&mut self, core: u8) {
@@ -97,10 +100,23 @@ impl Script {
         }
     }
 
-    /// A committed transaction with so many blocks, from one on.
-    fn transaction(&mut self, core: u8, block: usize, count: usize) {
-        (0..count).for_each(|i| self.write(core, (block + i) % self.shape.blocks as usize));
+    /// A committed transaction that takes these blocks.
+    fn take(&mut self, core: u8, blocks: impl Iterator<Item = usize>) {
+        blocks.for_each(|block| self.write(core, block));
         self.commit(core);
+    }
+
+    /// One with so many blocks, from one on.
+    fn transaction(&mut self, core: u8, block: usize, count: usize) {
+        let blocks = self.shape.blocks as usize;
+        self.take(core, (block..block + count).map(|block| block % blocks));
+    }
+
+    /// As many of eight blocks as the journals of the first so many cores hold; each core has its own blocks.
+    fn fill_eights(&mut self, cores: u8) {
+        for core in (0..cores).flat_map(|core| [core; 2]) {
+            self.transaction(core, 8 * core as usize, 8);
+        }
     }
 
     /// Every core in turn tries a checkpoint, until nothing is left.
@@ -190,12 +206,18 @@ pub fn tapes(length: usize) -> Vec<Workload> {
     [both(write_heavy), both(checkpoint_heavy), both(recovery_heavy)].into_iter().flatten().collect()
 }
 
-/// One command on a card of the largest shape that was made ready for it.
+/// One command on a card of the largest shape that was made ready for it; it is carried out.
 fn single(name: String, make_ready: impl FnOnce(&mut Script), command: Command) -> Workload {
+    answered(0, name, make_ready, command)
+}
+
+/// One that has this answer.
+fn answered(answer: u8, name: String, make_ready: impl FnOnce(&mut Script), command: Command) -> Workload {
     let mut script = Script::new(LARGE);
     make_ready(&mut script);
     let start = script.commands.len();
     script.issue(command);
+    assert_eq!(script.answer, answer, "{name}");
     script.split_off(start, name)
 }
 
@@ -238,6 +260,33 @@ pub fn with_blocks(count: usize) -> Vec<Workload> {
     ]
 }
 
+/// CHECKPOINT and RECOVER with journals full of records of eight blocks, two for each core.
+pub fn with_eights() -> Vec<Workload> {
+    // The last core's CHECKPOINT compares its blocks with those of 14 records of lower stamp.
+    let own = |script: &mut Script| script.fill_eights(8);
+    // The last block is looked for in all records.
+    let last_home = |script: &mut Script| {
+        cut(script, own);
+        (1..LARGE.blocks).for_each(|_| script.issue(Command::Recover));
+    };
+    // The last block that core 7 takes is the last of core 6's too, so that it is found last.
+    let one_shared = |script: &mut Script| {
+        script.fill_eights(7);
+        script.take(7, (55..63).rev());
+        script.transaction(7, 56, 8);
+    };
+    // The blocks below 56 are looked for in all records, then 56, which each took last.
+    let same = |script: &mut Script| (0..16).for_each(|i| script.take(i / 2, (56..64).rev()));
+    let [first, last] = [0, 7].map(|core| Command::Checkpoint { core });
+    vec![
+        single("CHECKPOINT, own blocks".into(), own, last),
+        answered(33, "CHECKPOINT, one block shared, refused".into(), one_shared, last),
+        single("CHECKPOINT, the same blocks".into(), same, first),
+        single("RECOVER, own blocks".into(), last_home, Command::Recover),
+        single("RECOVER, the same blocks".into(), |script| cut(script, same), Command::Recover),
+    ]
+}
+
 fn cut(script: &mut Script, make_ready: impl FnOnce(&mut Script)) {
     make_ready(script);
     script.issue(Command::Cut);
@@ -252,6 +301,7 @@ pub fn all() -> Vec<Workload> {
         .chain(writes())
         .chain(records)
         .chain(blocks)
+        .chain(with_eights())
         .chain(worst())
         .chain(LENGTHS.map(of_length))
         .collect()

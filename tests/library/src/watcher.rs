@@ -4,6 +4,7 @@
 use crate::cells::{difference, of_card};
 use crate::session::{Done, Part, Session, Stop};
 use crate::stage::{Implementation, Stage};
+use card_tests::card::Card;
 use card_tests::checks::{Failure, Seen, Watcher};
 use card_tests::command::hex;
 use card_tests::random::Random;
@@ -108,6 +109,14 @@ impl Default for Library {
 }
 
 impl Library {
+    /// Begins as the card that the model has, in whatever state, over these bytes.
+    pub fn begin_as(&mut self, card: &Card, disk: &[u8], memory: &[u8]) {
+        self.start(true, disk, memory);
+        let session = Session::of_cells(of_card(card, 0, self.beyond));
+        self.beside.stage.card = session.clone();
+        self.behind.stage.card = session;
+    }
+
     fn compare_cells(&mut self, byte: u8, seen: &Seen) -> Result<(), String> {
         self.beyond = match (seen.outcome.answer, byte) {
             (0, 1) => 1,

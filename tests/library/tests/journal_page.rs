@@ -11,6 +11,7 @@ use card_tests::layout::{put_word, read_master, Layout, BLOCK, DISK, HOMES, LAYO
 use card_tests::page::{line_at, page, page_by, Line};
 use card_tests::random::Random;
 use card_tests::sequence;
+use card_tests::wide::{self, each_place};
 use card_tests::wrong::PAGES;
 
 /// Tells a kind by the fields of a line and how many transactions its page has.
@@ -166,6 +167,37 @@ fn what_follows_one_that_is_left_is_left() {
         let left = lines.iter().filter(|line| fields(line).last() == Some(&"left")).count();
         assert_eq!(left, made.read.iter().zip(made.valid).map(|(read, valid)| read - valid).sum::<usize>());
     }
+}
+
+/// Where each journal ends, and after how many records, is known from how the disk was made.
+#[test]
+fn a_block_number_wider_than_a_byte_ends_its_journal() {
+    let (mut random, mut ended) = (Random::new(59), 0);
+    for _ in 0..4000 {
+        let made = wide::disk(&mut random);
+        let lines = compared(&made.disk);
+        let lines: Vec<Vec<&str>> = lines.iter().map(fields).collect();
+        for core in 0..made.master.shape.cores {
+            let (text, (read, end)) = (core.to_string(), made.due(core));
+            let of_core: Vec<&Vec<&str>> = lines.iter().filter(|line| line.len() != 3 && line[0] == text).collect();
+            let (last, transactions) = of_core.split_last().expect("a line with its end");
+            assert!(transactions.len() == read && transactions.iter().all(|line| line.len() == 6));
+            assert_eq!(**last, [text, end.to_string()]);
+            ended += (end == 2) as usize;
+        }
+    }
+    println!("{ended} journals end with 2 at such a number");
+}
+
+/// Every place of a descriptor, every low byte, every form of the number.
+#[test]
+fn a_block_number_is_tested_whole_in_every_place() {
+    each_place(|disk, read, end| {
+        let mut out = [0; 65];
+        assert_eq!(line_count(disk), 2 + read);
+        assert_eq!(lay_line(disk, 1 + read, &mut out), 0);
+        assert_eq!(fields(&out), ["0".to_string(), end.to_string()]);
+    });
 }
 
 #[test]

@@ -7,8 +7,8 @@ use card_bench::plot;
 use card_bench::report::{grouped, print_table};
 use card_bench::subject::{Subject, SUBJECTS};
 use card_bench::workload::{
-    all, of_length, require_same, tapes, with_blocks, with_records, worst, writes, Workload, BLOCKS, LENGTH, LENGTHS,
-    RECORDS, SHORT,
+    all, of_length, require_same, tapes, with_blocks, with_eights, with_records, worst, writes, Workload, BLOCKS,
+    LENGTH, LENGTHS, RECORDS, SHORT,
 };
 
 const ROUNDS: usize = 15;
@@ -107,6 +107,7 @@ fn instructions() {
     by_subject("Instructions a command by the length of the tape", "tape", &LENGTHS.map(of_length));
     let records = grown("Instructions of a command by records in the journals", "records", &RECORDS, with_records);
     grown("Instructions of a command by blocks of a transaction", "blocks", &BLOCKS, with_blocks);
+    by_subject("Instructions of a command with 16 records of eight blocks", "command", &with_eights());
     by_subject("Instructions of the longest commands", "command", &worst());
     std::fs::write(PLOT, plot::svg(&counts, &RECORDS, &records)).expect("the plot is written");
     let counts: Vec<[f64; 2]> = counts.iter().map(|(_, library, plain)| [*library, *plain]).collect();

@@ -2,6 +2,7 @@
 use Prim.Native.Nat.{_-_}
 use borrow.Author.Needs.{needs}
 use Rattle.layout.proofs.Loops.{Missed, missed}
+use Rattle.layout.proofs.Narrow.{block-below}
 use Rattle.journal.proofs.Entries.{isBlock, place-hit, place-more, place-end}
 use Rattle.journal.proofs.entry.place_in.Statement.{statement}
 use Rattle.journal.proofs.entry.place_in.Tie as tie
@@ -15,6 +16,6 @@ abbrev μ-loop : tie.MeasureT-loop
 pub place-in-spec : {M : Type 1} → statement M
 place-in-spec =
     tie.close
-    (tie.spec Inv-loop μ-loop (λ c. search missed) (λ c κs. search needs)
+    (tie.spec Inv-loop μ-loop (λ c. search missed) (λ c κs. search (needs, block-below))
     (λ c. (search (needs, place-hit), search needs)) (λ c. search needs) (λ c. search needs)
     (λ c. search (needs, place-more)) (λ c. (search (needs, place-end), search needs)))

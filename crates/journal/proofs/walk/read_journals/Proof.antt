@@ -1,7 +1,7 @@
 -- `journal::read_journals` meets its contract: before each slot, what is filled and what the walk reads on are the journals.
 use Prim.Native.Nat.{_-_}
 use borrow.Author.Needs.{needs}
-use Rattle.journal.proofs.Reading.{Reading, reading-none, reading-more, reading-all}
+use Rattle.journal.proofs.Reading.{Reading, reading-none, reading-more, reading-all, reading-tested}
 use Rattle.journal.proofs.walk.read_journals.Statement.{statement}
 use Rattle.journal.proofs.walk.read_journals.Tie as tie
 
@@ -19,4 +19,4 @@ read-journals-spec =
     tie.close
     (tie.spec Inv-loop μ-loop loop-holds (λ c. search needs) (λ c. search needs) (λ c. search needs)
     (λ c κs. search needs) (λ c. search needs) (λ c κs. search needs) (λ c. search needs) (λ c. search needs)
-    (λ c. search needs) (λ c. search needs) (λ c. search (needs, reading-more)) (λ c. search (needs, reading-all)))
+    (λ c. search needs) (λ c. search needs) (λ c. search (needs, reading-more)) (λ c. (search (needs, reading-all), search (needs, reading-tested))))

@@ -3,6 +3,7 @@ use Prim.Native.Nat.{_-_}
 use borrow.Author.Needs.{needs}
 use Rattle.layout.specs.Distinct.{isNew}
 use Rattle.layout.proofs.Loops.{Passed, passed}
+use Rattle.layout.proofs.Narrow.{first-below}
 use Rattle.layout.proofs.descriptor_block.are_new.Statement.{statement}
 use Rattle.layout.proofs.descriptor_block.are_new.Tie as tie
 
@@ -15,5 +16,5 @@ abbrev μ-loop : tie.MeasureT-loop
 pub are-new-spec : {M : Type 1} → statement M
 are-new-spec =
     tie.close
-    (tie.spec Inv-loop μ-loop (λ c. search passed) (λ c κs. search needs) (λ c. search passed) (λ c. search needs)
+    (tie.spec Inv-loop μ-loop (λ c. search passed) (λ c κs. search (needs, first-below)) (λ c. search passed) (λ c. search needs)
     (λ c. search needs) (λ c. search passed) (λ c. search passed))

@@ -4,6 +4,7 @@ use borrow.Author.Needs.{needs}
 use Rattle.layout.specs.Distinct.{isOther}
 use Rattle.layout.proofs.Loops.{Passed, passed}
 use Rattle.layout.proofs.Readers.{new-no, new-more, new-yes}
+use Rattle.layout.proofs.Narrow.{last-below, earlier-below}
 use Rattle.layout.proofs.descriptor_block.is_new.Statement.{statement}
 use Rattle.layout.proofs.descriptor_block.is_new.Tie as tie
 
@@ -16,6 +17,6 @@ abbrev μ-loop : tie.MeasureT-loop
 pub is-new-spec : {M : Type 1} → statement M
 is-new-spec =
     tie.close
-    (tie.spec Inv-loop μ-loop (λ c κs. search needs) (λ c. search passed) (λ c κs. search needs)
+    (tie.spec Inv-loop μ-loop (λ c κs. search (needs, last-below)) (λ c. search passed) (λ c κs. search (needs, earlier-below))
     (λ c. search (needs, new-no)) (λ c. search needs) (λ c. search needs) (λ c. search (needs, new-more))
     (λ c. search (needs, new-yes)))

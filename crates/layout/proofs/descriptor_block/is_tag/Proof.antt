@@ -9,5 +9,5 @@ pub is-tag-spec : {M : Type 1} → statement M
 unfolding isTag
 is-tag-spec =
     tie.close
-    (tie.spec (λ c. search needs) (λ c κs. search needs) (λ c. search (needs, tests)) (λ c κs. search needs)
+    (tie.spec (λ c κs. search needs) (λ c. search needs) (λ c κs. search needs) (λ c. search (needs, tests))
     (λ c. search (needs, tests)))

@@ -7,6 +7,6 @@ use Rattle.layout.proofs.disk.store_home.Tie as tie
 pub store-home-spec : {M : Type 1} → statement M
 store-home-spec =
     tie.close
-    (tie.spec (λ c. search needs) (λ c κs. search needs) (λ c. search needs) (λ c. search needs) (λ c. search needs)
+    (tie.spec (λ c κs. search needs) (λ c. search needs) (λ c. search needs) (λ c. search needs)
     (λ c. search needs) (λ c. search needs) (λ c κs. search needs) (λ c. search needs)
     (λ c. search (needs, home-lent)))

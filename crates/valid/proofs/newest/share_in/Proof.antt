@@ -2,6 +2,7 @@
 use Prim.Native.Nat.{_-_}
 use borrow.Author.Needs.{needs}
 use Rattle.layout.proofs.Loops.{Missed, missed}
+use Rattle.layout.proofs.Narrow.{block-below}
 use Rattle.valid.proofs.Held.{tookAt, took-at, share-is}
 use Rattle.valid.proofs.newest.share_in.Statement.{statement}
 use Rattle.valid.proofs.newest.share_in.Tie as tie
@@ -15,6 +16,6 @@ abbrev μ-loop : tie.MeasureT-loop
 pub share-in-spec : {M : Type 1} → statement M
 share-in-spec =
     tie.close
-    (tie.spec Inv-loop μ-loop (λ c. search missed) (λ c κs. search needs) (λ c κs. search needs)
+    (tie.spec Inv-loop μ-loop (λ c. search missed) (λ c κs. search (needs, block-below)) (λ c κs. search needs)
     (λ c. search (missed, took-at, share-is)) (λ c. search needs) (λ c. search needs) (λ c. search (missed, took-at))
     (λ c. search (missed, share-is)))

@@ -38,10 +38,10 @@ pub +shrink-set-spec : {M : Type 1} → statement M
     shrink-set.Post
     (λ c κs. search needs)
     (λ c κs. search needs)
-    (λ c. search (needs, shrink-same))
+    (λ c. (search (needs, shrink-same), search needs))
     (λ c κs.
     let n : _ = c .before .before in
     let w : _ = n .before .before in
     let z : _ = w .before .before .before in
-    (rw (← (z .pre .0)) (shrink-falls _ _ _ _ _ _ _ _ (w .strike-round .ensures) (n .count-slots .ensures .0) (z .pre .1 .2) (c .before .if1 .left)), (z .pre .1 .0, z .pre .1 .1, n .count-slots .ensures .0)))
-    (λ c. search (needs, shrink-less))
+    (rw (← (z .pre .0)) (shrink-falls _ _ _ _ _ _ _ _ (w .strike-round .ensures .0) (n .count-slots .ensures .0) (z .pre .1 .3) (c .before .if1 .left)), (z .pre .1 .0, z .pre .1 .1, w .strike-round .ensures .1, n .count-slots .ensures .0)))
+    (λ c. (search (needs, shrink-less), search needs))

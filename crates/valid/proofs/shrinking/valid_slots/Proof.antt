@@ -8,5 +8,5 @@ pub valid-slots-spec : {M : Type 1} → statement M
 valid-slots-spec =
     tie.close
     (tie.spec (λ c κs. search needs) (λ c κs. search needs) (λ c κs. search needs)
-    (λ c. search (needs, valid-same, c .before .same-slots .ensures)) (λ c κs. search needs) (λ c κs. search needs)
-    (λ c. search (needs, valid-is)))
+    (λ c. (search (needs, valid-same, c .before .same-slots .ensures), search needs)) (λ c κs. search needs) (λ c κs. search needs)
+    (λ c. (search (needs, valid-is), search needs)))
