@@ -1,9 +1,13 @@
-// disks.rs: disks to be looked at: the one that a tape leaves, and all that generated tapes pass through, foreign ones too.
+// disks.rs: disks to be looked at: the one that a tape leaves, and all that generated tapes pass through, foreign ones too; and what is
+// read of a disk by all readers.
 
 use crate::card::{Card, Kind, Phase};
 use crate::checks::{Bench, Checks, Seen, Watcher};
-use crate::layout::{DISK, MEMORY};
-use crate::wrong::Wrong;
+use crate::journal::{Journals, Reader};
+use crate::layout::{read_master, CORES, DISK, MEMORY};
+use crate::page::page;
+use crate::second_reader::{journal_stop, read_journal};
+use crate::wrong::{Wrong, WrongReader};
 
 /// The first case of paper 01 up to its CUT, in hex.
 pub const P1_UNCUT: &str =
@@ -56,4 +60,28 @@ impl<F: FnMut(&[u8])> Watcher for Shown<F> {
         self.see(seen.disk);
         Ok(())
     }
+}
+
+/// Records read and the end of each journal: the card's reader, the second one and the page agree.
+pub fn reads_as(disk: &[u8], due: &[(usize, u8)]) {
+    let master = read_master(disk).expect("a fit master");
+    let page = page(disk);
+    let (lines, ends) = page[1..].split_at(due.iter().map(|(read, _)| read).sum());
+    assert_eq!(ends_by(disk, Wrong::No), due);
+    for (core, (read, end)) in due.iter().enumerate() {
+        let stop = journal_stop(disk, &master, core as u8, WrongReader::No);
+        assert_eq!((read_journal(disk, &master, core as u8, usize::MAX).len(), stop.end), (*read, *end));
+        assert_eq!(lines.iter().filter(|line| line[1] == b'0' + core as u8).count(), *read);
+        assert_eq!(ends[core], *format!("{core:2} {end:2}{:59}\n", "").as_bytes());
+    }
+    assert_eq!(ends.len(), due.len());
+}
+
+/// Records read and the end of each journal, by a card that may be wrong.
+pub fn ends_by(disk: &[u8], wrong: Wrong) -> Vec<(usize, u8)> {
+    let master = read_master(disk).expect("a fit master");
+    let journals = Journals::read(Reader { disk, master, wrong }, &[usize::MAX; CORES]);
+    let of_core =
+        |core: u8| (journals.of_core(core).len(), journals.ends[core as usize].expect("all is read").number());
+    (0..master.shape.cores).map(of_core).collect()
 }

@@ -100,7 +100,23 @@ impl Journals {
             }
         }
         all.starts[CORES] = all.records.len();
+        if reader.wrong == Wrong::StartNotAdvanced {
+            all.records = all.wrongly_started();
+        }
         all
+    }
+
+    /// Behind a core that was cut short the next one's records are taken from the same start, and so on with those behind it.
+    fn wrongly_started(&self) -> Vec<Record> {
+        let (mut start, mut taken) = (0, Vec::new());
+        for (core, end) in self.ends.iter().enumerate() {
+            let own = self.of_core(core as u8);
+            let others = own.iter().zip(&self.records[start..]);
+            taken.extend(others.map(|(own, other)| Record { core: own.core, number: own.number, ..*other }));
+            let is_cut_short = end.is_some_and(|end| end != End::NoDescriptor);
+            start += if is_cut_short { 0 } else { own.len() };
+        }
+        taken
     }
 
     pub fn of_core(&self, core: u8) -> &[Record] {
@@ -187,7 +203,7 @@ impl Reader<'_> {
             return Err(End::NoDescriptor);
         }
         self.entries(first, &mut record).ok_or(End::UnfitDescriptor)?;
-        if left < record.length() {
+        if left < record.length() + (self.wrong == Wrong::LastOfFullUnread) as usize {
             return Err(End::TooFewLeft);
         }
         let last = block_at(self.disk, shape.place(core, start + record.blocks.len() + 1));

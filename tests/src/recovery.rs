@@ -71,6 +71,9 @@ impl Card {
             Wrong::ValidityOneDeep => journals.struck(all, Order::InSequence),
             Wrong::SequenceOneRound => journals.struck(journals.valid(all, Order::Unordered), Order::InSequence),
             Wrong::SequenceBelowTail => journals.valid(not_first(journals), Order::InSequence),
+            wrong @ (Wrong::OneAboveMet | Wrong::FirstUnmetKept | Wrong::CountsOnce) => {
+                journals.counted(&journals.valid_counts(wrong))
+            }
             _ => journals.valid(all, self.order()),
         }
     }
@@ -147,7 +150,8 @@ impl Card {
             _ => {}
         }
         let backwards = self.is(Wrong::RecoverHighestFirst);
-        let order = (self.place..shape.blocks).map(|b| if backwards { shape.blocks - 1 - b } else { b });
+        let place = self.place.saturating_add(self.is(Wrong::StrictlyAbove) as u8);
+        let order = (place..shape.blocks).map(|b| if backwards { shape.blocks - 1 - b } else { b });
         let (block, record) = order.into_iter().find_map(|b| Some((b, self.newest(journals, b, valid)?)))?;
         let i = record.blocks.iter().position(|each| *each == block)?;
         Some((block, self.image(disk, shape, record, i)))

@@ -6,9 +6,11 @@ use crate::command::Command;
 use crate::directed::commit_of;
 use crate::endings::RECOVERED;
 use crate::foreign::{any_shape, put};
+use crate::journal::{Journals, Set};
 use crate::layout::{
     commit, descriptor, master, Block, Layout, Master, Name, Shape, Tail, Tails, BLOCK, CORES, DISK, LAYOUTS,
 };
+use crate::order::Order;
 use crate::random::Random;
 use crate::shrink::tape_of;
 use crate::wrong::Wrong;
@@ -115,7 +117,7 @@ fn some_commands(random: &mut Random, cores: u8, blocks: u8) -> Vec<Command> {
     }
 }
 
-fn write(random: &mut Random, core: u8, block: u8) -> Command {
+pub(crate) fn write(random: &mut Random, core: u8, block: u8) -> Command {
     let (offset, data) = (4 * random.below(32) as u8, [random.byte(), random.byte(), core, block]);
     Command::Write { core, block: block as u16, offset, data }
 }
@@ -199,4 +201,46 @@ impl Made {
         (0..count).for_each(|i| store(1 + i, &[name.number as u8 ^ (16 * i) as u8; BLOCK]));
         store(1 + count, &commit(layout, name.number, stamp, names));
     }
+}
+
+/// How many sets were looked at, and how many of them the added dependence made smaller.
+#[derive(Default)]
+pub struct Looks {
+    pub sets: usize,
+    pub smaller: usize,
+}
+
+impl Looks {
+    /// For each core, whether each of its run is in the set under the new rule and under the old.
+    pub fn look(&mut self, new: &[Vec<bool>; CORES], old: &[Vec<bool>; CORES]) {
+        self.sets += 1;
+        self.smaller += (new != old) as usize;
+        for (new, old) in new.iter().zip(old) {
+            assert!(new.is_sorted_by(|one, next| one >= next), "not a beginning: {new:?}");
+            assert!(new.iter().zip(old).all(|(new, old)| new <= old), "{new:?} does not lie in {old:?}");
+        }
+    }
+
+    /// The valid sets of a disk under both rules.
+    pub fn look_at(&mut self, disk: &[u8]) {
+        let Ok((_, journals)) = Journals::of_disk(disk) else { return };
+        self.look(&valid_runs(&journals, Order::InSequence), &valid_runs(&journals, Order::Unordered));
+    }
+}
+
+/// For each core, whether each of its records is valid.
+pub fn valid_runs(journals: &Journals, order: Order) -> [Vec<bool>; CORES] {
+    let valid = journals.valid(journals.everything(), order);
+    std::array::from_fn(|core| {
+        let first = journals.first_of(core as u8);
+        (0..journals.of_core(core as u8).len()).map(|i| valid >> (first + i) & 1 == 1).collect()
+    })
+}
+
+/// How many records of a disk are left before the first round, after it, and so on.
+pub fn round_sizes(disk: &[u8], count: usize) -> Vec<u32> {
+    let (_, journals) = Journals::of_disk(disk).expect("a fit master");
+    let strike = |set: &Set| Some(journals.struck(*set, Order::InSequence));
+    let rounds = std::iter::successors(Some(journals.everything()), strike);
+    rounds.take(count).map(Set::count_ones).collect()
 }

@@ -85,11 +85,11 @@ pub enum Entry {
 pub const NARROWING: [(Wrong, &[Entry]); 2] =
     [(Wrong::NarrowedFirst, &[Entry::Alone]), (Wrong::NarrowedForRange, &[Entry::Alone, Entry::Twice])];
 
-/// In words, how many commands it takes by a hundred seeds: the fewest, the most and the middle.
-pub fn spread(taken: impl Fn(u64) -> u64) -> String {
+/// In words, how many of something it takes by a hundred seeds: the fewest, the most and the middle.
+pub fn spread(what: &str, taken: impl Fn(u64) -> u64) -> String {
     let mut all: Vec<u64> = (1..=100).map(taken).collect();
     all.sort();
-    format!("{} to {} commands, in half of 100 runs within {}", all[0], all[99], all[49])
+    format!("{} to {} {what}, in half of 100 runs within {}", all[0], all[99], all[49])
 }
 
 /// One place in one descriptor: of which core, in which of its records from the tail on, in which entry, and what stands there.
@@ -125,7 +125,7 @@ pub fn disk(random: &mut Random) -> Made {
 }
 
 /// Numbers of up to ten digits, but none so high that the tail after recovery would be capped.
-fn any_tails(random: &mut Random, shape: Shape) -> Tails {
+pub(crate) fn any_tails(random: &mut Random, shape: Shape) -> Tails {
     let mut tails = Tails::default();
     for tail in &mut tails[..shape.cores as usize] {
         let number = random.between(2, 30) as u32 + random.pick(&[0, 0, 256, 3_999_999_900]);
@@ -134,7 +134,7 @@ fn any_tails(random: &mut Random, shape: Shape) -> Tails {
     tails
 }
 
-fn any_counts(random: &mut Random, shape: Shape) -> Vec<usize> {
+pub(crate) fn any_counts(random: &mut Random, shape: Shape) -> Vec<usize> {
     let journal = shape.journal as usize;
     let used = journal - blocks_left(random, journal);
     let lengths = record_lengths(random, used, TAKEN.min(shape.blocks as usize) + 2);
@@ -195,7 +195,8 @@ impl Made {
         let flags: Vec<bool> = entries.iter().map(|_| random.chance(200)).collect();
         let mut first = descriptor(number, &vec![0; entries.len()], &flags);
         entries.iter().enumerate().for_each(|(i, entry)| put_word(&mut first, 16 + 8 * i, *entry));
-        let names: Vec<Name> = (0..random.pick(&[0, 0, 1])).map(|_| self.any_name(random)).collect();
+        let named = random.pick(&[0, 0, 1]);
+        let names: Vec<Name> = (0..named).map(|_| any_name(random, &self.master, &self.counts)).collect();
         let last = commit(layout, number, random.between(1, 40) as u64, &names);
         let mut store = |i: usize, block: &Block| put(&mut self.disk, shape.place(core, start + i), block);
         store(0, &first);
@@ -220,21 +221,21 @@ impl Made {
         }
         entries
     }
+}
 
-    /// A record of any core, or the number just below or above its records.
-    fn any_name(&self, random: &mut Random) -> Name {
-        let core = random.below(self.master.shape.cores as usize);
-        let above = random.between(0, self.counts[core].len() + 1) as u32;
-        Name { core: core as u8, number: self.master.tails[core].number - 1 + above }
-    }
+/// A record of any core, or the number just below or above its records.
+pub(crate) fn any_name(random: &mut Random, master: &Master, counts: &[Vec<usize>; CORES]) -> Name {
+    let core = random.below(master.shape.cores as usize);
+    let above = random.between(0, counts[core].len() + 1) as u32;
+    Name { core: core as u8, number: master.tails[core].number - 1 + above }
 }
 
 /// The journal blocks of records with so many blocks each.
-fn length(counts: &[usize]) -> usize {
+pub(crate) fn length(counts: &[usize]) -> usize {
     counts.iter().map(|count| count + 2).sum()
 }
 
-fn card_over(master: &Master, counts: &[Vec<usize>; CORES]) -> Card {
+pub(crate) fn card_over(master: &Master, counts: &[Vec<usize>; CORES]) -> Card {
     let mut card = Card { shape: master.shape, ..Card::with(Phase::Up, card::Kind::default()) };
     for ((core, tail), counts) in card.cores.iter_mut().zip(master.tails).zip(counts) {
         let (next, committed) = (tail.number + counts.len() as u32, counts.len() as u8);

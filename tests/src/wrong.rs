@@ -82,6 +82,12 @@ switches! {
     SequenceInRunningAlone = "the one before asked for in running alone",
     SequenceOneRound = "the one before asked for in one round alone",
     SequenceBelowTail = "the one before asked for below the tail too",
+    OneAboveMet = "a name met one above those that count",
+    FirstUnmetKept = "the first record that is not met still counts",
+    CountsOnce = "the counts lowered in one round alone",
+    StrictlyAbove = "the least block above the place instead of at or above it",
+    StartNotAdvanced = "no step past a core cut short to the next core's records",
+    LastOfFullUnread = "the last record of a full journal not read",
 }
 
 switches! {
@@ -120,6 +126,16 @@ pub const SEQUENCE: [Wrong; 5] = [
     Wrong::SequenceInRunningAlone,
     Wrong::SequenceOneRound,
     Wrong::SequenceBelowTail,
+];
+
+/// Wrong in how records that were read are kept and counted; their disks stand in `runs.rs`.
+pub const RUNS: [Wrong; 6] = [
+    Wrong::OneAboveMet,
+    Wrong::FirstUnmetKept,
+    Wrong::CountsOnce,
+    Wrong::StrictlyAbove,
+    Wrong::StartNotAdvanced,
+    Wrong::LastOfFullUnread,
 ];
 
 /// Those that generated tapes catch. They hardly meet what the sequence changes, and the equivalent card is never caught.

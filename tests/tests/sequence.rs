@@ -7,14 +7,15 @@ use card_tests::command::{self, from_hex, Command};
 use card_tests::directed::{chain_disk, chain_tape};
 use card_tests::disks::{disk_after, each_disk};
 use card_tests::foreign;
-use card_tests::journal::{Journals, Set};
+use card_tests::journal::Journals;
 use card_tests::layout::{CORES, LAYOUTS};
 use card_tests::order::Order;
 use card_tests::page::page;
 use card_tests::program::{print_by, Flaw};
 use card_tests::random::Random;
 use card_tests::sequence::{
-    self, CHANGED_AT_THE_CUT, CHANGED_AT_THE_CUT_LINES, FIRST_NOT_HELD, LATER_ALONE, NAMES_A_LATER_ONE, TAPES,
+    self, round_sizes, valid_runs, Looks, CHANGED_AT_THE_CUT, CHANGED_AT_THE_CUT_LINES, FIRST_NOT_HELD, LATER_ALONE,
+    NAMES_A_LATER_ONE, TAPES,
 };
 use card_tests::shrink::{commands_of, tape_of};
 use card_tests::wrong::{words, Wrong, SEQUENCE};
@@ -93,25 +94,6 @@ fn a_rule_changed_at_the_cut_gives_neither_area() {
     assert_eq!(last_lines(Wrong::NoSequence)[4..], blocks);
 }
 
-/// How many sets were looked at, and how many of them the added dependence made smaller.
-#[derive(Default)]
-struct Looks {
-    sets: usize,
-    smaller: usize,
-}
-
-impl Looks {
-    /// For each core, whether each of its run is in the set under the new rule and under the old.
-    fn look(&mut self, new: &[Vec<bool>; CORES], old: &[Vec<bool>; CORES]) {
-        self.sets += 1;
-        self.smaller += (new != old) as usize;
-        for (new, old) in new.iter().zip(old) {
-            assert!(new.is_sorted_by(|one, next| one >= next), "not a beginning: {new:?}");
-            assert!(new.iter().zip(old).all(|(new, old)| new <= old), "{new:?} does not lie in {old:?}");
-        }
-    }
-}
-
 /// Keeps a book beside a card and looks at what a cut would keep.
 #[derive(Default)]
 struct Kept {
@@ -168,25 +150,13 @@ fn tapes_made_for_the_rule_tell_each_wrong_card() {
     }
 }
 
-fn valid_runs(journals: &Journals, order: Order) -> [Vec<bool>; CORES] {
-    let valid = journals.valid(journals.everything(), order);
-    std::array::from_fn(|core| {
-        let first = journals.first_of(core as u8);
-        (0..journals.of_core(core as u8).len()).map(|i| valid >> (first + i) & 1 == 1).collect()
-    })
-}
-
 #[test]
 fn the_valid_set_is_a_beginning_of_each_journal() {
     let (mut looks, mut random) = (Looks::default(), Random::new(43));
-    let mut look = |disk: &[u8]| {
-        let Ok((_, journals)) = Journals::of_disk(disk) else { return };
-        looks.look(&valid_runs(&journals, Order::InSequence), &valid_runs(&journals, Order::Unordered));
-    };
     each_disk(50_000, 43, |disk| {
-        look(disk);
+        looks.look_at(disk);
         if random.chance(300) {
-            look(&foreign::disk(&mut random, disk));
+            looks.look_at(&foreign::disk(&mut random, disk));
         }
     });
     let Looks { sets, smaller } = looks;
@@ -217,10 +187,7 @@ fn chains_are_struck_one_by_one() {
     let (commands, links) = chain_tape();
     let chains = LAYOUTS.map(|layout| [(chain_disk(layout, 0, false), 96), (chain_disk(layout, 1, false), 64)]);
     for (disk, count) in chains.into_iter().flatten().chain([(disk_after(&tape_of(&commands)), links)]) {
-        let (_, journals) = Journals::of_disk(&disk).expect("a fit master");
-        let strike = |set: &Set| Some(journals.struck(*set, Order::InSequence));
-        let rounds = std::iter::successors(Some(journals.everything()), strike);
-        let sizes: Vec<u32> = rounds.take(count + 1).map(u128::count_ones).collect();
+        let sizes = round_sizes(&disk, count + 1);
         assert!(sizes.iter().rev().copied().eq(0..=count as u32), "{sizes:?}");
     }
 }

@@ -3,38 +3,13 @@
 
 use card_tests::card::Card;
 use card_tests::checks::{Bench, Checks};
+use card_tests::disks::{ends_by, reads_as};
 use card_tests::endings::RECOVERED;
-use card_tests::journal::{Journals, Reader};
-use card_tests::layout::{read_master, Layout, CORES, MEMORY};
-use card_tests::page::page;
+use card_tests::layout::{Layout, MEMORY};
 use card_tests::random::Random;
-use card_tests::second_reader::{journal_stop, read_journal};
+use card_tests::second_reader::journal_stop;
 use card_tests::wide::{self, each_place, spread, Entry, Made, Sharing, NARROWING};
 use card_tests::wrong::{words, Wrong, WrongReader};
-
-/// Records read and the end of each journal: the card's reader, the second one and the page agree.
-fn reads_as(disk: &[u8], due: &[(usize, u8)]) {
-    let master = read_master(disk).expect("a fit master");
-    let page = page(disk);
-    let (lines, ends) = page[1..].split_at(due.iter().map(|(read, _)| read).sum());
-    assert_eq!(by_card(disk, Wrong::No), due);
-    for (core, (read, end)) in due.iter().enumerate() {
-        let stop = journal_stop(disk, &master, core as u8, WrongReader::No);
-        assert_eq!((read_journal(disk, &master, core as u8, usize::MAX).len(), stop.end), (*read, *end));
-        assert_eq!(lines.iter().filter(|line| line[1] == b'0' + core as u8).count(), *read);
-        assert_eq!(ends[core], *format!("{core:2} {end:2}{:59}\n", "").as_bytes());
-    }
-    assert_eq!(ends.len(), due.len());
-}
-
-/// The same as a card reads them that may be wrong.
-fn by_card(disk: &[u8], wrong: Wrong) -> Vec<(usize, u8)> {
-    let master = read_master(disk).expect("a fit master");
-    let journals = Journals::read(Reader { disk, master, wrong }, &[usize::MAX; CORES]);
-    let of_core =
-        |core: u8| (journals.of_core(core).len(), journals.ends[core as usize].expect("all is read").number());
-    (0..master.shape.cores).map(of_core).collect()
-}
 
 fn due_of(made: &Made) -> Vec<(usize, u8)> {
     (0..made.master.shape.cores).map(|core| made.due(core)).collect()
@@ -102,9 +77,9 @@ fn readers_that_narrow_too_early_read_on() {
         let whole: Vec<(usize, u8)> = made.counts.iter().map(|counts| (counts.len(), 1)).collect();
         let whole = &whole[..made.master.shape.cores as usize];
         let entry = made.chosen.entry;
-        let first = by_card(&made.disk, Wrong::NarrowedFirst);
+        let first = ends_by(&made.disk, Wrong::NarrowedFirst);
         assert_eq!(first, if entry == Entry::Twice { due_of(&made) } else { whole.to_vec() });
-        assert_eq!(by_card(&made.disk, Wrong::NarrowedForRange), whole);
+        assert_eq!(ends_by(&made.disk, Wrong::NarrowedForRange), whole);
         for (core, (read, end)) in first.iter().enumerate() {
             let stop = journal_stop(&made.disk, &made.master, core as u8, WrongReader::LowByte);
             let number = made.master.tails[core].number + *read as u32;
@@ -138,7 +113,10 @@ fn cards_that_narrow_too_early_are_caught() {
         }
         let usual = Bench::new(wrong, Checks::ALL, None).soak(400_000, 1).expect_err("it is caught").commands;
         println!("{}: caught over {caught} of 1000 disks", words(wrong));
-        println!("  by generated tapes over such disks after {}", spread(|seed| commands_until_caught(wrong, seed)));
+        println!(
+            "  by generated tapes over such disks after {}",
+            spread("commands", |seed| commands_until_caught(wrong, seed))
+        );
         println!("  by generated tapes from any start after {usual} commands");
     }
 }

@@ -80,7 +80,9 @@ module _ (n : Name) (v : List ℕ) where
       release-more r f =
           record {
             most = omega arith;
-            frame = frame-then w (set w (holderPlace i) r) v firstHolder 64 (s .frame) (frame-kept w firstHolder 64 (holderPlace i) r (omega arith) (omega arith) (omega arith) (f .fits (holderPlace i)));
+            frame =
+                frame-then w (set w (holderPlace i) r) v firstHolder 64 (s .frame)
+                (frame-kept w firstHolder 64 (holderPlace i) r (omega arith) (omega arith) (omega arith) (f .fits (holderPlace i)));
             made = λ b l. cases (eqb b i)
                 (λ t. let z : b ≡ i = eqb-true b i t in
                 rw z (ap holderIn (getD-set-same w (holderPlace i) r 0 release-in) ∙ f .holder ∙ ap (λ (k : ℕ). freed n (holderIn k)) (s .left i (omega arith))))
@@ -99,7 +101,8 @@ module _ (v : List ℕ) (c : ℕ) (h : c < 8) (p : ℕ) (q : p ≡ corePlace c) 
   core-retired e used r stored s x z =
       z
       ∙ ap (withCore (cardIn v) c)
-      (same-numbers (coreOf (cardIn v) c) _ _ _ _ _ _ 0 0 (next-there v c h p q next n) (r ∙ ap (λ (i : ℕ). i - (e .count + 2)) (used-there v c h p q b u)) (stored-there v c h p q stored s) refl)
+      (same-numbers (coreOf (cardIn v) c) _ _ _ _ _ _ 0 0 (next-there v c h p q next n)
+      (r ∙ ap (λ (i : ℕ). i - (e .count + 2)) (used-there v c h p q b u)) (stored-there v c h p q stored s) refl)
 
   pub core-homed : (stored : ℕ) → stored ≡ byteIn v (p + 2) → (homed : ℕ) → homed ≡ (coreOf (cardIn v) c) .homed
       → (x : Card) → x ≡ withCore (cardIn v) c (withNumbers (coreOf (cardIn v) c) next b stored (homed + 1)) → x ≡ withCore (cardIn v) c (homedCore (coreOf (cardIn v) c))

@@ -1,6 +1,6 @@
 -- A home store puts the image of the next block home and counts it; the master store puts the tails, the core's own past its
 -- record. Which of the two is next goes by the count of those stored home.
-use Rattle.model.proofs.Base.{ℕ, _+_, _≤_, _<_, arith, _≡_, refl, _∙_, List, getD, set, lt-ltb, le-ltb, Bytes}
+use Rattle.model.proofs.Base.{ℕ, _+_, _%_, _≤_, _<_, arith, _≡_, refl, _∙_, List, getD, set, lt-ltb, le-ltb, Bytes}
 use Rattle.model.specs.Bytes.{blockAt, store}
 use Rattle.model.specs.Shape.{clamped, homeBlock}
 use Rattle.model.specs.Card.{newTail, shapeOf, tailOf, coreOf, withCore}
@@ -13,14 +13,14 @@ use Rattle.model.specs.declared.Card.{Card}
 use Rattle.model.specs.declared.CommitLayout.the-variants.{Numbers}
 use Rattle.model.specs.declared.Committed.{Committed}
 use Rattle.model.proofs.Limits.{clamped-same}
-use Rattle.valid.specs.Newest.{imageAt}
-use Rattle.valid.specs.declared.newest.Image.{Image}
-use Rattle.valid.proofs.Model.{image-bytes}
+use Rattle.images.specs.Newest.{imageAt}
+use Rattle.images.specs.declared.newest.Image.{Image}
+use Rattle.images.proofs.ImageBytes.{image-bytes}
 use Rattle.cells.specs.Cells.{world, byteIn, cardIn, corePlace}
 use Rattle.cells.specs.Changes.{Frame}
 use Rattle.cells.proofs.FitsLaws.{frame-wider}
 use Rattle.cells.specs.Answer.{Stores}
-use Rattle.oldest.proofs.SharedLaws.{shape-range}
+use Rattle.oldest.proofs.CardLaws.{shape-range}
 use Rattle.checkpoint.specs.NextStore.{nextStore}
 use Rattle.cells.proofs.ReadLaws.{homed-there}
 
@@ -48,7 +48,8 @@ module _ (v w : List ℕ) (c : ℕ) (e : Committed) (d k : Bytes) where
 
 -- ---- the master
 retired-master : (x : Card) (c : ℕ) (e : Committed)
-    → masterBlock Numbers (shapeOf x) (λ (i : ℕ). getD (set (x .tails) c (movedTail (shapeOf x) e)) i (newTail 0 0)) ≡ masterBlock Numbers (shapeOf (retiredCard c e x)) (tailOf (retiredCard c e x))
+    → masterBlock Numbers (shapeOf x) (λ (i : ℕ). getD (set (x .tails) c (movedTail (shapeOf x) e)) i (newTail 0 0))
+    ≡ masterBlock Numbers (shapeOf (retiredCard c e x)) (tailOf (retiredCard c e x))
 unfolding shapeOf tailOf retiredCard
 retired-master x c e = refl
 
@@ -63,6 +64,9 @@ module _ (v w : List ℕ) (c : ℕ) (e : Committed) (d k : Bytes) where
       → k ≡ store d 0 (masterBlock Numbers (clamped s) (λ (i : ℕ). getD (set ts c t) i (newTail 0 0))) → cardIn w ≡ retiredCard c e (cardIn v) → Frame v w 0 423
       → Stores (storedMaster c e) v w d k
   master-stored s p t q ts o r z f = record { outcome = master-outcome (cardIn v) c e s p t q ts o d k r (cardIn w) z; frame = f }
+
+pub tail-past : (s : Shape) (e : Committed) (at : ℕ) → at ≡ (e .position + (e .count + 2)) % s .journal → newTail (e .number + 1) at ≡ movedTail s e
+tail-past s e at q = rw q
 
 pub moved-past : (x : Card) (e : Committed) (s : Shape) → s ≡ shapeOf x → (t : Tail) → t ≡ movedTail s e → t ≡ movedTail (shapeOf x) e
 moved-past x e s p t q = q ∙ rw p

@@ -1,10 +1,12 @@
 -- CHECKPOINT: the next store of a core's oldest transaction, and the holders after it is retired.
 use Prim.Native.Nat.{ℕ}
 use mathlib.Core.Path.{_≡_}
-use mathlib.Core.Bool.{true, cond}
-use lib.Dec.{ltb}
+use mathlib.Core.Bool.{Bool, true, cond}
+use mathlib.Core.List.{List, _∷_}
+use lib.ListN.{length}
+use lib.Dec.{ltb, eqb}
 use Rattle.model.specs.Card.{coreOf, withArrays}
-use Rattle.model.specs.Checkpoint.{freed, released, storedHome, storedMaster}
+use Rattle.model.specs.Checkpoint.{committedOf, oldest, freed, released, storedHome, storedMaster, checkpointed}
 use Rattle.model.specs.Command.{World, Outcome, unless}
 use Rattle.cells.specs.Cells.{holderIn}
 use Rattle.cells.specs.Changes.{fitsAt}
@@ -20,6 +22,14 @@ nextStore c e w = cond (ltb ((coreOf (w .card) c) .homed) (e .count)) (storedHom
 -- refused, or its next store
 unfoldable pub oldestOutcome : ℕ → Committed → World → Outcome World
 oldestOutcome c e w = unless (oldestConditions e w) w (nextStore c e w)
+
+-- what refuses a core's checkpoint once the core is known: none is committed, or what refuses that of the oldest
+unfoldable pub committedConditions : ℕ → World → List (Bool × ℕ)
+committedConditions c w = (eqb (length (committedOf w c)) 0, 31) ∷ oldestConditions (oldest (committedOf w c)) w
+
+-- refused, or the next store
+unfoldable pub committedOutcome : ℕ → World → Outcome World
+committedOutcome c w = unless (committedConditions c w) w (checkpointed c w)
 
 -- the card with no block held by the transaction of this name
 abbrev pub withReleased : Card → Name → Card

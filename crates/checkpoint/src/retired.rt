@@ -24,6 +24,7 @@ use model::Committed;
 use model::Name;
 use model::Shape;
 use model::Tail;
+use model::around;
 
 // A holder's cell after the transaction of this name is retired.
 fn freed_cell(x: u64, n: Name) -> u64
@@ -57,7 +58,7 @@ pub fn moved_tail(s: Shape, e: Committed) -> Tail
     ensures { λ r. ⌜ r ≡ movedTail s e ⌝ }
 {
     let size = e.count as usize + 2;
-    let at = (e.position as usize + size) % s.journal as usize;
+    let at = around(e.position as usize + size, s.journal as usize);
     Tail {
         number: e.number + 1,
         position: at as u8,

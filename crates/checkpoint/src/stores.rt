@@ -36,7 +36,7 @@ fn put_home(s: Shape, e: Committed, i: usize, disk: &mut [u8])
         ≡ store (now (disk .entry)) (homeBlock (getD (blocksOf s (now (disk .entry)) e) i 0)) (imageOf s (now (disk .entry)) e i) ⌝ }
 {
     let b = block_at(s, disk, e, i);
-    let at = valid::image_at(s, disk, e, i);
+    let at = images::image_at(s, disk, e, i);
     let image = layout::load_block(disk, at.block);
     layout::store_home(s, b, layout::unescape(at.flag, image), disk);
 }

@@ -12,14 +12,13 @@ use Rattle.model.specs.declared.Shape.{Shape}
 use Rattle.model.specs.declared.Tail.{Tail}
 use Rattle.model.specs.declared.CommitLayout.{CommitLayout}
 use Rattle.model.specs.declared.Committed.{Committed}
-use Rattle.model.specs.declared.Found.the-variants.{Whole, Miss}
+use Rattle.model.specs.declared.Found.the-variants.{Miss}
 use Rattle.model.specs.declared.RecordRead.{RecordRead}
 use Rattle.model.specs.declared.RecordRead.the-variants.{Read, NoDescriptor, BadDescriptor, TooFewBlocks, NoCommit}
 use Rattle.model.proofs.RecordRead.{the-type}
 use Rattle.model.proofs.JournalEnds.{foundBy, found-as, read-whole, end-here, end-on}
 use Rattle.journal.specs.declared.walk.Walk.{Walk}
-use Rattle.journal.specs.declared.walk.WalkStep.{WalkStep}
-use Rattle.journal.specs.Walk.{stepOf, start}
+use Rattle.journal.specs.Walk.{past, walkFrom}
 
 -- ---- an answer that is no record: its tag is one of the four others
 no-tag : (n : ℕ) → n ≡ 0 → OneOf (1 ∷ 2 ∷ 3 ∷ 4 ∷ []) n → ⊥
@@ -45,22 +44,27 @@ pub same-first : (y : CommitLayout) (s : Shape) (d : Bytes) (c : ℕ) (w : Walk)
 unfolding SameEnd
 same-first y s d c w = refl
 
-module _ (y : CommitLayout) (s : Shape) (d : Bytes) (c : ℕ) (t : Tail) where
-  module _ (w : Walk) (a : SameEnd y s d c (start s t (s .journal)) w) (r : RecordRead) (e : r ≡ readRecord y s d c (w .number) (w .at) (w .left)) where
+module _ (y : CommitLayout) (s : Shape) (d : Bytes) (c : ℕ) (t : Tail) (v : Walk) (o : v ≡ walkFrom s t (s .journal)) where
+  from-tail : endFrom (v .most) y s d c (v .number) (v .at) (v .left) ≡ journalEnd y s d c t
+  unfolding journalEnd walkFrom
+  from-tail = rw o
+
+  module _ (w : Walk) (a : SameEnd y s d c v w) (r : RecordRead) (e : r ≡ readRecord y s d c (w .number) (w .at) (w .left)) where
     pub ends-here : foundBy r ≡ Miss → r ≡ journalEnd y s d c t
-    unfolding SameEnd journalEnd start
-    ends-here h = e ∙ sym (end-here y s d c (w .number) (w .at) (w .left) (w .most) (sym (found-as y s d c (w .number) (w .at) (w .left) r e) ∙ h)) ∙ a
+    unfolding SameEnd
+    ends-here h =
+        e ∙ sym (end-here y s d c (w .number) (w .at) (w .left) (w .most) (sym (found-as y s d c (w .number) (w .at) (w .left) r e) ∙ h)) ∙ a ∙ from-tail
 
     pub ends-last : w .most ≤ 0 → r ≡ journalEnd y s d c t
-    unfolding SameEnd journalEnd start endFrom
-    ends-last h = let z : w .most ≡ 0 = omega arith in e ∙ (rw (z, endFrom) at a)
+    unfolding SameEnd endFrom
+    ends-last h = let z : w .most ≡ 0 = omega arith in e ∙ (rw (z, endFrom) at a) ∙ from-tail
 
-    pub same-next : 0 < w .most → (x : Committed) → r ≡ Read x → (v : WalkStep) → v ≡ stepOf s w (Whole x) → SameEnd y s d c (start s t (s .journal)) (v .next)
-    unfolding SameEnd stepOf
-    same-next h x z v q =
+    pub same-next : 0 < w .most → (x : Committed) → r ≡ Read x → (u : Walk) → u ≡ past s w x → SameEnd y s d c v u
+    unfolding SameEnd past
+    same-next h x z u q =
         let m : w .most ≡ suc (w .most - 1) = omega arith in
         rw q (sym (ap (λ (n : ℕ). endFrom n y s d c (w .number) (w .at) (w .left)) m ∙ end-on y s d c (w .number) (w .at) (w .left) (w .most - 1) x (read-whole y s d c (w .number) (w .at) (w .left) x (sym e ∙ z))) ∙ a)
 
-pub fewer : (s : Shape) (w : Walk) (x : Committed) (y : WalkStep) → y ≡ stepOf s w (Whole x) → 0 < w .most → y .next .most < w .most
-unfolding stepOf
+pub fewer : (s : Shape) (w : Walk) (x : Committed) (y : Walk) → y ≡ past s w x → 0 < w .most → y .most < w .most
+unfolding past
 fewer s w x y q h = rw q (omega arith)

@@ -1,7 +1,6 @@
--- Laws of the slots, each once: how they are read, and what one gives.
+-- Laws of the records that were read, each once: how they are read, and what one gives.
 pub mod OneRecord
-pub mod Slots
-pub mod Entries
+pub mod Blocks
 pub mod Tested
 pub mod Ending
 pub mod Reading

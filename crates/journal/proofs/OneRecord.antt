@@ -1,9 +1,10 @@
--- The part of the disk that is lent is the journal's block. A descriptor, then a commit, read with their numbers, give the
+-- A position counts round; the part of the disk that is lent is the journal's block. A descriptor, then a commit, read with their numbers, give the
 -- record at a position; else the first end that fits is answered.
-use Rattle.model.proofs.Base.{ℕ, _+_, _-_, _*_, _≤_, _<_, arith, _≡_, refl, sym, ap, _∙_, Bool, true, false, cond, length, take}
+use Rattle.model.proofs.Base.{ℕ, _+_, _-_, _*_, _%_, _≤_, _<_, arith, _≡_, refl, sym, ap, _∙_, Bool, true, false, cond, length, take}
 use Rattle.model.proofs.Base.{drop, not, eq-eqb, ne-eqb, lt-ltb, le-ltb, ltb-false, Bytes}
+use native.Mathlib.Nat.{mod-lt, mul-le-mul}
 use Rattle.model.specs.Bytes.{blockAt, part}
-use Rattle.model.specs.Shape.{clamped, journalBlock}
+use Rattle.model.specs.Shape.{journalBlock}
 use Rattle.model.specs.Layout.{hasHead, blockCount, isCommit, stampIn}
 use Rattle.model.specs.Journal.{journalAt}
 use Rattle.model.specs.JournalEnds.{lacksDescriptor, hasBadField, readRecord}
@@ -11,9 +12,8 @@ use Rattle.model.specs.Limits.{maxTaken, maxNumber}
 use Rattle.model.specs.declared.Shape.{Shape}
 use Rattle.model.specs.declared.CommitLayout.{CommitLayout}
 use Rattle.model.specs.declared.RecordRead.the-variants.{Read, NoDescriptor, BadDescriptor, TooFewBlocks, NoCommit}
-use Rattle.model.proofs.Limits.{InRange, clamped-same}
+use Rattle.model.proofs.Limits.{InRange}
 use Rattle.model.proofs.Lists.{or-none}
-use Rattle.model.proofs.Journal.{journal-low}
 use Rattle.model.proofs.Records.{length-journalAt}
 use Rattle.journal.specs.declared.record.DescriptorRead.{DescriptorRead}
 use Rattle.journal.specs.declared.record.DescriptorRead.the-variants.{Blocks, BadField}
@@ -21,14 +21,22 @@ use Rattle.journal.specs.declared.record.CommitRead.{CommitRead}
 use Rattle.journal.specs.declared.record.CommitRead.the-variants.{Stamped, Unfit}
 use Rattle.journal.specs.Record.{descriptorOf, commitOf}
 
--- ---- the part lent
-module _ (s : Shape) (c p r : ℕ) (e : r ≡ journalBlock (clamped s) c p) (l : InRange s) (h : c < s .cores) where
-  near : r ≡ journalBlock s c p
-  near = e ∙ rw (clamped-same s l)
+-- ---- a position, and the part lent
+pub position-low : (s : Shape) (p r : ℕ) → InRange s → r ≡ p % s .journal → r < 24
+position-low s p r l e = let z : 0 < s .journal = omega (arith, l .long) in omega (arith, mod-lt p z, l .short)
 
-  pub part-low : r < 257
-  part-low = rw near (journal-low l c p h)
+pub position-byte : (s : Shape) (p r : ℕ) → InRange s → r ≡ p % s .journal → r < 256
+position-byte s p r l e = omega (arith, position-low s p r l e)
 
+pub block-is : (s : Shape) (c p r : ℕ) → r ≡ p % s .journal → 1 + s .blocks + c * s .journal + r ≡ journalBlock s c p
+unfolding journalBlock
+block-is s c p r e = rw e
+
+-- the journals before core c's take no more than 168 blocks
+pub row-low : (s : Shape) (c : ℕ) → InRange s → c < s .cores → c * s .journal ≤ 168
+row-low s c l h = mul-le-mul {n₁ = c} {n₂ = 7} (omega (arith, l .few-cores)) (l .short)
+
+module _ (s : Shape) (c p r : ℕ) (near : r ≡ journalBlock s c p) (l : InRange s) (h : c < s .cores) where
   pub part-is : (d : Bytes) → take (128 * r + 128 - 128 * r) (drop (128 * r) d) ≡ journalAt s d c p
   unfolding journalAt blockAt part
   part-is d = let z : 128 * r + 128 - 128 * r ≡ 128 = omega arith in rw (z, near)

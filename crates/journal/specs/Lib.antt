@@ -1,4 +1,4 @@
--- What the contracts of the crate cite, beside the definitions of model: records, and sets of committed transactions as slots.
+-- What the contracts of the crate cite, beside the definitions of model: a record, a step of reading, and the records of all journals.
 pub mod Record
-pub mod Slots
+pub mod Records
 pub mod Walk

@@ -1,8 +1,9 @@
 // One record of a journal: a descriptor, then a commit, taken apart; where one of them misses, the end that paper 02 gives it.
 ghost use mathlib.Core.Path.{_≡_};
-ghost use Prim.Native.Nat.{_<_};
+ghost use Prim.Native.Nat.{_%_, _<_};
 ghost use lib.ListN.{length};
 ghost use Rattle.model.proofs.Limits.{InRange};
+ghost use Rattle.model.specs.Shape.{journalBlock};
 ghost use Rattle.model.specs.Journal.{journalAt};
 ghost use Rattle.model.specs.JournalEnds.{lacksDescriptor, readRecord, recordAnswer};
 ghost use Rattle.model.specs.Limits.{blockSize, diskSize};
@@ -11,6 +12,7 @@ use model::CommitLayout;
 use model::Committed;
 use model::RecordRead;
 use model::Shape;
+use model::around;
 
 // The fields of a descriptor read: how many blocks its transaction took.
 pub enum DescriptorRead {
@@ -24,13 +26,29 @@ pub enum CommitRead {
     Unfit,
 }
 
-// The block at a position of core c's journal, lent. No public entry: callers give a shape within its limits and one of
-// its cores.
+// A position that counts round modulo J.
+pub fn position(s: Shape, p: usize) -> u8
+    requires { ⌜ InRange s ⌝ }
+    ensures { λ r. ⌜ r ≡ p % s .journal ⌝ }
+{
+    around(p, s.journal as usize) as u8
+}
+
+// The disk block at a position of core c's journal: `Shape::journal_block` where the shape is known to be within its limits, so that it need not be
+// brought there at every step. No public entry: callers give such a shape and one of its cores.
+pub fn disk_block(s: Shape, c: u8, p: usize) -> usize
+    requires { ⌜ InRange s × (c < s .cores) ⌝ }
+    ensures { λ r. ⌜ (r ≡ journalBlock s c p) × (r < 257) ⌝ }
+{
+    1 + s.blocks as usize + c as usize * s.journal as usize + position(s, p) as usize
+}
+
+// That block, lent. No public entry.
 pub fn journal_part<'a>(s: Shape, disk: &'a [u8], c: u8, p: usize) -> &'a [u8]
     requires { ⌜ InRange s × (length (now disk) ≡ diskSize) × (c < s .cores) ⌝ }
     ensures { λ r. ⌜ (now r ≡ journalAt s (now (disk .entry)) c p) × (length (now r) ≡ blockSize) ⌝ }
 {
-    let start = Shape::BLOCK_SIZE * s.journal_block(c, p);
+    let start = Shape::BLOCK_SIZE * disk_block(s, c, p);
     let end = start + Shape::BLOCK_SIZE;
     &disk[start..end]
 }

@@ -1,20 +1,23 @@
--- The fields of a line as the code holds them: six, of which those of no columns are none.
-use Prim.Native.Nat.{ℕ, _-_, _≤_, _<_}
+-- The fields of a line as the code holds them: six, of which those of no columns are none; and the records of a disk, of which the n-th is shown.
+use Prim.Native.Nat.{ℕ, _+_, _-_, _≤_, _<_}
 use mathlib.Core.Path.{_≡_}
 use mathlib.Core.List.{List, [], _∷_, map}
-use mathlib.Core.Bool.{Bool, true, false, cond, not}
+use mathlib.Core.Bool.{Bool, false, cond, not}
 use lib.ListN.{getD}
 use lib.Dec.{eqb}
 use Rattle.model.specs.Lists.{select}
 use Rattle.model.specs.Bytes.{Bytes, bytes}
 use Rattle.model.specs.Layout.{coresNamed}
 use Rattle.model.specs.Journal.{namesOf}
+use Rattle.model.specs.Recovery.{tailOn}
 use Rattle.model.specs.JournalPage.{space, numeral, word, transactionFields, refusalFields}
 use Rattle.model.specs.JournalPage as page
 use Rattle.model.specs.declared.Shape.{Shape}
+use Rattle.model.specs.declared.Tail.{Tail}
 use Rattle.model.specs.declared.CommitLayout.{CommitLayout}
 use Rattle.model.specs.declared.Committed.{Committed}
-use Rattle.journal.specs.Slots.{isFilled, filledFrom}
+use Rattle.journal.specs.Records.{tailFor}
+use Rattle.valid.specs.Sets.{totalCount}
 use Rattle.journal_page.specs.declared.line.Field.{Field}
 
 -- the lines of the longest page: the head, twelve transactions and an end of each of eight cores
@@ -39,7 +42,7 @@ fieldsIn fs = map fieldIn (select (λ (f : Field). not (eqb (f .width) 0)) fs)
 unfoldable pub fieldByte : page.Field → ℕ → ℕ
 fieldByte f k = getD (f .text) (k - f .first) space
 
--- a transaction with another number: a slot's is counted from its core's tail
+-- a transaction with another number: a record's is counted from its core's tail
 abbrev pub withNumber : ℕ → Committed → Committed
 withNumber k e = record { core = e .core; number = k; position = e .position; count = e .count; stamp = e .stamp }
 
@@ -55,8 +58,13 @@ lettersOf kept = cond kept 0x6B657074 0x6C656674
 abbrev pub refusedLine : ℕ → ℕ → List page.Field
 refusedLine n i = getD (refusalFields n ∷ []) i []
 
--- slot i holds the n-th transaction of a set, from 0; past the last slot there are not so many
-pub record IsNth (s : Shape) (set : List ℕ) (n i : ℕ) : Type 0 where
-  pub filled : i < 96 → isFilled s set i ≡ true
-  pub before : i < 96 → filledFrom s set 0 i ≡ n
-  pub past : 96 ≤ i → filledFrom s set 0 96 ≤ n
+-- ---- the records of a disk
+-- tails of its master, for the cores that it has
+unfoldable pub TailsOn : Shape → Bytes → List Tail → Type 0
+TailsOn s d ts = (c : ℕ) → c < s .cores → tailFor ts c ≡ tailOn d c
+
+-- the n-th of them, from 0, is one of core c; where there are not so many, c is none of the cores
+pub record IsNth (s : Shape) (start count : List ℕ) (n c : ℕ) : Type 0 where
+  pub from : c < s .cores → getD start c 0 ≤ n
+  pub to : c < s .cores → n < getD start c 0 + getD count c 0
+  pub past : s .cores ≤ c → totalCount s count ≤ n

@@ -33,3 +33,4 @@ pub use words::get_word;
 pub use words::has_head;
 pub use words::pair_word;
 pub use words::put_word;
+pub use words::wide;

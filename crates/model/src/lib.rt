@@ -1,5 +1,6 @@
 // The types of the revision D card: the disk's shape, tails, names, holders, the layouts of a commit and records, shared by definitions and
 // code; transactions, cores and the card itself, of the definitions alone.
+ghost use Prim.Native.Nat.{_%_};
 ghost use mathlib.Core.Path.{_≡_};
 ghost use Rattle.model.specs.Shape.{checked, nearest, clamped, homeBlock, journalBlock};
 
@@ -201,8 +202,24 @@ impl Shape {
     {
         let s = self.clamped();
         let j = s.journal as usize;
-        1 + s.blocks as usize + c as usize * j + p % j
+        1 + s.blocks as usize + c as usize * j + around(p, j)
     }
+}
+
+// A position that counts round modulo j. In a journal it goes round at most once, and then nothing is divided.
+pub fn around(p: usize, j: usize) -> usize
+    ensures { λ r. ⌜ r ≡ p % j ⌝ }
+{
+    if p < j {
+        return p;
+    }
+    if j == 0 {
+        return p;
+    }
+    if p - j < j {
+        return p - j;
+    }
+    p % j
 }
 
 // The number between the limits that is nearest to x.

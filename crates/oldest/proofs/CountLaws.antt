@@ -1,27 +1,27 @@
 -- How many transactions of a core are committed: none, or the numbers between its tail and its next, less the closed one. The
--- counts of all cores; none counted means no oldest one, else it is the record at the tail.
-use Rattle.model.proofs.Base.{ℕ, _+_, _-_, _≤_, _<_, min, arith, _≡_, sym, ap, _∙_, Bool, true, false, cond, List, getD, set}
-use Rattle.model.proofs.Base.{getD-take, ne-eqb, Bytes}
+-- counts of all cores; the records read are those that the card counts, and the first of a core is the one at its tail.
+use Rattle.model.proofs.Base.{ℕ, zero, suc, _+_, _-_, _≤_, _<_, min, arith, add-zero, _≡_, refl, sym, ap, _∙_, Bool, true, false, cond, List, []}
+use Rattle.model.proofs.Base.{_∷_, _++_, map, map-append, getD, set, getD-take, eqb, eq-eqb, ne-eqb, below, Bytes}
 use Rattle.model.specs.Card.{shapeOf, tailOf, coreOf, committedCount}
-use Rattle.model.specs.Journal.{journal}
-use Rattle.model.specs.JournalEnds.{readRecord}
+use Rattle.model.specs.Journal.{recordAt, recordsFrom, journal}
 use Rattle.model.specs.declared.Shape.{Shape}
 use Rattle.model.specs.declared.Tail.{Tail}
 use Rattle.model.specs.declared.Card.{Card}
 use Rattle.model.specs.declared.CommitLayout.the-variants.{Numbers}
 use Rattle.model.specs.declared.Committed.{Committed}
+use Rattle.model.specs.declared.Found.{Found}
 use Rattle.model.specs.declared.Found.the-variants.{Whole, Miss}
-use Rattle.model.specs.declared.RecordRead.{RecordRead}
-use Rattle.model.specs.declared.RecordRead.the-variants.{Read}
 use Rattle.model.proofs.Lists.{getD-map-below}
-use Rattle.model.proofs.JournalEnds.{foundBy, found-as}
+use Rattle.model.proofs.OneStore.{shape-limits}
+use Rattle.model.proofs.Journal.{found-cases}
 use Rattle.layout.proofs.Loops.{Filled, filled-more}
-use Rattle.journal.specs.Slots.{tailFor}
-use Rattle.journal.specs.Walk.{Reads}
+use Rattle.journal.specs.Records.{tailFor, recordIn, runIn, RunsTested}
+use Rattle.journal.specs.Walk.{IsJournal, Reads}
+use Rattle.journal.proofs.Tested.{reads-low}
 use Rattle.cells.specs.Cells.{numberIn, transactionIn, cardIn, corePlace, closedPlace}
 use Rattle.cells.proofs.ReadLaws.{next-there, closed-live}
-use Rattle.oldest.specs.Oldest.{countAt, counts, Counts, oldestAt}
-use Rattle.oldest.proofs.SharedLaws.{shape-range, core-low}
+use Rattle.oldest.specs.Oldest.{countAt, counts, Counts, ReadNow, oldestIn, oldestAt}
+use Rattle.oldest.proofs.CardLaws.{shape-range, core-low}
 
 -- ---- one count
 module _ (w : List ℕ) (c : ℕ) (h : c < 8) (p : ℕ) (e : p ≡ corePlace c) (next : ℕ) (n : next ≡ numberIn w p) (t : Tail) (q : t ≡ tailOf (cardIn w) c) where
@@ -55,7 +55,8 @@ module _ (w : List ℕ) (c : ℕ) (h : c < 8) (p : ℕ) (e : p ≡ corePlace c) 
 pub few-cores : (x : Card) (s : Shape) → s ≡ shapeOf x → s .cores ≤ 8
 few-cores x s e = shape-range x s e .few-cores
 
-pub count-made : (x : Card) (s : Shape) (c : ℕ) (out : List ℕ) (r : ℕ) → Filled (countAt x) 8 out c → r ≡ countAt x c → c < s .cores → s .cores ≤ 8 → Filled (countAt x) 8 (set out c r) (c + 1)
+pub count-made : (x : Card) (s : Shape) (c : ℕ) (out : List ℕ) (r : ℕ) → Filled (countAt x) 8 out c → r ≡ countAt x c → c < s .cores → s .cores ≤ 8
+    → Filled (countAt x) 8 (set out c r) (c + 1)
 count-made x s c out r w e l m = filled-more (countAt x) 8 out c r w e (omega arith)
 
 pub all-counts : (x : Card) (s : Shape) → s ≡ shapeOf x → (out : List ℕ) (i : ℕ) → Filled (countAt x) 8 out i → s .cores ≤ i → Counts x out
@@ -70,34 +71,72 @@ unfolding counts
 count-in x c h = getD-map-below (countAt x) 8 c 0 h
 
 -- ---- read
-pub reads-card : (x : Card) (d : Bytes) (s : Shape) → s ≡ shapeOf x → (ts : List Tail) → ts ≡ x .tails → (most slots : List ℕ) → Counts x most → Reads Numbers s d ts most slots
-    → Reads Numbers (shapeOf x) d (x .tails) (counts x) slots
-unfolding Reads Counts
-reads-card x d s p ts y most slots q r c h =
-    let e : getD most c 0 ≡ getD (counts x) c 0 = q c h ∙ sym (count-in x c (core-low x c h)) in
-    (rw (p, y) at r) c h ∙ ap (λ (n : ℕ). journal Numbers (shapeOf x) d c (tailFor (x .tails) c) n) e
+module _ (x : Card) (d : Bytes) (s : Shape) (p : s ≡ shapeOf x) (ts : List Tail) (y : ts ≡ x .tails) (most : List ℕ) (q : Counts x most) (xs zs start count : List ℕ) where
+  reads-card : Reads Numbers s d ts most xs zs start count → Reads Numbers (shapeOf x) d (x .tails) (counts x) xs zs start count
+  unfolding Counts IsJournal
+  reads-card r =
+      let r′ : Reads Numbers (shapeOf x) d (x .tails) most xs zs start count = rw (p, y) at r in
+      record {
+        journals =
+            λ c h.
+            let e : getD most c 0 ≡ getD (counts x) c 0 = q c h ∙ sym (count-in x c (core-low x c h)) in
+            r′ .journals c h ∙ ap (λ (n : ℕ). journal Numbers (shapeOf x) d c (tailFor (x .tails) c) n) e;
+        behind = r′ .behind;
+        few = r′ .few;
+      }
 
-pub core-below : (x : Card) (s : Shape) (c : ℕ) → s ≡ shapeOf x → c < (shapeOf x) .cores → c < s .cores
-core-below x s c e h = rw e h
+  pub read-now : Reads Numbers s d ts most xs zs start count → RunsTested s d xs start count → ReadNow x d xs zs start count
+  read-now r t = record { reads = reads-card r; tested = rw p at t }
 
-module _ (x : Card) (d : Bytes) (c : ℕ) (most : List ℕ) (e : Counts x most) (h : c < (shapeOf x) .cores) where
-  count-at : countAt x c ≡ getD most c 0
-  unfolding Counts
-  count-at = sym (e c h)
+-- ---- the oldest
+-- the first of a list
+unfoldable headOf : List Committed → Found
+headOf [] = Miss
+headOf (e ∷ es) = Whole e
 
-  pub none-counted : getD most c 0 ≡ 0 → Miss ≡ oldestAt x d c
-  unfolding oldestAt
-  none-counted n = rw (count-at, n)
+head-append : (es fs : List Committed) (e : Committed) → headOf es ≡ Whole e → headOf (es ++ fs) ≡ Whole e
+unfolding headOf
+head-append [] fs e h = let z : _≡_ {A = ℕ} 0 1 = cc in absurd (omega arith)
+head-append (x ∷ es) fs e h = h
 
-  module _ (n : getD most c 0 ≡ 0 → ⊥) (s : Shape) (p : s ≡ shapeOf x) (t : Tail) (q : t ≡ tailOf x c) (r : RecordRead)
-      (z : r ≡ readRecord Numbers s d c (t .number) (t .position) (s .journal)) where
-    oldest-found : foundBy r ≡ oldestAt x d c
-    unfolding oldestAt
-    oldest-found = found-as Numbers s d c (t .number) (t .position) (s .journal) r z ∙ rw (p, q, count-at, ne-eqb (getD most c 0) 0 n)
+head-map : (f : ℕ → Committed) (n : ℕ) → headOf (map f (below (suc n))) ≡ Whole (f 0)
+unfolding headOf below
+head-map f zero = refl
+head-map f (suc n) = rw (map-append) (head-append (map f (below (suc n))) (f (suc n) ∷ []) (f 0) (head-map f n))
 
-    pub oldest-none : foundBy r ≡ Miss → Miss ≡ oldestAt x d c
-    oldest-none h = sym h ∙ oldest-found
+first-run : (xs zs : List ℕ) (c k a n : ℕ) → headOf (runIn xs zs c k a n) ≡ cond (eqb n 0) Miss (Whole (recordIn xs zs c k a))
+unfolding headOf runIn below
+first-run xs zs c k a zero = refl
+first-run xs zs c k a (suc n) = rw (ne-eqb (suc n) 0 (omega arith)) (head-map (λ (j : ℕ). recordIn xs zs c (k + j) (a + j)) n ∙ rw (add-zero k, add-zero a))
 
-    pub oldest-read : (e : Committed) → r ≡ Read e → Whole e ≡ oldestAt x d c
-    unfolding foundBy
-    oldest-read e h = sym (ap foundBy h) ∙ oldest-found
+first-record : (s : Shape) (d : Bytes) (c : ℕ) (t : Tail) (most : ℕ)
+    → headOf (journal Numbers s d c t most) ≡ cond (eqb most 0) Miss (recordAt Numbers s d c (t .number) (t .position) (s .journal))
+unfolding headOf journal recordsFrom
+first-record s d c t zero = refl
+first-record s d c t (suc n) =
+    found-cases (recordAt Numbers s d c (t .number) (t .position) (s .journal))
+    (λ m. rw (m, recordsFrom, ne-eqb (suc n) 0 (omega arith)))
+    (λ e w. rw (w, recordsFrom, ne-eqb (suc n) 0 (omega arith)))
+
+module _ (x : Card) (xs zs start count : List ℕ) (c : ℕ) where
+  pub none-counted : getD count c 0 ≡ 0 → Miss ≡ oldestIn x xs zs start count c
+  unfolding oldestIn
+  none-counted h = rw (eq-eqb (getD count c 0) 0 h)
+
+  pub first-counted : (getD count c 0 ≡ 0 → ⊥) → (t : Tail) → t ≡ tailOf x c → (a : ℕ) → a ≡ getD start c 0 → (e : Committed) → e ≡ recordIn xs zs c (t .number) a
+      → Whole e ≡ oldestIn x xs zs start count c
+  unfolding oldestIn
+  first-counted h t q a b e p = rw (ne-eqb (getD count c 0) 0 h, p, q, b)
+
+  module _ (d : Bytes) (r : ReadNow x d xs zs start count) (h : c < (shapeOf x) .cores) where
+    -- the first record of a core is the one at its tail
+    pub oldest-same : oldestIn x xs zs start count c ≡ oldestAt x d c
+    unfolding oldestIn oldestAt IsJournal tailOf
+    oldest-same =
+        sym (first-run xs zs c ((tailOf x c) .number) (getD start c 0) (getD count c 0))
+        ∙ ap headOf (r .reads .journals c h)
+        ∙ first-record (shapeOf x) d c (tailOf x c) (getD (counts x) c 0)
+        ∙ rw (count-in x c (core-low x c h))
+
+    pub start-low : getD start c 0 < 96
+    start-low = omega (arith, reads-low Numbers (shapeOf x) d (x .tails) (counts x) xs zs start count (r .reads) (shape-limits x) c h)

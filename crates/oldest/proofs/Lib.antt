@@ -1,4 +1,5 @@
 -- Laws of a core's oldest transaction that its proofs, and those of CHECKPOINT, cite.
+pub mod CardLaws
 pub mod SharedLaws
 pub mod CountLaws
 pub mod OldestLaws

@@ -1,6 +1,6 @@
 -- The blocks of a transaction read from its record; whether a transaction in cells took one; two that share one, asked block by
--- block. One of lower stamp shares a block: a committed one in its slots, or a core's closed one.
-use Rattle.model.proofs.Base.{ℕ, _+_, _≤_, _<_, arith, _≡_, sym, ap, subst, _∙_, Bool, true, false, not, List, [], length}
+-- block. One of lower stamp shares a block: a committed one of the records read, or a core's closed one.
+use Rattle.model.proofs.Base.{ℕ, _+_, _≤_, _<_, arith, _≡_, sym, ap, subst, _∙_, Bool, true, false, not, List, length}
 use Rattle.model.proofs.Base.{take, getD, eqb, eq-eqb, ne-eqb, lt-ltb, le-ltb, not-true, not-false, below, any}
 use Rattle.model.proofs.Base.{Bytes}
 use Rattle.model.specs.Card.{taken, shapeOf}
@@ -12,27 +12,19 @@ use Rattle.model.specs.declared.Card.{Card}
 use Rattle.model.specs.declared.CommitLayout.the-variants.{Numbers}
 use Rattle.model.specs.declared.Committed.{Committed}
 use Rattle.model.proofs.Lists.{any-mem, mem-any, getD-mem, mem-getD, mem-below, below-mem, bool-ext}
-use Rattle.model.proofs.OneStore.{shape-limits}
 use Rattle.model.proofs.Limits.{InRange}
 use Rattle.model.proofs.Records.{length-blocksOf, known-below}
 use Rattle.layout.specs.Loops.{some}
 use Rattle.layout.proofs.Loops.{some-none, some-no, some-in, some-out}
 use Rattle.layout.proofs.Narrow.{block-below}
-use Rattle.journal.specs.Slots.{entries, SizedCommitted, RangeTested, descriptorBlocks}
-use Rattle.journal.proofs.Entries.{block-at}
+use Rattle.journal.specs.Records.{numbersOf, recordsIn, SizedCommitted, RangeTested, descriptorBlocks}
+use Rattle.journal.proofs.Blocks.{block-at}
 use Rattle.journal.proofs.Tested.{known-tested, tested-bytes}
-use Rattle.valid.specs.Newest.{sharesBelow}
+use Rattle.images.specs.Newest.{sharesBelow}
 use Rattle.cells.specs.Cells.{transactionSize, blockPlace, byteIn, transactionIn, cardIn, closedPlace}
 use Rattle.cells.proofs.Parts.{any-hit, any-more, any-none, any-all}
 use Rattle.cells.proofs.ReadLaws.{stamp-read, block-read, closed-read}
 use Rattle.oldest.specs.Oldest.{IsRead, lowerClosed, closedLower, lowerShares}
-
--- the shape as it is read is within its limits
-pub shape-range : (x : Card) (s : Shape) → s ≡ shapeOf x → InRange s
-shape-range x s e = subst InRange (sym e) (shape-limits x)
-
-pub core-low : (x : Card) (c : ℕ) → c < (shapeOf x) .cores → c < 8
-core-low x c h = omega (arith, shape-limits x .few-cores)
 
 -- ---- a transaction read
 pub is-tested : (s : Shape) (d : Bytes) (e : Committed) → IsRead s d e → RangeTested s d e
@@ -144,12 +136,13 @@ module _ (s : Shape) (c at : ℕ) (p : at ≡ closedPlace c) (l : InRange s) (h 
   unfolding closedLower
   is-lower w d e r q = q ∙ rw p (rw (closed-read w c (omega (arith, l .few-cores))))
 
--- a committed one, then a closed one
-module _ (x : Card) (s : Shape) (d : Bytes) (slots : List ℕ) (e : Committed) (g : Bool) (q : g ≡ any (sharesBelow s d e) (entries s d [] slots)) where
-  pub lower-committed : g ≡ true → true ≡ lowerShares x s d slots e
+-- a committed one, then a closed one; the numbers of those committed play no part
+module _ (x : Card) (s : Shape) (d : Bytes) (xs zs start count : List ℕ) (e : Committed) (g : Bool)
+    (q : (ks : List ℕ) → g ≡ any (sharesBelow s d e) (recordsIn s xs zs ks start count)) where
+  pub lower-committed : g ≡ true → true ≡ lowerShares x s d xs zs start count e
   unfolding lowerShares
-  lower-committed t = rw (← q, t)
+  lower-committed t = rw (← q (numbersOf (x .tails)), t)
 
-  pub lower-closed : g ≡ false → (r : Bool) → r ≡ some (s .cores) (closedLower x s d e) → r ≡ lowerShares x s d slots e
+  pub lower-closed : g ≡ false → (r : Bool) → r ≡ some (s .cores) (closedLower x s d e) → r ≡ lowerShares x s d xs zs start count e
   unfolding lowerShares
-  lower-closed t r z = z ∙ rw (← q, t)
+  lower-closed t r z = z ∙ rw (← q (numbersOf (x .tails)), t)

@@ -23,8 +23,9 @@ use Rattle.model.specs.declared.Found.the-variants.{Whole, Miss}
 use Rattle.model.proofs.Limits.{InRange}
 use Rattle.model.proofs.Journal.{KnownRecord}
 use Rattle.layout.specs.Loops.{some}
-use Rattle.journal.specs.Slots.{entries}
-use Rattle.valid.specs.Newest.{sharesBelow}
+use Rattle.journal.specs.Records.{numbersOf, recordIn, recordsIn, RunsTested}
+use Rattle.journal.specs.Walk.{Reads}
+use Rattle.images.specs.Newest.{sharesBelow}
 
 -- ---- read
 -- core c's count; a journal has no more than twelve records
@@ -43,6 +44,15 @@ unfoldable pub oldestAt : Card → Bytes → ℕ → Found
 oldestAt x d c =
     cond (eqb (countAt x c) 0) Miss (recordAt Numbers (shapeOf x) d c ((tailOf x c) .number) ((tailOf x c) .position) ((shapeOf x) .journal))
 
+-- the committed transactions of a card that is up, as they were read: of each journal as many as the card counts
+pub record ReadNow (x : Card) (d : Bytes) (xs zs start count : List ℕ) : Type 0 where
+  pub reads : Reads Numbers (shapeOf x) d (x .tails) (counts x) xs zs start count
+  pub tested : RunsTested (shapeOf x) d xs start count
+
+-- core c's oldest among them, the first of its records
+unfoldable pub oldestIn : Card → List ℕ → List ℕ → List ℕ → List ℕ → ℕ → Found
+oldestIn x xs zs start count c = cond (eqb (getD count c 0) 0) Miss (Whole (recordIn xs zs c ((tailOf x c) .number) (getD start c 0)))
+
 -- a transaction that was read from its record, on a whole disk of this shape
 pub record IsRead (s : Shape) (d : Bytes) (e : Committed) : Type 0 where
   pub long : length d ≡ 32896
@@ -50,11 +60,11 @@ pub record IsRead (s : Shape) (d : Bytes) (e : Committed) : Type 0 where
   pub core : e .core < s .cores
   pub known : KnownRecord Numbers s d (e .core) (e .number) e
 
--- core c's oldest transaction, as it was found by the counts
-pub record IsOldest (x : Card) (d : Bytes) (c : ℕ) (most : List ℕ) (e : Committed) : Type 0 where
+-- core c's oldest transaction, found among those that were read
+pub record IsOldest (x : Card) (d : Bytes) (c : ℕ) (xs zs start count : List ℕ) (e : Committed) : Type 0 where
   pub long : length d ≡ 32896
   pub core : c < (shapeOf x) .cores
-  pub are-counts : Counts x most
+  pub read : ReadNow x d xs zs start count
   pub first : oldestAt x d c ≡ Whole e
 
 -- ---- those closed, of lower stamp, that share a block with e
@@ -65,9 +75,10 @@ lowerClosed s d e t = t .live && ltb (t .stamp) (e .stamp) && share (blocksOf s 
 unfoldable pub closedLower : Card → Shape → Bytes → Committed → ℕ → Bool
 closedLower x s d e i = lowerClosed s d e ((coreOf x i) .closed)
 
--- one of those, or a committed one, as the slots have them
-unfoldable pub lowerShares : Card → Shape → Bytes → List ℕ → Committed → Bool
-lowerShares x s d slots e = any (sharesBelow s d e) (entries s d [] slots) || some (s .cores) (closedLower x s d e)
+-- one of those, or a committed one, of the records read
+unfoldable pub lowerShares : Card → Shape → Bytes → List ℕ → List ℕ → List ℕ → List ℕ → Committed → Bool
+lowerShares x s d xs zs start count e =
+    any (sharesBelow s d e) (recordsIn s xs zs (numbersOf (x .tails)) start count) || some (s .cores) (closedLower x s d e)
 
 -- ---- refused
 -- what refuses the checkpoint of core c's oldest transaction

@@ -4,7 +4,8 @@ mod committed; // how many each core has, and its oldest one
 mod shared; // others that share a block with it
 mod refusals; // whether it may be checkpointed
 
-pub use committed::counts;
+pub use committed::counted;
 pub use committed::oldest_of;
+pub use committed::read_committed;
 pub use refusals::oldest_refusal;
 pub use shared::block_at;

@@ -8,7 +8,7 @@ ghost use Rattle.model.specs.Card.{taken};
 ghost use Rattle.model.specs.Journal.{blocksOf};
 ghost use Rattle.model.specs.Checkpoint.{share};
 ghost use Rattle.layout.specs.Loops.{some};
-ghost use Rattle.journal.specs.Slots.{SlotsTested};
+ghost use Rattle.journal.specs.Records.{RunsTested};
 ghost use Rattle.cells.specs.Cells.{transactionSize, transactionIn, cardIn};
 ghost use Rattle.oldest.specs.Oldest.{IsRead, lowerClosed, closedLower, lowerShares};
 use cells::BLOCKS;
@@ -17,6 +17,7 @@ use cells::block_count;
 use cells::byte_in;
 use cells::closed_place;
 use cells::is_live;
+use journal::Runs;
 use model::Committed;
 use model::Shape;
 
@@ -92,12 +93,25 @@ fn any_closed(w: &[u64], s: Shape, disk: &[u8], e: Committed) -> bool
     false
 }
 
-// Whether an unretired transaction of lower stamp, committed or closed, shares a block. The slots are the committed ones.
-pub fn shares_lower(w: &[u64], s: Shape, e: Committed, disk: &[u8], slots: &[u16; 96]) -> bool
-    requires { ⌜ (length (now w) ≡ 423) × IsRead s (now disk) e × SlotsTested s (now disk) (now slots) ⌝ }
-    ensures { λ r. ⌜ r ≡ lowerShares (cardIn (now (w .entry))) s (now (disk .entry)) (now (slots .entry)) e ⌝ }
+// Whether an unretired transaction of lower stamp, committed or closed, shares a block. The records are the committed ones.
+pub fn shares_lower(
+    w: &[u64],
+    s: Shape,
+    e: Committed,
+    disk: &[u8],
+    extents: &[u16; 96],
+    stamps: &[u64; 96],
+    all: Runs,
+) -> bool
+    requires { ⌜
+        (length (now w) ≡ 423) × IsRead s (now disk) e × RunsTested s (now disk) (now extents) (all .start) (all .count)
+        ⌝ }
+    ensures { λ r. ⌜
+        r ≡ lowerShares (cardIn (now (w .entry))) s (now (disk .entry)) (now (extents .entry)) (now (stamps .entry))
+        (all .start) (all .count) e
+        ⌝ }
 {
-    if valid::shares_lower(s, disk, slots, e) {
+    if images::shares_lower(s, disk, extents, stamps, all, e) {
         return true;
     }
     any_closed(w, s, disk, e)

@@ -2,6 +2,7 @@
 pub mod InsertLaws
 pub mod WorkLaws
 pub mod TallyLaws
-pub mod PlaceLaws
+pub mod TakenLaws
+pub mod UnretiredLaws
 pub mod AnswerLaws
 pub mod BufferLaws

@@ -1,15 +1,16 @@
--- The work left of the transaction at each place, as the code finds it: fourteen places for each core, in order of core and number.
-use Prim.Native.Nat.{ℕ, zero, suc, _+_, _*_, _/_, _%_}
-use mathlib.Core.List.{List, [], _∷_, _++_}
+-- The work left of each transaction, as the code finds it: of each core its committed ones by their records, then its closed one, then its
+-- running one. xs are the extents of the records read, zs their stamps; start and count say of each core where its records begin among
+-- them and how many there are.
+use Prim.Native.Nat.{ℕ, _+_, _/_, _≤_, _<_}
+use mathlib.Core.List.{List, [], _∷_, _++_, map, flatMap}
 use mathlib.Core.Bool.{true, false, cond}
-use lib.Dec.{eqb, ltb}
-use Rattle.model.specs.Bytes.{Bytes}
-use Rattle.model.specs.Card.{shapeOf, coreOf}
+use lib.Dec.{eqb}
+use lib.ListN.{getD}
+use Rattle.model.specs.Lists.{below}
+use Rattle.model.specs.Card.{shapeOf, tailOf, coreOf}
 use Rattle.model.specs.declared.Core.{Core}
 use Rattle.model.specs.declared.Card.{Card}
-use Rattle.model.specs.declared.Found.{Found}
-use Rattle.model.specs.declared.Found.the-variants.{Whole, Miss}
-use Rattle.journal.specs.Slots.{numbersOf, foundAt}
+use Rattle.journal.specs.Records.{recordIn}
 use Rattle.cells.specs.Cells.{nameCell}
 use Rattle.planner.specs.Plan.{Unretired, committedAs, closedAs, runningAs, runs, storesLeft}
 use Rattle.planner.specs.declared.Work.{Work}
@@ -20,18 +21,22 @@ noWork = record { live = false; runs = false; name = 0; stamp = 0; stores = 0 }
 unfoldable pub workOf : Unretired → Work
 workOf u = record { live = true; runs = runs u; name = nameCell (u .name); stamp = u .stamp; stores = storesLeft u }
 
+-- the work, if there is one
+unfoldable pub listed : Work → List Work
+listed k = cond (k .live) (k ∷ []) []
+
 -- ---- a core's
 -- the home stores done of its j-th committed one
 unfoldable pub homedAt : Core → ℕ → ℕ
 homedAt k j = cond (eqb j 0) (k .homed) 0
 
--- its j-th committed one, by its slot
-unfoldable pub foundOn : Card → Bytes → List ℕ → ℕ → ℕ → Found
-foundOn x d slots c j = foundAt (shapeOf x) d (numbersOf (x .tails)) slots (12 * c + j)
+-- its j-th committed one, whose record stands at place i
+unfoldable pub committedWork : Card → List ℕ → List ℕ → ℕ → ℕ → ℕ → Work
+committedWork x xs zs c j i = workOf (committedAs (homedAt (coreOf x c) j) (recordIn xs zs c ((tailOf x c) .number + j) i))
 
-unfoldable pub committedWork : ℕ → Found → Work
-committedWork h Miss = noWork
-committedWork h (Whole e) = workOf (committedAs h e)
+-- its first n committed ones, whose records stand from place a on
+unfoldable pub committedWorks : Card → List ℕ → List ℕ → ℕ → ℕ → ℕ → List Work
+committedWorks x xs zs c a n = map (λ (j : ℕ). committedWork x xs zs c j (a + j)) (below n)
 
 unfoldable pub closedWork : ℕ → Core → Work
 closedWork c k = cond (k .closed .live) (workOf (closedAs c k)) noWork
@@ -39,21 +44,25 @@ closedWork c k = cond (k .closed .live) (workOf (closedAs c k)) noWork
 unfoldable pub runningWork : ℕ → Core → Work
 runningWork c k = cond (k .running .live) (workOf (runningAs c k)) noWork
 
--- its places
-unfoldable pub workOn : Card → Bytes → List ℕ → ℕ → ℕ → Work
-workOn x d slots c j =
-    let k = coreOf x c in
-    cond (ltb j 12) (committedWork (homedAt k j) (foundOn x d slots c j)) (cond (ltb j 13) (closedWork c k) (runningWork c k))
+-- both of these, where there are such
+unfoldable pub uncommittedWorks : Card → ℕ → List Work
+uncommittedWorks x c = listed (closedWork c (coreOf x c)) ++ listed (runningWork c (coreOf x c))
 
--- ---- all places
-unfoldable pub workAt : Card → Bytes → List ℕ → ℕ → Work
-workAt x d slots i = cond (ltb (i / 14) ((shapeOf x) .cores)) (workOn x d slots (i / 14) (i % 14)) noWork
+-- all of them
+unfoldable pub coreWorks : Card → List ℕ → List ℕ → ℕ → ℕ → ℕ → List Work
+coreWorks x xs zs c a n = committedWorks x xs zs c a n ++ uncommittedWorks x c
 
--- the work, if there is one
-unfoldable pub listed : Work → List Work
-listed k = cond (k .live) (k ∷ []) []
+-- ---- those of the first n cores
+unfoldable pub worksTo : Card → List ℕ → List ℕ → List ℕ → List ℕ → ℕ → List Work
+worksTo x xs zs start count n = flatMap (λ (c : ℕ). coreWorks x xs zs c (getD start c 0) (getD count c 0)) (below n)
 
--- those in the first n places
-unfoldable pub worksTo : Card → Bytes → List ℕ → ℕ → List Work
-worksTo x d slots zero = []
-worksTo x d slots (suc n) = worksTo x d slots n ++ listed (workAt x d slots n)
+-- ---- what functions over records ask of them
+-- n records from place a on: no more than a journal has, all within the arrays, and none of more blocks than a record can have
+pub record RunSized (xs : List ℕ) (a n : ℕ) : Type 0 where
+  pub few : n ≤ 12
+  pub room : a + n ≤ 96
+  pub sized : (j : ℕ) → j < n → getD xs (a + j) 0 / 256 ≤ 8
+
+-- those of all cores
+unfoldable pub RunsSized : Card → List ℕ → List ℕ → List ℕ → Type 0
+RunsSized x xs start count = (c : ℕ) → c < (shapeOf x) .cores → RunSized xs (getD start c 0) (getD count c 0)

@@ -1,5 +1,5 @@
 // Paper 02, (e): how much work until the journals are empty. Nothing is done here: state and slices are only read.
-mod works; // the work left of the transaction at each place
+mod works; // the work left of each transaction
 mod order; // those found are counted, and put in order
 mod planning; // the plan
 mod buffer; // the plan in a lent buffer

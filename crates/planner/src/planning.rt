@@ -8,26 +8,19 @@ ghost use Rattle.planner.specs.Plan.{unretiredNow, planFor, plan};
 ghost use Rattle.planner.specs.Result.{planOf};
 use crate::PlanAnswer;
 use crate::order::take_all;
-use cells::shape_of;
 use cells::state_refusal;
-use cells::tails_of;
-use model::CommitLayout;
 
 // The plan from all that is not retired.
 fn plan_up(w: &[u64], disk: &[u8]) -> PlanAnswer
     requires { ⌜ (length (now w) ≡ 423) × (length (now disk) ≡ diskSize) ⌝ }
     ensures { λ r. ⌜ ((m : Bytes) → r ≡ planOf (planFor (unretiredNow (worldIn (now (w .entry)) (now (disk .entry)) m)))) ⌝ }
 {
-    let slots = journal::read_journals(
-        CommitLayout::Numbers,
-        shape_of(w),
-        disk,
-        tails_of(w),
-        oldest::counts(w),
-    );
+    let mut extents = [0u16; 96];
+    let mut recorded = [0u64; 96];
+    let all = oldest::read_committed(w, disk, &mut extents, &mut recorded);
     let mut stamps = [0u64; 112];
     let mut order = [0u64; 112];
-    let t = take_all(w, disk, &slots, &mut stamps, &mut order);
+    let t = take_all(w, &extents, &recorded, all, &mut stamps, &mut order);
     PlanAnswer {
         number: 0,
         commands: t.commands,

@@ -1,13 +1,11 @@
-// The work left of the transaction at each place. A core has fourteen: twelve for its committed ones, then its closed one, then its
-// running one.
+// The work left of each transaction: of a committed one by its record, of a closed and of a running one by their cells.
 ghost use mathlib.Core.Path.{_≡_};
-ghost use Prim.Native.Nat.{_-_, _≤_, _<_};
-ghost use lib.ListN.{length};
+ghost use Prim.Native.Nat.{_-_, _/_, _≤_, _<_};
+ghost use lib.ListN.{length, getD};
 ghost use Rattle.model.specs.Card.{newName, coreOf};
 ghost use Rattle.model.specs.Commit.{closedNumber};
-ghost use Rattle.model.specs.Limits.{diskSize};
 ghost use Rattle.cells.specs.Cells.{nameCell, cardIn};
-ghost use Rattle.planner.specs.Works.{noWork, homedAt, committedWork, closedWork, runningWork, foundOn, workAt};
+ghost use Rattle.planner.specs.Works.{noWork, homedAt, committedWork, closedWork, runningWork};
 use crate::Work;
 use cells::HOMED;
 use cells::STAMP;
@@ -19,9 +17,7 @@ use cells::core_place;
 use cells::is_live;
 use cells::number_in;
 use cells::running_place;
-use cells::shape_of;
 use cells::tail_at;
-use model::Found;
 
 // The difference, which stops at 0.
 fn less(a: usize, b: usize) -> usize
@@ -66,24 +62,29 @@ fn homed_at(w: &[u64], c: u8, j: usize) -> usize
     byte_in(w, core_place(c) + HOMED) as usize
 }
 
-// Core c's j-th committed transaction, if its slot holds one.
-fn committed_work(w: &[u64], disk: &[u8], slots: &[u16; 96], c: u8, j: usize) -> Work
-    requires { ⌜ (length (now w) ≡ 423) × (length (now disk) ≡ diskSize) × (c < 8) × (j < 12) ⌝ }
-    ensures { λ r. ⌜ (r ≡ committedWork (homedAt (coreOf (cardIn (now (w .entry))) c) j)
-        (foundOn (cardIn (now (w .entry))) (now (disk .entry)) (now (slots .entry)) c j)) × (r .stores ≤ 19) ⌝ }
+// Core c's j-th committed transaction, whose record stands at place i.
+pub fn committed_work(
+    w: &[u64],
+    extents: &[u16; 96],
+    stamps: &[u64; 96],
+    c: u8,
+    j: usize,
+    i: usize,
+) -> Work
+    requires { ⌜ (length (now w) ≡ 423) × (c < 8) × (j < 12) × (i < 96) × (getD (now extents) i 0 / 256 ≤ 8) ⌝ }
+    ensures { λ r. ⌜
+        (r ≡ committedWork (cardIn (now (w .entry))) (now (extents .entry)) (now (stamps .entry)) c j i) × (r .stores ≤ 19)
+        ⌝ }
 {
-    let s = shape_of(w);
-    let Found::Whole(e) = journal::entry_at(s, disk, slots, 12 * c as usize + j) else {
-        return no_work();
-    };
     let t = tail_at(w, c);
     let homed = homed_at(w, c, j);
+    let n = journal::extent_count(extents[i]);
     Work {
         live: true,
         runs: false,
         name: cell_of(c, t.number as u64 + j as u64),
-        stamp: e.stamp,
-        stores: less(e.count as usize, homed) + 1,
+        stamp: stamps[i],
+        stores: less(n as usize, homed) + 1,
     }
 }
 
@@ -97,7 +98,7 @@ fn closed_name(w: &[u64], c: u8) -> u64
 }
 
 // Core c's closed transaction: the stores of its record that are left, then its images and the master.
-fn closed_work(w: &[u64], c: u8) -> Work
+pub fn closed_work(w: &[u64], c: u8) -> Work
     requires { ⌜ (length (now w) ≡ 423) × (c < 8) ⌝ }
     ensures { λ r. ⌜ (r ≡ closedWork c (coreOf (cardIn (now (w .entry))) c)) × (r .stores ≤ 19) ⌝ }
 {
@@ -117,7 +118,7 @@ fn closed_work(w: &[u64], c: u8) -> Work
 }
 
 // Core c's running transaction: its stamp is given at CLOSE.
-fn running_work(w: &[u64], c: u8) -> Work
+pub fn running_work(w: &[u64], c: u8) -> Work
     requires { ⌜ (length (now w) ≡ 423) × (c < 8) ⌝ }
     ensures { λ r. ⌜ (r ≡ runningWork c (coreOf (cardIn (now (w .entry))) c)) × (r .stores ≤ 19) ⌝ }
 {
@@ -134,24 +135,4 @@ fn running_work(w: &[u64], c: u8) -> Work
         stamp: 0,
         stores: (n + 2) + (n + 1),
     }
-}
-
-// The work at place i, in order of core and number.
-pub fn work_at(w: &[u64], disk: &[u8], slots: &[u16; 96], i: usize) -> Work
-    requires { ⌜ (length (now w) ≡ 423) × (length (now disk) ≡ diskSize) × (i < 112) ⌝ }
-    ensures { λ r. ⌜ (r ≡ workAt (cardIn (now (w .entry))) (now (disk .entry)) (now (slots .entry)) i) × (r .stores ≤ 19) ⌝ }
-{
-    let s = shape_of(w);
-    let c = (i / 14) as u8;
-    let j = i % 14;
-    if s.cores <= c {
-        return no_work();
-    }
-    if j < 12 {
-        return committed_work(w, disk, slots, c, j);
-    }
-    if j < 13 {
-        return closed_work(w, c);
-    }
-    running_work(w, c)
 }

@@ -13,14 +13,13 @@ use Rattle.model.specs.declared.Card.{Card}
 use Rattle.model.specs.declared.Tail.{Tail}
 use Rattle.model.specs.declared.Shape.{Shape}
 use Rattle.model.specs.declared.Phase.the-variants.{Up}
-use Rattle.model.specs.declared.CommitLayout.{CommitLayout}
 use Rattle.model.specs.declared.CommitLayout.the-variants.{Numbers}
-use Rattle.model.proofs.Lists.{getD-map-below}
+use Rattle.model.proofs.Lists.{map-below, getD-map-below}
 use Rattle.model.proofs.Limits.{clamped-same}
 use Rattle.model.proofs.OneStore.{right-lengths, left-below}
 use Rattle.model.proofs.Encoding.{master-same}
-use Rattle.journal.specs.Slots.{entries}
-use Rattle.valid.specs.Newest.{firstOr, heldFrom}
+use Rattle.journal.specs.Records.{recordsIn}
+use Rattle.images.specs.Newest.{firstOr, heldFrom}
 use Rattle.cells.specs.Cells.{byteIn, cardIn, world, worldIn}
 use Rattle.cells.specs.Changes.{Frame}
 use Rattle.cells.specs.Answer.{newAnswer, Meets, Stores}
@@ -28,8 +27,8 @@ use Rattle.cells.proofs.RefusalLaws.{none-held}
 use Rattle.cells.proofs.MeetLaws.{meets-refused, meets-done}
 use Rattle.cells.proofs.FitsLaws.{fits-field, frame-set, frame-wider}
 use Rattle.cells.proofs.CoreLaws.{recovered-put}
-use Rattle.recovery.specs.Recovering.{tailAfter, Shaped, OnDisk, IsValid}
-use Rattle.recovery.proofs.JournalLaws.{tails-after, left-first}
+use Rattle.recovery.specs.Recovering.{numbersOn, tailAfter, Shaped, Emptying, IsValid}
+use Rattle.recovery.proofs.JournalLaws.{left-first}
 
 -- ---- the command
 module _ (v : List ℕ) (d m : Bytes) (n : ℕ) (e : n ≡ refusal (recoverConditions (worldIn v d m))) where
@@ -70,12 +69,12 @@ module _ (d : Bytes) (s : Shape) (g : Shaped s d) (ts : List Tail) (e : ts ≡ m
   unfolding recoverStep broughtUp
   brought-up d′ q y p x m = rw (q, p, emptied-master, e, g .shape)
 
-module _ (d : Bytes) (s : Shape) (g : Shaped s d) (y : CommitLayout) (ts : List Tail) (set : List ℕ) (r : OnDisk s d y ts set) where
-  pub all-emptied : (after : List Tail) → after ≡ map (tailAfter s ts set) (below 8)
-      → (d′ : Bytes) → d′ ≡ store d 0 (masterBlock Numbers (clamped s) (λ (c : ℕ). getD after c (newTail 0 0)))
-      → (v w : List ℕ) → cardIn w ≡ freshCard Up s after → Frame v w 0 423 → Stores (recoverStep in-sequence (layoutOn d) Numbers []) v w d d′
-  all-emptied after q d′ p v w z f =
-      record { outcome = λ m. brought-up d s g after (tails-after d s g y ts set r after q) d′ p (cardIn w) z (cardIn v) m; frame = f }
+pub all-emptied : (d : Bytes) (s : Shape) → Shaped s d → (ts : List Tail) (count : List ℕ) → Emptying s d ts count → (after : List Tail) → after ≡ map (tailAfter s ts count) (below 8)
+    → (d′ : Bytes) → d′ ≡ store d 0 (masterBlock Numbers (clamped s) (λ (c : ℕ). getD after c (newTail 0 0)))
+    → (v w : List ℕ) → cardIn w ≡ freshCard Up s after → Frame v w 0 423 → Stores (recoverStep in-sequence (layoutOn d) Numbers []) v w d d′
+unfolding Emptying
+all-emptied d s g ts count r after q d′ p v w z f =
+    record { outcome = λ m. brought-up d s g after (q ∙ map-below (tailAfter s ts count) (emptiedTail (layoutOn d) d) 8 r) d′ p (cardIn w) z (cardIn v) m; frame = f }
 
 -- ---- a home store
 home-step : (x y : Card) (d : Bytes) (b : ℕ) → y ≡ recoveredTo x (b + 1) → (i : Bytes) → i ≡ newestImage in-sequence (layoutOn d) d b
@@ -122,9 +121,10 @@ recovered-read : (v : List ℕ) → byteIn v 5 ≡ (cardIn v) .recovered
 unfolding cardIn
 recovered-read v = refl
 
-module _ (v : List ℕ) (d : Bytes) (s : Shape) (g : Shaped s d) (set : List ℕ) (q : IsValid s d set) (from : ℕ) (f : from ≡ byteIn v 5) (b : ℕ) (e : b ≡ heldFrom s d (entries s d [] set) from) where
+module _ (v : List ℕ) (d : Bytes) (s : Shape) (g : Shaped s d) (xs zs start count : List ℕ) (q : IsValid s d xs zs start count) (from : ℕ) (f : from ≡ byteIn v 5) (b : ℕ)
+    (e : (us ks : List ℕ) → b ≡ heldFrom s d (recordsIn s xs us ks start count) from) where
   next-left : (m : Bytes) → b ≡ firstOr (s .blocks) (blocksLeft in-sequence (layoutOn d) (worldIn v d m))
-  next-left m = left-first d s g set q (cardIn v) m b (e ∙ ap (heldFrom s d (entries s d [] set)) (f ∙ recovered-read v))
+  next-left m = left-first d s g xs zs start count q (cardIn v) m b (e zs (numbersOn d) ∙ ap (heldFrom s d (recordsIn s xs zs (numbersOn d) start count)) (f ∙ recovered-read v))
 
   pub recovered-home : b < s .blocks → (w : List ℕ) (k : Bytes) → ((bs : List ℕ) → Stores (recoverStep in-sequence (layoutOn d) Numbers (b ∷ bs)) v w d k) → Stores (recovered in-sequence) v w d k
   unfolding recovered recoveredBy

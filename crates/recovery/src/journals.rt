@@ -1,30 +1,31 @@
-// All journals of a disk: the layout of their commits, the tails of its master, its committed transactions as slots, and what recovery
-// makes of them.
+// All journals of a disk: the layout of their commits, the tails of its master, the records of its committed transactions, and what
+// recovery makes of them.
 ghost use mathlib.Core.Path.{_≡_};
 ghost use mathlib.Core.List.{map};
-ghost use Prim.Native.Nat.{_≤_, _<_};
+ghost use Prim.Native.Nat.{_<_};
+ghost use lib.ListN.{length};
 ghost use Rattle.model.specs.Lists.{below};
 ghost use Rattle.model.specs.Valid.{in-sequence};
 ghost use Rattle.model.specs.Recovery.{tailPast, layoutOn, newestImage};
 ghost use Rattle.recovery.specs.Recovering.{tailAfter, Shaped, OnDisk, IsValid};
 use crate::master::disk_layout;
+use journal::Runs;
 use model::CommitLayout;
 use model::Shape;
 use model::Tail;
 
-// All journals of a disk, read whole: the layout of their commits, the tails of its master, and its committed transactions as slots.
+// All journals of a disk, read whole: the layout of their commits, the tails of its master, and the records of each core.
 pub struct Journals {
     pub layout: CommitLayout,
     pub tails: [Tail; 8],
-    pub committed: [u16; 96],
+    pub runs: Runs,
 }
 
 // The tail of a journal emptied after so many records: one above the number that would come next, at most 4,000,000,001.
-fn next_tail(t: Tail, count: usize) -> Tail
-    requires { ⌜ count ≤ 12 ⌝ }
+fn next_tail(t: Tail, count: u8) -> Tail
     ensures { λ r. ⌜ r ≡ tailPast t count ⌝ }
 {
-    let number = t.number as usize + (count + 1);
+    let number = t.number as usize + (count as usize + 1);
     if number < Shape::MAX_NUMBER as usize + 1 {
         return Tail {
             number: number as u32,
@@ -37,11 +38,10 @@ fn next_tail(t: Tail, count: usize) -> Tail
     }
 }
 
-// Core c's tail after recovery, from the slots of all journals read whole; the empty one for a core that the disk has
-// not.
-fn emptied_tail(s: Shape, tails: [Tail; 8], slots: &[u16; 96], c: usize) -> Tail
+// Core c's tail after recovery, from the count of its records, all of which were read; the empty one for a core that the disk has not.
+fn emptied_tail(s: Shape, tails: [Tail; 8], count: [u8; 8], c: usize) -> Tail
     requires { ⌜ c < 8 ⌝ }
-    ensures { λ r. ⌜ r ≡ tailAfter s tails (now (slots .entry)) c ⌝ }
+    ensures { λ r. ⌜ r ≡ tailAfter s tails count c ⌝ }
 {
     if s.cores as usize <= c {
         return Tail {
@@ -49,13 +49,12 @@ fn emptied_tail(s: Shape, tails: [Tail; 8], slots: &[u16; 96], c: usize) -> Tail
             position: 0,
         };
     }
-    let count = journal::count_slots(s, slots, 12 * c, 12);
     let t = tails[c];
-    next_tail(t, count)
+    next_tail(t, count[c])
 }
 
-pub fn emptied_tails(s: Shape, tails: [Tail; 8], slots: &[u16; 96]) -> [Tail; 8]
-    ensures { λ r. ⌜ r ≡ map (tailAfter s tails (now (slots .entry))) (below 8) ⌝ }
+pub fn emptied_tails(s: Shape, tails: [Tail; 8], count: [u8; 8]) -> [Tail; 8]
+    ensures { λ r. ⌜ r ≡ map (tailAfter s tails count) (below 8) ⌝ }
 {
     let mut out = [Tail {
         number: 0,
@@ -63,43 +62,41 @@ pub fn emptied_tails(s: Shape, tails: [Tail; 8], slots: &[u16; 96]) -> [Tail; 8]
     }; 8];
     let mut c: usize = 0;
     while c < 8 {
-        out[c] = emptied_tail(s, tails, slots, c);
+        out[c] = emptied_tail(s, tails, count, c);
         c += 1;
     }
     out
 }
 
-pub fn read_disk(s: Shape, disk: &[u8]) -> Journals
-    requires { ⌜ Shaped s (now disk) ⌝ }
-    ensures { λ r. ⌜ OnDisk s (now (disk .entry)) (r .layout) (r .tails) (r .committed) ⌝ }
+pub fn read_disk(s: Shape, disk: &[u8], extents: &mut [u16], stamps: &mut [u64]) -> Journals
+    requires { ⌜ Shaped s (now disk) × (length (now extents) ≡ 96) × (length (now stamps) ≡ 96) ⌝ }
+    ensures { λ r. ⌜
+        OnDisk s (now (disk .entry)) (r .layout) (r .tails) (now (extents .exit)) (now (stamps .exit)) (r .runs .start) (r .runs .count)
+        ⌝ }
 {
     let layout = disk_layout(disk);
     let tails = master_block::read_tails(&disk[0..Shape::BLOCK_SIZE]);
-    let committed = journal::read_journals(layout, s, disk, tails, [s.journal; 8]);
+    let runs = journal::read_journals(layout, s, disk, tails, [s.journal; 8], extents, stamps);
     Journals {
         layout,
         tails,
-        committed,
+        runs,
     }
 }
 
-// The slots of the valid set of a disk.
-pub fn valid_set(s: Shape, disk: &[u8], all: Journals) -> [u16; 96]
-    requires { ⌜ Shaped s (now disk) × OnDisk s (now disk) (all .layout) (all .tails) (all .committed) ⌝ }
-    ensures { λ r. ⌜ IsValid s (now (disk .entry)) r ⌝ }
-{
-    let layout = all.layout;
-    let tails = all.tails;
-    let committed = all.committed;
-    valid::valid_slots(layout, s, disk, tails, committed)
-}
-
 // The newest image of block b in the valid set.
-pub fn newest_block(s: Shape, disk: &[u8], valid: &[u16; 96], b: u8) -> [u8; Shape::BLOCK_SIZE]
-    requires { ⌜ Shaped s (now disk) × IsValid s (now disk) (now valid) ⌝ }
+pub fn newest_block(
+    s: Shape,
+    disk: &[u8],
+    extents: &[u16; 96],
+    stamps: &[u64; 96],
+    valid: Runs,
+    b: u8,
+) -> [u8; Shape::BLOCK_SIZE]
+    requires { ⌜ Shaped s (now disk) × IsValid s (now disk) (now extents) (now stamps) (valid .start) (valid .count) ⌝ }
     ensures { λ r. ⌜ r ≡ newestImage in-sequence (layoutOn (now (disk .entry))) (now (disk .entry)) b ⌝ }
 {
-    let at = valid::newest_image(s, disk, valid, b);
+    let at = images::newest_image(s, disk, extents, stamps, valid, b);
     let image = layout::load_block(disk, at.block);
     layout::unescape(at.flag, image)
 }

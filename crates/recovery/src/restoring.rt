@@ -14,12 +14,10 @@ ghost use Rattle.model.specs.Limits.{diskSize};
 ghost use Rattle.model.specs.declared.CommitLayout.the-variants.{Numbers};
 ghost use Rattle.cells.specs.Answer.{Meets, Stores};
 ghost use Rattle.cells.specs.Cells.{worldIn};
-ghost use Rattle.recovery.specs.Recovering.{Shaped, OnDisk, IsValid};
-use crate::journals::Journals;
+ghost use Rattle.recovery.specs.Recovering.{Shaped, Emptying, IsValid};
 use crate::journals::emptied_tails;
 use crate::journals::newest_block;
 use crate::journals::read_disk;
-use crate::journals::valid_set;
 use crate::master::disk_shape;
 use crate::master::master_refusal;
 use cells::Answer;
@@ -27,9 +25,11 @@ use cells::RECOVERED;
 use cells::byte_in;
 use cells::come_up;
 use cells::phase_refusal;
+use journal::Runs;
 use layout::store_home;
 use master_block::store_master;
 use model::Shape;
+use model::Tail;
 
 // The first block is looked at once the slices have their lengths and the card is down.
 fn recover_refusal(w: &[u64], disk: &[u8], memory: &[u8]) -> u8
@@ -44,31 +44,66 @@ fn recover_refusal(w: &[u64], disk: &[u8], memory: &[u8]) -> u8
 }
 
 // The last store of recovery: one master with all journals empty, for commits with numbers. The card is up.
-fn bring_up(w: &mut [u64], s: Shape, all: Journals, disk: &mut [u8])
-    requires { ⌜ (length (now w) ≡ 423) × Shaped s (now disk) × OnDisk s (now disk) (all .layout) (all .tails) (all .committed) ⌝ }
+fn bring_up(w: &mut [u64], s: Shape, before: [Tail; 8], count: [u8; 8], disk: &mut [u8])
+    requires { ⌜ (length (now w) ≡ 423) × Shaped s (now disk) × Emptying s (now disk) before count ⌝ }
     ensures { λ _. ⌜
         Stores (recoverStep in-sequence (layoutOn (now (disk .entry))) Numbers [])
         (now (w .entry)) (now (w .exit)) (now (disk .entry)) (now (disk .exit))
         ⌝ }
 {
-    let before = all.tails;
-    let committed = all.committed;
-    let tails = emptied_tails(s, before, &committed);
+    let tails = emptied_tails(s, before, count);
     store_master(s, tails, disk);
     come_up(w, s, tails);
 }
 
 // A home store of recovery, of the lowest block left; recovery has then passed it.
-fn restore_block(w: &mut [u64], s: Shape, disk: &mut [u8], valid: &[u16; 96], b: u8)
-    requires { ⌜ (length (now w) ≡ 423) × Shaped s (now disk) × IsValid s (now disk) (now valid) × (b < s .blocks) ⌝ }
+fn restore_block(
+    w: &mut [u64],
+    s: Shape,
+    disk: &mut [u8],
+    extents: &[u16; 96],
+    stamps: &[u64; 96],
+    valid: Runs,
+    b: u8,
+)
+    requires { ⌜
+        (length (now w) ≡ 423) × Shaped s (now disk)
+        × IsValid s (now disk) (now extents) (now stamps) (valid .start) (valid .count) × (b < s .blocks)
+        ⌝ }
     ensures { λ _. ⌜
         ((bs : List ℕ) → Stores (recoverStep in-sequence (layoutOn (now (disk .entry))) Numbers (b ∷ bs))
         (now (w .entry)) (now (w .exit)) (now (disk .entry)) (now (disk .exit)))
         ⌝ }
 {
-    let image = newest_block(s, disk, valid, b);
+    let image = newest_block(s, disk, extents, stamps, valid, b);
     store_home(s, b, image, disk);
     w[RECOVERED] = b as u64 + 1;
+}
+
+// The next store of recovery: the lowest block left of the valid set, or with none the master.
+fn next_store(
+    w: &mut [u64],
+    s: Shape,
+    disk: &mut [u8],
+    extents: &[u16; 96],
+    stamps: &[u64; 96],
+    valid: Runs,
+    tails: [Tail; 8],
+    count: [u8; 8],
+)
+    requires { ⌜
+        (length (now w) ≡ 423) × Shaped s (now disk)
+        × IsValid s (now disk) (now extents) (now stamps) (valid .start) (valid .count) × Emptying s (now disk) tails count
+        ⌝ }
+    ensures { λ _. ⌜ Stores (recovered in-sequence) (now (w .entry)) (now (w .exit)) (now (disk .entry)) (now (disk .exit)) ⌝ }
+{
+    let from = byte_in(w, RECOVERED);
+    let b = images::next_held(s, disk, extents, valid, from);
+    if b < s.blocks {
+        restore_block(w, s, disk, extents, stamps, valid, b);
+        return;
+    }
+    bring_up(w, s, tails, count, disk);
 }
 
 // The next store of recovery over a disk whose first block is a master.
@@ -77,15 +112,15 @@ fn recovered(w: &mut [u64], disk: &mut [u8])
     ensures { λ _. ⌜ Stores (recovered in-sequence) (now (w .entry)) (now (w .exit)) (now (disk .entry)) (now (disk .exit)) ⌝ }
 {
     let s = disk_shape(disk);
-    let all = read_disk(s, disk);
-    let valid = valid_set(s, disk, all);
-    let from = byte_in(w, RECOVERED);
-    let b = valid::next_held(s, disk, &valid, from);
-    if b < s.blocks {
-        restore_block(w, s, disk, &valid, b);
-        return;
-    }
-    bring_up(w, s, all, disk);
+    let mut extents = [0u16; 96];
+    let mut stamps = [0u64; 96];
+    let all = read_disk(s, disk, &mut extents, &mut stamps);
+    let layout = all.layout;
+    let tails = all.tails;
+    let runs = all.runs;
+    let valid = valid::valid_runs(layout, s, disk, tails, &extents, runs);
+    let count = runs.count;
+    next_store(w, s, disk, &extents, &stamps, valid, tails, count);
 }
 
 // RECOVER. Memory takes no part: only its length is asked for.

@@ -1,3 +1,2 @@
--- What the contracts of the crate cite, beside the definitions of model: a set shrunk slot by slot, and images in one.
+-- What the contracts of the crate cite, beside the definitions of model and journal: a set lowered count by count.
 pub mod Sets
-pub mod Newest

@@ -1,25 +1,22 @@
--- The valid set over slots: a name looked up by its slot, of a list or a number for each core, the one before in the slot before, and
--- one round that strikes those with one of them unmet.
-use Prim.Native.Nat.{ℕ, _+_, _*_, _-_, _%_, _<_, min}
+-- The valid set as a count for each core. By paper 02, (c), it is a beginning of each core's records, so a name is met exactly if its number
+-- less the tail's is below its core's count; a round lowers each count to the first record that is not met.
+use Prim.Native.Nat.{ℕ, _+_, _-_, _/_, _%_, _≤_, _<_, min}
 use mathlib.Core.Path.{_≡_}
-use mathlib.Core.List.{List, map}
-use mathlib.Core.Bool.{Bool, false, cond, _&&_, _||_}
+use mathlib.Core.List.{List}
+use mathlib.Core.Bool.{Bool, true, false, cond, _&&_, _||_}
 use lib.ListN.{getD}
 use lib.Dec.{ltb, eqb}
 use Rattle.model.specs.Limits.{maxCores, maxNames}
-use Rattle.model.specs.Lists.{below}
+use Rattle.model.specs.Lists.{below, total}
 use Rattle.model.specs.Bytes.{Bytes}
 use Rattle.model.specs.Card.{newName, newTail}
 use Rattle.model.specs.Layout.{pairAt, nameCount, numberNamed}
-use Rattle.model.specs.Valid.{in-sequence, namesMet}
+use Rattle.model.specs.Journal.{journalAt}
 use Rattle.model.specs.declared.Shape.{Shape}
 use Rattle.model.specs.declared.Tail.{Tail}
 use Rattle.model.specs.declared.CommitLayout.{CommitLayout}
 use Rattle.model.specs.declared.CommitLayout.the-variants.{Lists, Numbers}
-use Rattle.model.specs.declared.Found.{Found}
-use Rattle.model.specs.declared.Found.the-variants.{Whole, Miss}
 use Rattle.layout.specs.Loops.{every}
-use Rattle.journal.specs.Slots.{isFilled, foundAt, entries}
 
 -- core c's tail number, of the eight that ks holds
 unfoldable pub tailNumber : List ℕ → ℕ → ℕ
@@ -29,42 +26,42 @@ tailNumber ks c = cond (ltb c 8) (getD ks c 0) 0
 unfoldable pub numbered : List ℕ → ℕ → Tail
 numbered ks c = newTail (tailNumber ks c) 0
 
--- transaction k of core c, where n is the core's tail number, is in the set
-unfoldable pub isHere : Shape → List ℕ → ℕ → ℕ → ℕ → Bool
-isHere s set n c k = ltb c (s .cores) && ltb (k - n) 12 && isFilled s set (12 * c + (k - n))
-
--- it is, or lies below the tail number; ks are the tail numbers
-unfoldable pub slotMet : Shape → List ℕ → List ℕ → ℕ → ℕ → Bool
-slotMet s ks set c k = ltb k (tailNumber ks c) || isHere s set (tailNumber ks c) c k
+-- transaction k of core c lies below the core's tail number, or is one of those that count
+unfoldable pub countMet : Shape → List ℕ → List ℕ → ℕ → ℕ → Bool
+countMet s ks count c k = ltb k (tailNumber ks c) || (ltb c (s .cores) && ltb (k - tailNumber ks c) (getD count c 0))
 
 -- the i-th name that a commit lists is met
 unfoldable pub nameMet : Shape → List ℕ → List ℕ → Bytes → ℕ → Bool
-nameMet s ks set f i = slotMet s ks set ((pairAt newName f 24 i) .core) ((pairAt newName f 24 i) .number)
+nameMet s ks count f i = countMet s ks count ((pairAt newName f 24 i) .core) ((pairAt newName f 24 i) .number)
 
 -- the number that a commit has for core c is met; where it has none, nothing is asked for
 unfoldable pub numberMet : Shape → List ℕ → List ℕ → Bytes → ℕ → Bool
-numberMet s ks set f c = eqb (numberNamed f c) 0 || slotMet s ks set c (numberNamed f c)
+numberMet s ks count f c = eqb (numberNamed f c) 0 || countMet s ks count c (numberNamed f c)
 
 -- each transaction that a commit names is met
 unfoldable pub commitMet : CommitLayout → Shape → List ℕ → List ℕ → Bytes → Bool
-commitMet Lists s ks set f = every (min (nameCount f) maxNames) (nameMet s ks set f)
-commitMet Numbers s ks set f = every maxCores (numberMet s ks set f)
+commitMet Lists s ks count f = every (min (nameCount f) maxNames) (nameMet s ks count f)
+commitMet Numbers s ks count f = every maxCores (numberMet s ks count f)
 
--- the one before the transaction in slot i is met: for its core's first below the tail, otherwise in the slot before
-unfoldable pub beforeMet : Shape → List ℕ → ℕ → Bool
-beforeMet s set i = eqb (i % 12) 0 || isFilled s set (i - 1)
+-- each that core c's record with extent x names is met
+unfoldable pub recordMet : CommitLayout → Shape → Bytes → List ℕ → List ℕ → ℕ → ℕ → Bool
+recordMet y s d ks count c x = commitMet y s ks count (journalAt s d c (x % 256 + (x / 256 + 1)))
 
--- a slot stays where all that its transaction requires is met
-unfoldable pub keepsSlot : CommitLayout → Shape → Bytes → List ℕ → List ℕ → Found → Bool
-keepsSlot y s d ks set Miss = false
-keepsSlot y s d ks set (Whole e) = namesMet in-sequence y s d (numbered ks) (entries s d ks set) e
+-- of n, the first m meet the test, and the next one does not
+pub record Begins (p : ℕ → Bool) (n m : ℕ) : Type 0 where
+  pub few : m ≤ n
+  pub met : every m p ≡ true
+  pub unmet : m < n → p m ≡ false
 
-unfoldable pub keptSlot : CommitLayout → Shape → Bytes → List ℕ → List ℕ → ℕ → ℕ
-keptSlot y s d ks set i = cond (keepsSlot y s d ks set (foundAt s d ks set i)) (getD set i 0) 0
+-- core c's count after a round, of n records from place a on; xs are the extents
+unfoldable pub LoweredTo : CommitLayout → Shape → Bytes → List ℕ → List ℕ → List ℕ → ℕ → ℕ → ℕ → ℕ → Type 0
+LoweredTo y s d ks xs count c a n m = Begins (λ (j : ℕ). recordMet y s d ks count c (getD xs (a + j) 0)) n m
 
-unfoldable pub struck : CommitLayout → Shape → Bytes → List ℕ → List ℕ → List ℕ
-struck y s d ks set = map (keptSlot y s d ks set) (below 96)
+-- the counts after a round
+unfoldable pub Lowered : CommitLayout → Shape → Bytes → List ℕ → List ℕ → List ℕ → List ℕ → List ℕ → Type 0
+Lowered y s d ks xs start before after =
+    (c : ℕ) → c < s .cores → LoweredTo y s d ks xs before c (getD start c 0) (getD before c 0) (getD after c 0)
 
--- the first n slots of two sets are the same
-unfoldable pub SameTo : List ℕ → List ℕ → ℕ → Type 0
-SameTo a b n = (i : ℕ) → i < n → getD a i 0 ≡ getD b i 0
+-- how many there are in all
+unfoldable pub totalCount : Shape → List ℕ → ℕ
+totalCount s count = total (λ (c : ℕ). getD count c 0) (below (s .cores))

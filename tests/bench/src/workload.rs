@@ -1,6 +1,7 @@
 // workload.rs: the tapes that both cards are measured on, made with the model so that each is known to run.
 
 use crate::plain::Plain;
+use crate::report::grouped;
 use card_library::session::Session;
 use card_library::stage::{Implementation, Stage};
 use card_tests::card::{Card, Phase};
@@ -86,11 +87,16 @@ impl Script {
         self.commands.push(command);
     }
 
+    /// One that is carried out.
+    fn carry_out(&mut self, command: Command) {
+        self.issue(command);
+        assert_eq!(self.answer, 0, "{command:?}");
+    }
+
     fn write(&mut self, core: u8, block: usize) {
         let count = self.commands.len();
         let data = (count as u32).to_be_bytes();
-        self.issue(Command::Write { core, block: block as u16, offset: 4 * (count % 32) as u8, data });
-        assert_eq!(self.answer, 0, "WRITE of core {core} into block {block}");
+        self.carry_out(Command::Write { core, block: block as u16, offset: 4 * (count % 32) as u8, data });
     }
 
     fn commit(&mut self, core: u8) {
@@ -139,6 +145,22 @@ impl Script {
     /// As many of one block as the journals hold.
     fn fill_up(&mut self, is_shared: bool) {
         self.fill(self.shape.cores as usize * (self.shape.journal as usize / 3), is_shared);
+    }
+
+    /// What `fill` left is checkpointed in the same order, that of the stamps, so that nothing is refused.
+    fn empty(&mut self, count: usize) {
+        for i in 0..count {
+            let core = (i % self.shape.cores as usize) as u8;
+            (0..2).for_each(|_| self.carry_out(Command::Checkpoint { core }));
+        }
+        assert!(self.card.cores.iter().all(|core| core.committed == 0), "{count} records");
+    }
+
+    /// RECOVER until the card is up.
+    fn recover(&mut self) {
+        while self.card.phase == Phase::Down {
+            self.carry_out(Command::Recover);
+        }
     }
 
     /// Recovery up to its last home store.
@@ -213,11 +235,18 @@ fn single(name: String, make_ready: impl FnOnce(&mut Script), command: Command) 
 
 /// One that has this answer.
 fn answered(answer: u8, name: String, make_ready: impl FnOnce(&mut Script), command: Command) -> Workload {
+    after(make_ready, name, |script| {
+        script.issue(command);
+        assert_eq!(script.answer, answer, "{command:?}");
+    })
+}
+
+/// What is issued to a card of the largest shape that was made ready for it.
+fn after(make_ready: impl FnOnce(&mut Script), name: String, issue: impl FnOnce(&mut Script)) -> Workload {
     let mut script = Script::new(LARGE);
     make_ready(&mut script);
     let start = script.commands.len();
-    script.issue(command);
-    assert_eq!(script.answer, answer, "{name}");
+    issue(&mut script);
     script.split_off(start, name)
 }
 
@@ -243,6 +272,18 @@ pub fn with_records(count: usize) -> Vec<Workload> {
         single(name("CHECKPOINT"), filled, Command::Checkpoint { core: 0 }),
         single(name("RECOVER"), |script| cut(script, filled), Command::Recover),
     ]
+}
+
+/// RECOVER over so many records of one block each, until the card is up.
+pub fn whole_recovery(count: usize) -> Workload {
+    let filled = |script: &mut Script| cut(script, |script| script.fill(count, false));
+    after(filled, format!("recovery of {count} records"), Script::recover)
+}
+
+/// CHECKPOINT of so many records of one block each, until the journals are empty.
+pub fn whole_checkpointing(count: usize) -> Workload {
+    let filled = |script: &mut Script| script.fill(count, false);
+    after(filled, format!("checkpointing of {count} records"), |script| script.empty(count))
 }
 
 /// CHECKPOINT and RECOVER with one record for each core, of so many blocks; STORE of the descriptor of one.
@@ -295,32 +336,44 @@ fn cut(script: &mut Script, make_ready: impl FnOnce(&mut Script)) {
 /// Every workload there is.
 pub fn all() -> Vec<Workload> {
     let records = RECORDS.into_iter().flat_map(with_records);
+    let wholes = WHOLES.into_iter().flat_map(|count| [whole_recovery(count), whole_checkpointing(count)]);
     let blocks = BLOCKS.into_iter().flat_map(with_blocks);
     tapes(LENGTH)
         .into_iter()
         .chain(writes())
         .chain(records)
+        .chain(wholes)
         .chain(blocks)
         .chain(with_eights())
-        .chain(worst())
+        .chain(valid())
+        .chain(struck())
         .chain(LENGTHS.map(of_length))
         .collect()
 }
 
+/// The sizes that are measured. Of one command a record of each core less than of a whole: a WRITE must find room in its journal.
 pub const RECORDS: [usize; 5] = [1, 8, 16, 32, 56];
+pub const WHOLES: [usize; 6] = [1, 8, 16, 32, 48, 64];
 pub const BLOCKS: [usize; 4] = [1, 2, 4, 8];
 pub const LENGTHS: [usize; 3] = [100, 1_000, 10_000];
 
-/// RECOVER of a disk with 96 records without blocks: none is struck, or one a round; with numbers, and with lists as on older disks.
-pub fn worst() -> Vec<Workload> {
-    let over = |layout: Layout, is_met: bool| {
-        let kind = if is_met { "valid" } else { "struck one by one" };
-        let name = format!("RECOVER, 96 {kind}{}", if layout == Layout::Lists { ", lists" } else { "" });
+/// RECOVER of a disk with 96 records without blocks, with numbers, and with lists as on older disks.
+fn worst(kind: &str, is_met: bool) -> [Workload; 2] {
+    [(Layout::Numbers, ""), (Layout::Lists, ", lists")].map(|(layout, suffix)| {
         let foreign = Some(directed::chain_disk(layout, 0, is_met));
-        Workload { name, foreign, prepare: Vec::new(), tape: tape_of(&[Command::Recover]), commands: 1 }
-    };
-    let layouts = [Layout::Numbers, Layout::Lists].into_iter();
-    layouts.flat_map(|layout| [over(layout, true), over(layout, false)]).collect()
+        let (name, tape) = (format!("RECOVER, 96 {kind}{suffix}"), tape_of(&[Command::Recover]));
+        Workload { name, foreign, prepare: Vec::new(), tape, commands: 1 }
+    })
+}
+
+/// None of the 96 is struck.
+pub fn valid() -> [Workload; 2] {
+    worst("valid", true)
+}
+
+/// One is struck a round.
+pub fn struck() -> [Workload; 2] {
+    worst("struck one by one", false)
 }
 
 /// The first so many commands of the write-heavy tape.
@@ -330,7 +383,8 @@ pub fn of_length(length: usize) -> Workload {
     for _ in 0..length {
         end = card_tests::command::read(&full.tape, end).map_or(full.tape.len(), |(_, next)| next);
     }
-    Workload { name: format!("{length} commands"), tape: full.tape[..end].to_vec(), commands: length, ..full }
+    let name = format!("{} commands", grouped(length as f64));
+    Workload { name, tape: full.tape[..end].to_vec(), commands: length, ..full }
 }
 
 /// Both cards must do the same on a workload, command by command, or nothing is measured.

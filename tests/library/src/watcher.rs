@@ -1,12 +1,12 @@
 // watcher.rs: another implementation of the card beside the model: answers, counts, offsets, every byte of disk and memory, block
-// readings. The library has more to compare: its cells, where a block is read, whole tapes.
+// readings. The library has more to compare: its cells, where a block is read, whole tapes. A pair of both can begin in any state.
 
 use crate::cells::{difference, of_card};
 use crate::session::{Done, Part, Session, Stop};
 use crate::stage::{Implementation, Stage};
 use card_tests::card::Card;
 use card_tests::checks::{Failure, Seen, Watcher};
-use card_tests::command::hex;
+use card_tests::command::{hex, Command};
 use card_tests::random::Random;
 
 /// Blocks that are read in turn: all that a card can have, and some that it cannot.
@@ -189,5 +189,34 @@ impl Watcher for Library {
         self.compare_cells(tape[offset], &seen)?;
         self.compare_part(&seen)?;
         self.behind.follow(tape, offset, done, &self.beside.stage)
+    }
+}
+
+/// The model's card in any state, and the library beside it as the same card over the same bytes.
+pub struct Pair {
+    pub card: Card,
+    pub disk: Vec<u8>,
+    pub memory: Vec<u8>,
+    /// The model's to the last command.
+    pub answer: u8,
+    library: Library,
+    tape: Vec<u8>,
+}
+
+impl Pair {
+    pub fn begin(card: Card, disk: &[u8], memory: &[u8]) -> Pair {
+        let mut library = Library::default();
+        library.begin_as(&card, disk, memory);
+        Pair { card, disk: disk.to_vec(), memory: memory.to_vec(), answer: 0, library, tape: Vec::new() }
+    }
+
+    /// One command by both, and how they differ if they do.
+    pub fn command(&mut self, command: Command) -> Result<(), String> {
+        let offset = self.tape.len();
+        command.write_to(&mut self.tape);
+        let outcome = self.card.command(&mut self.disk, &mut self.memory, &self.tape, offset);
+        self.answer = outcome.answer;
+        let seen = Seen { outcome, card: &self.card, disk: &self.disk, memory: &self.memory };
+        self.library.command(&self.tape, offset, seen)
     }
 }

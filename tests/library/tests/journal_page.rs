@@ -1,7 +1,7 @@
 // journal_page.rs: the library's page of a disk is the model's, line by line, on disks of runs, foreign and damaged ones, journals made
 // to end in each way, and slices of a wrong length. Only a buffer of 65 bytes is touched.
 
-use card_library::page::{lay_line, line_count};
+use card_library::page::{compared, lay_line, line_count};
 use card_tests::command::from_hex;
 use card_tests::directed::{chain_disk, highest_disk};
 use card_tests::disks::{disk_after, each_disk, P1_UNCUT};
@@ -74,18 +74,6 @@ impl Met {
 
 fn fields(line: &Line) -> Vec<&str> {
     std::str::from_utf8(line).expect("text").split_whitespace().collect()
-}
-
-/// The model's page of a disk, held against every line that the library lays, two past the last, and the farthest.
-fn compared(disk: &[u8]) -> Vec<Line> {
-    let right = page(disk);
-    assert_eq!(line_count(disk), right.len());
-    for i in (0..right.len() + 2).chain([usize::MAX]) {
-        let (mut out, line) = ([0xA5; 65], line_at(&right, i));
-        assert_eq!(lay_line(disk, i, &mut out), 0);
-        assert!(out == line, "line {i} is '{}', the model's '{}'", out.escape_ascii(), line.escape_ascii());
-    }
-    right
 }
 
 /// A copy with one to four bits flipped: in the master, anywhere, or mostly in the heads of blocks that its shape uses.

@@ -4,9 +4,9 @@
 use card_library::cells::of_card;
 use card_library::planner::{check_plan, plan};
 use card_library::session::Session;
-use card_library::watcher::Library;
+use card_library::watcher::{Library, Pair};
 use card_tests::card::Card;
-use card_tests::checks::{Bench, Checks, Seen, Watcher};
+use card_tests::checks::{Bench, Checks};
 use card_tests::command::Command;
 use card_tests::endings::RECOVERED;
 use card_tests::generator::Generator;
@@ -45,32 +45,27 @@ fn cards_that_narrow_too_early_are_told_apart() {
     }
     for (wrong, _) in NARROWING {
         let commands = |seed| differs(wrong, 10_000, seed).expect("it is told apart");
-        println!("{}: told from the library after {}", words(wrong), spread(commands));
+        println!("{}: told from the library after {}", words(wrong), spread("commands", commands));
     }
 }
 
 /// A card that is up over a made disk and counts every record as committed, beside the library: CHECKPOINT for each core in turn, then
 /// generated commands. The answers to the first round, and after how many commands the two differ.
 fn run_up(wrong: Wrong, made: &Made, generator: &mut Generator) -> (Vec<u8>, Option<usize>) {
-    let (mut card, mut library) = (Card { kind: wrong.into(), ..made.card() }, Library::default());
-    let (mut disk, mut memory) = (made.disk.clone(), vec![0; MEMORY]);
-    let (mut tape, mut first, mut differs) = (Vec::new(), Vec::new(), None);
-    library.begin_as(&card, &disk, &memory);
-    let cores = made.master.shape.cores;
+    let mut pair = Pair::begin(Card { kind: wrong.into(), ..made.card() }, &made.disk, &[0; MEMORY]);
+    let (mut first, cores) = (Vec::new(), made.master.shape.cores);
     generator.begin_with(made.master.shape);
     for i in 0..40 + 3 * cores {
-        let command = if i < 3 * cores { Command::Checkpoint { core: i % cores } } else { generator.command(&card) };
-        let offset = tape.len();
-        command.write_to(&mut tape);
-        let outcome = card.command(&mut disk, &mut memory, &tape, offset);
-        first.extend((i < cores).then_some(outcome.answer));
-        let seen = Seen { outcome, card: &card, disk: &disk, memory: &memory };
-        if library.command(&tape, offset, seen).is_err() {
-            differs = Some(i as usize + 1);
-            break;
+        let is_checkpoint = i < 3 * cores;
+        let command =
+            if is_checkpoint { Command::Checkpoint { core: i % cores } } else { generator.command(&pair.card) };
+        let compared = pair.command(command);
+        first.extend((i < cores).then_some(pair.answer));
+        if compared.is_err() {
+            return (first, Some(i as usize + 1));
         }
     }
-    (first, differs)
+    (first, None)
 }
 
 /// 31 is answered where the oldest record is the one with the wide number, or where there is none. The card reads numbers, as it would

@@ -6,18 +6,13 @@ use Rattle.model.specs.Lists.{total, sortBy}
 use Rattle.model.specs.Card.{shapeOf}
 use Rattle.model.specs.Command.{World, refusal, notUp}
 use Rattle.model.specs.declared.Name.{Name}
-use Rattle.model.specs.declared.Shape.{Shape}
-use Rattle.model.specs.declared.Tail.{Tail}
 use Rattle.model.specs.declared.Card.{Card}
-use Rattle.model.specs.declared.CommitLayout.the-variants.{Numbers}
 use Rattle.model.proofs.Select.{select-map}
 use Rattle.model.proofs.Sorting.{sort-map}
 use Rattle.model.proofs.Totals.{total-map}
-use Rattle.journal.specs.Walk.{Reads}
 use Rattle.cells.specs.Cells.{nameCell, world}
 use Rattle.cells.proofs.RefusalLaws.{up-numbers, passed-lengths}
-use Rattle.oldest.specs.Oldest.{Counts}
-use Rattle.oldest.proofs.CountLaws.{reads-card}
+use Rattle.oldest.specs.Oldest.{ReadNow}
 use Rattle.crash.specs.Book.{Stage, absent, running, closed, committed, retired, isRunning}
 use Rattle.planner.specs.declared.Work.{Work}
 use Rattle.planner.specs.declared.Tally.{Tally}
@@ -26,7 +21,7 @@ use Rattle.planner.specs.Plan.{Unretired, unretiredNow, closesFor, close
 use Rattle.planner.specs.Result.{places, orderIn, planOf}
 use Rattle.planner.specs.Works.{workOf, worksTo}
 use Rattle.planner.specs.Insertion.{workStamp, workName, workStores, workCommands, byStamp, runningOnes, Tallied}
-use Rattle.planner.proofs.CodeLaws.PlaceLaws.{works-unretired}
+use Rattle.planner.proofs.CodeLaws.UnretiredLaws.{works-unretired}
 use Rattle.planner.proofs.Doing.PlanLaws.{plan-refused, plan-is}
 
 -- ---- works of unretired transactions
@@ -74,7 +69,8 @@ module _ (us : List Unretired) where
   module _ (ss ns : List ℕ) (t : Tally) (u : Tallied 112 (map workOf us) ss ns t) where
     count-ordered : t .count ≡ length orderNames
     count-ordered =
-        let a : length (map workName (byStamp (map workOf us)) ++ map workName (runningOnes (map workOf us))) ≡ length orderNames = ap length names-ordered ∙ length-map orderNames nameCell in
+        let a : length (map workName (byStamp (map workOf us)) ++ map workName (runningOnes (map workOf us))) ≡ length orderNames =
+        ap length names-ordered ∙ length-map orderNames nameCell in
         omega (
           arith,
           u .count,
@@ -95,13 +91,12 @@ module _ (us : List Unretired) where
     answer-for = rw (u .commands ∙ commands-works, u .stores ∙ stores-works, count-ordered, order-ordered) refl
 
 -- ---- the answers
-pub answer-up : (x : Card) (d : Bytes) (s : Shape) → s ≡ shapeOf x → (ts : List Tail) → ts ≡ x .tails → (most slots : List ℕ) → Counts x most
-    → Reads Numbers s d ts most slots
-    → (ss ns : List ℕ) (t : Tally) → Tallied 112 (worksTo x d slots 112) ss ns t → (m : Bytes)
+pub answer-up : (x : Card) (d xs zs start count : List ℕ) → ReadNow x d xs zs start count
+    → (ss ns : List ℕ) (t : Tally) → Tallied 112 (worksTo x xs zs start count ((shapeOf x) .cores)) ss ns t → (m : Bytes)
     → record { number = 0; commands = t .commands; stores = t .stores; count = t .count; order = ns } ≡ planOf (planFor (unretiredNow (world x d m)))
-answer-up x d s p ts y most slots q r ss ns t u m =
+answer-up x d xs zs start count r ss ns t u m =
     answer-for (unretiredNow (world x d m)) ss ns t
-    (subst (λ (ks : List Work). Tallied 112 ks ss ns t) (works-unretired x d slots m (reads-card x d s p ts y most slots q r)) u)
+    (subst (λ (ks : List Work). Tallied 112 ks ss ns t) (works-unretired x d xs zs start count r m) u)
 
 refused-as : (w : World) (n : ℕ) → refusal (notUp w []) ≡ n → (n ≡ 0 → ⊥) → plan w ≡ noPlan n
 refused-as w zero q h = absurd (h refl)

@@ -5,4 +5,7 @@ use Rattle.checkpoint.proofs.retired.freed_cell.Statement.{statement}
 use Rattle.checkpoint.proofs.retired.freed_cell.Tie as tie
 
 pub freed-cell-spec : {M : Type 1} → statement M
-freed-cell-spec = tie.close (tie.spec (λ c. search (needs, freed-none)) (λ c. search needs) (λ c κs. search needs) (λ c κs. search needs) (λ c. search (needs, freed-own)) (λ c. search (needs, freed-other)))
+freed-cell-spec =
+    tie.close
+    (tie.spec (λ c. search (needs, freed-none)) (λ c. search needs) (λ c κs. search needs) (λ c κs. search needs) (λ c. search (needs, freed-own))
+    (λ c. search (needs, freed-other)))

@@ -14,4 +14,6 @@ abbrev μ-loop : tie.MeasureT-loop
 pub release-spec : {M : Type 1} → statement M
 release-spec =
     tie.close
-    (tie.spec Inv-loop μ-loop (λ c. release-start _ _) (λ c. search needs) (λ c. search needs) (λ c. search (needs, release-in)) (λ c κs. search needs) (λ c. search needs) (λ c. search needs) (λ c. search (needs, release-in)) (λ c. search needs) (λ c. search needs) (λ c. search (needs, release-more)) (λ c. search needs) (λ c. (search (needs, release-end), search needs)))
+    (tie.spec Inv-loop μ-loop (λ c. release-start _ _) (λ c. search needs) (λ c. search needs) (λ c. search (needs, release-in)) (λ c κs. search needs)
+    (λ c. search needs) (λ c. search needs) (λ c. search (needs, release-in)) (λ c. search needs) (λ c. search needs) (λ c. search (needs, release-more))
+    (λ c. search needs) (λ c. (search (needs, release-end), search needs)))

@@ -8,4 +8,5 @@ use Rattle.checkpoint.proofs.retired.retire.Tie as tie
 pub retire-spec : {M : Type 1} → statement M
 retire-spec =
     tie.close
-    (tie.spec (λ c κs. search needs) (λ c κs. search (needs, same-long)) (λ c κs. search (needs, same-long)) (λ c. search needs) (λ c. (search (needs, retired-card), search (needs, retired-frame))))
+    (tie.spec (λ c κs. search needs) (λ c κs. search (needs, same-long)) (λ c κs. search (needs, same-long)) (λ c. search needs)
+    (λ c. (search (needs, retired-card), search (needs, retired-frame))))

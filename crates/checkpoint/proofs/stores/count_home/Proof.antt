@@ -7,4 +7,5 @@ use Rattle.checkpoint.proofs.stores.count_home.Tie as tie
 pub count-home-spec : {M : Type 1} → statement M
 count-home-spec =
     tie.close
-    (tie.spec (λ c κs. search needs) (λ c κs. search needs) (λ c. search needs) (λ c κs. search needs) (λ c. search needs) (λ c κs. search needs) (λ c. search needs) (λ c κs. search needs) (λ c. search needs) (λ c. (search (needs, core-homed), search needs)))
+    (tie.spec (λ c κs. search needs) (λ c κs. search needs) (λ c. search needs) (λ c κs. search needs) (λ c. search needs) (λ c κs. search needs)
+    (λ c. search needs) (λ c κs. search needs) (λ c. search needs) (λ c. (search (needs, core-homed), search needs)))

@@ -8,4 +8,5 @@ use Rattle.checkpoint.proofs.stores.next_store.Tie as tie
 pub next-store-spec : {M : Type 1} → statement M
 next-store-spec =
     tie.close
-    (tie.spec (λ c κs. search needs) (λ c. search needs) (λ c κs. search needs) (λ c κs. search (needs, homed-there)) (λ c. search needs) (λ c. search needs) (λ c. search (needs, next-home)) (λ c κs. search needs) (λ c. search needs) (λ c. search needs) (λ c. search (needs, next-master)))
+    (tie.spec (λ c κs. search needs) (λ c. search needs) (λ c κs. search needs) (λ c κs. search (needs, homed-there)) (λ c. search needs) (λ c. search needs)
+    (λ c. search (needs, next-home)) (λ c κs. search needs) (λ c. search needs) (λ c. search needs) (λ c. search (needs, next-master)))

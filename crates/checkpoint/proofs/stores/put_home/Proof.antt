@@ -6,4 +6,7 @@ use Rattle.checkpoint.proofs.stores.put_home.Statement.{statement}
 use Rattle.checkpoint.proofs.stores.put_home.Tie as tie
 
 pub put-home-spec : {M : Type 1} → statement M
-put-home-spec = tie.close (tie.spec (λ c κs. search needs) (λ c κs. search (needs, is-sized)) (λ c κs. search needs) (λ c κs. search needs) (λ c κs. search needs) (λ c. search needs) (λ c. search (needs, home-put)))
+put-home-spec =
+    tie.close
+    (tie.spec (λ c κs. search needs) (λ c κs. search (needs, is-sized)) (λ c κs. search needs) (λ c κs. search needs) (λ c κs. search needs) (λ c. search needs)
+    (λ c. search (needs, home-put)))

@@ -1,6 +1,6 @@
 -- `journal_page::disk_lines::end_line` meets its contract.
-use borrow.Author.Needs.{needs}
 use Rattle.journal_page.proofs.DiskLineLaws.{end-none, end-shown}
+use borrow.Author.Needs.{needs}
 use Rattle.journal_page.proofs.disk_lines.end_line.Statement.{statement}
 use Rattle.journal_page.proofs.disk_lines.end_line.Tie as tie
 

@@ -39,23 +39,24 @@ add-result-2 c =
     let r = range _ _ (c .before .before .clamped .ensures) in
     omega (arith, product (c .before .before .before .args .c) (c .before .before .clamped .result .journal) (search needs) (r .short))
 
-rem-result : tie.Need-rem-result
-rem-result c = let r = range _ _ (c .before .before .clamped .ensures) in omega (arith, r .long)
+around-requires : tie.Need-around-requires
+around-requires c κs = search needs
 
 add-result-3 : tie.Need-add-result-3
 add-result-3 c =
-    let r = range _ _ (c .before .before .clamped .ensures) in
-    let z : 0 < c .before .before .clamped .result .journal = omega (arith, r .long) in
+    let r = range _ _ (c .before .before .before .clamped .ensures) in
+    let z : 0 < c .before .before .before .clamped .result .journal = omega (arith, r .long) in
     omega (
       arith,
-      product (c .before .before .before .args .c) (c .before .before .clamped .result .journal) (search needs) (r .short),
-      mod-lt (c .before .before .before .args .p) z,
+      product (c .before .before .before .before .args .c) (c .before .before .before .clamped .result .journal) (search needs) (r .short),
+      mod-lt (c .before .before .before .before .args .p) z,
+      c .around .ensures,
     )
 
 returns : tie.Need-returns
 unfolding journalBlock
-returns c = rw (c .before .before .clamped .ensures)
+returns c = rw (c .around .ensures, c .before .before .before .clamped .ensures)
 
 pub journal-block-spec : {M : Type 1} → statement M
 journal-block-spec =
-    tie.close (tie.spec clamped-requires cast-j cast-result add-result mul-result add-result-2 rem-result add-result-3 returns)
+    tie.close (tie.spec clamped-requires cast-j cast-result add-result mul-result add-result-2 around-requires add-result-3 returns)

@@ -7,4 +7,5 @@ use Rattle.oldest.proofs.committed.counted.Tie as tie
 pub counted-spec : {M : Type 1} → statement M
 counted-spec =
     tie.close
-    (tie.spec (λ c κs. search needs) (λ c κs. search needs) (λ c κs. search needs) (λ c. search (needs, count-none)) (λ c. search needs) (λ c κs. search needs) (λ c κs. search needs) (λ c. search needs) (λ c κs. search needs) (λ c. search (needs, count-closed)) (λ c κs. search needs) (λ c. search (needs, count-open)))
+    (tie.spec (λ c κs. search needs) (λ c κs. search needs) (λ c κs. search needs) (λ c. search (needs, count-none)) (λ c. search needs) (λ c κs. search needs)
+    (λ c κs. search needs) (λ c. search needs) (λ c κs. search needs) (λ c. search (needs, count-closed)) (λ c κs. search needs) (λ c. search (needs, count-open)))

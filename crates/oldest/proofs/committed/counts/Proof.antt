@@ -17,4 +17,5 @@ abbrev μ-loop : tie.MeasureT-loop
 pub counts-spec : {M : Type 1} → statement M
 counts-spec =
     tie.close
-    (tie.spec Inv-loop μ-loop (λ c κs. search needs) (λ c. (search (needs, few-cores), filled-none _ _ _ (search needs))) (λ c κs. search needs) (λ c. search needs) (λ c. search needs) (λ c. search needs) (λ c. search needs) (λ c. (search needs, search (needs, count-made))) (λ c. search (needs, all-counts)))
+    (tie.spec Inv-loop μ-loop (λ c κs. search needs) (λ c. (search (needs, few-cores), filled-none _ _ _ (search needs))) (λ c κs. search needs) (λ c. search needs)
+    (λ c. search needs) (λ c. search needs) (λ c. search needs) (λ c. (search needs, search (needs, count-made))) (λ c. search (needs, all-counts)))

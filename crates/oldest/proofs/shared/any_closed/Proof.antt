@@ -17,4 +17,5 @@ abbrev μ-loop : tie.MeasureT-loop
 pub any-closed-spec : {M : Type 1} → statement M
 any-closed-spec =
     tie.close
-    (tie.spec Inv-loop μ-loop (λ c. search missed) (λ c κs. search needs) (λ c κs. search (needs, closed-in)) (λ c. search (missed, is-lower)) (λ c. search needs) (λ c. search needs) (λ c. search (missed, is-lower)) (λ c. search missed))
+    (tie.spec Inv-loop μ-loop (λ c. search missed) (λ c κs. search needs) (λ c κs. search (needs, closed-in)) (λ c. search (missed, is-lower)) (λ c. search needs)
+    (λ c. search needs) (λ c. search (missed, is-lower)) (λ c. search missed))

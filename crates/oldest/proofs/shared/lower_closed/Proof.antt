@@ -7,4 +7,5 @@ use Rattle.oldest.proofs.shared.lower_closed.Tie as tie
 pub lower-closed-spec : {M : Type 1} → statement M
 lower-closed-spec =
     tie.close
-    (tie.spec (λ c κs. search needs) (λ c. search (needs, closed-none)) (λ c. search needs) (λ c. search needs) (λ c. search needs) (λ c. search (needs, closed-later)) (λ c κs. search needs) (λ c. search (needs, closed-earlier)))
+    (tie.spec (λ c κs. search needs) (λ c. search (needs, closed-none)) (λ c. search needs) (λ c. search needs) (λ c. search needs)
+    (λ c. search (needs, closed-later)) (λ c κs. search needs) (λ c. search (needs, closed-earlier)))

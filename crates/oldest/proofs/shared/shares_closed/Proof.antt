@@ -20,4 +20,6 @@ abbrev μ-loop : tie.MeasureT-loop
 pub shares-closed-spec : {M : Type 1} → statement M
 shares-closed-spec =
     tie.close
-    (tie.spec Inv-loop μ-loop (λ c. search needs) (λ c. (search needs, search needs, none-shared _ _ _ _)) (λ c κs. search needs) (λ c κs. search needs) (λ c. search (needs, one-shared)) (λ c. search needs) (λ c. search needs) (λ c. (search needs, search needs, search (needs, more-unshared))) (λ c. search (needs, end-shared)))
+    (tie.spec Inv-loop μ-loop (λ c. search needs) (λ c. (search needs, search needs, none-shared _ _ _ _)) (λ c κs. search needs) (λ c κs. search needs)
+    (λ c. search (needs, one-shared)) (λ c. search needs) (λ c. search needs) (λ c. (search needs, search needs, search (needs, more-unshared)))
+    (λ c. search (needs, end-shared)))

@@ -21,4 +21,6 @@ abbrev μ-loop : tie.MeasureT-loop
 pub takes-block-spec : {M : Type 1} → statement M
 takes-block-spec =
     tie.close
-    (tie.spec Inv-loop μ-loop (λ c κs. search needs) (λ c. (search needs, search needs, search (needs, none-taken))) (λ c. search needs) (λ c. search needs) (λ c κs. search needs) (λ c. search (needs, block-hit)) (λ c. search needs) (λ c. search needs) (λ c. (search needs, search needs, search (needs, block-missed))) (λ c. search (needs, not-taken)))
+    (tie.spec Inv-loop μ-loop (λ c κs. search needs) (λ c. (search needs, search needs, search (needs, none-taken))) (λ c. search needs) (λ c. search needs)
+    (λ c κs. search needs) (λ c. search (needs, block-hit)) (λ c. search needs) (λ c. search needs)
+    (λ c. (search needs, search needs, search (needs, block-missed))) (λ c. search (needs, not-taken)))

@@ -5,4 +5,7 @@ use Rattle.recovery.proofs.journals.emptied_tail.Statement.{statement}
 use Rattle.recovery.proofs.journals.emptied_tail.Tie as tie
 
 pub emptied-tail-spec : {M : Type 1} → statement M
-emptied-tail-spec = tie.close (tie.spec (λ c. search needs) (λ c. search (needs, after-none)) (λ c. search needs) (λ c κs. search needs) (λ c. search needs) (λ c. search needs) (λ c κs. search needs) (λ c. search (needs, after-some)))
+emptied-tail-spec =
+    tie.close
+    (tie.spec (λ c. search needs) (λ c. search (needs, after-none)) (λ c. search needs) (λ c. search needs) (λ c. search needs) (λ c κs. search needs)
+    (λ c. search (needs, after-some)))

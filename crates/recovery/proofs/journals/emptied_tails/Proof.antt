@@ -8,10 +8,10 @@ use Rattle.recovery.proofs.journals.emptied_tails.Statement.{statement}
 use Rattle.recovery.proofs.journals.emptied_tails.Tie as tie
 
 abbrev Inv-loop : tie.InvT-loop
-Inv-loop s tails slots out₀ c₀ out c = Filled (tailAfter s tails slots) 8 out c
+Inv-loop s tails count out₀ c₀ out c = Filled (tailAfter s tails count) 8 out c
 
 abbrev μ-loop : tie.MeasureT-loop
-μ-loop s tails slots out₀ c₀ out c = 8 - c
+μ-loop s tails count out₀ c₀ out c = 8 - c
 
 pub emptied-tails-spec : {M : Type 1} → statement M
 emptied-tails-spec = tie.close (tie.spec Inv-loop μ-loop (λ c. search (facts, filled-none)) (λ c κs. search needs) (λ c. search needs) (λ c. search needs) (λ c. search needs) (λ c. search needs) (λ c. search (needs, filled-more)) (λ c. search (needs, filled-all)))

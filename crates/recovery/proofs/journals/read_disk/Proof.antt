@@ -6,4 +6,7 @@ use Rattle.recovery.proofs.journals.read_disk.Statement.{statement}
 use Rattle.recovery.proofs.journals.read_disk.Tie as tie
 
 pub read-disk-spec : {M : Type 1} → statement M
-read-disk-spec = tie.close (tie.spec (λ c κs. search needs) (λ c. search needs) (λ c. search needs) (λ c. search needs) (λ c κs. (search needs, search (needs, master-part))) (λ c κs. search needs) (λ c. search (needs, all-read)))
+read-disk-spec =
+    tie.close
+    (tie.spec (λ c κs. search needs) (λ c. search needs) (λ c. search needs) (λ c. search needs) (λ c κs. (search needs, search (needs, master-part)))
+    (λ c κs. search needs) (λ c. search needs) (λ c. search needs) (λ c. search (needs, all-read)))

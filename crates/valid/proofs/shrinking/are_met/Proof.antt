@@ -7,10 +7,10 @@ use Rattle.valid.proofs.shrinking.are_met.Statement.{statement}
 use Rattle.valid.proofs.shrinking.are_met.Tie as tie
 
 abbrev Inv-loop : tie.InvT-loop
-Inv-loop s ks set commit n i₀ i = Passed (nameMet s ks set commit) n i
+Inv-loop s ks count commit n i₀ i = Passed (nameMet s ks count commit) n i
 
 abbrev μ-loop : tie.MeasureT-loop
-μ-loop s ks set commit n i₀ i = n - i
+μ-loop s ks count commit n i₀ i = n - i
 
 pub are-met-spec : {M : Type 1} → statement M
 are-met-spec =

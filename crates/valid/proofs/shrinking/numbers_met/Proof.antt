@@ -7,10 +7,10 @@ use Rattle.valid.proofs.shrinking.numbers_met.Statement.{statement}
 use Rattle.valid.proofs.shrinking.numbers_met.Tie as tie
 
 abbrev Inv-loop : tie.InvT-loop
-Inv-loop s ks set commit c₀ c = Passed (numberMet s ks set commit) 8 c
+Inv-loop s ks count commit c₀ c = Passed (numberMet s ks count commit) 8 c
 
 abbrev μ-loop : tie.MeasureT-loop
-μ-loop s ks set commit c₀ c = 8 - c
+μ-loop s ks count commit c₀ c = 8 - c
 
 pub numbers-met-spec : {M : Type 1} → statement M
 numbers-met-spec =

@@ -1,5 +1,5 @@
--- `valid::strike_round` meets its contract: the slots that a round leaves; it keeps those whose descriptors have passed the range test.
-use Rattle.valid.proofs.Sets.{round-tested}
+-- `valid::strike_round` meets its contract: the counts after a round; those that remain have passed the range test.
+use Rattle.valid.proofs.ShrinkLaws.{round-tested}
 use borrow.Author.Needs.{needs}
 use Rattle.valid.proofs.shrinking.strike_round.Statement.{statement}
 use Rattle.valid.proofs.shrinking.strike_round.Tie as tie

@@ -2,7 +2,7 @@
 use Prim.Native.Nat.{_-_}
 use borrow.Author.Needs.{needs}
 use Rattle.layout.proofs.Loops.{Filled, filled}
-use Rattle.valid.proofs.Sets.{numberAt, number-is, all-numbers}
+use Rattle.valid.proofs.Lowering.{numberAt, number-passed, all-numbers}
 use Rattle.valid.proofs.shrinking.tail_numbers_of.Statement.{statement}
 use Rattle.valid.proofs.shrinking.tail_numbers_of.Tie as tie
 
@@ -16,5 +16,5 @@ pub tail-numbers-of-spec : {M : Type 1} → statement M
 tail-numbers-of-spec =
     tie.close
     (tie.spec Inv-loop μ-loop (λ c. search filled) (λ c. search needs) (λ c. search needs) (λ c κs. search needs)
-    (λ c. search needs) (λ c. search needs) (λ c. search needs) (λ c. search needs) (λ c. search (filled, number-is))
+    (λ c. search needs) (λ c. search needs) (λ c. search needs) (λ c. search needs) (λ c. search (filled, number-passed))
     (λ c. search (needs, all-numbers)))
