@@ -1,4 +1,5 @@
-/* card.c: a card is formatted, written, committed, loses its power and is recovered; then the block is read where it stands.
+/* card.c: a card is formatted, written, committed, loses its power and is recovered; then the block is read where it stands. Another
+ * transaction is committed, stored home and retired.
  * Prints each command with its answer, how much work it would be to empty the journals, the journal page of the disk that the power left,
  * and what came back. README.md, 'The library', says how it is built. */
 #include <assert.h>
@@ -16,9 +17,9 @@ static uint64_t cells[REV_D_CELLS];
 static uint8_t disk[REV_D_DISK];
 static uint8_t memory[REV_D_MEMORY];
 
-static const char *const names[] = {"", "FORMAT", "WRITE", "CLOSE", "STORE", "CHECKPOINT", "CUT", "RECOVER"};
+static const char *const names[] = {"", "FORMAT", "WRITE", "CLOSE", "STORE", "CHECKPOINT", "CUT", "RECOVER", "RETIRE"};
 
-/* Block 3 is written by core 0, which commits; core 1 writes block 2 and does not. */
+/* Block 3 is written by core 0, which commits; core 1 writes block 2 and does not, and after the cut does. */
 static const uint8_t tape[] = {
     1, 2, 4, 12,                          /* FORMAT: 2 cores, 4 home blocks, 12 journal blocks each */
     2, 0, 0, 3,  8, 'r', 'e', 'v', 'D',   /* WRITE: core 0, block 3, offset 8 */
@@ -28,6 +29,9 @@ static const uint8_t tape[] = {
     4, 0, 4, 0,  4, 0,                    /* STORE: descriptor, data, commit */
     6,                                    /* CUT */
     7, 7,                                 /* RECOVER: block 3, then the master */
+    2, 1, 0, 2,  8, 'k', 'e', 'p', 't',   /* WRITE: core 1, block 2, offset 8 */
+    3, 1, 4, 1,  4, 1, 4, 1,              /* CLOSE, STORE: core 1 */
+    5, 1, 8, 1,                           /* CHECKPOINT: block 2 home; RETIRE: the master */
 };
 
 /* The commands between two offsets of the tape. */
@@ -78,10 +82,15 @@ int main(void) {
     run(39, 40);
     print_plan();
     print_page();
-    run(40, sizeof tape);
+    run(40, 42);
     print_block(3);
     print_block(2);
     print_block(4);
+    run(42, 59);
+    print_plan();
+    run(59, sizeof tape);
+    print_plan();
+    print_block(2);
 
     /* The same in one call, from a blank card again. */
     rev_d_blank(cells);

@@ -46,7 +46,7 @@ extern "C" {
  *     looked at
  * 20  blank (all but FORMAT)
  * 21  FORMAT, not blank
- * 22  down (WRITE, CLOSE, STORE, CHECKPOINT, reading), and the planner
+ * 22  down (WRITE, CLOSE, STORE, CHECKPOINT, reading), RETIRE and the planner
  * 23  RECOVER while up
  * 25  a ninth block
  * 26  journal full: blocks of the records of closed unretired transactions, stored yet or not, plus 2 and the blocks of the
@@ -55,11 +55,13 @@ extern "C" {
  * 28  CLOSE, none running
  * 29  CLOSE, the previous is not fully stored
  * 30  STORE, none closed and still uncommitted
- * 31  CHECKPOINT, none committed
- * 32  CHECKPOINT, oldest not valid
- * 33  CHECKPOINT, a lower-stamped unretired transaction shares a block (both took it)
+ * 31  CHECKPOINT, none committed; RETIRE too
+ * 32  CHECKPOINT, oldest not valid; RETIRE too
+ * 33  CHECKPOINT, a lower-stamped unretired transaction shares a block (both took it); RETIRE too
+ * 34  home stores outstanding (RETIRE)
+ * 35  all home stores done (CHECKPOINT)
  *
- * Where several hold: 1, 2, 3, then 20 to 23, then 4 to 8, then 25 to 33, lowest first.
+ * Where several hold: 1, 2, 3, then 20 to 23, then 4 to 8, then 25 to 35, lowest first.
  */
 
 /* The cells. They may be looked at, copied and put back; a copy put back goes with the disk and memory of the same moment.
@@ -124,7 +126,11 @@ void rev_d_down(uint64_t *cells);
 /* The command at an offset of a tape: one byte, then operands of fixed widths, numbers big-endian.
  *
  * 1 FORMAT C, B, J | 2 WRITE core, block (2 bytes), offset, data (4 bytes) | 3 CLOSE core | 4 STORE core | 5 CHECKPOINT core | 6 CUT
- * | 7 RECOVER
+ * | 7 RECOVER | 8 RETIRE core
+ *
+ * CHECKPOINT stores the next block of the core's oldest committed transaction home. Once all of these are home, RETIRE stores the
+ * master, which retires the transaction; one that took no block needs RETIRE alone. With no other command in between, a cut between the
+ * two brings back the same home area as one before both.
  *
  * `next` is behind the command. After 2 or 3 the tape ends: `next` is its length, or `at` where that is greater. Over slices of a wrong
  * length it is the same. */
@@ -147,13 +153,13 @@ uint8_t rev_d_read_block(const uint64_t *cells, uint16_t block, const uint8_t *d
                          size_t memory_length, uint8_t *out);
 
 /* How much work it is until the journals are empty and nothing is closed or runs, if nobody writes meanwhile: nothing is done, `out` is
- * filled. Its cells: the number (0, 1, 20 or 22); how many CLOSE, STORE and CHECKPOINT commands; how many of them store; how many
- * transactions are not retired; from cell 4 on their names (8 * number + core) in the order in which they may be checkpointed. All other
- * cells are 0. Where refused, cell 0 has the number and all others are 0.
+ * filled. Its cells: the number (0, 1, 20 or 22); how many CLOSE, STORE, CHECKPOINT and RETIRE commands; how many of them store; how
+ * many transactions are not retired; from cell 4 on their names (8 * number + core) in the order in which they may be stored home and
+ * retired. All other cells are 0. Where refused, cell 0 has the number and all others are 0.
  *
  * On a disk that the card formatted the figure is met by STORE for the lowest core with a closed transaction, else CLOSE for the lowest
- * with a running one, else CHECKPOINT for the core of the first name of the order that is not yet retired; none of these is refused, and
- * no shorter run of such commands empties the journals. */
+ * with a running one, else, for the core of the first name of the order that is not yet retired, CHECKPOINT once for each block of it
+ * that is not yet stored home, then RETIRE; none of these is refused, and no shorter run of such commands empties the journals. */
 void rev_d_plan(const uint64_t *cells, const uint8_t *disk, size_t disk_length, const uint8_t *memory, size_t memory_length,
                 uint64_t *out);
 

@@ -13,7 +13,6 @@ struct Entry {
     /// The one before it on its core since the last cut.
     before: Option<usize>,
     stores: usize,
-    home_stores: usize,
     committed: bool,
 }
 
@@ -78,9 +77,10 @@ impl Book {
             Command::Write { core, block, offset, data } => self.write(core, block as usize, offset, data),
             Command::Close { core } => self.close(core),
             Command::Store { core } => self.store(core),
-            Command::Checkpoint { core } => self.checkpoint(core),
             Command::Cut => self.cut(),
-            Command::Recover => {}
+            Command::Retire { core } => self.retire(core),
+            // a block counted as stored home changes nothing: RETIRE, which counts for the master, retires
+            Command::Checkpoint { .. } | Command::Recover => {}
         }
     }
 
@@ -150,15 +150,11 @@ impl Book {
         }
     }
 
-    fn checkpoint(&mut self, core: u8) {
+    /// It holds nothing from then on, but stays committed.
+    fn retire(&mut self, core: u8) {
         let Some(core) = self.cores.get_mut(core as usize) else { return };
-        let Some(&oldest) = core.committed.front() else { return };
-        let entry = &mut self.entries[oldest];
-        entry.home_stores += 1;
-        if entry.home_stores == entry.took.len() + 1 {
-            core.committed.pop_front();
-            self.holders.iter_mut().filter(|holder| **holder == Some(oldest)).for_each(|holder| *holder = None);
-        }
+        let Some(oldest) = core.committed.pop_front() else { return };
+        self.holders.iter_mut().filter(|holder| **holder == Some(oldest)).for_each(|holder| *holder = None);
     }
 
     fn cut(&mut self) {

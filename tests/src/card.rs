@@ -148,6 +148,7 @@ impl Card {
             Command::Checkpoint { core } => self.checkpoint(lent, core),
             Command::Cut => self.cut(lent),
             Command::Recover => self.recover(lent),
+            Command::Retire { core } => self.retire(lent, core),
         }
     }
 

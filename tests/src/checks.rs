@@ -71,6 +71,18 @@ pub trait Watcher {
     fn command(&mut self, tape: &[u8], offset: usize, seen: Seen) -> Result<(), String>;
 }
 
+/// How RETIREs came.
+#[derive(Clone, Copy, Debug, Default)]
+pub struct Retiring {
+    /// Done with another command since the last home store, and of a transaction without blocks.
+    pub later: u64,
+    pub without_blocks: u64,
+    /// Refused with 34 before any home store.
+    pub first: u64,
+    /// Cuts of a card that is up where home stores are done.
+    pub cuts: u64,
+}
+
 #[derive(Clone, Debug)]
 pub struct Tally {
     pub commands: u64,
@@ -81,6 +93,7 @@ pub struct Tally {
     pub answers_before: [u64; 42],
     pub recoveries: u64,
     pub cuts_in_recovery: u64,
+    pub retiring: Retiring,
     pub longest_list: usize,
     pub most_records: usize,
     pub answers: [u64; 42],
@@ -109,6 +122,7 @@ pub struct Bench<'w> {
     given_disk: Option<fn(&mut Random) -> Vec<u8>>,
     /// RECOVERs carried out since the last cut or start.
     recovers: usize,
+    last_command: Option<Command>,
     tape: Vec<u8>,
     /// The tape of the card whose disk was handed over.
     before: Vec<u8>,
@@ -145,6 +159,7 @@ impl<'w> Bench<'w> {
             answers_before: answers,
             recoveries: 0,
             cuts_in_recovery: 0,
+            retiring: Retiring::default(),
             longest_list: 0,
             most_records: 0,
             answers,
@@ -166,6 +181,7 @@ impl<'w> Bench<'w> {
             shares: Shares::USUAL,
             given_disk: None,
             recovers: 0,
+            last_command: None,
             tape: Vec::new(),
             before: Vec::new(),
             random: Random::new(1),
@@ -304,10 +320,28 @@ impl<'w> Bench<'w> {
             return;
         }
         let was_down = before.phase == Phase::Down;
-        let is_cut = matches!(command::read(&self.tape, offset), Ok((Command::Cut, _)));
+        let command = command::read(&self.tape, offset).ok().map(|(command, _)| command);
+        let is_cut = command == Some(Command::Cut);
+        self.count_retiring(before, command, outcome.answer);
+        self.last_command = command;
         self.tally.commands += 1;
         self.tally.recoveries += (was_down && self.card.phase == Phase::Up) as u64;
         self.tally.cuts_in_recovery += (was_down && is_cut && outcome.answer == 0) as u64;
+    }
+
+    fn count_retiring(&mut self, before: &Card, command: Option<Command>, answer: u8) {
+        let (last, retiring) = (self.last_command, &mut self.tally.retiring);
+        match (command, answer) {
+            (Some(Command::Retire { core }), 0) => {
+                let is_later = last != Some(Command::Checkpoint { core });
+                let has_blocks = before.cores[core as usize].home > 0;
+                retiring.later += (has_blocks && is_later) as u64;
+                retiring.without_blocks += !has_blocks as u64;
+            }
+            (Some(Command::Retire { core }), 34) => retiring.first += (before.cores[core as usize].home == 0) as u64,
+            (Some(Command::Cut), 0) => retiring.cuts += before.cores.iter().any(|core| core.home > 0) as u64,
+            _ => {}
+        }
     }
 
     fn count_answer(&mut self, answer: u8) {
@@ -443,7 +477,9 @@ impl<'w> Bench<'w> {
                 let start = shape.journal_start(core);
                 (start..start + shape.journal as usize).contains(&index)
             }
-            Command::Checkpoint { .. } | Command::Recover => index <= shape.blocks as usize,
+            Command::Checkpoint { .. } => (1..=shape.blocks as usize).contains(&index),
+            Command::Retire { .. } => index == 0,
+            Command::Recover => index <= shape.blocks as usize,
             _ => false,
         }
     }

@@ -9,6 +9,7 @@ pub enum Command {
     Checkpoint { core: u8 },
     Cut,
     Recover,
+    Retire { core: u8 },
 }
 
 /// Operand bytes of a command byte; none for a byte that is no command.
@@ -18,6 +19,7 @@ pub fn operand_width(byte: u8) -> Option<usize> {
         2 => Some(8),
         3..=5 => Some(1),
         6 | 7 => Some(0),
+        8 => Some(1),
         _ => None,
     }
 }
@@ -46,7 +48,8 @@ impl Command {
             4 => Command::Store { core: o[0] },
             5 => Command::Checkpoint { core: o[0] },
             6 => Command::Cut,
-            _ => Command::Recover,
+            7 => Command::Recover,
+            _ => Command::Retire { core: o[0] },
         }
     }
 
@@ -63,6 +66,7 @@ impl Command {
             Command::Checkpoint { core } => tape.extend([5, core]),
             Command::Cut => tape.push(6),
             Command::Recover => tape.push(7),
+            Command::Retire { core } => tape.extend([8, core]),
         }
     }
 }

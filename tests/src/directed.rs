@@ -83,6 +83,11 @@ pub fn commit_of(core: u8, blocks: usize) -> Vec<Command> {
     [vec![Command::Close { core }], stores].concat()
 }
 
+/// So many home stores, and the store of the master.
+pub fn retire_of(core: u8, home_stores: usize) -> Vec<Command> {
+    [vec![Command::Checkpoint { core }; home_stores], vec![Command::Retire { core }]].concat()
+}
+
 pub const FORMAT: Command = Command::Format { cores: LARGEST.cores, blocks: LARGEST.blocks, journal: LARGEST.journal };
 
 /// The records that `full_tape` leaves in each core's journal.
@@ -100,7 +105,7 @@ pub fn full_tape() -> Vec<Command> {
         }
         if holder == 0 {
             commands.extend(commit_of(holder, 1));
-            commands.extend([Command::Checkpoint { core: holder }; 2]);
+            commands.extend(retire_of(holder, 1));
         }
     };
     (1..8).for_each(|visitor| visits(0, visitor));

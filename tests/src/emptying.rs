@@ -3,6 +3,7 @@
 use crate::card::{Card, Outcome, Phase};
 use crate::command::Command;
 use crate::layout::{read_master, Layout, Master, Name, DISK, MEMORY};
+use crate::ledger::Entry;
 use crate::random::hash_of;
 use crate::second_reader::read_journal;
 use crate::shrink::tape_of;
@@ -62,15 +63,17 @@ impl World {
         self.card.command(&mut self.disk, &mut self.memory, &tape_of(&[command]), 0)
     }
 
-    /// Tries CLOSE, STORE and CHECKPOINT for these cores, each on this very world: `each` sees the answer and the world after it. A
-    /// refusal leaves it as it was.
+    /// Tries CLOSE, STORE, CHECKPOINT and RETIRE for these cores, each on this very world: `each` sees the answer and the world after
+    /// it. A refusal leaves it as it was.
     pub(crate) fn try_commands(
         &self,
         cores: impl Iterator<Item = u8>,
         mut each: impl FnMut(Command, u8, &World) -> Result<(), String>,
     ) -> Result<(), String> {
         let mut after = self.clone();
-        let of_core = |core| [Command::Close { core }, Command::Store { core }, Command::Checkpoint { core }];
+        let of_core = |core| {
+            [Command::Close { core }, Command::Store { core }, Command::Checkpoint { core }, Command::Retire { core }]
+        };
         for command in cores.flat_map(of_core) {
             let answer = after.step(command).answer;
             require(answer == 0 || after == *self, || format!("{command:?} changed something, refused with {answer}"))?;
@@ -86,12 +89,11 @@ impl World {
         (0..self.card.shape.cores).find(|core| fits(*core as usize))
     }
 
-    /// A core's oldest committed transaction and its stamp, by the second reader.
-    fn oldest(&self, core: u8) -> Option<(Name, u64)> {
+    /// A core's oldest committed transaction, by the second reader.
+    fn oldest(&self, core: u8) -> Option<Entry> {
         let limit = self.card.cores[core as usize].committed.min(1) as usize;
         let master = Master { layout: Layout::Numbers, shape: self.card.shape, tails: self.card.tails() };
-        let entry = read_journal(&self.disk, &master, core, limit).into_iter().next()?;
-        Some((Name { core, number: entry.number }, entry.stamp))
+        read_journal(&self.disk, &master, core, limit).into_iter().next()
     }
 
     /// STORE for the lowest core with a closed transaction, else CLOSE for the lowest with a running one.
@@ -101,19 +103,28 @@ impl World {
         closed.map(|core| Command::Store { core }).or(running.map(|core| Command::Close { core }))
     }
 
-    /// Then CHECKPOINT for the core whose oldest has the lowest stamp, until there is none.
+    /// RETIRE where the core's oldest has its home stores done, CHECKPOINT where not.
+    pub fn next_of(&self, core: u8) -> Command {
+        let blocks = self.oldest(core).map(|oldest| oldest.blocks.len());
+        match blocks {
+            Some(blocks) if self.card.cores[core as usize].home as usize >= blocks => Command::Retire { core },
+            _ => Command::Checkpoint { core },
+        }
+    }
+
+    /// Then what comes next for the core whose oldest has the lowest stamp, until there is none.
     fn next_command(&self) -> Option<Command> {
-        let checkpoint = || {
-            let oldest = (0..self.card.shape.cores).filter_map(|core| self.oldest(core));
-            oldest.min_by_key(|(_, stamp)| *stamp).map(|(name, _)| Command::Checkpoint { core: name.core })
+        let of_lowest = || {
+            let stamps = (0..self.card.shape.cores).filter_map(|core| Some((self.oldest(core)?.stamp, core)));
+            stamps.min().map(|(_, core)| self.next_of(core))
         };
-        self.next_before_checkpoints().or_else(checkpoint)
+        self.next_before_checkpoints().or_else(of_lowest)
     }
 
     /// One command of a run; false where it was refused.
     fn go(&mut self, run: &mut Run, command: Command) -> bool {
         let oldest = match command {
-            Command::Checkpoint { core } => self.oldest(core),
+            Command::Retire { core } => self.oldest(core).map(|each| (Name { core, number: each.number }, each.stamp)),
             _ => None,
         };
         let outcome = self.step(command);
@@ -142,7 +153,7 @@ impl World {
         Ok(run)
     }
 
-    /// The same with the checkpoints in a given order: all of each transaction, one after another.
+    /// The same with the transactions in a given order: all home stores of each and its master store, one after another.
     pub fn empty_in_order(&mut self, order: &[Name]) -> Run {
         let mut run = Run::default();
         while let Some(command) = self.next_before_checkpoints() {
@@ -153,7 +164,7 @@ impl World {
         for name in order {
             let is_left = |world: &World| world.card.cores[name.core as usize].tail.number <= name.number;
             while is_left(self) {
-                if !self.go(&mut run, Command::Checkpoint { core: name.core }) {
+                if !self.go(&mut run, self.next_of(name.core)) {
                     return run;
                 }
             }

@@ -13,8 +13,8 @@ struct Mood {
     cut_again: usize,
     wild: usize,
     forge: usize,
-    /// Weights of WRITE, CLOSE, STORE, CHECKPOINT.
-    weights: [usize; 4],
+    /// Weights of WRITE, CLOSE, STORE, CHECKPOINT, RETIRE.
+    weights: [usize; 5],
     hot_blocks: usize,
     hot_cores: usize,
     /// Share of commands that look for a core where they can be carried out.
@@ -69,7 +69,7 @@ impl Generator {
         let mut bytes = vec![0; self.random.between(1, 60)];
         self.random.fill(&mut bytes);
         if self.random.chance(500) {
-            bytes.iter_mut().for_each(|byte| *byte %= 9);
+            bytes.iter_mut().for_each(|byte| *byte %= 10);
         }
         bytes
     }
@@ -105,7 +105,7 @@ impl Generator {
             self.queue_forgery(card);
         } else if self.random.chance(60) {
             self.queue_commit(card);
-        } else if self.random.chance(20) {
+        } else if self.random.chance(30) {
             self.queue_drain(card);
         } else if let (Some(slow), true) = (self.mood.slow_core, self.random.chance(300)) {
             self.queue_visit(card, slow);
@@ -127,12 +127,17 @@ impl Generator {
             Some(1) => self.core_where(card, |core| core.running.is_some() && core.closed.is_none()),
             Some(2) => self.core_where(card, |core| core.closed.is_some()),
             Some(3) => self.core_where(card, |core| core.committed > 0),
+            Some(4) => {
+                let least = self.random.chance(700) as u8;
+                self.core_where(card, |core| core.committed > 0 && core.home >= least)
+            }
             _ => None,
         };
         match (kind, core.or((!aimed).then(|| self.hot_core()))) {
             (Some(1), Some(core)) => Command::Close { core },
             (Some(2), Some(core)) => Command::Store { core },
             (Some(3), Some(core)) => Command::Checkpoint { core },
+            (Some(4), Some(core)) => Command::Retire { core },
             _ => self.write(),
         }
     }
@@ -184,13 +189,14 @@ impl Generator {
     /// Operands out of range and commands that the state forbids.
     fn wild(&mut self) -> Command {
         let core = if self.random.chance(300) { self.random.byte() } else { self.hot_core() };
-        match self.random.below(8) {
+        match self.random.below(9) {
             0 => self.wild_format(),
             1 | 2 => self.wild_write(core),
             3 => Command::Close { core },
             4 => Command::Store { core },
             5 => Command::Checkpoint { core },
-            6 => Command::Cut,
+            6 => Command::Retire { core },
+            7 => Command::Cut,
             _ => Command::Recover,
         }
     }
@@ -236,10 +242,19 @@ impl Generator {
         self.queue.extend((0..most).map(|_| Command::Store { core }));
     }
 
+    /// Home stores of a core's oldest one, enough of them or not, then RETIRE, and so on with the next. A write or a cut may come in
+    /// between.
     fn queue_drain(&mut self, card: &Card) {
         let Some(core) = self.core_where(card, |core| core.committed > 0) else { return };
-        for _ in 0..self.random.between(1, 12) {
-            self.queue.push_back(Command::Checkpoint { core });
+        for _ in 0..self.random.between(1, 6) {
+            let home_stores = self.random.pick(&[0, 1, 1, 2, 3, 8]);
+            self.queue.extend((0..home_stores).map(|_| Command::Checkpoint { core }));
+            let between = match self.random.below(16) {
+                0 => Some(Command::Cut),
+                1..=5 => Some(self.write()),
+                _ => None,
+            };
+            self.queue.extend(between.into_iter().chain([Command::Retire { core }]));
         }
     }
 
@@ -285,7 +300,14 @@ fn any_mood(random: &mut Random, shape: Shape) -> Mood {
         cut_again: random.pick(&[0, 50, 200, 400]),
         wild: random.pick(&[0, 5, 20, 100]),
         forge: random.pick(&[0, 0, 20, 60]),
-        weights: random.pick(&[[6, 2, 6, 4], [3, 2, 6, 6], [12, 1, 3, 1], [4, 3, 8, 0], [4, 2, 8, 2], [1, 1, 1, 1]]),
+        weights: random.pick(&[
+            [6, 2, 6, 4, 3],
+            [3, 2, 6, 6, 4],
+            [12, 1, 3, 1, 1],
+            [4, 3, 8, 0, 1],
+            [4, 2, 8, 2, 2],
+            [1, 1, 1, 1, 1],
+        ]),
         hot_blocks: random.between(1, shape.blocks as usize),
         hot_cores: random.between(1, shape.cores as usize),
         aimed: random.pick(&[300, 800, 950]),

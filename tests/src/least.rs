@@ -1,5 +1,5 @@
-// least.rs: the fewest CLOSE, STORE and CHECKPOINT commands that empty the journals, found by trying all of them, and the plan held
-// against that.
+// least.rs: the fewest CLOSE, STORE, CHECKPOINT and RETIRE commands that empty the journals, found by trying all of them, and the plan
+// held against that.
 
 use crate::card::Phase;
 use crate::emptying::{require, World};
@@ -12,10 +12,10 @@ use std::collections::HashSet;
 /// What was searched.
 #[derive(Clone, Debug, Default)]
 pub struct Searched {
-    /// States searched from, and those among them where a CHECKPOINT is refused with 32 or 33 on some way.
+    /// States searched from, and those among them where a CHECKPOINT or RETIRE is refused with 32 or 33 on some way.
     pub starts: u64,
     pub refusing: u64,
-    /// Worlds passed through, and commands tried there, done and refused; how many of these CHECKPOINTs with 32 or 33.
+    /// Worlds passed through, and commands tried there, done and refused; how many of these with 32 or 33.
     pub worlds: u64,
     pub tried: [u64; 2],
     pub refused: u64,

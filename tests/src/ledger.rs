@@ -52,6 +52,11 @@ impl Entry {
     pub fn is_committed(&self) -> bool {
         self.stored == self.length()
     }
+
+    /// Each of its blocks was stored home since the card came up.
+    fn is_home(&self) -> bool {
+        self.home_stores == self.blocks.len()
+    }
 }
 
 /// One core: its unretired transactions from the oldest on, the running one last.
@@ -192,6 +197,7 @@ impl Ledger {
             Command::Close { core } => self.close_answer(core),
             Command::Store { core } => self.store_answer(core),
             Command::Checkpoint { core } => self.checkpoint_answer(core),
+            Command::Retire { core } => self.retire_answer(core),
             Command::Cut => 0,
             Command::Recover => {
                 if self.restores.is_some() {
@@ -261,13 +267,23 @@ impl Ledger {
         }
     }
 
+    /// All blocks of the oldest were stored home by as many CHECKPOINTs that were done since it is the oldest.
     fn checkpoint_answer(&self, core: u8) -> u8 {
-        let Some(line) = self.line(core) else { return 5 };
-        let Some(oldest) = line.committed().next() else { return 31 };
+        self.oldest(core).map_or_else(|number| number, |oldest| if oldest.is_home() { 35 } else { 0 })
+    }
+
+    /// A block of the oldest is not stored home.
+    fn retire_answer(&self, core: u8) -> u8 {
+        self.oldest(core).map_or_else(|number| number, |oldest| if oldest.is_home() { 0 } else { 34 })
+    }
+
+    /// The core's oldest committed one, where it is valid and shares no block with a lower-stamped one that is not retired.
+    fn oldest(&self, core: u8) -> Result<&Entry, u8> {
+        let oldest = self.line(core).ok_or(5)?.committed().next().ok_or(31)?;
         match () {
-            _ if !self.is_valid(Name { core, number: oldest.number }) => 32,
-            _ if self.lines.iter().flat_map(Line::closed).any(|entry| is_older_sharer(entry, oldest)) => 33,
-            _ => 0,
+            _ if !self.is_valid(Name { core, number: oldest.number }) => Err(32),
+            _ if self.lines.iter().flat_map(Line::closed).any(|entry| is_older_sharer(entry, oldest)) => Err(33),
+            _ => Ok(oldest),
         }
     }
 
@@ -319,6 +335,7 @@ impl Ledger {
             Command::Close { core } => self.close(core),
             Command::Store { core } => return self.store(core),
             Command::Checkpoint { core } => return self.checkpoint(core),
+            Command::Retire { core } => return self.retire(core),
             Command::Cut => self.cut(),
             Command::Recover => return self.recover(),
         }
@@ -405,12 +422,15 @@ impl Ledger {
     fn checkpoint(&mut self, core: u8) -> Stored {
         let line = self.lines.get_mut(core as usize)?;
         let oldest = line.entries.front_mut().filter(|entry| entry.is_committed())?;
-        if let Some(&block) = oldest.blocks.get(oldest.home_stores) {
-            let image = oldest.images[oldest.home_stores];
-            oldest.home_stores += 1;
-            self.home[block as usize] = image;
-            return Some((self.shape.home(block), image));
-        }
+        let (block, image) = (*oldest.blocks.get(oldest.home_stores)?, oldest.images[oldest.home_stores]);
+        oldest.home_stores += 1;
+        self.home[block as usize] = image;
+        Some((self.shape.home(block), image))
+    }
+
+    fn retire(&mut self, core: u8) -> Stored {
+        let line = self.lines.get_mut(core as usize)?;
+        let oldest = line.entries.front().filter(|entry| entry.is_committed())?;
         let position = (line.tail.position as usize + oldest.length()) % self.shape.journal as usize;
         let retired = Name { core, number: oldest.number };
         line.tail = Tail { number: retired.number + 1, position: position as u8 };

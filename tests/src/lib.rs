@@ -24,6 +24,7 @@ pub mod planner;
 pub mod plans;
 pub mod program;
 pub mod random;
+pub mod recovered;
 pub mod runs;
 pub mod second_reader;
 pub mod sequence;

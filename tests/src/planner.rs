@@ -1,5 +1,6 @@
-// planner.rs: how much work until the journals are empty (paper 02, request e): how many CLOSE, STORE and CHECKPOINT commands, how many
-// of them store, and in which order the transactions can be retired. Nothing is done and nothing is tried: all is told from the card.
+// planner.rs: how much work until the journals are empty (paper 02, request e): how many CLOSE, STORE, CHECKPOINT and RETIRE commands,
+// how many of them store, and in which order the transactions can be retired. Nothing is done and nothing is tried: all is told from
+// the card.
 
 use crate::card::{Card, Phase};
 use crate::layout::{Name, DISK, MEMORY};
@@ -66,8 +67,8 @@ impl Unretired {
     }
 }
 
-/// All that are not retired, in order of core and number: of a core the committed ones as CHECKPOINT reads them, the closed one, the
-/// running one.
+/// All that are not retired, in order of core and number: of a core the committed ones as CHECKPOINT and RETIRE read them, the closed
+/// one, the running one.
 pub fn unretired(card: &Card, disk: &[u8]) -> Vec<Unretired> {
     let journals = card.journals(disk);
     let mut all = Vec::new();

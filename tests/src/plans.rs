@@ -80,7 +80,10 @@ pub fn plan_in(world: &World) -> Plan {
 }
 
 fn empties(command: Command) -> bool {
-    matches!(command, Command::Close { .. } | Command::Store { .. } | Command::Checkpoint { .. })
+    matches!(
+        command,
+        Command::Close { .. } | Command::Store { .. } | Command::Checkpoint { .. } | Command::Retire { .. }
+    )
 }
 
 /// Done, a command of those lowers the figure by one; refused, by nothing.
@@ -96,8 +99,8 @@ pub struct Tally {
     pub with_work: u64,
     /// States with work where all are running, so that the bound is the figure.
     pub all_run: u64,
-    /// Of the states where every command was tried, those where a CHECKPOINT is refused now, with 32 and with 33.
-    pub refused: [u64; 2],
+    /// Of the states where every command was tried, those where a CHECKPOINT or RETIRE is refused now, with 32 to 35.
+    pub refused: [u64; 4],
     /// Commands of all runs, after each of which the figure was one less.
     pub commands: u64,
     /// Commands tried apart from the runs, done and refused.
@@ -200,19 +203,17 @@ impl Comparison {
     /// Every one of the commands for every core, for the first that is not there and for the last byte.
     fn try_commands(&mut self, state: &State, figure: u64) -> Result<(), String> {
         self.world.copy_from(state.card, state.disk, state.memory);
-        let mut refused = [false; 2];
+        let mut refused = [false; 4];
         self.world.try_commands((0..=state.card.shape.cores).chain([255]), |command, answer, after| {
             if answer == 0 {
                 let left = plan_in(after).commands;
                 require(left + 1 == figure, || format!("{command:?}: the figure is {left} after {figure}"))?;
             }
             self.tally.tried[(answer != 0) as usize] += 1;
-            refused[0] |= answer == 32;
-            refused[1] |= answer == 33;
+            refused.iter_mut().zip(32..).for_each(|(met, number)| *met |= answer == number);
             Ok(())
         })?;
-        self.tally.refused[0] += refused[0] as u64;
-        self.tally.refused[1] += refused[1] as u64;
+        self.tally.refused.iter_mut().zip(refused).for_each(|(count, met)| *count += met as u64);
         Ok(())
     }
 }
@@ -222,7 +223,7 @@ impl Comparison {
 pub struct Told {
     /// Commands, stores or order are not those of the run.
     pub by_run: bool,
-    /// What is refused where the checkpoints go in its order.
+    /// What is refused where the transactions are retired in its order.
     pub by_order: Option<u8>,
 }
 

@@ -1,4 +1,4 @@
-// recovery.rs: the card's CHECKPOINT and RECOVER: images going home and tails moving on.
+// recovery.rs: the card's CHECKPOINT, RETIRE and RECOVER: images going home and tails moving on.
 
 use crate::card::{Card, Done, Lent, Phase};
 use crate::journal::{Journals, Reader, Record, Set};
@@ -9,29 +9,57 @@ use crate::layout::{
 use crate::order::Order;
 use crate::wrong::Wrong;
 
+/// Which wrong card does not ask which number of the oldest one: by CHECKPOINT, and by RETIRE.
+const UNASKED: [&[(Wrong, u8)]; 2] = [
+    &[(Wrong::No32, 32), (Wrong::No33, 33)],
+    &[(Wrong::No32, 32), (Wrong::No33, 33), (Wrong::RetireNo32, 32), (Wrong::RetireNo33, 33)],
+];
+
 impl Card {
-    pub(crate) fn checkpoint(&mut self, lent: &mut Lent, core: u8) -> Done {
+    /// What CHECKPOINT and RETIRE ask first: 5, 31, 32, 33. Then it is the core's oldest committed transaction.
+    fn oldest(&self, disk: &[u8], core: u8, unasked: &[(Wrong, u8)]) -> Result<Record, u8> {
         self.check_core(core)?;
-        if self.is(Wrong::CheckpointAlways32) {
-            return Err(32);
-        }
-        let journals = self.journals(lent.disk);
+        let asks = |number| !unasked.contains(&(self.kind.wrong, number));
+        let journals = self.journals(disk);
         let oldest = *journals.of_core(core).first().ok_or(31)?;
         let valid = self.valid_set(&journals);
-        if valid >> journals.first_of(core) & 1 == 0 && !self.is(Wrong::No32) {
+        if valid >> journals.first_of(core) & 1 == 0 && asks(32) {
             return Err(32);
         }
-        if self.has_older_sharer(&journals, &oldest) && !self.is(Wrong::No33) {
+        if self.has_older_sharer(&journals, &oldest) && asks(33) {
             return Err(33);
         }
-        let step = self.cores[core as usize].home as usize;
-        let master_step = if self.is(Wrong::RetiresAtOnce) { 0 } else { oldest.blocks.len() };
-        if step == master_step {
-            self.retire(lent, &oldest);
-        } else {
-            self.store_home(lent, &oldest, step);
+        Ok(oldest)
+    }
+
+    /// Home stores alone: the next one of the core's oldest committed transaction.
+    pub(crate) fn checkpoint(&mut self, lent: &mut Lent, core: u8) -> Done {
+        if self.is(Wrong::CheckpointAlways32) {
+            return self.check_core(core).and(Err(32));
+        }
+        let oldest = self.oldest(lent.disk, core, UNASKED[0])?;
+        let (step, blocks) = (self.cores[core as usize].home as usize, oldest.blocks.len());
+        match self.kind.wrong {
+            Wrong::OldCheckpoint if step >= blocks => return self.move_tail(lent, &oldest),
+            Wrong::No35 if step == blocks && blocks > 0 => self.store_home(lent, &oldest, blocks - 1),
+            _ if step >= blocks => return Err(35),
+            Wrong::RetiresAtOnce => return self.move_tail(lent, &oldest),
+            _ => self.store_home(lent, &oldest, step),
+        }
+        if self.is(Wrong::MasterWithLastHome) && step + 1 == blocks {
+            return self.move_tail(lent, &oldest).map(|stores| stores + 1);
         }
         Ok(1)
+    }
+
+    /// The master store that retires the core's oldest committed transaction, once its home stores are done.
+    pub(crate) fn retire(&mut self, lent: &mut Lent, core: u8) -> Done {
+        let oldest = self.oldest(lent.disk, core, UNASKED[1])?;
+        let is_home = self.cores[core as usize].home as usize >= oldest.blocks.len();
+        if self.is(Wrong::RetireAlways34) || !is_home && !self.is(Wrong::RetireNo34) {
+            return Err(34);
+        }
+        self.move_tail(lent, &oldest)
     }
 
     fn store_home(&mut self, lent: &mut Lent, oldest: &Record, step: usize) {
@@ -46,7 +74,7 @@ impl Card {
     }
 
     /// The master with the tail moved past the oldest one, which holds nothing from then on.
-    fn retire(&mut self, lent: &mut Lent, oldest: &Record) {
+    fn move_tail(&mut self, lent: &mut Lent, oldest: &Record) -> Done {
         let length = oldest.length() as u8;
         let journal = self.shape.journal;
         let mine = &mut self.cores[oldest.core as usize];
@@ -54,7 +82,7 @@ impl Card {
         mine.committed -= 1;
         mine.length = mine.length.saturating_sub(length);
         mine.home = 0;
-        let layout = self.layout_unless(Wrong::CheckpointMasterZero);
+        let layout = self.layout_unless(Wrong::RetireMasterZero);
         let block = master(&Master { layout, shape: self.shape, tails: self.tails() });
         self.put(lent.disk, 0, &block);
         for holder in self.holders.iter_mut().filter(|_| self.kind.wrong != Wrong::HolderKept) {
@@ -62,6 +90,7 @@ impl Card {
                 *holder = None;
             }
         }
+        Ok(1)
     }
 
     fn valid_set(&self, journals: &Journals) -> Set {
@@ -78,7 +107,7 @@ impl Card {
         }
     }
 
-    /// CHECKPOINT reads the valid set while the card is up, RECOVER while it is down.
+    /// CHECKPOINT and RETIRE read the valid set while the card is up, RECOVER while it is down.
     fn order(&self) -> Order {
         match (self.kind.wrong, self.phase) {
             (Wrong::NoSequence, _) => Order::Unordered,

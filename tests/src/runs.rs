@@ -6,7 +6,7 @@
 use crate::card::Card;
 use crate::command::Command;
 use crate::counts::Counts;
-use crate::directed::{commit_of, disk_with, put_record, LARGEST};
+use crate::directed::{commit_of, disk_with, put_record, retire_of, LARGEST};
 use crate::endings::record_lengths;
 use crate::foreign::{any_shape, put};
 use crate::layout::{
@@ -420,7 +420,7 @@ pub fn tape(random: &mut Random) -> Vec<u8> {
         for _ in 0..random.below(4) {
             let count = any_record(random, shape)[0].max(1);
             commands.extend(taking(random, core, shape, count));
-            commands.extend(vec![Command::Checkpoint { core }; count + 1]);
+            commands.extend(retire_of(core, count));
         }
     }
     let active = random.between(1, cores as usize);
@@ -452,6 +452,6 @@ fn some_commands(random: &mut Random, shape: Shape, active: usize) -> Vec<Comman
         6..=10 => [vec![write(random, core, 0)], commit_of(core, 1)].concat(),
         11..=13 => vec![write(random, last, 0)],
         14 => commit_of(last, 2),
-        _ => vec![Command::Checkpoint { core }; random.between(1, 4)],
+        _ => retire_of(core, random.below(4)),
     }
 }

@@ -3,7 +3,7 @@
 
 use crate::checks::{Bench, Checks, Failure};
 use crate::command::Command;
-use crate::directed::commit_of;
+use crate::directed::{commit_of, retire_of};
 use crate::endings::RECOVERED;
 use crate::foreign::{any_shape, put};
 use crate::journal::{Journals, Set};
@@ -72,7 +72,7 @@ pub const TAPES: &[(Wrong, Checks, &str)] = &[
     (Wrong::SequenceBelowTail, Checks::ANSWER,
         "01 01 01 04 | 06 | 07 | 02 00 0000 00 01010101 | 03 00 | 04 00 | 04 00 | 04 00 | 05 00"),
     (Wrong::SequenceBelowTail, Checks::AREA,
-        "01 01 01 04 | 02 00 0000 00 01010101 | 03 00 | 04 00 | 04 00 | 04 00 | 05 00 | 05 00 | 02 00 0000 00 02020202 | 03 00 \
+        "01 01 01 04 | 02 00 0000 00 01010101 | 03 00 | 04 00 | 04 00 | 04 00 | 05 00 | 08 00 | 02 00 0000 00 02020202 | 03 00 \
          | 04 00 | 04 00 | 04 00 | 06 | 07"),
 ];
 
@@ -111,7 +111,7 @@ fn some_commands(random: &mut Random, cores: u8, blocks: u8) -> Vec<Command> {
         4..=8 => [vec![own], stored(core)].concat(),
         9..=11 => [vec![own, write(random, other, core)], stored(core), stored(other)].concat(),
         12 => [vec![own, write(random, other, core), write(random, other, other)], stored(other)].concat(),
-        13 | 14 => vec![Command::Checkpoint { core }; random.between(1, 4)],
+        13 | 14 => vec![retire_of(core, random.below(3)); random.between(1, 2)].concat(),
         _ if random.chance(500) => [stored(0), vec![write(random, 0, 0)]].concat(),
         _ => [vec![Command::Cut], vec![Command::Recover; blocks as usize + 1], vec![write(random, 0, 0)]].concat(),
     }

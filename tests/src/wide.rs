@@ -281,19 +281,21 @@ impl Sharing {
         self.number != self.block as u32
     }
 
-    /// What CHECKPOINT answers to core 0 and to core 1, each tried first: 33 where both took the block, and 31 where the oldest record
-    /// is not read or none is there.
-    pub fn due(&self) -> [u8; 2] {
+    /// What CHECKPOINT and what RETIRE answer to core 0 and to core 1, each tried first: 33 where both took the block, and 31 where the
+    /// oldest record is not read or none is there. Of all others nothing is stored home yet, so that one without blocks can be retired.
+    pub fn due(&self) -> [[u8; 2]; 2] {
+        let (with_blocks, without) = ([0, 34], [35, 0]);
         let of_core_1 = match (self.core, self.is_later) {
-            (1, true) => 0,
-            (1, false) if !self.is_wide() => 0,
-            _ => 31,
+            (1, true) => without,
+            (1, false) if !self.is_wide() => with_blocks,
+            _ => [31; 2],
         };
-        [if self.is_wide() { 0 } else { 33 }, of_core_1]
+        let of_core_0 = if self.is_wide() { with_blocks } else { [33; 2] };
+        [0, 1].map(|command| [of_core_0[command], of_core_1[command]])
     }
 
     /// What a card answers that reads the low byte.
-    pub fn due_narrowed(&self) -> [u8; 2] {
+    pub fn due_narrowed(&self) -> [[u8; 2]; 2] {
         Sharing { number: self.block as u32, ..*self }.due()
     }
 

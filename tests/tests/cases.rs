@@ -120,8 +120,8 @@ fn p8_the_mark_comes_back_whole() {
     let block = "block 0 c03b399801020304";
     let recovered = [&start[..], &["30 6 0 3", "31 7 0 4", "32 7 0 5", block]].concat();
     prints(&format!("{written} | 06 | 07 | 07"), &recovered);
-    let checkpointed = [&start[..], &["30 5 0 4", "32 5 0 5", block]].concat();
-    prints(&format!("{written} | 05 00 | 05 00"), &checkpointed);
+    let checkpointed = [&start[..], &["30 5 0 4", "32 8 0 5", block]].concat();
+    prints(&format!("{written} | 05 00 | 08 00"), &checkpointed);
 }
 
 #[test]
@@ -137,6 +137,7 @@ fn a_comment_is_no_part_of_a_tape() {
 #[test]
 fn a_tape_ends_after_2_or_3() {
     prints("01 01 01 04 | 09 | 06", &["0 1 0 0", "4 9 2 0"]);
+    prints("01 01 01 0A | 08 00 | 08", &["0 1 0 0", "4 8 31 0", "6 8 3 0"]);
     prints("00 | 01 01 01 04", &["0 0 2 0"]);
     prints("01 01 01 04 | 02 00 0000 00 010203", &["0 1 0 0", "4 2 3 0"]);
     prints("01 01", &["0 1 3 0"]);

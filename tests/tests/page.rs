@@ -75,7 +75,7 @@ fn only_what_is_committed_and_unretired_has_a_line() {
     shows(&of(""), &committed[..1], "4");
     shows(&of("| 04 00"), &committed, "1");
     shows(&of("| 04 00 | 05 00"), &committed, "1");
-    shows(&of("| 04 00 | 05 00 | 05 00"), &committed[..1], "1");
+    shows(&of("| 04 00 | 05 00 | 08 00"), &committed[..1], "1");
 }
 
 #[test]

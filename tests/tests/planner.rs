@@ -36,9 +36,9 @@ fn the_plan_is_met_by_doing_it() {
 
 #[test]
 fn no_shorter_run_empties_the_journals() {
-    let searched = search_states(150, 10_000, 52).unwrap_or_else(|detail| panic!("{detail}"));
+    let searched = search_states(100, 4_000, 52).unwrap_or_else(|detail| panic!("{detail}"));
     println!("{searched:?}");
-    assert!(searched.starts == 150 && searched.refusing > 30 && searched.worlds > 10_000 && searched.largest > 15);
+    assert!(searched.starts == 100 && searched.refusing > 30 && searched.worlds > 10_000 && searched.largest > 15);
 }
 
 fn after(tape: &str) -> World {
@@ -82,12 +82,12 @@ fn the_plan_of_the_first_case() {
     assert_eq!(plan_in(&world), Plan { number: 0, commands: 3, stores: 3, order });
 }
 
-/// Journals full of records without blocks, one CHECKPOINT each, and a chain of names in which every other one has a block, two
-/// CHECKPOINTs. What still runs holds all of them up: CLOSE, three STOREs, two CHECKPOINTs.
+/// Journals full of records without blocks, one RETIRE each, and a chain of names in which every other one has a block, CHECKPOINT and
+/// RETIRE. What still runs holds all of them up: CLOSE, three STOREs, CHECKPOINT, RETIRE.
 #[test]
 fn the_plans_of_full_journals() {
     let (chain, committed) = chain_tape();
-    for (commands, committed, checkpoints) in [(full_tape(), 94, 94), (chain, committed, committed / 2 * 3)] {
+    for (commands, committed, retiring) in [(full_tape(), 94, 94), (chain, committed, committed / 2 * 3)] {
         let mut world = World::blank();
         commands.into_iter().for_each(|command| assert_eq!(world.step(command).answer, 0));
         let found = plan_in(&world);
@@ -95,7 +95,7 @@ fn the_plans_of_full_journals() {
         let retired: Vec<Name> = run.retired.iter().map(|(name, _)| *name).collect();
         assert_eq!((run.commands, run.stores, &retired), (found.commands, found.stores, &found.order));
         assert!(world.is_emptied() && run.refused.is_none());
-        assert_eq!((found.order.len(), found.commands), (committed + 1, checkpoints as u64 + 6));
+        assert_eq!((found.order.len(), found.commands), (committed + 1, retiring as u64 + 6));
     }
 }
 

@@ -93,13 +93,13 @@ fn past_the_end_there_is_no_command() {
 #[test]
 fn refusals_of_the_operands() {
     let up = "01 02 03 0C ";
-    assert_eq!(last("01 01 01 04 00"), 2);
-    assert_eq!(last("01 01 01 04 05"), 3);
+    assert_eq!([0, 9, 10, 255].map(|byte| last(&format!("01 01 01 0A {byte:02x} 00"))), [2; 4]);
+    assert_eq!([2, 3, 4, 5, 8].map(|byte| last(&format!("01 01 01 0A {byte:02x}"))), [3; 5]);
     for bad in ["00 01 04", "09 01 04", "01 00 04", "01 41 04", "01 01 03", "01 01 19"] {
         assert_eq!(last(&format!("01 {bad}")), 4, "{bad}");
     }
     assert_eq!(last(&(up.to_string() + &write(2, 9))), 5);
-    assert_eq!([3, 4, 5].map(|byte| last(&format!("{up} {byte:02x} 02"))), [5; 3]);
+    assert_eq!([3, 4, 5, 8].map(|byte| last(&format!("{up} {byte:02x} 02"))), [5; 4]);
     assert_eq!(last(&(up.to_string() + &write(1, 3))), 6);
     assert_eq!(last(&format!("{up} 02 00 0100 FF 00000000")), 6);
     assert_eq!(last(&format!("{up} 02 00 0000 7D 00000000")), 7);
@@ -137,10 +137,11 @@ fn looks_at_the_fields(good: Block) {
 #[test]
 fn refusals_of_the_phase() {
     let mut run = Run::blank();
-    assert_eq!(run.answers("02 00 0000 00 00000000 03 00 04 00 05 00 06 07"), [20; 6]);
+    assert_eq!(run.answers("02 00 0000 00 00000000 03 00 04 00 05 00 06 07 08 00"), [20; 7]);
     assert_eq!(run.card.read_number(&run.disk, &run.memory, 0), 20);
     assert_eq!(run.answers("01 01 01 04 01 01 01 04 01 00 00 00 07 06"), [0, 21, 21, 23, 0]);
     assert_eq!(run.answers("01 00 00 00 02 09 0000 00 00000000 03 09 04 00 05 00 06"), [21, 22, 22, 22, 22, 0]);
+    assert_eq!(run.answers("08 00 08 09"), [22; 2]);
     assert_eq!(run.card.read_number(&run.disk, &run.memory, 99), 22);
     assert_eq!(run.answers("07 07"), [0, 23]);
     assert_eq!(run.card.read_number(&run.disk, &run.memory, 1), 6);
@@ -175,7 +176,7 @@ fn refusals_25_to_27() {
     let mut tails = Tails::default();
     tails[0] = Tail { number: LAST_NUMBER - 1, position: 3 };
     let mut run = Run::down_over(&master(&Master { shape: Shape::new(1, 1, 4).unwrap(), tails, ..Master::default() }));
-    let once = write(0, 0) + &commit(0, 1) + "05 00 05 00";
+    let once = write(0, 0) + &commit(0, 1) + "05 00 08 00";
     assert_eq!(run.answers(&("07".to_string() + &once + &write(0, 0))), [0, 0, 0, 0, 0, 0, 0, 0, 27]);
     assert_eq!(run.answers(&("06 07".to_string() + &write(0, 0) + "06 07")), [0, 0, 27, 0, 0]);
     assert_eq!(run.disk[24..28], LAST_TAIL.to_be_bytes());
@@ -188,20 +189,47 @@ fn refusals_28_to_33() {
     assert_eq!(last(&(up.clone() + &write(0, 0) + "03 00" + &write(0, 0) + "04 00 04 00 03 00")), 29);
     assert_eq!(last(&(up.clone() + &write(0, 0) + "04 00")), 30);
     assert_eq!(last(&(up.clone() + &write(0, 0) + &commit(0, 1) + "04 00")), 30);
-    assert_eq!(last(&(up.clone() + &write(0, 0) + "03 00 04 00 04 00 05 00")), 31);
-    assert_eq!(last(&(up.clone() + &write(0, 0) + &write(1, 0) + &commit(0, 1) + "05 00")), 32);
-    let shared = up + &write(0, 0) + "03 00" + &write(1, 0) + &commit(1, 1);
-    assert_eq!(last(&(shared.clone() + "05 01")), 32);
-    assert_eq!(last(&(shared.clone() + "04 00 04 00 04 00 05 01")), 33);
-    assert_eq!(last(&(shared + "04 00 04 00 04 00 05 00 05 00 05 01")), 0);
+    let shared = up.clone() + &write(0, 0) + "03 00" + &write(1, 0) + &commit(1, 1);
+    // CHECKPOINT and RETIRE; where the latter meets 32 or 33, home stores are outstanding too
+    for byte in ["05", "08"] {
+        assert_eq!(last(&(up.clone() + &write(0, 0) + &format!("03 00 04 00 04 00 {byte} 00"))), 31);
+        assert_eq!(last(&(up.clone() + &write(0, 0) + &write(1, 0) + &commit(0, 1) + &format!("{byte} 00"))), 32);
+        assert_eq!(last(&(shared.clone() + &format!("{byte} 01"))), 32);
+        assert_eq!(last(&(shared.clone() + &format!("04 00 04 00 04 00 {byte} 01"))), 33);
+        // home stores alone do not retire the older one
+        assert_eq!(last(&(shared.clone() + &format!("04 00 04 00 04 00 05 00 {byte} 01"))), 33);
+    }
+    assert_eq!(last(&(shared + "04 00 04 00 04 00 05 00 08 00 05 01")), 0);
+}
+
+/// Two blocks, so that one home store can be outstanding; a cut forgets those that are done. Then one without blocks.
+#[test]
+fn refusals_34_and_35() {
+    let two = write(0, 0) + &write(0, 1) + &commit(0, 2);
+    let mut run = Run::blank();
+    run.answers(&("01 02 02 18".to_string() + &two));
+    assert_eq!(run.answers("08 00 05 00 08 00 05 00 05 00 05 00 08 00 08 00 05 00"), [34, 0, 34, 0, 35, 35, 0, 31, 31]);
+    run.answers(&two);
+    assert_eq!(run.answers("05 00 05 00 06 07 07 07 08 00"), [0, 0, 0, 0, 0, 0, 31]);
+    run.answers(&two);
+    assert_eq!(run.answers("08 00 05 00 05 00"), [34, 0, 0]);
+    // core 1's has no block and is tied to core 0's second, which is not committed yet: 32 comes before 35
+    run.answers(&(write(0, 1) + &write(1, 1) + &commit(1, 0)));
+    assert_eq!(run.answers("05 01 08 01 08 00"), [32, 32, 0]);
+    run.answers(&commit(0, 1));
+    assert_eq!(run.answers("05 01 08 01 08 01 05 01"), [35, 0, 31, 31]);
 }
 
 #[test]
 fn generated_runs_meet_every_number() {
     let mut bench = Bench::new(Wrong::No, Checks::ALL, None);
     bench.soak(300_000, 3).expect("all checks hold");
-    let all = (0..=8).chain(20..=33);
-    let unmet: Vec<usize> = all.filter(|answer| bench.tally.answers[*answer] == 0).collect();
+    let all = (0..=8).chain(20..=35);
+    let (answers, retiring) = (bench.tally.answers, bench.tally.retiring);
+    all.clone().for_each(|answer| println!("answer {answer:>2}: {}", answers[answer]));
+    println!("{retiring:?}");
+    let unmet: Vec<usize> = all.filter(|answer| answers[*answer] == 0).collect();
     assert_eq!(unmet, [24], "numbers never answered");
     assert!(bench.tally.answers_before[24] > 0 && bench.tally.longest_list > 12);
+    assert!([retiring.later, retiring.without_blocks, retiring.first, retiring.cuts].iter().all(|count| *count > 100));
 }

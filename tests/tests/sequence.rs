@@ -109,7 +109,7 @@ impl Watcher for Kept {
 
     fn command(&mut self, tape: &[u8], offset: usize, seen: Seen) -> Result<(), String> {
         let Ok((command, _)) = command::read(tape, offset) else { return Ok(()) };
-        if matches!(command, Command::Cut | Command::Checkpoint { .. }) {
+        if matches!(command, Command::Cut | Command::Checkpoint { .. } | Command::Retire { .. }) {
             let runs = self.book.runs(Order::InSequence);
             self.looks.look(&runs, &self.book.runs(Order::Unordered));
             self.longest = runs.iter().map(Vec::len).fold(self.longest, usize::max);

@@ -128,16 +128,17 @@ fn commands_until_caught(wrong: Wrong, seed: u64) -> u64 {
     bench.soak(10_000, seed).expect_err("it is caught").commands
 }
 
-/// What a card answers to CHECKPOINT of core 0 and of core 1, each tried first.
-fn answers(disk: &[u8], mut card: Card, wrong: Wrong) -> [u8; 2] {
+/// What a card answers to CHECKPOINT and to RETIRE of core 0 and of core 1, each tried first.
+fn answers(disk: &[u8], mut card: Card, wrong: Wrong) -> [[u8; 2]; 2] {
     card.kind = wrong.into();
-    [0, 1].map(|core| {
+    let answer = |byte, core| {
         let mut card = card;
-        card.command(&mut disk.to_vec(), &mut [0; MEMORY], &[5, core], 0).answer
-    })
+        card.command(&mut disk.to_vec(), &mut [0; MEMORY], &[byte, core], 0).answer
+    };
+    [5, 8].map(|byte| [0, 1].map(|core| answer(byte, core)))
 }
 
-/// CHECKPOINT answers 31 where the oldest record has a wide number, and sees no block shared where another record has one.
+/// Both answer 31 where the oldest record has a wide number, and see no block shared where another record has one.
 #[test]
 fn a_checkpoint_shares_no_block_with_a_wide_number() {
     for sharing in Sharing::all() {

@@ -17,7 +17,7 @@ fn every_wrong_card_is_caught() {
 }
 
 /// They lose or invent writes.
-const SEEN_BY_THE_BOOK: [Wrong; 37] = [
+const SEEN_BY_THE_BOOK: [Wrong; 39] = [
     Wrong::TailUnchanged,
     Wrong::NumbersFromOne,
     Wrong::FlagIgnored,
@@ -27,7 +27,7 @@ const SEEN_BY_THE_BOOK: [Wrong; 37] = [
     Wrong::LastNumber,
     Wrong::FirstNumber,
     Wrong::FormatMasterZero,
-    Wrong::CheckpointMasterZero,
+    Wrong::RetireMasterZero,
     Wrong::RecoverMasterZero,
     Wrong::RecoverMasterKept,
     Wrong::ListsAlways,
@@ -51,6 +51,8 @@ const SEEN_BY_THE_BOOK: [Wrong; 37] = [
     Wrong::BlankAlways,
     Wrong::CheckpointFromMemory,
     Wrong::RetiresAtOnce,
+    Wrong::RetireNo32,
+    Wrong::RetireNo34,
     Wrong::StoreFromImages,
     Wrong::NoWrap,
     Wrong::No26OnOpen,

@@ -1,5 +1,5 @@
--- WRITE, CLOSE, STORE and CHECKPOINT meet the same conditions first: a hit is the answer whatever follows, a pass leaves what
--- follows. Past them disk and memory have their lengths and the core is one of the card.
+-- WRITE, CLOSE, STORE, CHECKPOINT and RETIRE meet the same conditions first: a hit is the answer whatever follows, a pass leaves
+-- what follows. Past them disk and memory have their lengths and the core is one of the card.
 use Rattle.model.proofs.Base.{ℕ, _<_, arith, _≡_, sym, _∙_, Bool, cond, List, [], _∷_, _++_, length, leb, leb-false, Bytes}
 use Rattle.model.specs.Card.{shapeOf}
 use Rattle.model.specs.Command.{World, refusal, notUp, noCore, Clear}

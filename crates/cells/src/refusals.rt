@@ -40,7 +40,7 @@ pub fn phase_refusal(w: &[u64], disk: &[u8], memory: &[u8], blank: u8, up: u8, d
     }
 }
 
-// What WRITE, CLOSE, STORE, CHECKPOINT, reading and the planner meet first: a wrong length, a card that is not up.
+// What WRITE, CLOSE, STORE, CHECKPOINT, RETIRE, reading and the planner meet first: a wrong length, a card that is not up.
 pub fn state_refusal(w: &[u64], disk: &[u8], memory: &[u8]) -> u8
     requires { ⌜ length (now w) ≡ 423 ⌝ }
     ensures { λ r. ⌜ r ≡ refusal (notUp (worldIn (now (w .entry)) (now (disk .entry)) (now (memory .entry))) []) ⌝ }
@@ -60,7 +60,7 @@ pub fn core_refusal(w: &[u64], c: u8) -> u8
     0
 }
 
-// What WRITE, CLOSE, STORE and CHECKPOINT meet first: a wrong length, a card that is not up, a core that the disk has not.
+// What WRITE, CLOSE, STORE, CHECKPOINT and RETIRE meet first: a wrong length, a card that is not up, a core that the disk has not.
 pub fn entry_refusal(w: &[u64], c: u8, disk: &[u8], memory: &[u8]) -> u8
     requires { ⌜ length (now w) ≡ 423 ⌝ }
     ensures { λ r. ⌜

@@ -1,22 +1,17 @@
-// The next store of a checkpoint: a block home, or the master.
+// A home store.
 ghost use mathlib.Core.Path.{_≡_};
-ghost use Prim.Native.Nat.{_≤_, _<_};
+ghost use Prim.Native.Nat.{_<_};
 ghost use lib.ListN.{length, getD};
 ghost use Rattle.model.specs.Bytes.{store};
 ghost use Rattle.model.specs.Shape.{homeBlock};
 ghost use Rattle.model.specs.Card.{shapeOf, coreOf, withCore};
 ghost use Rattle.model.specs.Journal.{blocksOf, imageOf};
-ghost use Rattle.model.specs.Checkpoint.{homedCore, storedHome, storedMaster};
-ghost use Rattle.model.specs.Limits.{diskSize, maxNumber};
+ghost use Rattle.model.specs.Checkpoint.{homedCore, storedHome};
 ghost use Rattle.model.specs.declared.Card.{Card};
 ghost use Rattle.cells.specs.Cells.{cardIn, corePlace};
 ghost use Rattle.cells.specs.Changes.{Changed};
 ghost use Rattle.cells.specs.Answer.{Stores};
 ghost use Rattle.oldest.specs.Oldest.{IsRead};
-ghost use Rattle.checkpoint.specs.NextStore.{nextStore};
-use crate::retired::moved_tail;
-use crate::retired::retire;
-use cells::HOMED;
 use cells::STORED;
 use cells::USED;
 use cells::byte_in;
@@ -24,7 +19,6 @@ use cells::core_place;
 use cells::number_in;
 use cells::put_numbers;
 use cells::shape_of;
-use cells::tails_of;
 use model::Committed;
 use model::Shape;
 use oldest::block_at;
@@ -56,7 +50,7 @@ fn count_home(w: &mut [u64], c: u8, homed: u8)
 }
 
 // A home store: the image of the next block of the transaction.
-fn stored_home(w: &mut [u64], c: u8, homed: u8, e: Committed, disk: &mut [u8])
+pub fn stored_home(w: &mut [u64], c: u8, homed: u8, e: Committed, disk: &mut [u8])
     requires { ⌜ (length (now w) ≡ 423) × (c < 8) × IsRead (shapeOf (cardIn (now w))) (now disk) e
         × (homed ≡ (coreOf (cardIn (now w)) c) .homed) × (homed < e .count) ⌝ }
     ensures { λ _. ⌜ Stores (storedHome c e) (now (w .entry)) (now (w .exit)) (now (disk .entry)) (now (disk .exit)) ⌝ }
@@ -64,30 +58,4 @@ fn stored_home(w: &mut [u64], c: u8, homed: u8, e: Committed, disk: &mut [u8])
     let s = shape_of(w);
     put_home(s, e, homed as usize, disk);
     count_home(w, c, homed);
-}
-
-// The last store of a checkpoint: the master with the tail moved past the transaction.
-fn stored_master(w: &mut [u64], c: u8, e: Committed, disk: &mut [u8])
-    requires { ⌜ (length (now w) ≡ 423) × (length (now disk) ≡ diskSize) × (c < 8) × (e .number ≤ maxNumber) ⌝ }
-    ensures { λ _. ⌜ Stores (storedMaster c e) (now (w .entry)) (now (w .exit)) (now (disk .entry)) (now (disk .exit)) ⌝ }
-{
-    let s = shape_of(w);
-    let t = moved_tail(s, e);
-    let mut tails = tails_of(w);
-    tails[c as usize] = t;
-    master_block::store_master(s, tails, disk);
-    retire(w, c, t, e);
-}
-
-// The next store of the checkpoint of core c's oldest transaction.
-pub fn next_store(w: &mut [u64], c: u8, e: Committed, disk: &mut [u8])
-    requires { ⌜ (length (now w) ≡ 423) × (c < 8) × IsRead (shapeOf (cardIn (now w))) (now disk) e × (e .number ≤ maxNumber) ⌝ }
-    ensures { λ _. ⌜ Stores (nextStore c e) (now (w .entry)) (now (w .exit)) (now (disk .entry)) (now (disk .exit)) ⌝ }
-{
-    let homed = byte_in(w, core_place(c) + HOMED);
-    if homed < e.count {
-        stored_home(w, c, homed, e, disk);
-        return;
-    }
-    stored_master(w, c, e, disk);
 }

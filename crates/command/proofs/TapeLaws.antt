@@ -1,4 +1,4 @@
--- A command of the tape: 1, 2 and 3 in their order, and which of the seven it is.
+-- A command of the tape: 1, 2 and 3 in their order, and which command it is.
 use Prim.Native.Nat.{ℕ, _+_, _*_, _-_, _≤_}
 use native.Mathlib.Omega.{arith}
 use mathlib.Core.Path.{_≡_, refl, sym, ap, _∙_, subst}
@@ -15,9 +15,9 @@ use Rattle.model.specs.Format.{format}
 use Rattle.model.specs.Write.{write}
 use Rattle.model.specs.Commit.{close, storeNext}
 use Rattle.model.specs.Valid.{in-sequence}
-use Rattle.model.specs.Checkpoint.{checkpoint}
+use Rattle.model.specs.Checkpoint.{checkpoint, retire}
 use Rattle.model.specs.Recovery.{cut, recover}
-use Rattle.model.specs.Tape.{operandLengths, operandLength, commandByte, operandsAt, isUnknown, nextOffset, CHECKPOINT, CLOSE, CUT, Command, FORMAT, RECOVER, Read, STORE, WRITE, decoded, isEarly, obeyed, readAt, whole}
+use Rattle.model.specs.Tape.{operandLengths, operandLength, commandByte, operandsAt, isUnknown, nextOffset, CHECKPOINT, CLOSE, CUT, Command, FORMAT, RECOVER, RETIRE, Read, STORE, WRITE, decoded, isEarly, obeyed, readAt, whole}
 use Rattle.model.specs.Step.{stepBy, step, conditionsOf, doneBy, stepAt}
 use Rattle.model.proofs.Command.{tapeConditions, refusal-clear, unless-done, tape-unless}
 use Rattle.cells.specs.Answer.{newAnswer, Meets}
@@ -99,13 +99,18 @@ module _ (k : ℕ) (a : Bytes) (v : List ℕ) (d₀ m₀ : Bytes) (w : List ℕ)
     unfolding decoded stepBy conditionsOf doneBy cut
     step-cut h f = of-decoded CUT (rw h refl) f
 
-    pub step-recover : (k ≡ 1 → ⊥) → (k ≡ 2 → ⊥) → (k ≡ 3 → ⊥) → (k ≡ 4 → ⊥) → (k ≡ 5 → ⊥) → (k ≡ 6 → ⊥) → Meets (recover in-sequence (worldIn v d₀ m₀)) v w d m r → Done
+    pub step-recover : k ≡ 7 → Meets (recover in-sequence (worldIn v d₀ m₀)) v w d m r → Done
     unfolding decoded stepBy conditionsOf doneBy recover
-    step-recover h₁ h₂ h₃ h₄ h₅ h₆ f =
-        cases (eqb k 7)
-        (λ s. of-decoded RECOVER (rw (eqb-true k 7 s) refl) f)
+    step-recover h f = of-decoded RECOVER (rw h refl) f
+
+    pub step-retire : (k ≡ 1 → ⊥) → (k ≡ 2 → ⊥) → (k ≡ 3 → ⊥) → (k ≡ 4 → ⊥) → (k ≡ 5 → ⊥) → (k ≡ 6 → ⊥) → (k ≡ 7 → ⊥)
+        → Meets (retire in-sequence c (worldIn v d₀ m₀)) v w d m r → Done
+    unfolding decoded stepBy conditionsOf doneBy retire
+    step-retire h₁ h₂ h₃ h₄ h₅ h₆ h₇ f =
+        cases (eqb k 8)
+        (λ s. of-decoded (RETIRE c) (rw (eqb-true k 8 s, e) refl) f)
         (λ s z q.
-        let n : decoded k a ≡ none = simp (ne-eqb k 1 h₁, ne-eqb k 2 h₂, ne-eqb k 3 h₃, ne-eqb k 4 h₄, ne-eqb k 5 h₅, ne-eqb k 6 h₆, s) in
+        let n : decoded k a ≡ none = simp (ne-eqb k 1 h₁, ne-eqb k 2 h₂, ne-eqb k 3 h₃, ne-eqb k 4 h₄, ne-eqb k 5 h₅, ne-eqb k 6 h₆, ne-eqb k 7 h₇, s) in
         absurd (true≢false (sym (ap isCommand (sym n ∙ q)))))
 
 pub write-length : (a : Bytes) (k : ℕ) → length a ≡ operandLength k → k ≡ 2 → length a ≡ 8

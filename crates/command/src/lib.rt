@@ -1,4 +1,4 @@
-// One command at an offset of a tape: the refusals 1, 2 and 3, which of the seven commands it is, and its stores counted.
+// One command at an offset of a tape: the refusals 1, 2 and 3, which command it is, and its stores counted.
 ghost use mathlib.Core.Path.{_≡_};
 ghost use mathlib.Core.List.{[], _∷_};
 ghost use mathlib.Core.Option.{some};
@@ -25,6 +25,7 @@ use operands::ends_early;
 use operands::is_unknown;
 use operands::next_offset;
 use recovery::recover;
+use retire::retire;
 use transaction::write;
 
 // What came of the command at an offset: its answer, its byte, and the offset of the next one.
@@ -69,7 +70,7 @@ fn perform_write(w: &mut [u64], operands: &[u8], disk: &[u8], memory: &mut [u8])
     write(w, operands[0], block, operands[3], bytes, disk, memory)
 }
 
-// Command k with its operands, which are all there. The tape has no byte but 1 to 7 here, so the last case is 7.
+// Command k with its operands, which are all there. The tape has no byte but 1 to 8 here, so the last case is 8.
 fn perform(w: &mut [u64], k: u8, operands: &[u8], disk: &mut [u8], memory: &mut [u8]) -> Answer
     requires { ⌜ (length (now w) ≡ 423) × (length (now operands) ≡ operandLength k) ⌝ }
     ensures { λ r. ⌜
@@ -93,7 +94,8 @@ fn perform(w: &mut [u64], k: u8, operands: &[u8], disk: &mut [u8], memory: &mut 
         4 => store(w, c, disk, memory),
         5 => checkpoint(w, c, disk, memory),
         6 => cut(w, disk, memory),
-        _ => recover(w, disk, memory),
+        7 => recover(w, disk, memory),
+        _ => retire(w, c, disk, memory),
     }
 }
 

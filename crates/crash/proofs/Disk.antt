@@ -15,3 +15,4 @@ pub mod ReadValid
 pub mod ReadNewest
 pub mod ReadCheckpoint
 pub mod LedgerCheckpoint
+pub mod JournalPast

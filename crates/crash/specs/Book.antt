@@ -13,7 +13,7 @@ use Rattle.model.specs.Shrink.{shrink}
 use Rattle.model.specs.Valid.{Order, required}
 use Rattle.model.specs.declared.Name.{Name}
 
--- how far a transaction has come: a closed one with the stores counted, a committed one with the checkpoints counted
+-- how far a transaction has come: a closed one with the stores counted, a committed one with the home stores counted
 pub data Stage : Type 0 where
   absent : Stage
   running : Stage
@@ -220,20 +220,29 @@ storeBook c k =
       next = k .next;
     }
 
--- ---- CHECKPOINT: 'counts for the core's oldest committed unretired one: one for each block that it took, and one for
--- the master, retire it'
+-- ---- CHECKPOINT: 'counts for the core's oldest committed unretired one: one for each block that it took'
 unfoldable pub checkpointBook : ℕ → Book → Book
 checkpointBook c k =
     let t = newName c (k .oldest c) in
-    let e = k .entry t in
-    let n = suc (stageCount (e .stage)) in
-    let last = leb (length (e .blocks) + 1) n in
     record {
       begun = k .begun;
       opened = k .opened;
-      entry = change t (staged (cond last retired (committed n))) (k .entry);
+      entry = change t (staged (committed (suc (stageCount ((k .entry t) .stage))))) (k .entry);
       writes = k .writes;
-      oldest = cond last (raise c (k .oldest)) (k .oldest);
+      oldest = k .oldest;
+      uncommitted = k .uncommitted;
+      next = k .next;
+    }
+
+-- ---- RETIRE: 'and one for the master, retire it'; paper 02, (g): 'does the master store, and counts for it in the service book'
+unfoldable pub retireBook : ℕ → Book → Book
+retireBook c k =
+    record {
+      begun = k .begun;
+      opened = k .opened;
+      entry = change (newName c (k .oldest c)) (staged retired) (k .entry);
+      writes = k .writes;
+      oldest = raise c (k .oldest);
       uncommitted = k .uncommitted;
       next = k .next;
     }

@@ -2,25 +2,25 @@
 -- ours and refuted of others. They fix answers, stores with their bytes and count, memory, journals, the course of recovery,
 -- what reading gives, and the home area. Of the card's state they fix whether it is blank, up or down, and that a refusal
 -- changes nothing; all of it is fixed, one command at a time, by `DecidesEach`.
-use Prim.Native.Nat.{ℕ, _*_, _<_, _≤_}
+use Prim.Native.Nat.{ℕ, _<_, _≤_}
 use mathlib.Core.Path.{_≡_}
 use mathlib.Core.Logic.{_≢_}
 use mathlib.Core.List.{List, [], _∷_, map, List·Memᴰ}
 use mathlib.Core.Bool.{true, false}
 use lib.ListN.{length}
 use lib.Dec.{ltb}
-use Rattle.model.specs.Limits.{blockSize, diskSize, memorySize}
+use Rattle.model.specs.Limits.{diskSize, memorySize}
 use Rattle.model.specs.Lists.{below, all}
-use Rattle.model.specs.Bytes.{Bytes, part}
+use Rattle.model.specs.Bytes.{Bytes}
 use Rattle.model.specs.Valid.{Order}
 use Rattle.model.specs.Shape.{inRange}
 use Rattle.model.specs.Card.{newName, isBlank, blankCard, downCard}
 use Rattle.model.specs.Journal.{journal, nameOf, blocksOf, namesOf, imageOf}
 use Rattle.model.specs.Shrink.{Within, DependsOn}
-use Rattle.model.specs.Command.{Outcome, refusal, refusedWith, World}
+use Rattle.model.specs.Command.{Outcome, countOf, refusal, refusedWith, World}
 use Rattle.model.specs.Tape.{Command, RECOVER, whole, TapeStep, Point, run, heard}
 use Rattle.model.specs.Format.{formattedDisk}
-use Rattle.model.specs.Recovery.{shapeOn, tailOn, layoutOn}
+use Rattle.model.specs.Recovery.{shapeOn, tailOn, layoutOn, homeArea}
 use Rattle.model.specs.Reading.{Reader, readNumber}
 use Rattle.model.specs.declared.CommitLayout.{CommitLayout}
 use Rattle.model.specs.declared.Committed.{Committed}
@@ -28,7 +28,7 @@ use Rattle.model.specs.declared.Shape.{Shape}
 use Rattle.model.specs.declared.Name.{Name}
 use Rattle.crash.specs.Book.{Book, requiredIn, committedIn, kept}
 use Rattle.crash.specs.Service.{Service, emptyService, fed, bookArea}
-use Rattle.crash.specs.Ledger.{Ledger, Stored, freshLedger, blankLedger, cutLedger, entered, storedSince, answerOf, diskAfter, memoryAfter, storeCount, readRefusals, readNow}
+use Rattle.crash.specs.Ledger.{Ledger, Stored, freshLedger, blankLedger, cutLedger, entered, storedSince, answerOf, diskAfter, memoryAfter, storeAfter, readRefusals, readNow}
 
 abbrev pub IsBytes : Bytes → Type 0
 IsBytes s = all (λ (x : ℕ). ltb x 256) s ≡ true
@@ -76,10 +76,6 @@ pub record ComesUp (p : Point World) : Type 0 where
   pub was-down : readNumber 0 (p .before) ≡ 22
   pub is-up : readNumber 0 (p .outcome .world) ≢ 22
 
--- 'The home area is the bytes of disk blocks 1 to B'
-unfoldable pub homeArea : ℕ → World → Bytes
-homeArea n w = part blockSize (blockSize * n) (w .disk)
-
 unfoldable pub fedPoint : Point World → Service → Service
 fedPoint p v = heard fed (p .read) (p .outcome .answer) v
 
@@ -120,7 +116,7 @@ pub record Between (l : Ledger) (w : World) : Type 0 where
 pub record DoneAs (k : Command) (l : Ledger) (w : World) (o : Outcome World) : Type 0 where
   pub disk : o .world .disk ≡ diskAfter k l (w .disk)
   pub memory : o .world .memory ≡ memoryAfter k l (w .memory)
-  pub stores : o .stores ≡ storeCount k
+  pub stores : o .stores ≡ countOf (storeAfter k l (w .disk))
 
 -- a command of a run in the world w
 pub record PointKept (l : Ledger) (w : World) (p : Point World) : Type 0 where

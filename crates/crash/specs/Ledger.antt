@@ -1,5 +1,5 @@
 -- The ledger: the history of transactions with the card's own numbers, kept from commands and answers alone. It is no
--- part of paper 01; in its words the conditions 25 to 33, the content of the journals and the course of recovery are
+-- part of paper 01; in its words the conditions 25 to 35, the content of the journals and the course of recovery are
 -- stated without the card's state.
 use Prim.Native.Nat.{ℕ, zero, suc, _+_, _-_, _%_, min}
 use mathlib.Core.List.{List, [], _∷_, _++_, map}
@@ -18,10 +18,10 @@ use Rattle.model.specs.Recovery.{tailOn}
 use Rattle.model.specs.Shrink.{shrink}
 use Rattle.crash.specs.Book.{Book, Write, isClosed, isCommitted, isRetired, stageCount, emptyBook, requiredIn, hasRunning, hasClosed, hasCommitted, writeBook, closeBook, keptWrites, image, blank}
 use Rattle.crash.specs.Service.{noted}
-use Rattle.model.specs.Tape.{CHECKPOINT, CLOSE, CUT, Command, FORMAT, RECOVER, Read, STORE, WRITE, early, unknown, whole}
+use Rattle.model.specs.Tape.{CHECKPOINT, CLOSE, CUT, Command, FORMAT, RECOVER, RETIRE, Read, STORE, WRITE, early, unknown, whole}
 use Rattle.model.specs.Commit.{copyBlock}
 use Rattle.model.specs.Valid.{Order}
-use Rattle.model.specs.Command.{refusal}
+use Rattle.model.specs.Command.{BlockStore, DiskStore, no-store, one-store, whole-disk, withStore, refusal}
 use Rattle.model.specs.declared.Tail.{Tail}
 use Rattle.model.specs.declared.Name.{Name}
 use Rattle.model.specs.declared.Phase.{Phase}
@@ -154,6 +154,7 @@ carriedOut (STORE c) l = withBook l (noted (STORE c) (l .book))
 carriedOut (CHECKPOINT c) l = withBook l (noted (CHECKPOINT c) (l .book))
 carriedOut CUT l = cutLedger l
 carriedOut RECOVER l = recoverLedger (l .left) l
+carriedOut (RETIRE c) l = withBook l (noted (RETIRE c) (l .book))
 
 -- a command with its answer: a refused one changes nothing
 unfoldable pub entered : Command → ℕ → Ledger → Ledger
@@ -197,51 +198,55 @@ recordBlocks k c i zero = 0
 recordBlocks k c i (suc n) = length ((k .entry (newName c i)) .blocks) + 2 + recordBlocks k c (suc i) n
 
 -- STORE: the next block of the closed one's record, after those that stand from the tail
-unfoldable pub recordStored : ℕ → Ledger → Bytes → Bytes
-recordStored c l d =
+unfoldable pub recordStoreIn : ℕ → Ledger → Bytes → BlockStore
+recordStoreIn c l d =
     let k = l .book in
     let t = newName c (k .uncommitted c) in
     let n = stageCount ((k .entry t) .stage) in
-    store d (journalBlock (l .shape) c ((tailOn d c) .position + recordBlocks k c (k .oldest c) (k .uncommitted c - k .oldest c) + n)) (getD (recordOf l t) n [])
+    let filled = recordBlocks k c (k .oldest c) (k .uncommitted c - k .oldest c) in
+    record { place = journalBlock (l .shape) c ((tailOn d c) .position + filled + n); bytes = getD (recordOf l t) n [] }
 
--- CHECKPOINT: the next image of the oldest one home, or the master with the tail moved past it
+-- CHECKPOINT: the next image of the oldest one home
+unfoldable pub homeStoreIn : ℕ → Ledger → BlockStore
+homeStoreIn c l =
+    let t = newName c (l .book .oldest c) in
+    let e = l .book .entry t in
+    let m = stageCount (e .stage) in
+    record { place = homeBlock (getD (e .blocks) m 0); bytes = getD (l .images t) m [] }
+
+-- RETIRE: the master with the tail moved past the oldest one
 unfoldable pub tailsPast : ℕ → Ledger → Bytes → ℕ → Tail
 tailsPast c l d i =
     let n = length ((l .book .entry (newName c (l .book .oldest c))) .blocks) + 2 in
     cond (eqb i c) (newTail (l .book .oldest c + 1) (((tailOn d c) .position + n) % l .shape .journal)) (tailOn d i)
 
-unfoldable pub checkpointStored : ℕ → Ledger → Bytes → Bytes
-checkpointStored c l d =
-    let t = newName c (l .book .oldest c) in
-    let e = l .book .entry t in
-    let m = stageCount (e .stage) in
-    cond (ltb m (length (e .blocks))) (store d (homeBlock (getD (e .blocks) m 0)) (getD (l .images t) m [])) (store d 0 (masterBlock Numbers (l .shape) (tailsPast c l d)))
+unfoldable pub masterStoreIn : ℕ → Ledger → Bytes → BlockStore
+masterStoreIn c l d = record { place = 0; bytes = masterBlock Numbers (l .shape) (tailsPast c l d) }
+
+-- what the kept writes give a block, made over those kept when the card came up
+abbrev pub keptImage : Ledger → ℕ → Bytes
+keptImage l b = image blank (keptWrites (l .book) ++ l .saved) b
 
 -- RECOVER: the lowest block left gets the bytes that the kept writes give it; where none is left, 'one master store
 -- empties all journals'
-unfoldable pub recoverStored : List ℕ → Ledger → Bytes → Bytes
-recoverStored [] l d = store d 0 (masterBlock Numbers (l .shape) (λ (c : ℕ). newTail (firstNumber l c) 0))
-recoverStored (b ∷ bs) l d = store d (homeBlock b) (image blank (keptWrites (l .book) ++ l .saved) b)
+unfoldable pub recoverStoreIn : List ℕ → Ledger → BlockStore
+recoverStoreIn [] l = record { place = 0; bytes = masterBlock Numbers (l .shape) (λ (c : ℕ). newTail (firstNumber l c) 0) }
+recoverStoreIn (b ∷ bs) l = record { place = homeBlock b; bytes = keptImage l b }
 
--- the disk after a command carried out
+-- the store of each command: its place and its bytes. 'Each does at most one store, save FORMAT'
+abbrev pub storeAfter : Command → Ledger → Bytes → DiskStore
+storeAfter (FORMAT c b j) l d = whole-disk (formattedDisk Numbers (newShape c b j))
+storeAfter (WRITE c b o v) l d = no-store
+storeAfter (CLOSE c) l d = no-store
+storeAfter (STORE c) l d = one-store (recordStoreIn c l d)
+storeAfter (CHECKPOINT c) l d = one-store (homeStoreIn c l)
+storeAfter CUT l d = no-store
+storeAfter RECOVER l d = one-store (recoverStoreIn (l .left) l)
+storeAfter (RETIRE c) l d = one-store (masterStoreIn c l d)
+
+-- the disk after a command carried out: that store made
 unfoldable pub diskAfter : Command → Ledger → Bytes → Bytes
-diskAfter (FORMAT c b j) l d = formattedDisk Numbers (newShape c b j)
-diskAfter (WRITE c b o v) l d = d
-diskAfter (CLOSE c) l d = d
-diskAfter (STORE c) l d = recordStored c l d
-diskAfter (CHECKPOINT c) l d = checkpointStored c l d
-diskAfter CUT l d = d
-diskAfter RECOVER l d = recoverStored (l .left) l d
-
--- 'Each does at most one store, save FORMAT'
-unfoldable pub storeCount : Command → ℕ
-storeCount (FORMAT c b j) = 0
-storeCount (WRITE c b o v) = 0
-storeCount (CLOSE c) = 0
-storeCount (STORE c) = 1
-storeCount (CHECKPOINT c) = 1
-storeCount CUT = 0
-storeCount RECOVER = 1
+diskAfter k l d = withStore (storeAfter k l d) d
 
 -- ---- memory
 -- 'CLOSE copies the transaction's block images, in the order taken, to the first of its core's copies onward': from copy i on
@@ -258,6 +263,7 @@ memoryAfter (STORE c) l m = m
 memoryAfter (CHECKPOINT c) l m = m
 memoryAfter CUT l m = zeroMemory
 memoryAfter RECOVER l m = m
+memoryAfter (RETIRE c) l m = m
 
 -- ---- the conditions of the refusals, in the order of section 'Refusals'
 -- '20 blank', '22 down', '5 core not below C'
@@ -306,15 +312,28 @@ sharesLowerIn l t =
     let isLower : Name → Bool = λ u. isClosed ((k .entry u) .stage) && not (isRetired ((k .entry u) .stage)) && ltb (l .stamp u) (l .stamp t) in
     any (λ (u : Name). isLower u && share ((k .entry t) .blocks) ((k .entry u) .blocks)) (k .opened)
 
-unfoldable pub checkpointRefusals : ℕ → Ledger → List (Bool × ℕ)
-checkpointRefusals c l =
+-- what CHECKPOINT and RETIRE both ask, then each its own
+abbrev pub oldestRefusals : ℕ → Ledger → List (Bool × ℕ) → List (Bool × ℕ)
+oldestRefusals c l rest =
     let k = l .book in
     let t = newName c (k .oldest c) in
     notUpFor c l
     ((not (hasCommitted k c), 31)
     ∷ (not (any (sameName t) (validIn k)), 32)
     ∷ (sharesLowerIn l t, 33)
-    ∷ [])
+    ∷ rest)
+
+-- fewer CHECKPOINTs have counted for the core's oldest one than it took blocks
+abbrev pub homeLeft : ℕ → Book → Bool
+homeLeft c k = let e = k .entry (newName c (k .oldest c)) in ltb (stageCount (e .stage)) (length (e .blocks))
+
+-- paper 02, (g): '35, all home stores done'
+unfoldable pub checkpointRefusals : ℕ → Ledger → List (Bool × ℕ)
+checkpointRefusals c l = oldestRefusals c l ((not (homeLeft c (l .book)), 35) ∷ [])
+
+-- '34, home stores outstanding'
+unfoldable pub retireRefusals : ℕ → Ledger → List (Bool × ℕ)
+retireRefusals c l = oldestRefusals c l ((homeLeft c (l .book), 34) ∷ [])
 
 -- 'On such a tape no RECOVER meets 8.'
 unfoldable pub refusalsOf : Command → Ledger → List (Bool × ℕ)
@@ -325,6 +344,7 @@ refusalsOf (STORE c) l = storeRefusals c l
 refusalsOf (CHECKPOINT c) l = checkpointRefusals c l
 refusalsOf CUT l = (isBlank (l .phase), 20) ∷ []
 refusalsOf RECOVER l = (isBlank (l .phase), 20) ∷ (isUp (l .phase), 23) ∷ []
+refusalsOf (RETIRE c) l = retireRefusals c l
 
 -- demand 1: every answer is the first of its conditions that holds: '2 unknown command byte', '3 operands end early' and those
 -- of the ledger

@@ -3,3 +3,4 @@ pub mod Book
 pub mod Service
 pub mod Ledger
 pub mod Claims
+pub mod Spans

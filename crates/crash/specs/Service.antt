@@ -5,8 +5,8 @@ use mathlib.Core.Bool.{cond}
 use Rattle.model.specs.Lists.{below}
 use Rattle.model.specs.Bytes.{Bytes}
 use Rattle.model.specs.Valid.{Order}
-use Rattle.crash.specs.Book.{Book, Write, emptyBook, hasRunning, hasClosed, hasCommitted, writeBook, closeBook, storeBook, checkpointBook, keptWrites, image, blank}
-use Rattle.model.specs.Tape.{CHECKPOINT, CLOSE, CUT, Command, FORMAT, RECOVER, STORE, WRITE}
+use Rattle.crash.specs.Book.{Book, Write, emptyBook, hasRunning, hasClosed, hasCommitted, writeBook, closeBook, storeBook, checkpointBook, retireBook, keptWrites, image, blank}
+use Rattle.model.specs.Tape.{CHECKPOINT, CLOSE, CUT, Command, FORMAT, RECOVER, RETIRE, STORE, WRITE}
 
 -- the number of home blocks, from FORMAT's operand; the kept writes so far, the newest first; the book since the last cut
 pub record Service : Type 0 where
@@ -27,6 +27,7 @@ noted (STORE c) k = cond (hasClosed k c) (storeBook c k) k
 noted (CHECKPOINT c) k = cond (hasCommitted k c) (checkpointBook c k) k
 noted CUT k = k
 noted RECOVER k = k
+noted (RETIRE c) k = cond (hasCommitted k c) (retireBook c k) k
 
 abbrev pub withNoted : Command → Service → Service
 withNoted k v = record { blocks = v .blocks; saved = v .saved; book = noted k (v .book) }
@@ -45,6 +46,7 @@ served (STORE c) v = withNoted (STORE c) v
 served (CHECKPOINT c) v = withNoted (CHECKPOINT c) v
 served CUT v = cutService v
 served RECOVER v = v
+served (RETIRE c) v = withNoted (RETIRE c) v
 
 -- a command with its answer: 'A refused command changes nothing in it.'
 unfoldable pub fed : Command → ℕ → Service → Service

@@ -3,34 +3,30 @@ use Prim.Native.Nat.{ℕ, _+_, _≤_, _<_}
 use native.Mathlib.Omega.{arith}
 use mathlib.Core.Path.{_≡_, refl, sym, ap, _∙_, subst}
 use mathlib.Core.Bool.{Bool, true, not}
-use mathlib.Core.List.{List, [], _∷_}
+use mathlib.Core.List.{List, _∷_}
 use lib.ListN.{length, getD}
 use lib.Dec.{ltb, eqb}
 use borrow.Author.Tests.{lt-ltb, eq-eqb, ne-eqb, eqb-false, not-true}
 use Rattle.model.specs.Bytes.{Bytes}
 use Rattle.model.specs.Shape.{homeBlock}
-use Rattle.model.specs.Card.{holderOf, coreOf}
-use Rattle.model.specs.Command.{World, Outcome, Decided, refused, carried-out}
+use Rattle.model.specs.Card.{holderOf}
+use Rattle.model.specs.Command.{World, Outcome, DiskStore, no-store, one-store, whole-disk, countOf, Decided, refused, carried-out}
 use Rattle.model.specs.Reading.{readNumber, readBlock, blockReader}
-use Rattle.model.specs.Tape.{Point, commandByte, nextOffset, run, worldAfter, CHECKPOINT, CLOSE, CUT, Command, FORMAT, RECOVER, Read, STORE, WRITE, early, readAt, unknown, whole}
+use Rattle.model.specs.Tape.{Point, commandByte, nextOffset, run, worldAfter, Command, Read, early, readAt, unknown, whole}
 use Rattle.model.specs.declared.Card.{Card}
-use Rattle.model.specs.Format.{formatted}
-use Rattle.model.specs.Write.{written}
-use Rattle.model.specs.Commit.{closed, stored}
-use Rattle.model.specs.Checkpoint.{committedOf, oldest, storedHome, storedMaster, checkpointed}
 use Rattle.model.specs.Valid.{in-sequence}
-use Rattle.model.specs.Recovery.{layoutOn, blocksLeft, recoverStep, recoveredBy, recovered}
-use Rattle.model.specs.declared.CommitLayout.{CommitLayout}
-use Rattle.model.specs.declared.CommitLayout.the-variants.{Numbers}
 use Rattle.model.proofs.Command.{command-decided}
+use Rattle.model.proofs.OneStore.{done-makes}
 use Rattle.model.specs.Lists.{all}
-use Rattle.model.specs.Step.{doneBy, doneOn, stepAt}
+use Rattle.model.specs.Step.{doneBy, nextStore, doneOn, stepAt}
 use Rattle.model.proofs.Lists.{cases, and-left, and-right, mem-all, mem-getD}
 use Rattle.model.proofs.Store.{length-blockAt}
 use Rattle.model.proofs.Tape.{Runs, at-end, one-more, next-past, next-within, run-runs}
 use Rattle.crash.specs.Claims.{IsBytes, AreaKept, LedgerKept, ReadingsKept, Start, StartFits, Stated, startLedger, startService, startWorld}
+use Rattle.crash.specs.Spans.{SpansKeep}
 use Rattle.crash.proofs.Books.Sequence.{kept-begins}
 use Rattle.crash.proofs.Runs.Theorem.{claim, demands, readings}
+use Rattle.crash.proofs.Runs.BroughtBack.{spans}
 use Rattle.crash.proofs.Books.Largest.{largest-kept}
 use Rattle.cells.specs.Cells.{storesIn, Exact, world, worldIn}
 use Rattle.reading.specs.declared.BlockPart.{BlockPart}
@@ -80,26 +76,13 @@ module _ (t : Bytes) where
   ended (one-more k e r) l = absurd (omega arith)
 
 -- ---- no run reaches the largest count: a command stores one block at most, and takes one byte of the tape at least
-recoverStep-stores : (y z : CommitLayout) (bs : List ℕ) (w : World) → (recoverStep in-sequence y z bs w) .stores ≤ 1
-unfolding recoverStep
-recoverStep-stores y z [] w = omega arith
-recoverStep-stores y z (b ∷ bs) w = omega arith
-
-checkpointed-stores : (c : ℕ) (w : World) → (checkpointed c w) .stores ≤ 1
-unfolding checkpointed storedHome storedMaster
-checkpointed-stores c w =
-    let e = oldest (committedOf w c) in
-    cases (ltb ((coreOf (w .card) c) .homed) (e .count)) (λ h. rw h (omega arith)) (λ h. rw h (omega arith))
+one-counted : (b : DiskStore) → countOf b ≤ 1
+one-counted no-store = omega arith
+one-counted (one-store b) = omega arith
+one-counted (whole-disk e) = omega arith
 
 done-stores : (k : Command) (w : World) → (doneBy in-sequence k w) .stores ≤ 1
-unfolding doneBy formatted written closed stored recovered recoveredBy
-done-stores (FORMAT c b j) w = omega arith
-done-stores (WRITE c b o v) w = omega arith
-done-stores (CLOSE c) w = omega arith
-done-stores (STORE c) w = omega arith
-done-stores (CHECKPOINT c) w = checkpointed-stores c w
-done-stores CUT w = omega arith
-done-stores RECOVER w = recoverStep-stores (layoutOn (w .disk)) Numbers (blocksLeft in-sequence (layoutOn (w .disk)) w) w
+done-stores k w = rw (done-makes in-sequence k w .stores) (one-counted (nextStore in-sequence k w))
 
 read-stores : (r : Read) (w : World) → (doneOn in-sequence r w) .stores ≤ 1
 unfolding doneOn
@@ -210,6 +193,7 @@ module _ (t : Bytes) (w : World) (tape-bytes : IsBytes t) (disk-bytes : IsBytes 
         readings = from-start (λ (s : Start) (w : World) (ps : List (Point World)). ReadingsKept blockReader (startLedger in-sequence s) w ps) readings;
         largest = largest-kept;
         begins = λ s. kept-begins s (run stepAt t w);
+        spans = from-start (λ (s : Start) (w : World) (ps : List (Point World)). SpansKeep w ps) spans;
       }
 
 -- ---- reading into a buffer

@@ -4,19 +4,19 @@ use mathlib.Core.Path.{_≡_, refl, _∙_}
 use mathlib.Core.Bool.{cond}
 use mathlib.Core.List.{List, [], _∷_, map}
 use lib.ListN.{length, getD, set, replicate, length-set, length-map, length-replicate}
-use lib.Dec.{ltb, leb}
+use lib.Dec.{leb}
 use Rattle.model.specs.Lists.{below, Each}
 use Rattle.model.specs.Card.{newTail, noHolder, noTransaction, taken, withBlock, withName, freshCore, withRunning, freshCard, emptyCard, downCard, coreOf, holderOf, withCore}
 use Rattle.model.specs.Valid.{Order}
-use Rattle.model.specs.Command.{World, Outcome}
+use Rattle.model.specs.Command.{World}
 use Rattle.model.specs.Format.{formatted}
 use Rattle.model.specs.Write.{writer, writerName, ruleFor, takesBlock, namesHolder, isNamedBack, writerAfter, writtenCard, written}
 use Rattle.model.specs.Commit.{closedCard, closed, coreStored, stored}
-use Rattle.model.specs.Checkpoint.{committedOf, oldest, storedHome, released, retiredCard, storedMaster, checkpointed}
+use Rattle.model.specs.Checkpoint.{committedOf, oldest, storedHome, released, retiredCard, storedMaster, checkpointed, retiredOldest}
 use Rattle.model.specs.Recovery.{emptiedTail, broughtUp, shapeOn, layoutOn, blocksLeft, recoverStep, recoveredBy, recovered}
 use Rattle.model.proofs.Lists.{length-below}
 use Rattle.model.proofs.Command.{of-cond}
-use Rattle.model.specs.Tape.{CHECKPOINT, CLOSE, CUT, Command, FORMAT, RECOVER, STORE, WRITE}
+use Rattle.model.specs.Tape.{CHECKPOINT, CLOSE, CUT, Command, FORMAT, RECOVER, RETIRE, STORE, WRITE}
 use Rattle.model.specs.Step.{doneBy}
 use Rattle.model.specs.Shape.{newShape}
 use Rattle.model.specs.declared.Phase.{Phase}
@@ -137,7 +137,7 @@ unfolding coreStored
 stored-fits k f =
     of-cond FitsCore (leb (k .stored) (length (taken (k .closed)))) (record { running = f .running; closed = f .closed }) (record { running = f .running; closed = none-fits })
 
--- ---- CHECKPOINT
+-- ---- CHECKPOINT and RETIRE
 retired-arrays : (x : Card) → Arrays x → (c : ℕ) (e : Committed) → Arrays (retiredCard c e x)
 unfolding retiredCard released
 retired-arrays x a c e =
@@ -150,13 +150,12 @@ retired-arrays x a c e =
     }
 
 checkpointed-arrays : (c : ℕ) (w : World) → Arrays (w .card) → Arrays ((checkpointed c w) .world .card)
-unfolding checkpointed storedHome storedMaster
-checkpointed-arrays c w a =
-    let e = oldest (committedOf w c) in
-    let f = core-fits (w .card) a c in
-    of-cond (λ (o : Outcome World). Arrays (o .world .card)) (ltb ((coreOf (w .card) c) .homed) (e .count))
-    (core-kept (w .card) a c _ (record { running = f .running; closed = f .closed }))
-    (retired-arrays (w .card) a c e)
+unfolding checkpointed storedHome
+checkpointed-arrays c w a = let f = core-fits (w .card) a c in core-kept (w .card) a c _ (record { running = f .running; closed = f .closed })
+
+retiredNow-arrays : (c : ℕ) (w : World) → Arrays (w .card) → Arrays ((retiredOldest c w) .world .card)
+unfolding retiredOldest storedMaster
+retiredNow-arrays c w a = retired-arrays (w .card) a c (oldest (committedOf w c))
 
 -- ---- RECOVER
 module _ (o : Order) where
@@ -174,3 +173,4 @@ module _ (o : Order) where
   done-arrays (CHECKPOINT c) w f = checkpointed-arrays c w f
   done-arrays CUT w f = empty-arrays Down
   done-arrays RECOVER w f = recoverStep-arrays (layoutOn (w .disk)) Numbers (blocksLeft o (layoutOn (w .disk)) w) w f
+  done-arrays (RETIRE c) w f = retiredNow-arrays c w f

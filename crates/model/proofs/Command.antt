@@ -9,14 +9,13 @@ use lib.Dec.{ltb}
 use borrow.Author.Tests.{ltb-true}
 use Rattle.model.specs.Lists.{all, Each}
 use Rattle.model.specs.Bytes.{Bytes}
-use Rattle.model.specs.Card.{coreOf}
 use Rattle.model.specs.Command.{Outcome, refusal, First, here, there, Clear, refusedWith, unless, Decided, refused, carried-out, World, wrongLength}
-use Rattle.model.specs.Tape.{Command, FORMAT, WRITE, CLOSE, STORE, CHECKPOINT, CUT, RECOVER, Read, whole, unknown, early, readAt, obeyed, commandAt, isEarly, isUnknown}
+use Rattle.model.specs.Tape.{Command, FORMAT, WRITE, CLOSE, STORE, CHECKPOINT, CUT, RECOVER, RETIRE, Read, whole, unknown, early, readAt, obeyed, commandAt, isEarly, isUnknown}
 use Rattle.model.specs.Valid.{Order}
 use Rattle.model.specs.Format.{formatConditions, formatted}
 use Rattle.model.specs.Write.{writeConditions, written}
 use Rattle.model.specs.Commit.{closeConditions, closed, storeConditions, stored}
-use Rattle.model.specs.Checkpoint.{committedOf, oldest, checkpointConditions, storedHome, storedMaster, checkpointed}
+use Rattle.model.specs.Checkpoint.{checkpointConditions, retireConditions, storedHome, storedMaster, checkpointed, retiredOldest, foundConditions, committedConditions}
 use Rattle.model.specs.Recovery.{cutConditions, recoverConditionsBy, layoutOn, blocksLeft, recoverStep, recoveredBy, recovered}
 use Rattle.model.specs.declared.CommitLayout.{CommitLayout}
 use Rattle.model.specs.declared.CommitLayout.the-variants.{Numbers}
@@ -126,15 +125,16 @@ module _ {A : Type 0} (P : A → Type 0) where
   of-cond false p q = q
 
 -- ---- the card's commands
--- the paper's numbers, in the paper's order: 1, then 20 to 23, then 4 to 8, then 25 to 33
+-- the paper's numbers, in the paper's order: 1, then 20 to 23, then 4 to 8, then 25 to 35
 unfoldable pub refusalNumbers : Command → List ℕ
 refusalNumbers (FORMAT c b j) = 1 ∷ 21 ∷ 4 ∷ []
 refusalNumbers (WRITE c b o v) = 1 ∷ 20 ∷ 22 ∷ 5 ∷ 6 ∷ 7 ∷ 25 ∷ 26 ∷ 27 ∷ []
 refusalNumbers (CLOSE c) = 1 ∷ 20 ∷ 22 ∷ 5 ∷ 28 ∷ 29 ∷ []
 refusalNumbers (STORE c) = 1 ∷ 20 ∷ 22 ∷ 5 ∷ 30 ∷ []
-refusalNumbers (CHECKPOINT c) = 1 ∷ 20 ∷ 22 ∷ 5 ∷ 31 ∷ 32 ∷ 33 ∷ []
+refusalNumbers (CHECKPOINT c) = 1 ∷ 20 ∷ 22 ∷ 5 ∷ 31 ∷ 32 ∷ 33 ∷ 35 ∷ []
 refusalNumbers CUT = 1 ∷ 20 ∷ []
 refusalNumbers RECOVER = 1 ∷ 20 ∷ 23 ∷ 8 ∷ []
+refusalNumbers (RETIRE c) = 1 ∷ 20 ∷ 22 ∷ 5 ∷ 31 ∷ 32 ∷ 33 ∷ 34 ∷ []
 
 -- with 2 or 3, which are the tape's
 unfoldable pub readNumbers : Read → List ℕ
@@ -151,14 +151,9 @@ numbers-positive (whole (STORE c)) = refl
 numbers-positive (whole (CHECKPOINT c)) = refl
 numbers-positive (whole CUT) = refl
 numbers-positive (whole RECOVER) = refl
+numbers-positive (whole (RETIRE c)) = refl
 numbers-positive unknown = refl
 numbers-positive early = refl
-
-checkpointed-answer : (c : ℕ) (w : World) → (checkpointed c w) .answer ≡ 0
-unfolding checkpointed storedHome storedMaster
-checkpointed-answer c w =
-    let e = oldest (committedOf w c) in
-    cases (ltb ((coreOf (w .card) c) .homed) (e .count)) (λ h. rw h) (λ h. rw h)
 
 recoverStep-answer : (o : Order) (y z : CommitLayout) (bs : List ℕ) (w : World) → (recoverStep o y z bs w) .answer ≡ 0
 unfolding recoverStep
@@ -167,7 +162,7 @@ recoverStep-answer o y z (b ∷ bs) w = refl
 
 module _ (o : Order) where
   pub conditions-numbers : (k : Command) (w : World) → map (λ (t : Bool × ℕ). t .1) (conditionsOf o k w) ≡ refusalNumbers k
-  unfolding conditionsOf refusalNumbers formatConditions writeConditions closeConditions storeConditions checkpointConditions cutConditions recoverConditionsBy
+  unfolding conditionsOf refusalNumbers formatConditions writeConditions closeConditions storeConditions checkpointConditions retireConditions cutConditions recoverConditionsBy committedConditions foundConditions
   conditions-numbers (FORMAT c b j) w = refl
   conditions-numbers (WRITE c b i v) w = refl
   conditions-numbers (CLOSE c) w = refl
@@ -175,6 +170,7 @@ module _ (o : Order) where
   conditions-numbers (CHECKPOINT c) w = refl
   conditions-numbers CUT w = refl
   conditions-numbers RECOVER w = refl
+  conditions-numbers (RETIRE c) w = refl
 
   pub read-numbers : (r : Read) (w : World) → map (λ (t : Bool × ℕ). t .1) (conditionsOn o r w) ≡ readNumbers r
   unfolding conditionsOn readNumbers
@@ -186,14 +182,15 @@ module _ (o : Order) where
   read-numbered r w = rw (read-numbers r w) (positive (readNumbers r) (numbers-positive r))
 
   pub done-answer : (k : Command) (w : World) → (doneBy o k w) .answer ≡ 0
-  unfolding doneBy formatted written closed stored recovered recoveredBy
+  unfolding doneBy formatted written closed stored checkpointed storedHome retiredOldest storedMaster recovered recoveredBy
   done-answer (FORMAT c b j) w = refl
   done-answer (WRITE c b i v) w = refl
   done-answer (CLOSE c) w = refl
   done-answer (STORE c) w = refl
-  done-answer (CHECKPOINT c) w = checkpointed-answer c w
+  done-answer (CHECKPOINT c) w = refl
   done-answer CUT w = refl
   done-answer RECOVER w = recoverStep-answer o (layoutOn (w .disk)) Numbers (blocksLeft o (layoutOn (w .disk)) w) w
+  done-answer (RETIRE c) w = refl
 
   pub read-answer : (r : Read) (w : World) → (doneOn o r w) .answer ≡ 0
   unfolding doneOn
@@ -234,7 +231,7 @@ tapeConditions t at w = (wrongLength w, 1) ∷ (isUnknown (readAt t at), 2) ∷ 
 module _ (o : Order) where
   -- every command asks for 1 first, so that the tape has asked for it before changes nothing
   length-first : (k : Command) (w : World) → (ts : List (Bool × ℕ)) × (conditionsOf o k w ≡ (wrongLength w, 1) ∷ ts)
-  unfolding conditionsOf formatConditions writeConditions closeConditions storeConditions checkpointConditions cutConditions recoverConditionsBy
+  unfolding conditionsOf formatConditions writeConditions closeConditions storeConditions checkpointConditions retireConditions cutConditions recoverConditionsBy committedConditions foundConditions
   length-first (FORMAT c b j) w = (_, refl)
   length-first (WRITE c b i v) w = (_, refl)
   length-first (CLOSE c) w = (_, refl)
@@ -242,6 +239,7 @@ module _ (o : Order) where
   length-first (CHECKPOINT c) w = (_, refl)
   length-first CUT w = (_, refl)
   length-first RECOVER w = (_, refl)
+  length-first (RETIRE c) w = (_, refl)
 
   obeyed-unless : (r : Read) (w : World) → unless ((wrongLength w, 1) ∷ []) w (obeyed (stepBy o) r w) ≡ unless (conditionsOn o r w) w (doneOn o r w)
   unfolding obeyed conditionsOn doneOn stepBy unless refusal

@@ -5,7 +5,7 @@ use mathlib.Core.Path.{_≡_, refl, ap}
 use mathlib.Core.List.{List, [], _∷_}
 use lib.ListN.{length}
 use Rattle.model.specs.Bytes.{Bytes, number, part}
-use Rattle.model.specs.Tape.{Command, FORMAT, WRITE, CLOSE, STORE, CHECKPOINT, CUT, RECOVER, operandLengths, operandLength, decoded, Read, whole, commandByte, operandsAt, wholeOrEarly, readAt}
+use Rattle.model.specs.Tape.{Command, FORMAT, WRITE, CLOSE, STORE, CHECKPOINT, CUT, RECOVER, RETIRE, operandLengths, operandLength, decoded, Read, whole, commandByte, operandsAt, wholeOrEarly, readAt}
 use Rattle.model.proofs.Tape.{OfData}
 
 -- the bytes of a command: its byte, then its operands
@@ -17,6 +17,7 @@ encoded (STORE c) = 4 ∷ c ∷ []
 encoded (CHECKPOINT c) = 5 ∷ c ∷ []
 encoded CUT = 6 ∷ []
 encoded RECOVER = 7 ∷ []
+encoded (RETIRE c) = 8 ∷ c ∷ []
 
 write-encoded : (c b o : ℕ) (v : Bytes) → length v ≡ 4 → readAt (encoded (WRITE c b o v)) 0 ≡ whole (WRITE c b o v)
 unfolding encoded readAt wholeOrEarly decoded commandByte operandsAt operandLength operandLengths part number
@@ -38,3 +39,4 @@ read-encoded (STORE c) h = refl
 read-encoded (CHECKPOINT c) h = refl
 read-encoded CUT h = refl
 read-encoded RECOVER h = refl
+read-encoded (RETIRE c) h = refl

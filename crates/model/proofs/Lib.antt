@@ -29,8 +29,13 @@ pub mod Tape
 pub mod Encoded
 pub mod Arrays
 pub mod Records
+pub mod Alike
+pub mod Ascending
 pub mod OneStore
 pub mod OlderDisk
+pub mod WhileDown
 pub mod MasterStores
+pub mod RecoveredArea
+pub mod Foreign
 pub mod Sizes
 pub mod OwnBytes

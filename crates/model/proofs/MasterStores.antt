@@ -1,30 +1,26 @@
--- Paper 02, (d): 'Bytes 8 to 11 of a new master hold 1.' Every master that a command stores is new: FORMAT's, CHECKPOINT's and the closing one of
--- RECOVER. So after any coming up the master holds 1, and an older disk goes by its lists until then.
-use Prim.Native.Nat.{ℕ, _≤_, _<_}
+-- Paper 02, (d): 'Bytes 8 to 11 of a new master hold 1.' Every master that a command stores is new: FORMAT's, RETIRE's and the closing one
+-- of RECOVER. So after any coming up the master holds 1, and an older disk goes by its lists until then.
+use Prim.Native.Nat.{ℕ, _≤_}
 use native.Mathlib.Omega.{arith}
 use mathlib.Core.Path.{_≡_, refl, sym, ap, _∙_, subst}
 use mathlib.Core.Logic.{_⊎_, inl, inr}
-use mathlib.Core.Bool.{Bool, true, false, true≢false, false≢true, not}
+use mathlib.Core.Bool.{true, false, true≢false, false≢true}
 use mathlib.Core.List.{List, [], _∷_}
-use lib.ListN.{length, getD, replicate, length-replicate}
-use lib.Dec.{eqb, ltb}
-use borrow.Author.Tests.{ltb-true, leb-false}
+use lib.ListN.{length, replicate, length-replicate}
+use lib.Dec.{eqb}
 use Rattle.model.specs.Bytes.{Bytes, be4, blockAt, store, zeroDisk, zeroMemory}
-use Rattle.model.specs.Shape.{newShape, homeBlock, journalBlock}
-use Rattle.model.specs.Card.{isBlank, isUp, isDown, newTail, freshCard, emptyCard, downCard, shapeOf, tailOf, coreOf, committedCount}
+use Rattle.model.specs.Shape.{newShape, journalBlock}
+use Rattle.model.specs.Card.{isUp, isDown, newTail, freshCard, emptyCard, downCard, shapeOf, tailOf}
 use Rattle.model.specs.Layout.{masterBlock, layoutIn}
-use Rattle.model.specs.Journal.{blocksOf}
 use Rattle.model.specs.Valid.{Order}
-use Rattle.model.specs.Command.{World, Outcome, Clear, noCore}
-use Rattle.model.specs.Tape.{Command, FORMAT, WRITE, CLOSE, STORE, CHECKPOINT, CUT, RECOVER, Read, whole, unknown, early, readAt}
+use Rattle.model.specs.Command.{World, Outcome, Clear}
+use Rattle.model.specs.Tape.{Command, FORMAT, WRITE, CLOSE, STORE, CHECKPOINT, CUT, RECOVER, RETIRE}
 use Rattle.model.specs.Format.{formatConditions, formattedDisk, formatted, format}
-use Rattle.model.specs.Write.{writeConditions, written}
-use Rattle.model.specs.Commit.{closeConditions, closed, storeConditions, stored, nextPosition}
-use Rattle.model.specs.Checkpoint.{committedOf, oldest, checkpointConditions, storedHome, storedMaster, retiredCard, checkpointed, checkpoint}
+use Rattle.model.specs.Write.{written}
+use Rattle.model.specs.Commit.{closed, storeConditions, stored}
+use Rattle.model.specs.Checkpoint.{committedOf, oldest, checkpointConditions, retireConditions, storedHome, storedMaster, retiredCard, checkpointed, retiredOldest, retire, foundConditions, committedConditions}
 use Rattle.model.specs.Recovery.{shapeOn, layoutOn, recoverConditions, recoverConditionsBy, blocksLeft, broughtUp, emptiedTail, recoverStep, recoveredBy, recovered, recover}
-use Rattle.model.specs.Step.{stepBy, stepAtBy, conditionsOf, doneBy, conditionsOn, doneOn}
-use Rattle.model.specs.declared.Phase.{Phase}
-use Rattle.model.specs.declared.Phase.the-variants.{Blank, Up, Down}
+use Rattle.model.specs.Step.{stepBy, stepAtBy, conditionsOf, doneBy}
 use Rattle.model.specs.declared.Shape.{Shape}
 use Rattle.model.specs.declared.Tail.{Tail}
 use Rattle.model.specs.declared.CommitLayout.{CommitLayout}
@@ -33,10 +29,9 @@ use Rattle.model.proofs.Lists.{cases, and-right}
 use Rattle.model.proofs.Limits.{InRange}
 use Rattle.model.proofs.Store.{block-stored}
 use Rattle.model.proofs.Encoding.{length-master}
-use Rattle.model.proofs.Journal.{journal-low}
-use Rattle.model.proofs.Records.{known-below, journal-known, oldest-mem}
-use Rattle.model.proofs.OneStore.{shape-limits, right-lengths, recover-limits, format-limits, format-done}
-use Rattle.model.proofs.Command.{clear-refusal, unless-done, step-decided, command-decided}
+use Rattle.model.proofs.OneStore.{shape-limits, right-lengths, StorePlace, storePlace-low, fits-place, record-place, home-fits, recover-limits, format-limits, format-done}
+use Rattle.model.proofs.Command.{clear-refusal, unless-done, step-decided}
+use Rattle.model.proofs.WhileDown.{while-down}
 use Rattle.model.proofs.OlderDisk.{isClosing, refused-open, by-decision, master-kept, master-word-1, recover-decided, recovered-kept}
 
 -- a disk with a new master, of this shape and these tails
@@ -85,52 +80,39 @@ module _ (o : Order) (w : World) where
       (λ n h. absurd (false≢true (sym (refused-open n w) ∙ h)))
       recovered-new
 
--- ---- CHECKPOINT
--- images of its transaction are left to be stored home; where none is, it stores the master
-abbrev pub imagesLeft : ℕ → World → Bool
-imagesLeft c w = ltb ((coreOf (w .card) c) .homed) ((oldest (committedOf w c)) .count)
-
-module _ (o : Order) (c : ℕ) (w : World) (cl : Clear (checkpointConditions o c w)) where
-  checkpoint-long : length (w .disk) ≡ 32896
-  unfolding checkpointConditions
-  checkpoint-long = right-lengths w (cl .0) .0
-
-  checkpointed-new : imagesLeft c w ≡ false → let x = (checkpointed c w) .world .card in NewMaster ((checkpointed c w) .world .disk) (shapeOf x) (tailOf x)
-  unfolding checkpointed storedMaster
-  checkpointed-new h =
+-- ---- RETIRE
+module _ (o : Order) (c : ℕ) (w : World) (cl : Clear (retireConditions o c w)) where
+  retired-new : let x = (retiredOldest c w) .world .card in NewMaster ((retiredOldest c w) .world .disk) (shapeOf x) (tailOf x)
+  unfolding retireConditions retiredOldest storedMaster committedConditions foundConditions
+  retired-new =
       let x = retiredCard c (oldest (committedOf w c)) (w .card) in
-      rw h (stored-new (w .disk) (shapeOf x) (tailOf x) (shape-limits x) (omega (arith, checkpoint-long)))
+      stored-new (w .disk) (shapeOf x) (tailOf x) (shape-limits x) (omega (arith, right-lengths w (cl .0) .0))
 
   -- of the shape and tails of the card as it then is
-  pub checkpoint-numbers : imagesLeft c w ≡ false → let x = (checkpoint o c w) .world .card in NewMaster ((checkpoint o c w) .world .disk) (shapeOf x) (tailOf x)
-  unfolding checkpoint
-  checkpoint-numbers h =
+  pub retire-numbers : let x = (retire o c w) .world .card in NewMaster ((retire o c w) .world .disk) (shapeOf x) (tailOf x)
+  unfolding retire
+  retire-numbers =
       subst (λ (x : Outcome World). NewMaster (x .world .disk) (shapeOf (x .world .card)) (tailOf (x .world .card)))
-      (sym (unless-done (checkpointConditions o c w) w (checkpointed c w) (clear-refusal (checkpointConditions o c w) cl)))
-      (checkpointed-new h)
+      (sym (unless-done (retireConditions o c w) w (retiredOldest c w) (clear-refusal (retireConditions o c w) cl)))
+      retired-new
 
-  checkpointed-kept : imagesLeft c w ≡ true → blockAt ((checkpointed c w) .world .disk) 0 ≡ blockAt (w .disk) 0
-  unfolding checkpointed storedHome
-  checkpointed-kept h =
-      let e = oldest (committedOf w c) in
-      let i = (coreOf (w .card) c) .homed in
-      let s = shapeOf (w .card) in
-      let l = shape-limits (w .card) in
-      let b : i < e .count = ltb-true i (e .count) h in
-      let r = journal-known Numbers s (w .disk) c (tailOf (w .card) c) (committedCount (w .card) c) e (unfold committedOf in oldest-mem (committedOf w c) i b) in
-      let k : getD (blocksOf s (w .disk) e) i 0 < s .blocks = known-below Numbers s (w .disk) c _ e (r .1) i b in
-      rw h (master-kept (w .disk) (homeBlock (getD (blocksOf s (w .disk) e) i 0)) _ (omega arith) (omega (arith, checkpoint-long, k, l .few-blocks)))
+-- ---- CHECKPOINT and STORE
+-- a block at any other place leaves the master
+place-kept : {s : Shape} {k : ℕ} (d x : Bytes) → InRange s → length d ≡ 32896 → StorePlace s k → 1 ≤ k
+    → blockAt (store d k x) 0 ≡ blockAt d 0
+place-kept {k = k} d x l n p one = master-kept d k x one (omega (arith, n, storePlace-low l p))
+
+checkpointed-kept : (o : Order) (c : ℕ) (w : World) → Clear (checkpointConditions o c w)
+    → blockAt ((checkpointed c w) .world .disk) 0 ≡ blockAt (w .disk) 0
+unfolding checkpointConditions checkpointed storedHome committedConditions foundConditions
+checkpointed-kept o c w cl =
+    place-kept (w .disk) _ (shape-limits (w .card)) (right-lengths w (cl .0) .0) (fits-place (home-fits c w o cl)) (omega arith)
+
+store-kept : (c : ℕ) (w : World) → Clear (storeConditions c w) → blockAt ((stored c w) .world .disk) 0 ≡ blockAt (w .disk) 0
+unfolding storeConditions stored journalBlock
+store-kept c w cl = place-kept (w .disk) _ (shape-limits (w .card)) (right-lengths w (cl .0) .0) (record-place c w cl) (omega arith)
 
 -- ---- every command
-store-kept : (c : ℕ) (w : World) → Clear (storeConditions c w) → blockAt ((stored c w) .world .disk) 0 ≡ blockAt (w .disk) 0
-unfolding storeConditions stored noCore
-store-kept c w cl =
-    let s = shapeOf (w .card) in
-    let p = nextPosition (w .card) c in
-    let h : c < s .cores = leb-false (s .cores) c (cl .1 .1 .1 .0) in
-    let one : 1 ≤ journalBlock s c p = (unfold journalBlock in omega arith) in
-    master-kept (w .disk) (journalBlock s c p) _ one (omega (arith, right-lengths w (cl .0) .0, journal-low (shape-limits (w .card)) c p h))
-
 -- the master is as it was, or it is stored and holds 1
 abbrev pub KeptOrNew : World → World → Type 0
 KeptOrNew w v = (blockAt (v .disk) 0 ≡ blockAt (w .disk) 0) ⊎ (be4 (blockAt (v .disk) 0) 8 ≡ 1)
@@ -142,9 +124,10 @@ module _ (o : Order) where
   done-master (WRITE c b i v) w cl = inl refl
   done-master (CLOSE c) w cl = inl refl
   done-master (STORE c) w cl = inl (store-kept c w cl)
-  done-master (CHECKPOINT c) w cl = cases (imagesLeft c w) (λ h. inl (checkpointed-kept o c w cl h)) (λ h. inr ((checkpointed-new o c w cl h) .holds-1))
+  done-master (CHECKPOINT c) w cl = inl (checkpointed-kept o c w cl)
   done-master CUT w cl = inl refl
   done-master RECOVER w cl = cases (isClosing (recovered o w)) (λ h. inr ((recovered-new o w cl h) .holds-1)) (λ h. inl (recovered-kept o w cl h))
+  done-master (RETIRE c) w cl = inr ((retired-new o c w cl) .holds-1)
 
   -- every master that a command stores holds 1
   pub masters-hold-1 : (k : Command) (w : World) → KeptOrNew w ((stepBy o k w) .world)
@@ -158,11 +141,6 @@ OlderDown w = (isDown (w .card .phase) ≡ true) × (be4 (blockAt (w .disk) 0) 8
 -- up, and the master holds 1
 abbrev pub NewUp : World → Type 0
 NewUp w = (isUp (w .card .phase) ≡ true) × (be4 (blockAt (w .disk) 0) 8 ≡ 1)
-
-down-no-blank : (p : Phase) → isDown p ≡ true → isBlank p ≡ false
-down-no-blank Blank h = absurd (false≢true h)
-down-no-blank Up h = refl
-down-no-blank Down h = refl
 
 step-down : (o : Order) (y z : CommitLayout) (w : World) (bs : List ℕ) → isDown (w .card .phase) ≡ true → isClosing (recoverStep o y z bs w) ≡ false
     → isDown ((recoverStep o y z bs w) .world .card .phase) ≡ true
@@ -184,25 +162,7 @@ module _ (o : Order) where
       let down : isDown ((recovered o w) .world .card .phase) ≡ true = (unfold recovered recoveredBy in step-down o y Numbers w (blocksLeft o y w) (a .0) h) in
       inl (down, ap (λ (m : Bytes). be4 m 8) (recovered-kept o w cl h) ∙ a .1))
 
-  done-older : (k : Command) (w : World) → OlderDown w → Clear (conditionsOf o k w) → OlderDown ((doneBy o k w) .world) ⊎ NewUp ((doneBy o k w) .world)
-  unfolding conditionsOf doneBy formatConditions writeConditions closeConditions storeConditions checkpointConditions
-  done-older (FORMAT c b j) w a cl = absurd (true≢false (ap not (sym (down-no-blank (w .card .phase) (a .0))) ∙ cl .1 .0))
-  done-older (WRITE c b i v) w a cl = absurd (true≢false (sym (a .0) ∙ cl .1 .1 .0))
-  done-older (CLOSE c) w a cl = absurd (true≢false (sym (a .0) ∙ cl .1 .1 .0))
-  done-older (STORE c) w a cl = absurd (true≢false (sym (a .0) ∙ cl .1 .1 .0))
-  done-older (CHECKPOINT c) w a cl = absurd (true≢false (sym (a .0) ∙ cl .1 .1 .0))
-  done-older CUT w a cl = inl (cut-older w a)
-  done-older RECOVER w a cl = recovered-older w a cl
-
-  read-older : (r : Read) (w : World) → OlderDown w → Clear (conditionsOn o r w) → OlderDown ((doneOn o r w) .world) ⊎ NewUp ((doneOn o r w) .world)
-  unfolding conditionsOn doneOn
-  read-older (whole k) w a cl = done-older k w a cl
-  read-older unknown w a cl = absurd (true≢false (cl .1 .0))
-  read-older early w a cl = absurd (true≢false (cl .1 .0))
-
-  -- a recovery of an older disk goes by its lists at every store until its last, however often it is cut, and whatever else stands on the tape
+  -- a recovery of an older disk goes by its lists at every store until its last, however often it is cut, whatever else stands on the tape
   pub older-until-up : (t : Bytes) (at : ℕ) (w : World) → OlderDown w → OlderDown ((stepAtBy o t at w) .world) ⊎ NewUp ((stepAtBy o t at w) .world)
   older-until-up t at w a =
-      by-decision (λ (x : Outcome World). OlderDown (x .world) ⊎ NewUp (x .world)) (command-decided o t at w)
-      (λ n. inl a)
-      (read-older (readAt t at) w a)
+      while-down o w (a .0) (λ (x : Outcome World). OlderDown (x .world) ⊎ NewUp (x .world)) (λ n. inl a) (inl (cut-older w a)) (recovered-older w a) t at

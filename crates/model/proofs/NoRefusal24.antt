@@ -14,7 +14,7 @@ use Rattle.model.specs.Bytes.{Bytes}
 use Rattle.model.specs.Card.{highestOf}
 use Rattle.model.specs.Layout.{hasHead, stampIn, numberNamed, namesFrom, namesIn, fewNames, isListable, isCommit}
 use Rattle.model.specs.Command.{World, Outcome, Decided, refused, carried-out}
-use Rattle.model.specs.Tape.{Command, FORMAT, WRITE, CLOSE, STORE, CHECKPOINT, CUT, RECOVER, Read, whole, unknown, early, readAt}
+use Rattle.model.specs.Tape.{Command, FORMAT, WRITE, CLOSE, STORE, CHECKPOINT, CUT, RECOVER, RETIRE, Read, whole, unknown, early, readAt}
 use Rattle.model.specs.Valid.{Order}
 use Rattle.model.specs.Step.{stepBy, stepAtBy}
 use Rattle.model.specs.declared.Shape.{Shape}
@@ -35,6 +35,7 @@ other-numbers (whole (STORE c)) = refl
 other-numbers (whole (CHECKPOINT c)) = refl
 other-numbers (whole CUT) = refl
 other-numbers (whole RECOVER) = refl
+other-numbers (whole (RETIRE c)) = refl
 other-numbers unknown = refl
 other-numbers early = refl
 

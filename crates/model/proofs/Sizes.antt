@@ -7,19 +7,18 @@ use mathlib.Core.Path.{_≡_, refl, sym, ap, _∙_, subst}
 use mathlib.Core.Bool.{Bool, false, cond}
 use mathlib.Core.List.{List, [], _∷_}
 use lib.ListN.{length, replicate, length-replicate}
-use lib.Dec.{ltb}
 use borrow.Author.Tests.{ltb-false, leb-false}
 use Rattle.model.specs.Bytes.{Bytes, blockAt, store, zeroDisk, zeroMemory}
 use Rattle.model.specs.Shape.{homeBlock, newShape}
 use Rattle.model.specs.Card.{taken, shapeOf, coreOf, blankCard}
-use Rattle.model.specs.Command.{World, Outcome, noCore, noBlock, Clear, Decided, refused, carried-out}
+use Rattle.model.specs.Command.{DiskStore, withStore, World, Outcome, noCore, noBlock, Clear, Decided, refused, carried-out}
 use Rattle.model.specs.Valid.{Order}
 use Rattle.model.specs.Format.{formattedDisk, formatted}
 use Rattle.model.specs.Write.{writeConditions, loadsImage, ruleFor, writtenMemory, written}
 use Rattle.model.specs.Commit.{copyBlock, copied, closeConditions, closed, stored}
-use Rattle.model.specs.Checkpoint.{committedOf, oldest, storedHome, storedMaster, checkpointed}
+use Rattle.model.specs.Checkpoint.{storedHome, storedMaster, checkpointed, retiredOldest}
 use Rattle.model.specs.Recovery.{layoutOn, blocksLeft, recoverStep, recoveredBy, recovered}
-use Rattle.model.specs.Tape.{Point, CHECKPOINT, CLOSE, CUT, Command, FORMAT, RECOVER, Read, STORE, WRITE, early, readAt, unknown, whole}
+use Rattle.model.specs.Tape.{Point, CHECKPOINT, CLOSE, CUT, Command, FORMAT, RECOVER, RETIRE, Read, STORE, WRITE, early, readAt, unknown, whole}
 use Rattle.model.proofs.Limits.{InRange}
 use Rattle.model.specs.Lists.{Each}
 use Rattle.model.proofs.Store.{length-replaced, length-store, length-blockAt}
@@ -27,7 +26,7 @@ use Rattle.model.proofs.Encoding.{length-master}
 use Rattle.model.proofs.Command.{of-cond, command-decided}
 use Rattle.model.proofs.Tape.{Runs, at-end, one-more, OfData, length-data, whole-data}
 use Rattle.model.proofs.Arrays.{Arrays, core-fits, empty-arrays, done-arrays}
-use Rattle.model.proofs.OneStore.{shape-limits, right-lengths, few-taken, OneStore, none-stored, one-stored, storePlace-low, format-limits, done-store, isFormat, stored-limits}
+use Rattle.model.proofs.OneStore.{shape-limits, right-lengths, few-taken, OneStore, StoreFits, none-stored, one-stored, storePlace-low, format-limits, done-store, isFormat, stored-limits}
 use Rattle.model.specs.Step.{conditionsOf, conditionsOn, doneBy, doneOn, stepAtBy}
 use Rattle.model.specs.declared.Shape.{Shape}
 use Rattle.model.specs.declared.CommitLayout.{CommitLayout}
@@ -40,9 +39,12 @@ pub record SizedWorld (w : World) : Type 0 where
   pub arrays : Arrays (w .card)
 
 -- ---- the disk
-one-length : {s : Shape} {d : Bytes} {o : Outcome World} → InRange s → length d ≡ 32896 → OneStore s d o → length (o .world .disk) ≡ 32896
-one-length l n (none-stored e z) = ap length e ∙ n
-one-length {d = d} l n (one-stored {k} p b h e z) = ap length e ∙ (length-store d k b (omega (arith, storePlace-low l p)) h ∙ n)
+fitting-length : {s : Shape} {b : DiskStore} (d : Bytes) → InRange s → length d ≡ 32896 → StoreFits s b → length (withStore b d) ≡ 32896
+fitting-length d l n none-stored = n
+fitting-length d l n (one-stored {b} p h) = length-store d (b .place) (b .bytes) (omega (arith, storePlace-low l p)) h ∙ n
+
+one-length : {s : Shape} {w : World} {o : Outcome World} → InRange s → length (w .disk) ≡ 32896 → OneStore s w o → length (o .world .disk) ≡ 32896
+one-length {w = w} l n x = ap length (x .makes .disk) ∙ fitting-length (w .disk) l n (x .fits)
 
 formatted-disk : (s : Shape) → InRange s → length ((formatted s) .world .disk) ≡ 32896
 unfolding formatted formattedDisk zeroDisk
@@ -79,8 +81,12 @@ length-written c b o v w z cl =
     length-replaced (128 * b + o) 4 m v (omega arith) z ∙ e
 
 pub checkpointed-memory : (c : ℕ) (w : World) → (checkpointed c w) .world .memory ≡ w .memory
-unfolding checkpointed storedHome storedMaster
-checkpointed-memory c w = of-cond (λ (o : Outcome World). o .world .memory ≡ w .memory) (ltb ((coreOf (w .card) c) .homed) ((oldest (committedOf w c)) .count)) refl refl
+unfolding checkpointed storedHome
+checkpointed-memory c w = refl
+
+pub retired-memory : (c : ℕ) (w : World) → (retiredOldest c w) .world .memory ≡ w .memory
+unfolding retiredOldest storedMaster
+retired-memory c w = refl
 
 pub recoverStep-memory : (o : Order) (y z : CommitLayout) (bs : List ℕ) (w : World) → (recoverStep o y z bs w) .world .memory ≡ w .memory
 unfolding recoverStep
@@ -106,6 +112,7 @@ module _ (o : Order) where
   done-memory (CHECKPOINT c) w four z cl = rw (checkpointed-memory c w) (z .memory)
   done-memory CUT w four z cl = length-zeroMemory
   done-memory RECOVER w four z cl = rw (recoverStep-memory o (layoutOn (w .disk)) Numbers (blocksLeft o (layoutOn (w .disk)) w) w) (z .memory)
+  done-memory (RETIRE c) w four z cl = rw (retired-memory c w) (z .memory)
 
   stored-disk : (k : Command) (w : World) → SizedWorld w → isFormat k ≡ false → Clear (conditionsOf o k w) → length ((doneBy o k w) .world .disk) ≡ 32896
   stored-disk k w z h cl = one-length (stored-limits o k w cl) (z .disk) (done-store o k w (z .arrays) h cl)
@@ -118,6 +125,7 @@ module _ (o : Order) where
   done-disk (CHECKPOINT c) w z cl = stored-disk (CHECKPOINT c) w z refl cl
   done-disk CUT w z cl = stored-disk CUT w z refl cl
   done-disk RECOVER w z cl = stored-disk RECOVER w z refl cl
+  done-disk (RETIRE c) w z cl = stored-disk (RETIRE c) w z refl cl
 
   pub done-sized : (k : Command) (w : World) → OfData (λ (v : Bytes). length v ≡ 4) k → SizedWorld w → Clear (conditionsOf o k w) → SizedWorld ((doneBy o k w) .world)
   done-sized k w four z cl = record { disk = done-disk k w z cl; memory = done-memory k w four z cl; arrays = done-arrays o k w (z .arrays) }

@@ -17,7 +17,7 @@ use Rattle.model.specs.Bytes.{Bytes, part}
 use Rattle.model.specs.Shape.{between}
 use Rattle.model.specs.Valid.{Order}
 use Rattle.model.specs.Command.{World}
-use Rattle.model.specs.Tape.{Command, FORMAT, WRITE, CLOSE, STORE, CHECKPOINT, CUT, RECOVER, operandLengths, operandLength, decoded, Read, whole, unknown, early, isUnknown, isEarly, commandByte, operandsAt, wholeOrEarly, readAt, offsetPast, nextOffset, TapeStep, Point, runFrom, run, heard}
+use Rattle.model.specs.Tape.{Command, FORMAT, WRITE, CLOSE, STORE, CHECKPOINT, CUT, RECOVER, RETIRE, operandLengths, operandLength, decoded, Read, whole, unknown, early, isUnknown, isEarly, commandByte, operandsAt, wholeOrEarly, readAt, offsetPast, nextOffset, TapeStep, Point, runFrom, run, heard}
 use Rattle.model.specs.Step.{stepAtBy}
 use Rattle.model.proofs.Lists.{cases, all-mem, and-left, and-right}
 use Rattle.model.proofs.Command.{refusalNumbers, readNumbers, read-numbers, read-answer, command-decided, decided-refused, first-number}
@@ -27,7 +27,7 @@ abbrev pub isCommand : Option Command → Bool
 isCommand none = false
 isCommand (some k) = true
 
-decoded-past : (k : ℕ) (a : Bytes) → 8 ≤ k → decoded k a ≡ none
+decoded-past : (k : ℕ) (a : Bytes) → 9 ≤ k → decoded k a ≡ none
 unfolding decoded
 decoded-past k a h =
     rw (
@@ -38,10 +38,11 @@ decoded-past k a h =
       ne-eqb k 5 (λ e. omega arith),
       ne-eqb k 6 (λ e. omega arith),
       ne-eqb k 7 (λ e. omega arith),
+      ne-eqb k 8 (λ e. omega arith),
     ) refl
 
--- a fact of every byte: of 0 to 7 each, and of those past them
-by-byte : (P : ℕ → Type 0) → Each P (0 ∷ 1 ∷ 2 ∷ 3 ∷ 4 ∷ 5 ∷ 6 ∷ 7 ∷ []) → ((k : ℕ) → 8 ≤ k → P k) → (k : ℕ) → P k
+-- a fact of every byte: of 0 to 8 each, and of those past them
+by-byte : (P : ℕ → Type 0) → Each P (0 ∷ 1 ∷ 2 ∷ 3 ∷ 4 ∷ 5 ∷ 6 ∷ 7 ∷ 8 ∷ []) → ((k : ℕ) → 9 ≤ k → P k) → (k : ℕ) → P k
 by-byte P p past zero = p .0
 by-byte P p past (suc zero) = p .1 .0
 by-byte P p past (suc (suc zero)) = p .1 .1 .0
@@ -50,20 +51,21 @@ by-byte P p past (suc (suc (suc (suc zero)))) = p .1 .1 .1 .1 .0
 by-byte P p past (suc (suc (suc (suc (suc zero))))) = p .1 .1 .1 .1 .1 .0
 by-byte P p past (suc (suc (suc (suc (suc (suc zero)))))) = p .1 .1 .1 .1 .1 .1 .0
 by-byte P p past (suc (suc (suc (suc (suc (suc (suc zero))))))) = p .1 .1 .1 .1 .1 .1 .1 .0
-by-byte P p past (suc (suc (suc (suc (suc (suc (suc (suc k)))))))) = past (suc (suc (suc (suc (suc (suc (suc (suc k)))))))) (omega arith)
+by-byte P p past (suc (suc (suc (suc (suc (suc (suc (suc zero)))))))) = p .1 .1 .1 .1 .1 .1 .1 .1 .0
+by-byte P p past (suc (suc (suc (suc (suc (suc (suc (suc (suc k))))))))) = past (suc (suc (suc (suc (suc (suc (suc (suc (suc k))))))))) (omega arith)
 
--- bytes 1 to 7 are the commands'
-pub decoded-known : (k : ℕ) (a : Bytes) → isCommand (decoded k a) ≡ between 1 k 7
+-- bytes 1 to 8 are the commands'
+pub decoded-known : (k : ℕ) (a : Bytes) → isCommand (decoded k a) ≡ between 1 k 8
 unfolding decoded between
 decoded-known k a =
-    by-byte (λ (k : ℕ). isCommand (decoded k a) ≡ between 1 k 7) (refl, (refl, (refl, (refl, (refl, (refl, (refl, (refl, tt))))))))
-    (λ k h. rw (decoded-past k a h, le-leb 1 k (omega arith), lt-leb k 7 (omega arith)) refl) k
+    by-byte (λ (k : ℕ). isCommand (decoded k a) ≡ between 1 k 8) (refl, (refl, (refl, (refl, (refl, (refl, (refl, (refl, (refl, tt)))))))))
+    (λ k h. rw (decoded-past k a h, le-leb 1 k (omega arith), lt-leb k 8 (omega arith)) refl) k
 
-unknown-none : (k : ℕ) → between 1 k 7 ≡ false → operandLength k ≡ 0
+unknown-none : (k : ℕ) → between 1 k 8 ≡ false → operandLength k ≡ 0
 unfolding operandLength operandLengths between
 unknown-none k =
-    by-byte (λ (k : ℕ). between 1 k 7 ≡ false → operandLength k ≡ 0)
-    (λ h. refl, (λ h. absurd (true≢false h), (λ h. absurd (true≢false h), (λ h. absurd (true≢false h), (λ h. absurd (true≢false h), (λ h. absurd (true≢false h), (λ h. refl, (λ h. refl, tt))))))))
+    by-byte (λ (k : ℕ). between 1 k 8 ≡ false → operandLength k ≡ 0)
+    (λ h. refl, (λ h. absurd (true≢false h), (λ h. absurd (true≢false h), (λ h. absurd (true≢false h), (λ h. absurd (true≢false h), (λ h. absurd (true≢false h), (λ h. refl, (λ h. refl, (λ h. absurd (true≢false h), tt)))))))))
     (λ k h z. List·getD-eq-default operandLengths 0 h) k
 
 -- a fact of the data that a WRITE has
@@ -75,6 +77,7 @@ OfData P (STORE c) = Unit {0}
 OfData P (CHECKPOINT c) = Unit {0}
 OfData P CUT = Unit {0}
 OfData P RECOVER = Unit {0}
+OfData P (RETIRE c) = Unit {0}
 
 OfDataIn : (Bytes → Type 0) → Option Command → Type 0
 OfDataIn P none = Unit {0}
@@ -84,7 +87,7 @@ decoded-data : (P : Bytes → Type 0) (k : ℕ) (a : Bytes) → (k ≡ 2 → P (
 unfolding decoded OfDataIn
 decoded-data P k a =
     by-byte (λ (k : ℕ). (k ≡ 2 → P (part 4 4 a)) → OfDataIn P (decoded k a))
-    (λ h. tt, (λ h. tt, (λ h. h refl, (λ h. tt, (λ h. tt, (λ h. tt, (λ h. tt, (λ h. tt, tt))))))))
+    (λ h. tt, (λ h. tt, (λ h. h refl, (λ h. tt, (λ h. tt, (λ h. tt, (λ h. tt, (λ h. tt, (λ h. tt, tt)))))))))
     (λ k h p. rw (decoded-past k a h) tt) k
 
 -- ---- what is read at an offset
@@ -128,7 +131,7 @@ module _ (t : Bytes) (at : ℕ) where
   read-on h = rw (lt-leb (length t) at h)
 
   -- '2 unknown command byte'
-  pub unknown-is : isUnknown (readAt t at) ≡ ltb at (length t) && not (between 1 (commandByte t at) 7)
+  pub unknown-is : isUnknown (readAt t at) ≡ ltb at (length t) && not (between 1 (commandByte t at) 8)
   unknown-is =
       cases (ltb at (length t))
       (λ h. rw (h, read-on (ltb-true at (length t) h), ← decoded-known (commandByte t at) (operandsAt t at)) (unknown-of short (decoded (commandByte t at) (operandsAt t at))))
@@ -297,6 +300,7 @@ numbers-own (STORE c) = refl
 numbers-own (CHECKPOINT c) = refl
 numbers-own CUT = refl
 numbers-own RECOVER = refl
+numbers-own (RETIRE c) = refl
 
 -- what a service book or ledger hears keeps what each command with its answer keeps
 pub heard-keeps : {S : Type 0} (f : Command → ℕ → S → S) (P : S → Type 0) → ((k : Command) (n : ℕ) (s : S) → P s → P (f k n s)) → (r : Read) (n : ℕ) (s : S) → P s → P (heard f r n s)

@@ -1,5 +1,5 @@
--- CHECKPOINT: 'takes the core's oldest committed transaction, stores its images home in the order taken,
--- then the master with the tail moved past it, which retires it'.
+-- CHECKPOINT: 'takes the core's oldest committed transaction, stores its images home in the order taken'. RETIRE has since paper 02's
+-- (g) the rest of that sentence: 'then the master with the tail moved past it, which retires it'.
 use Prim.Native.Nat.{ℕ, _+_, _-_, _%_}
 use mathlib.Core.List.{List, [], _∷_, map}
 use mathlib.Core.Bool.{Bool, cond, not, _&&_, _||_}
@@ -11,7 +11,7 @@ use Rattle.model.specs.Card.{newTail, sameName, noHolder, taken, shapeOf
 use Rattle.model.specs.Layout.{masterBlock}
 use Rattle.model.specs.Journal.{journal, journals, nameOf, blocksOf, imageOf}
 use Rattle.model.specs.Valid.{Order, isIn, validSet}
-use Rattle.model.specs.Command.{World, Outcome, storing, unless, notUp, noCore}
+use Rattle.model.specs.Command.{World, Outcome, BlockStore, storingBlock, unless, notUp, noCore}
 use Rattle.model.specs.declared.Shape.{Shape}
 use Rattle.model.specs.declared.Tail.{Tail}
 use Rattle.model.specs.declared.Name.{Name}
@@ -52,30 +52,46 @@ sharesLower w e =
     any (λ (f : Committed). ltb (f .stamp) (e .stamp) && share bs (blocksOf s (w .disk) f)) (committedNow w)
     || any (λ (c : ℕ). lowerClosed ((coreOf (w .card) c) .closed)) (below (s .cores))
 
+-- paper 02, (g): 'RETIRE meets 20, 22 and 5 as CHECKPOINT does, then tests 31, 32, 33'; the rest is a command's own. What is asked of the
+-- oldest transaction ..
+unfoldable pub foundConditions : Order → Committed → World → List (Bool × ℕ) → List (Bool × ℕ)
+foundConditions o e w rest = (not (isIn (validNow o w) (nameOf e)), 32) ∷ (sharesLower w e, 33) ∷ rest
+
+-- .. of a core that the card has ..
+unfoldable pub committedConditions : Order → ℕ → World → List (Bool × ℕ) → List (Bool × ℕ)
+committedConditions o c w rest =
+    let es = committedOf w c in
+    (eqb (length es) 0, 31) ∷ foundConditions o (oldest es) w rest
+
+-- .. and of any core
+abbrev pub oldestConditions : Order → ℕ → World → List (Bool × ℕ) → List (Bool × ℕ)
+oldestConditions o c w rest = notUp w ((noCore w c, 5) ∷ committedConditions o c w rest)
+
+-- images of its transaction are left to be stored home
+abbrev pub imagesLeft : ℕ → World → Bool
+imagesLeft c w = ltb ((coreOf (w .card) c) .homed) ((oldest (committedOf w c)) .count)
+
+-- 'CHECKPOINT tests 31, 32, 33, then 35, all home stores done.'
 unfoldable pub checkpointConditions : Order → ℕ → World → List (Bool × ℕ)
-checkpointConditions o c w =
-    let e = oldest (committedOf w c) in
-    notUp w
-    ((noCore w c, 5)
-    ∷ (eqb (length (committedOf w c)) 0, 31)
-    ∷ (not (isIn (validNow o w) (nameOf e)), 32)
-    ∷ (sharesLower w e, 33)
-    ∷ [])
+checkpointConditions o c w = oldestConditions o c w ((not (imagesLeft c w), 35) ∷ [])
+
+-- RETIRE 'then 34, home stores outstanding'
+unfoldable pub retireConditions : Order → ℕ → World → List (Bool × ℕ)
+retireConditions o c w = oldestConditions o c w ((imagesLeft c w, 34) ∷ [])
 
 -- the core after one more home store
 abbrev pub homedCore : Core → Core
 homedCore k = record { next = k .next; used = k .used; stored = k .stored; homed = k .homed + 1; running = k .running; closed = k .closed }
 
 -- a home store: 'A block's home image comes from the journal, never from later memory.'
+abbrev pub homeStore : ℕ → Committed → World → BlockStore
+homeStore c e w =
+    let s = shapeOf (w .card) in
+    let i = (coreOf (w .card) c) .homed in
+    record { place = homeBlock (getD (blocksOf s (w .disk) e) i 0); bytes = imageOf s (w .disk) e i }
+
 unfoldable pub storedHome : ℕ → Committed → World → Outcome World
-storedHome c e w =
-    let x = w .card in
-    let s = shapeOf x in
-    let k = coreOf x c in
-    storing w
-    (withCore x c (homedCore k))
-    (homeBlock (getD (blocksOf s (w .disk) e) (k .homed) 0))
-    (imageOf s (w .disk) e (k .homed))
+storedHome c e w = storingBlock w (withCore (w .card) c (homedCore (coreOf (w .card) c))) (homeStore c e w)
 
 -- 'until that one is retired': its blocks have no holder any more
 abbrev pub freed : Name → Holder → Holder
@@ -101,15 +117,23 @@ retiredCard c e x =
     (set (x .cores) c (retiredCore (coreOf x c) e))
     (released (nameOf e) (x .holders))
 
-unfoldable pub storedMaster : ℕ → Committed → World → Outcome World
-storedMaster c e w =
-    let x = retiredCard c e (w .card) in
-    storing w x 0 (masterBlock Numbers (shapeOf x) (tailOf x))
+-- the master store, for the card as it then is
+abbrev pub masterStore : Card → BlockStore
+masterStore x = record { place = 0; bytes = masterBlock Numbers (shapeOf x) (tailOf x) }
 
+unfoldable pub storedMaster : ℕ → Committed → World → Outcome World
+storedMaster c e w = let x = retiredCard c e (w .card) in storingBlock w x (masterStore x)
+
+-- paper 02, (g): 'CHECKPOINT (5) now only does the home stores.'
 unfoldable pub checkpointed : ℕ → World → Outcome World
-checkpointed c w =
-    let e = oldest (committedOf w c) in
-    cond (ltb ((coreOf (w .card) c) .homed) (e .count)) (storedHome c e w) (storedMaster c e w)
+checkpointed c w = storedHome c (oldest (committedOf w c)) w
 
 unfoldable pub checkpoint : Order → ℕ → World → Outcome World
 checkpoint o c w = unless (checkpointConditions o c w) w (checkpointed c w)
+
+-- 'The new command RETIRE (byte 8, core 1 byte) does the master store'
+unfoldable pub retiredOldest : ℕ → World → Outcome World
+retiredOldest c w = storedMaster c (oldest (committedOf w c)) w
+
+unfoldable pub retire : Order → ℕ → World → Outcome World
+retire o c w = unless (retireConditions o c w) w (retiredOldest c w)

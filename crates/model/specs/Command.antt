@@ -51,6 +51,28 @@ pub record World : Type 0 where
   pub disk : Bytes
   pub memory : Bytes
 
+-- one store: the disk block, and the 128 bytes that it gets
+pub record BlockStore : Type 0 where
+  pub place : ℕ
+  pub bytes : Bytes
+
+-- 'Each does at most one store, save FORMAT', which makes the whole disk and counts none
+pub data DiskStore : Type 0 where
+  no-store : DiskStore
+  one-store : BlockStore → DiskStore
+  whole-disk : Bytes → DiskStore
+
+-- the disk with that made, and the number of stores
+abbrev pub withStore : DiskStore → Bytes → Bytes
+withStore no-store d = d
+withStore (one-store b) d = store d (b .place) (b .bytes)
+withStore (whole-disk e) d = e
+
+abbrev pub countOf : DiskStore → ℕ
+countOf no-store = 0
+countOf (one-store b) = 1
+countOf (whole-disk e) = 0
+
 -- carried out: card and memory change, the disk does not
 abbrev pub unstored : World → Card → Bytes → Outcome World
 unstored w x m = record { answer = 0; world = record { card = x; disk = w .disk; memory = m }; stores = 0 }
@@ -59,11 +81,14 @@ unstored w x m = record { answer = 0; world = record { card = x; disk = w .disk;
 abbrev pub storing : World → Card → ℕ → Bytes → Outcome World
 storing w x k b = record { answer = 0; world = record { card = x; disk = store (w .disk) k b; memory = w .memory }; stores = 1 }
 
+abbrev pub storingBlock : World → Card → BlockStore → Outcome World
+storingBlock w x b = storing w x (b .place) (b .bytes)
+
 -- '1 disk slice not 32,896 bytes, or memory slice not 16,384'
 unfoldable pub wrongLength : World → Bool
 wrongLength w = not (eqb (length (w .disk)) diskSize) || not (eqb (length (w .memory)) memorySize)
 
--- 'Order: 1, 2, 3, then 20 to 23, then 4 to 8': what WRITE, CLOSE, STORE, CHECKPOINT and reading meet first
+-- 'Order: 1, 2, 3, then 20 to 23, then 4 to 8': what WRITE, CLOSE, STORE, CHECKPOINT, RETIRE and reading meet first
 abbrev pub notUp : World → List (Bool × ℕ) → List (Bool × ℕ)
 notUp w rest = (wrongLength w, 1) ∷ (isBlank (w .card .phase), 20) ∷ (isDown (w .card .phase), 22) ∷ rest
 

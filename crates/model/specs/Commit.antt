@@ -10,7 +10,7 @@ use Rattle.model.specs.Bytes.{Bytes, blockAt, store}
 use Rattle.model.specs.Shape.{journalBlock}
 use Rattle.model.specs.Card.{noTransaction, taken, highestOf, stamped, recordSize, shapeOf, tailOf, coreOf, withCore}
 use Rattle.model.specs.Layout.{Tag, newTag, descriptorBlock, commitBlock, flagOf, escaped}
-use Rattle.model.specs.Command.{World, Outcome, unstored, storing, unless, notUp, noCore}
+use Rattle.model.specs.Command.{World, Outcome, BlockStore, unstored, storingBlock, unless, notUp, noCore}
 use Rattle.model.specs.declared.Core.{Core}
 use Rattle.model.specs.declared.Card.{Card}
 
@@ -76,6 +76,12 @@ nextStored c k m =
 unfoldable pub nextPosition : Card → ℕ → ℕ
 nextPosition x c = (tailOf x c) .position + (coreOf x c) .used + (coreOf x c) .stored
 
+-- the store of it
+abbrev pub recordStore : ℕ → World → BlockStore
+recordStore c w =
+    let x = w .card in
+    record { place = journalBlock (shapeOf x) c (nextPosition x c); bytes = nextStored c (coreOf x c) (w .memory) }
+
 -- 'With the commit stored it is committed.'
 unfoldable pub coreStored : Core → Core
 coreStored k =
@@ -87,10 +93,7 @@ unfoldable pub storeConditions : ℕ → World → List (Bool × ℕ)
 storeConditions c w = notUp w ((noCore w c, 5) ∷ (not ((coreOf (w .card) c) .closed .live), 30) ∷ [])
 
 unfoldable pub stored : ℕ → World → Outcome World
-stored c w =
-    let x = w .card in
-    let k = coreOf x c in
-    storing w (withCore x c (coreStored k)) (journalBlock (shapeOf x) c (nextPosition x c)) (nextStored c k (w .memory))
+stored c w = storingBlock w (withCore (w .card) c (coreStored (coreOf (w .card) c))) (recordStore c w)
 
 unfoldable pub storeNext : ℕ → World → Outcome World
 storeNext c w = unless (storeConditions c w) w (stored c w)

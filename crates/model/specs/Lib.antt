@@ -15,6 +15,7 @@ pub mod Write
 pub mod Commit
 pub mod Checkpoint
 pub mod Recovery
+pub mod RecoveryClaims
 pub mod Reading
 pub mod Step
 pub mod Printing

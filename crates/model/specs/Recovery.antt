@@ -1,18 +1,18 @@
 -- CUT: 'memory lost, card down; a recovery under way starts over'. RECOVER: 'next store of recovery'.
-use Prim.Native.Nat.{ℕ, suc, _+_, min}
-use mathlib.Core.List.{List, [], _∷_, map}
+use Prim.Native.Nat.{ℕ, suc, _+_, _*_, min}
+use mathlib.Core.List.{List, [], _∷_, map, flatMap}
 use mathlib.Core.Bool.{Bool, cond, not}
 use lib.ListN.{length}
 use lib.Dec.{ltb, leb, eqb}
-use Rattle.model.specs.Limits.{maxCores, maxNumber}
+use Rattle.model.specs.Limits.{maxCores, maxNumber, blockSize}
 use Rattle.model.specs.Lists.{below, select}
-use Rattle.model.specs.Bytes.{Bytes, blockAt, zeroMemory}
+use Rattle.model.specs.Bytes.{Bytes, part, blockAt, zeroMemory}
 use Rattle.model.specs.Shape.{homeBlock}
 use Rattle.model.specs.Card.{isBlank, isUp, newTail, freshCard, downCard}
 use Rattle.model.specs.Layout.{masterBlock, layoutIn, hasMasterFields, isMaster, shapeIn, tailIn}
 use Rattle.model.specs.Journal.{journal, journals, blocksOf, imageOf}
 use Rattle.model.specs.Valid.{Order, in-sequence, validSet, blocksHeld, newest}
-use Rattle.model.specs.Command.{World, Outcome, unstored, storing, unless, wrongLength}
+use Rattle.model.specs.Command.{World, Outcome, BlockStore, unstored, storingBlock, unless, wrongLength}
 use Rattle.model.specs.declared.Phase.the-variants.{Up}
 use Rattle.model.specs.declared.Shape.{Shape}
 use Rattle.model.specs.declared.Tail.{Tail}
@@ -102,9 +102,13 @@ unfoldable pub broughtUp : CommitLayout → Bytes → Card
 broughtUp y d = freshCard Up (shapeOn d) (map (emptiedTail y d) (below maxCores))
 
 -- a home store of the lowest block left, or the master store; read by layout y, the closing master for layout z
+abbrev pub recoverStore : Order → CommitLayout → CommitLayout → List ℕ → Bytes → BlockStore
+recoverStore o y z [] d = record { place = 0; bytes = masterBlock z (shapeOn d) (emptiedTail y d) }
+recoverStore o y z (b ∷ bs) d = record { place = homeBlock b; bytes = newestImage o y d b }
+
 unfoldable pub recoverStep : Order → CommitLayout → CommitLayout → List ℕ → World → Outcome World
-recoverStep o y z [] w = storing w (broughtUp y (w .disk)) 0 (masterBlock z (shapeOn (w .disk)) (emptiedTail y (w .disk)))
-recoverStep o y z (b ∷ bs) w = storing w (recoveredTo (w .card) (b + 1)) (homeBlock b) (newestImage o y (w .disk) b)
+recoverStep o y z [] w = storingBlock w (broughtUp y (w .disk)) (recoverStore o y z [] (w .disk))
+recoverStep o y z (b ∷ bs) w = storingBlock w (recoveredTo (w .card) (b + 1)) (recoverStore o y z (b ∷ bs) (w .disk))
 
 unfoldable pub recoveredBy : Order → CommitLayout → CommitLayout → World → Outcome World
 recoveredBy o y z w = recoverStep o y z (blocksLeft o y w) w
@@ -120,3 +124,16 @@ recover o w = unless (recoverConditions w) w (recovered o w)
 -- defined by it: with it is said how an older disk is recovered
 unfoldable pub recoverByLists : Order → World → Outcome World
 recoverByLists o w = unless (recoverConditionsBy hasMasterFields w) w (recoveredBy o Lists Lists w)
+
+-- ---- paper 02, (g): 'brings back the same home area': recovery as a function of the disk, by its own layout
+-- the home blocks held in the valid set
+abbrev pub heldOn : Bytes → List ℕ
+heldOn d = blocksHeld (shapeOn d) d (validOn d)
+
+-- of each home block the newest image in the valid set, else what stands at home
+unfoldable pub recoveredArea : Bytes → Bytes
+recoveredArea d = flatMap (newestImage in-sequence (layoutOn d) d) (below ((shapeOn d) .blocks))
+
+-- 'The home area is the bytes of disk blocks 1 to B'
+unfoldable pub homeArea : ℕ → World → Bytes
+homeArea n w = part blockSize (blockSize * n) (w .disk)

@@ -5,14 +5,15 @@ use mathlib.Core.Bool.{Bool, true}
 use Rattle.model.specs.Bytes.{Bytes, zeroMemory}
 use Rattle.model.specs.Shape.{newShape}
 use Rattle.model.specs.Card.{downCard}
-use Rattle.model.specs.Command.{Outcome, refusedWith, unless, Decided, World, unstored, wrongLength}
-use Rattle.model.specs.Tape.{Command, FORMAT, WRITE, CLOSE, STORE, CHECKPOINT, CUT, RECOVER, Read, whole, unknown, early, readAt, Step, TapeStep, commandAt}
+use Rattle.model.specs.Command.{Outcome, refusedWith, unless, Decided, World, DiskStore, no-store, one-store, whole-disk, unstored, wrongLength}
+use Rattle.model.specs.Tape.{Command, FORMAT, WRITE, CLOSE, STORE, CHECKPOINT, CUT, RECOVER, RETIRE, Read, whole, unknown, early, readAt, Step, TapeStep, commandAt}
 use Rattle.model.specs.Valid.{Order, in-sequence}
-use Rattle.model.specs.Format.{formatConditions, formatted}
+use Rattle.model.specs.Format.{formatConditions, formattedDisk, formatted}
 use Rattle.model.specs.Write.{writeConditions, written}
-use Rattle.model.specs.Commit.{closeConditions, closed, storeConditions, stored}
-use Rattle.model.specs.Checkpoint.{checkpointConditions, checkpointed}
-use Rattle.model.specs.Recovery.{cutConditions, recoverConditions, recovered}
+use Rattle.model.specs.Commit.{closeConditions, closed, storeConditions, recordStore, stored}
+use Rattle.model.specs.Checkpoint.{committedOf, oldest, checkpointConditions, homeStore, checkpointed, retireConditions, retiredCard, masterStore, retiredOldest}
+use Rattle.model.specs.declared.CommitLayout.the-variants.{Numbers}
+use Rattle.model.specs.Recovery.{layoutOn, cutConditions, recoverConditions, blocksLeft, recoverStore, recovered}
 
 unfoldable pub conditionsOf : Order → Command → World → List (Bool × ℕ)
 conditionsOf o (FORMAT c b j) w = formatConditions c b j w
@@ -22,6 +23,7 @@ conditionsOf o (STORE c) w = storeConditions c w
 conditionsOf o (CHECKPOINT c) w = checkpointConditions o c w
 conditionsOf o CUT w = cutConditions w
 conditionsOf o RECOVER w = recoverConditions w
+conditionsOf o (RETIRE c) w = retireConditions o c w
 
 unfoldable pub doneBy : Order → Command → World → Outcome World
 doneBy o (FORMAT c b j) w = formatted (newShape c b j)
@@ -31,6 +33,18 @@ doneBy o (STORE c) w = stored c w
 doneBy o (CHECKPOINT c) w = checkpointed c w
 doneBy o CUT w = unstored w downCard zeroMemory
 doneBy o RECOVER w = recovered o w
+doneBy o (RETIRE c) w = retiredOldest c w
+
+-- what a command carried out stores next
+unfoldable pub nextStore : Order → Command → World → DiskStore
+nextStore o (FORMAT c b j) w = whole-disk (formattedDisk Numbers (newShape c b j))
+nextStore o (WRITE c b i v) w = no-store
+nextStore o (CLOSE c) w = no-store
+nextStore o (STORE c) w = one-store (recordStore c w)
+nextStore o (CHECKPOINT c) w = one-store (homeStore c (oldest (committedOf w c)) w)
+nextStore o CUT w = no-store
+nextStore o RECOVER w = let y = layoutOn (w .disk) in one-store (recoverStore o y Numbers (blocksLeft o y w) (w .disk))
+nextStore o (RETIRE c) w = one-store (masterStore (retiredCard c (oldest (committedOf w c)) (w .card)))
 
 -- the card under a rule, its commits with numbers. That is too little under the old one: its card fails demand 3
 unfoldable pub stepBy : Order → Step World
@@ -39,6 +53,11 @@ stepBy o k w = unless (conditionsOf o k w) w (doneBy o k w)
 -- ours: request (c) is in force
 abbrev pub step : Step World
 step = stepBy in-sequence
+
+-- the world after these commands, done or refused
+unfoldable pub worldBy : List Command → World → World
+worldBy [] w = w
+worldBy (k ∷ ks) w = worldBy ks ((step k w) .world)
 
 -- the card as a tape meets it
 unfoldable pub stepAtBy : Order → TapeStep World

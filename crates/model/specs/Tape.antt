@@ -8,7 +8,8 @@ use lib.Dec.{ltb, leb, eqb}
 use Rattle.model.specs.Bytes.{Bytes, number, part}
 use Rattle.model.specs.Command.{Outcome, refusedWith, unless}
 
--- ---- the commands, each with its operands: FORMAT has C, B, J; WRITE has core, block, offset, data; CLOSE, STORE and CHECKPOINT have a core
+-- ---- the commands, each with its operands: FORMAT has C, B, J; WRITE has core, block, offset, data; CLOSE, STORE, CHECKPOINT and,
+-- since paper 02's (g), RETIRE have a core
 pub data Command : Type 0 where
   FORMAT : ℕ → ℕ → ℕ → Command
   WRITE : ℕ → ℕ → ℕ → Bytes → Command
@@ -17,10 +18,11 @@ pub data Command : Type 0 where
   CHECKPOINT : ℕ → Command
   CUT : Command
   RECOVER : Command
+  RETIRE : ℕ → Command
 
--- 'One byte, then operands of fixed widths': the bytes of the operands of commands 1 to 7
+-- 'One byte, then operands of fixed widths': the bytes of the operands of commands 1 to 8
 unfoldable pub operandLengths : List ℕ
-operandLengths = 0 ∷ 3 ∷ 8 ∷ 1 ∷ 1 ∷ 1 ∷ 0 ∷ 0 ∷ []
+operandLengths = 0 ∷ 3 ∷ 8 ∷ 1 ∷ 1 ∷ 1 ∷ 0 ∷ 0 ∷ 1 ∷ []
 
 unfoldable pub operandLength : ℕ → ℕ
 operandLength k = getD operandLengths k 0
@@ -35,7 +37,8 @@ decoded k a =
     (cond (eqb k 4) (some (STORE c))
     (cond (eqb k 5) (some (CHECKPOINT c))
     (cond (eqb k 6) (some CUT)
-    (cond (eqb k 7) (some RECOVER) none))))))
+    (cond (eqb k 7) (some RECOVER)
+    (cond (eqb k 8) (some (RETIRE c)) none)))))))
 
 -- ---- what stands at an offset of a tape: a whole command, '2 unknown command byte' or '3 operands end early'
 pub data Read : Type 0 where

@@ -47,7 +47,7 @@ pub struct Transaction {
 }
 
 // A core: the number of its running transaction, or of the next one to open; the blocks of its committed unretired
-// records; the stores done of the closed transaction and of the checkpoint under way.
+// records; the stores done of the closed transaction, and the home stores done of the oldest committed one.
 pub struct Core {
     pub next: u32,
     pub used: u8,

@@ -1,12 +1,12 @@
 -- A core's oldest transaction is the record at its tail. It is in the valid set exactly if a record of its core
 -- counts there: else 32; and 33 exactly if one of lower stamp shares a block with it.
 use Rattle.model.proofs.Base.{ℕ, _-_, _<_, min, arith, decLt, _≡_, refl, sym, ap, subst, _∙_, Bool, true, false, cond, _&&_, _||_}
-use Rattle.model.proofs.Base.{List, length, getD, eqb, ltb, lt-ltb, below, any, Bytes}
+use Rattle.model.proofs.Base.{List, length, getD, eqb, ltb, lt-ltb, below, any, [], Bytes}
 use Rattle.model.specs.Card.{shapeOf, tailOf, coreOf, committedCount}
 use Rattle.model.specs.Journal.{recordAt, journal, nameOf}
 use Rattle.model.specs.Valid.{in-sequence, isIn, validSet}
 use Rattle.model.specs.Command.{refusal}
-use Rattle.model.specs.Checkpoint.{committedNow, validNow, sharesLower}
+use Rattle.model.specs.Checkpoint.{committedNow, validNow, sharesLower, foundConditions}
 use Rattle.model.specs.declared.Shape.{Shape}
 use Rattle.model.specs.declared.Tail.{Tail}
 use Rattle.model.specs.declared.Card.{Card}
@@ -25,7 +25,7 @@ use Rattle.images.specs.Newest.{sharesBelow}
 use Rattle.valid.proofs.Commands.{records-read, records-valid}
 use Rattle.valid.proofs.Sets.{in-count}
 use Rattle.cells.specs.Cells.{world}
-use Rattle.oldest.specs.Oldest.{countAt, counts, oldestAt, ReadNow, IsRead, lowerClosed, closedLower, lowerShares, oldestConditions, IsOldest}
+use Rattle.oldest.specs.Oldest.{countAt, counts, oldestAt, ReadNow, IsRead, lowerClosed, closedLower, lowerShares, IsOldest}
 use Rattle.oldest.proofs.CardLaws.{core-low}
 use Rattle.oldest.proofs.CountLaws.{count-in}
 
@@ -46,7 +46,7 @@ module _ (x : Card) (d : Bytes) (c : ℕ) where
     pub tail-known : KnownRecord Numbers (shapeOf x) d c ((tailOf x c) .number) e
     tail-known = record-known Numbers (shapeOf x) d c ((tailOf x c) .number) ((tailOf x c) .position) ((shapeOf x) .journal) e at-tail .0
 
-    was-read : length d ≡ 32896 → c < (shapeOf x) .cores → IsRead (shapeOf x) d e
+    pub was-read : length d ≡ 32896 → c < (shapeOf x) .cores → IsRead (shapeOf x) d e
     was-read n l =
         let k = tail-known in
         record {
@@ -138,9 +138,9 @@ module _ (x : Card) (d : Bytes) (c : ℕ) (xs zs start count : List ℕ) (e : Co
       ap (λ (es : List Committed). isIn es (nameOf e)) (sym (valid-read x d xs zs start count (h .read) m begin few (rw (p, y) at v)))
       ∙ oldest-counts x d c e (h .first) (h .core) xs zs begin few
 
-  pub oldestConditions-32 : getD few c 0 ≡ 0 → (m : Bytes) → 32 ≡ refusal (oldestConditions e (world x d m))
-  unfolding oldestConditions refusal
-  oldestConditions-32 z m = rw (told m, z)
+  pub foundConditions-32 : getD few c 0 ≡ 0 → (m : Bytes) → 32 ≡ refusal (foundConditions in-sequence e (world x d m) [])
+  unfolding foundConditions refusal
+  foundConditions-32 z m = rw (told m, z)
 
   module _ (z : getD few c 0 ≡ 0 → ⊥) (g : Bool) (k : g ≡ lowerShares x s d xs zs start count e) where
     in-valid : (m : Bytes) → isIn (validNow in-sequence (world x d m)) (nameOf e) ≡ true
@@ -149,10 +149,10 @@ module _ (x : Card) (d : Bytes) (c : ℕ) (xs zs start count : List ℕ) (e : Co
     shares : (m : Bytes) → g ≡ sharesLower (world x d m) e
     shares m = (rw p at k) ∙ lower-parts x d xs zs start count (h .read) m e
 
-    pub oldestConditions-33 : g ≡ true → (m : Bytes) → 33 ≡ refusal (oldestConditions e (world x d m))
-    unfolding oldestConditions refusal
-    oldestConditions-33 t m = rw (in-valid m, ← shares m, t)
+    pub foundConditions-33 : g ≡ true → (m : Bytes) → 33 ≡ refusal (foundConditions in-sequence e (world x d m) [])
+    unfolding foundConditions refusal
+    foundConditions-33 t m = rw (in-valid m, ← shares m, t)
 
-    pub oldestConditions-none : g ≡ false → (m : Bytes) → 0 ≡ refusal (oldestConditions e (world x d m))
-    unfolding oldestConditions refusal
-    oldestConditions-none t m = rw (in-valid m, ← shares m, t)
+    pub foundConditions-none : g ≡ false → (m : Bytes) → 0 ≡ refusal (foundConditions in-sequence e (world x d m) [])
+    unfolding foundConditions refusal
+    foundConditions-none t m = rw (in-valid m, ← shares m, t)

@@ -1,17 +1,17 @@
--- A core's oldest committed transaction as the code finds it, the tests of those that share a block with it, and what refuses its
--- checkpoint.
-use Prim.Native.Nat.{ℕ, _<_, min}
+-- A core's oldest committed transaction as the code finds it, the tests of those that share a block with it, and what refuses CHECKPOINT
+-- and RETIRE alike.
+use Prim.Native.Nat.{ℕ, _≤_, _<_, min}
 use mathlib.Core.Path.{_≡_}
-use mathlib.Core.List.{List, [], _∷_, map}
-use mathlib.Core.Bool.{Bool, cond, not, _&&_, _||_}
+use mathlib.Core.List.{List, map}
+use mathlib.Core.Bool.{Bool, cond, _&&_, _||_}
 use lib.ListN.{length, getD}
 use lib.Dec.{ltb, eqb}
 use Rattle.model.specs.Lists.{below, any}
 use Rattle.model.specs.Bytes.{Bytes}
 use Rattle.model.specs.Card.{taken, shapeOf, tailOf, coreOf, committedCount}
-use Rattle.model.specs.Journal.{recordAt, nameOf, blocksOf}
-use Rattle.model.specs.Valid.{in-sequence, isIn}
-use Rattle.model.specs.Checkpoint.{share, validNow, sharesLower}
+use Rattle.model.specs.Journal.{recordAt, blocksOf}
+use Rattle.model.specs.Checkpoint.{committedOf, oldest, share}
+use Rattle.model.specs.Limits.{maxNumber}
 use Rattle.model.specs.Command.{World}
 use Rattle.model.specs.declared.Shape.{Shape}
 use Rattle.model.specs.declared.Transaction.{Transaction}
@@ -20,6 +20,7 @@ use Rattle.model.specs.declared.CommitLayout.the-variants.{Numbers}
 use Rattle.model.specs.declared.Committed.{Committed}
 use Rattle.model.specs.declared.Found.{Found}
 use Rattle.model.specs.declared.Found.the-variants.{Whole, Miss}
+use Rattle.oldest.specs.declared.asked.Asked.{Asked}
 use Rattle.model.proofs.Limits.{InRange}
 use Rattle.model.proofs.Journal.{KnownRecord}
 use Rattle.layout.specs.Loops.{some}
@@ -80,7 +81,15 @@ unfoldable pub lowerShares : Card → Shape → Bytes → List ℕ → List ℕ 
 lowerShares x s d xs zs start count e =
     any (sharesBelow s d e) (recordsIn s xs zs (numbersOf (x .tails)) start count) || some (s .cores) (closedLower x s d e)
 
--- ---- refused
--- what refuses the checkpoint of core c's oldest transaction
-unfoldable pub oldestConditions : Committed → World → List (Bool × ℕ)
-oldestConditions e w = (not (isIn (validNow in-sequence w) (nameOf e)), 32) ∷ (sharesLower w e, 33) ∷ []
+-- ---- asked
+-- core c's oldest transaction: it was read from its record, and its number is one that a descriptor may have
+pub record OldestFound (c : ℕ) (w : World) (e : Committed) : Type 0 where
+  pub core : c < 8
+  pub first : oldest (committedOf w c) ≡ e
+  pub read : IsRead (shapeOf (w .card)) (w .disk) e
+  pub number : e .number ≤ maxNumber
+
+-- what is answered to what both ask: the number n, and where it is 0 the oldest transaction
+pub record OldestAsked (n c : ℕ) (w : World) (r : Asked) : Type 0 where
+  pub number : r .number ≡ n
+  pub found : r .number ≡ 0 → OldestFound c w (r .oldest)

@@ -2,10 +2,11 @@
 // ensure.
 mod committed; // how many each core has, and its oldest one
 mod shared; // others that share a block with it
-mod refusals; // whether it may be checkpointed
+mod refusals; // whether it may be stored home and retired
+mod asked; // what CHECKPOINT and RETIRE both ask
 
-pub use committed::counted;
-pub use committed::oldest_of;
+pub use asked::Asked;
+pub use asked::ask_oldest;
+pub use asked::homed;
 pub use committed::read_committed;
-pub use refusals::oldest_refusal;
 pub use shared::block_at;

@@ -1,10 +1,13 @@
-// Whether a core's oldest transaction may be checkpointed.
+// Whether a core's oldest transaction may be stored home and retired.
 ghost use mathlib.Core.Path.{_≡_};
+ghost use mathlib.Core.List.{[]};
 ghost use lib.ListN.{length};
 ghost use Rattle.model.specs.Bytes.{Bytes};
 ghost use Rattle.model.specs.Command.{refusal};
+ghost use Rattle.model.specs.Valid.{in-sequence};
+ghost use Rattle.model.specs.Checkpoint.{foundConditions};
 ghost use Rattle.cells.specs.Cells.{worldIn, cardIn};
-ghost use Rattle.oldest.specs.Oldest.{IsOldest, oldestConditions};
+ghost use Rattle.oldest.specs.Oldest.{IsOldest};
 use crate::shared::shares_lower;
 use cells::shape_of;
 use cells::tails_of;
@@ -26,7 +29,7 @@ pub fn oldest_refusal(
         (length (now w) ≡ 423)
         × IsOldest (cardIn (now w)) (now disk) c (now extents) (now stamps) (all .start) (all .count) e
         ⌝ }
-    ensures { λ r. ⌜ ((m : Bytes) → r ≡ refusal (oldestConditions e (worldIn (now (w .entry)) (now (disk .entry)) m))) ⌝ }
+    ensures { λ r. ⌜ ((m : Bytes) → r ≡ refusal (foundConditions in-sequence e (worldIn (now (w .entry)) (now (disk .entry)) m) [])) ⌝ }
 {
     let s = shape_of(w);
     let tails = tails_of(w);

@@ -1,4 +1,4 @@
-// Unretired transactions of lower stamp that share a block with the one to be checkpointed.
+// Unretired transactions of lower stamp that share a block with the one to be stored home and retired.
 ghost use mathlib.Core.Path.{_≡_};
 ghost use Prim.Native.Nat.{_+_, _≤_, _<_};
 ghost use lib.Dec.{eqb};

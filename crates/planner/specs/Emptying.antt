@@ -10,10 +10,10 @@ use Rattle.model.specs.Card.{shapeOf, tailOf, coreOf}
 use Rattle.model.specs.Bytes.{blockAt}
 use Rattle.model.specs.Layout.{isMaster}
 use Rattle.model.specs.Command.{World, Outcome}
-use Rattle.model.specs.Checkpoint.{committedOf, oldest}
+use Rattle.model.specs.Checkpoint.{committedOf, oldest, imagesLeft}
 use Rattle.model.specs.Recovery.{committedOn}
 use Rattle.model.specs.Step.{step}
-use Rattle.model.specs.Tape.{Command, FORMAT, WRITE, CLOSE, STORE, CHECKPOINT, CUT, RECOVER}
+use Rattle.model.specs.Tape.{Command, FORMAT, WRITE, CLOSE, STORE, CHECKPOINT, CUT, RECOVER, RETIRE}
 use Rattle.model.specs.declared.Committed.{Committed}
 
 -- ---- choosing
@@ -30,13 +30,17 @@ closedOn w c = (coreOf (w .card) c) .closed .live
 unfoldable pub oldestOnes : World → List Committed
 oldestOnes w = flatMap (λ (c : ℕ). take 1 (committedOf w c)) (coresOf w)
 
+-- the next command of core c's oldest
+abbrev pub oldestNext : World → ℕ → Command
+oldestNext w c = cond (imagesLeft c w) (CHECKPOINT c) (RETIRE c)
+
 -- what is left to choose from, the first choice first: a STORE for each closed one, a CLOSE for each running one ('running ones close in order
--- of core'), a CHECKPOINT for each core's oldest ('The order is by stamp.')
+-- of core'), for each core's oldest a CHECKPOINT or, its home stores done, a RETIRE ('The order is by stamp.')
 unfoldable pub choices : World → List Command
 choices w =
     map STORE (select (closedOn w) (coresOf w))
     ++ (map CLOSE (select (runsOn w) (coresOf w))
-    ++ map (λ (e : Committed). CHECKPOINT (e .core)) (sortBy (λ (e : Committed). e .stamp) (oldestOnes w)))
+    ++ map (λ (e : Committed). oldestNext w (e .core)) (sortBy (λ (e : Committed). e .stamp) (oldestOnes w)))
 
 unfoldable pub firstChoice : List Command → Option Command
 firstChoice [] = none
@@ -78,15 +82,17 @@ allDone ts = all (λ (t : RunCommand). eqb (t .outcome .answer) 0) ts
 unfoldable pub storesDone : List RunCommand → ℕ
 storesDone ts = total (λ (t : RunCommand). t .outcome .stores) ts
 
--- whom a CHECKPOINT retired, with 'the master with the tail moved past it, which retires it': its core's oldest, where the tail number has changed
+-- whom a RETIRE retired, with 'the master with the tail moved past it, which retires it': its core's oldest, where the tail number has
+-- changed
 unfoldable pub retiredBy : Command → World → World → List Committed
 retiredBy (FORMAT c b j) w v = []
 retiredBy (WRITE c b i x) w v = []
 retiredBy (CLOSE c) w v = []
 retiredBy (STORE c) w v = []
-retiredBy (CHECKPOINT c) w v = cond (eqb ((tailOf (v .card) c) .number) ((tailOf (w .card) c) .number)) [] (oldest (committedOf w c) ∷ [])
+retiredBy (CHECKPOINT c) w v = []
 retiredBy CUT w v = []
 retiredBy RECOVER w v = []
+retiredBy (RETIRE c) w v = cond (eqb ((tailOf (v .card) c) .number) ((tailOf (w .card) c) .number)) [] (oldest (committedOf w c) ∷ [])
 
 -- who was retired, in order, with the stamp that it had
 unfoldable pub retiredDone : List RunCommand → List Committed
@@ -115,8 +121,4 @@ isEmptying (STORE c) = true
 isEmptying (CHECKPOINT c) = true
 isEmptying CUT = false
 isEmptying RECOVER = false
-
--- the world after these commands, done or refused
-unfoldable pub worldBy : List Command → World → World
-worldBy [] w = w
-worldBy (k ∷ ks) w = worldBy ks ((step k w) .world)
+isEmptying (RETIRE c) = true

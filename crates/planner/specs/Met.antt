@@ -10,12 +10,12 @@ use Rattle.model.specs.Lists.{all, total, Pairs}
 use Rattle.model.specs.Card.{isBlank, isUp, isDown}
 use Rattle.model.specs.Journal.{nameOf}
 use Rattle.model.specs.Command.{World, wrongLength}
-use Rattle.model.specs.Step.{step}
+use Rattle.model.specs.Step.{step, worldBy}
 use Rattle.model.specs.Tape.{Command, TapeStep, Point}
 use Rattle.model.specs.declared.Committed.{Committed}
 use Rattle.crash.specs.Claims.{OnRuns, Start, StartFits, startWorld}
 use Rattle.planner.specs.Plan.{Planned, noPlan, unretiredNow, mostFor, mostCommands}
-use Rattle.planner.specs.Emptying.{enough, emptyingRun, nextCommand, worldDone, allDone, storesDone, retiredDone, onlyRunning, isEmptied, isEmptying, worldBy}
+use Rattle.planner.specs.Emptying.{enough, emptyingRun, nextCommand, worldDone, allDone, storesDone, retiredDone, onlyRunning, isEmptied, isEmptying}
 
 abbrev pub Planner : Type 0
 Planner = World → Planned

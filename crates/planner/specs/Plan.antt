@@ -1,5 +1,6 @@
 -- Paper 02, (e): 'A new part works out, from card state, disk and memory and without doing anything, how many CLOSE, STORE and CHECKPOINT
 -- commands will empty every journal if nobody writes meanwhile, and in which order the checkpoints may go.'
+-- (g): 'The figure of (e) counts RETIRE too and its bound holds unchanged.'
 use Prim.Native.Nat.{ℕ, zero, suc, _+_, _-_, _*_}
 use mathlib.Core.List.{List, [], _∷_, _++_, map, flatMap}
 use mathlib.Core.Bool.{Bool, cond, not}
@@ -27,7 +28,7 @@ pub record Unretired : Type 0 where
 unfoldable pub committedAs : ℕ → Committed → Unretired
 committedAs h e = record { name = nameOf e; stamp = e .stamp; count = e .count; stage = committed h }
 
--- a core's committed ones: a checkpoint under way is the oldest's
+-- a core's committed ones: the home stores done are the oldest's
 unfoldable pub committedOnes : ℕ → List Committed → List Unretired
 committedOnes h [] = []
 committedOnes h (e ∷ es) = committedAs h e ∷ map (committedAs 0) es
@@ -38,7 +39,7 @@ closedAs c k = record { name = newName c (closedNumber k); stamp = k .closed .st
 unfoldable pub runningAs : ℕ → Core → Unretired
 runningAs c k = record { name = newName c (k .next); stamp = 0; count = length (taken (k .running)); stage = running }
 
--- those of a core in order of number: the committed ones as CHECKPOINT reads them, the closed one, the running one
+-- those of a core in order of number: the committed ones as CHECKPOINT and RETIRE read them, the closed one, the running one
 unfoldable pub unretiredOf : World → ℕ → List Unretired
 unretiredOf w c =
     let k = coreOf (w .card) c in
@@ -51,7 +52,7 @@ unfoldable pub unretiredNow : World → List Unretired
 unretiredNow w = flatMap (unretiredOf w) (below ((shapeOf (w .card)) .cores))
 
 -- ---- the work left of one that took n blocks
--- the CLOSEs: of the three commands this one stores nothing
+-- the CLOSEs: of the four commands this one stores nothing
 unfoldable pub closesFor : Stage → ℕ
 closesFor absent = 0
 closesFor running = 1
@@ -59,8 +60,8 @@ closesFor (closed k) = 0
 closesFor (committed h) = 0
 closesFor retired = 0
 
--- 'Stores go: descriptor, data in the order taken, commit.', then a CHECKPOINT for each image and one for the master; less what is done, which on
--- a card that no run made may be more than there is: the commit and the master are still left
+-- 'Stores go: descriptor, data in the order taken, commit.', then a CHECKPOINT for each image and a RETIRE for the master; less what is
+-- done, which on a card that no run made may be more than there is: the commit and the master are still left
 unfoldable pub storesFor : Stage → ℕ → ℕ
 storesFor absent n = 0
 storesFor running n = (n + 2) + (n + 1)

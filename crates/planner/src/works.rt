@@ -7,7 +7,6 @@ ghost use Rattle.model.specs.Commit.{closedNumber};
 ghost use Rattle.cells.specs.Cells.{nameCell, cardIn};
 ghost use Rattle.planner.specs.Works.{noWork, homedAt, committedWork, closedWork, runningWork};
 use crate::Work;
-use cells::HOMED;
 use cells::STAMP;
 use cells::STORED;
 use cells::block_count;
@@ -51,7 +50,7 @@ fn no_work() -> Work
     }
 }
 
-// The home stores done of core c's j-th committed transaction: a checkpoint under way is the oldest's.
+// The home stores done of core c's j-th committed transaction: those counted are the oldest's.
 fn homed_at(w: &[u64], c: u8, j: usize) -> usize
     requires { ⌜ (length (now w) ≡ 423) × (c < 8) ⌝ }
     ensures { λ r. ⌜ r ≡ homedAt (coreOf (cardIn (now (w .entry))) c) j ⌝ }
@@ -59,7 +58,7 @@ fn homed_at(w: &[u64], c: u8, j: usize) -> usize
     if j != 0 {
         return 0;
     }
-    byte_in(w, core_place(c) + HOMED) as usize
+    oldest::homed(w, c) as usize
 }
 
 // Core c's j-th committed transaction, whose record stands at place i.

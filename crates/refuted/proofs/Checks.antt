@@ -10,21 +10,25 @@ use lib.Dec.{eqb, ltb}
 use borrow.Author.Tests.{eqb-true, eqb-false, eq-eqb, not-true}
 use Rattle.model.specs.Lists.{all, below}
 use Rattle.model.specs.Bytes.{Bytes, zeroDisk, zeroMemory}
+use Rattle.model.specs.Card.{isBlank}
 use Rattle.model.specs.Valid.{Order, in-sequence}
-use Rattle.model.specs.Command.{Outcome, refusal, Decided, refused, carried-out, World}
+use Rattle.model.specs.Command.{Outcome, countOf, refusal, Decided, refused, carried-out, World}
 use Rattle.model.specs.Reading.{readNumber, Reader, blockReader}
-use Rattle.model.specs.Tape.{Command, FORMAT, WRITE, CLOSE, STORE, CHECKPOINT, CUT, RECOVER, Read, whole, unknown, early, readAt, TapeStep, Point, run}
-use Rattle.model.specs.Step.{stepAt, stepAtBy, conditionsOn, doneOn, DecidesEach}
+use Rattle.model.specs.Tape.{Command, FORMAT, WRITE, CLOSE, STORE, CHECKPOINT, CUT, RECOVER, RETIRE, Read, whole, unknown, early, readAt, TapeStep, Point, run, worldAfter}
+use Rattle.model.specs.Step.{stepAt, stepAtBy, worldBy, conditionsOn, doneOn, DecidesEach}
 use Rattle.model.specs.Printing.{blankWorld}
 use Rattle.model.specs.declared.Shape.{Shape}
 use Rattle.model.proofs.Lists.{and-both, and-left, and-right, mem-all}
 use Rattle.model.proofs.Command.{first-refusal, clear-refusal, read-answer, command-decided}
+use Rattle.model.specs.Recovery.{homeArea, recoveredArea}
 use Rattle.crash.specs.Service.{Service, emptyService, bookArea}
-use Rattle.crash.specs.Ledger.{Ledger, blankLedger, answerOf, diskAfter, memoryAfter, storeCount, readNow, readRefusals}
-use Rattle.crash.specs.Claims.{IsBytes, Start, from-blank, startWorld, startService, startLedger, StartFits, ComesUp, homeArea, fedPoint, AreaKept, Claim, enteredPoint, DoneAs, PointKept, LedgerKept, Demands, ReadsNow, ReadingsKept, Readings}
+use Rattle.crash.specs.Ledger.{Ledger, blankLedger, answerOf, diskAfter, memoryAfter, storeAfter, readNow, readRefusals}
+use Rattle.crash.specs.Claims.{IsBytes, Start, from-blank, startWorld, startService, startLedger, StartFits, ComesUp, fedPoint, AreaKept, Claim, enteredPoint, DoneAs, PointKept, LedgerKept, Demands, ReadsNow, ReadingsKept, Readings}
+use Rattle.crash.specs.Spans.{inSpan, SpanKeeps, SpansKeep, Spans}
 use Rattle.crash.proofs.Disk.BlockBytes.{zero-bytes}
 use Rattle.crash.proofs.Books.Tests.{clash, impossible}
 use Rattle.crash.proofs.Runs.Theorem.{claim, demands, readings}
+use Rattle.crash.proofs.Runs.BroughtBack.{spans}
 use Rattle.refuted.specs.Parts.{byteOf}
 
 -- two lists that a test finds the same in every place
@@ -72,6 +76,7 @@ recover-byte (STORE c) h = impossible h
 recover-byte (CHECKPOINT c) h = impossible h
 recover-byte CUT h = impossible h
 recover-byte RECOVER h = refl
+recover-byte (RETIRE c) h = impossible h
 
 is-recover : (r : Read) → isRecover r ≡ true → r ≡ whole RECOVER
 unfolding isRecover
@@ -175,7 +180,7 @@ done-follows test h l w p k = of-done _ (p .read) (p .outcome .answer) (λ c r z
 
 -- demand 2: the stores counted
 unfoldable pub countTest : Command → Ledger → World → Outcome World → Bool
-countTest k l w o = eqb (o .stores) (storeCount k)
+countTest k l w o = eqb (o .stores) (countOf (storeAfter k l (w .disk)))
 
 pub count-follows : (k : Command) (l : Ledger) (w : World) (o : Outcome World) → DoneAs k l w o → countTest k l w o ≡ true
 unfolding countTest
@@ -234,6 +239,23 @@ reads-hold : (read : Reader) (l : Ledger) (w : World) (ps : List (Point World)) 
 unfolding readsHold
 reads-hold read l w [] h = reads-follow read l w h
 reads-hold read l w (p ∷ ps) h = and-both (reads-follow read l w (h .0)) (reads-hold read _ _ ps (h .1))
+
+-- ---- paper 02, (g): what a cut brings back
+-- after these commands recovery gives what it gave before
+unfoldable pub spanTest : List Command → World → Bool
+spanTest ks w =
+    cond (isBlank (w .card .phase)) true
+    (cond (all inSpan ks) (sameBytes (recoveredArea ((worldBy ks w) .disk)) (recoveredArea (w .disk))) true)
+
+span-follows : (ks : List Command) (w : World) → SpanKeeps w → spanTest ks w ≡ true
+unfolding spanTest
+span-follows ks w k = asked-not (isBlank (w .card .phase)) (λ up. asked (all inSpan ks) (λ a. same-bytes (k .gives up ks a .gives)))
+
+-- at the end of a run
+end-keeps : (w : World) (ps : List (Point World)) → SpansKeep w ps → SpanKeeps (worldAfter w ps)
+unfolding worldAfter
+end-keeps w [] k = k
+end-keeps w (p ∷ ps) k = end-keeps (p .outcome .world) ps (k .1)
 
 -- ---- demand 1 for one command
 unfoldable pub decidesTest : Order → TapeStep World → Bytes → World → Bool
@@ -295,6 +317,11 @@ module _ (o : Order) (f : TapeStep World) (t : Bytes) where
   unfolding blankWorld startWorld startLedger
   readings-hold read k h = reads-hold read _ _ _ (k t h blankStart blank-fits)
 
+pub spans-hold : (f : TapeStep World) (ks : List Command) (t : Bytes)
+    → Spans f → IsBytes t → spanTest ks (worldAfter blankWorld (run f t blankWorld)) ≡ true
+unfolding blankWorld startWorld
+spans-hold f ks t k h = span-follows ks _ (end-keeps _ _ (k t h blankStart blank-fits))
+
 -- bytes, and a test of them failed
 abbrev pub areBytes : Bytes → Bool
 areBytes t = all (λ (x : ℕ). ltb x 256) t
@@ -323,6 +350,10 @@ pub refutes-readings : (o : Order) (read : Reader) (f : TapeStep World) (t : Byt
     → Fails t (readsHold read (blankLedger o) blankWorld (run f t blankWorld)) → Readings o read f → ⊥
 refutes-readings o read f t h k = failed t _ h (readings-hold o f t read k)
 
+pub refutes-spans : (f : TapeStep World) (ks : List Command) (t : Bytes)
+    → Fails t (spanTest ks (worldAfter blankWorld (run f t blankWorld))) → Spans f → ⊥
+refutes-spans f ks t h k = failed t _ h (spans-hold f ks t k)
+
 -- ---- the model's card passes every test on every tape
 pub passes-area : (t : Bytes) → IsBytes t → areaHolds (emptyService in-sequence 0) (run stepAt t blankWorld) ≡ true
 passes-area t = claim-holds in-sequence stepAt t claim
@@ -332,6 +363,9 @@ passes-check c t = demands-hold in-sequence stepAt t demands c
 
 pub passes-readings : (t : Bytes) → IsBytes t → readsHold blockReader (blankLedger in-sequence) blankWorld (run stepAt t blankWorld) ≡ true
 passes-readings t = readings-hold in-sequence stepAt t blockReader readings
+
+pub passes-spans : (ks : List Command) (t : Bytes) → IsBytes t → spanTest ks (worldAfter blankWorld (run stepAt t blankWorld)) ≡ true
+passes-spans ks t = spans-hold stepAt ks t spans
 
 pub passes-decides : (o : Order) (t : Bytes) (w : World) → decidesTest o (stepAtBy o) t w ≡ true
 passes-decides o = decides o (stepAtBy o) (command-decided o)

@@ -18,8 +18,8 @@ use Rattle.model.specs.Card.{newName, isBlank, isDown, shapeOf}
 use Rattle.model.specs.Journal.{nameOf}
 use Rattle.model.specs.Valid.{in-sequence, isIn}
 use Rattle.model.specs.Command.{World, Outcome, unless, noCore}
-use Rattle.model.specs.Checkpoint.{validNow, committedOf, oldest, share, sharesLower, checkpointConditions, checkpointed}
-use Rattle.model.specs.Tape.{Command, Read, whole, unknown, early, Step, Point, readAt, obeyed, runFrom, run, commandByte, commandAt, nextOffset}
+use Rattle.model.specs.Checkpoint.{validNow, committedOf, oldest, share, sharesLower, oldestConditions, imagesLeft, checkpointConditions, retireConditions, foundConditions, committedConditions}
+use Rattle.model.specs.Tape.{Command, CHECKPOINT, RETIRE, Read, whole, unknown, early, Step, Point, readAt, obeyed, runFrom, run, commandByte, commandAt, nextOffset}
 use Rattle.model.specs.Step.{conditionsOf, doneBy, step, stepBy, stepAt, stepAtBy}
 use Rattle.model.specs.Reading.{blockReader}
 use Rattle.model.specs.declared.Shape.{Shape}
@@ -42,9 +42,9 @@ use Rattle.crash.proofs.Runs.RunClaims.{PointKeeps, point-keeps}
 use Rattle.crash.proofs.Runs.UpSteps.{RelatedUp, retired-below}
 use Rattle.crash.proofs.Runs.Theorem.{blank-phase, Related, related-blank, related-up, related-down, related-simulation, claim, demands, readings, starts}
 use Rattle.crash.proofs.Disk.Relation.{first-waiting}
-use Rattle.refuted.specs.Wrong.{sharesCommitted, committedConditions, onlyCommitted33}
-use Rattle.refuted.specs.Parts.{onTape}
-use Rattle.refuted.proofs.Parts.{other-checkpoint}
+use Rattle.refuted.specs.Wrong.{sharesCommitted, onlyCommitted33}
+use Rattle.refuted.specs.Parts.{onTape, withCondition, asking}
+use Rattle.refuted.proofs.Parts.{other-checkpoint, other-retire}
 
 -- ---- one block's history
 module _ {Txn : Type 0} (s : Status Txn) (sound : StatusSound s) (stored : Txn → Bool) {Image : Type 0} where
@@ -138,22 +138,41 @@ module _ {l : Ledger} {w : World} (here : Related l w) (c : ℕ) where
       same-33 u c in-range more
       (sym (oldest-valid (u .up) c in-range more) ∙ not-false _ valid)
 
-  same-conditions : SameConditions (committedConditions c w) (checkpointConditions in-sequence c w)
-  unfolding checkpointConditions
-  same-conditions =
+  abbrev committed33 : Bool
+  committed33 = sharesCommitted w (oldest (committedOf w c))
+
+  -- with that 33 the conditions are the same
+  abbrev Same33 : List (Bool × ℕ) → Type 0
+  Same33 ts = SameConditions (withCondition 33 committed33 ts) ts
+
+  own-same : (own : Bool) (n : ℕ) → eqb n 33 ≡ false → Same33 ((own, n) ∷ [])
+  own-same own n other = rw other (then refl (λ _. none-left))
+
+  -- what both ask, before a command's own condition
+  same-conditions : (own : Bool) (n : ℕ) → eqb n 33 ≡ false → Same33 (oldestConditions in-sequence c w ((own, n) ∷ []))
+  unfolding committedConditions foundConditions
+  same-conditions own n other =
       then refl (λ size.
       then refl (λ up.
       then refl (λ low.
       then refl (λ core.
       then refl (λ some.
       then refl (λ valid.
-      then (last-same here up low core some valid) (λ _. none-left)))))))
+      then (last-same here up low core some valid) (λ _. own-same own n other)))))))
+
+  same-asking : (k : Command) → Same33 (conditionsOf in-sequence k w) → asking 33 committed33 k w ≡ step k w
+  unfolding stepBy
+  same-asking k h =
+      let ts = conditionsOf in-sequence k w in
+      unless-same (withCondition 33 committed33 ts) ts w (doneBy in-sequence k w) (same-refusal h)
 
 pub same-step : (l : Ledger) (w : World) → Related l w → (k : Command) → onlyCommitted33 k w ≡ step k w
-unfolding stepBy conditionsOf doneBy
+unfolding conditionsOf checkpointConditions retireConditions
 same-step l w here =
-    other-checkpoint w step (λ k. refl) (λ (c : ℕ) (w : World). unless (committedConditions c w) w (checkpointed c w))
-    (λ c. unless-same (committedConditions c w) (checkpointConditions in-sequence c w) w (checkpointed c w) (same-refusal (same-conditions here c)))
+    other-retire w _
+    (other-checkpoint w step (λ k. refl)
+    _ (λ c. same-asking here c (CHECKPOINT c) (same-conditions here c (not (imagesLeft c w)) 35 refl)))
+    _ (λ c. same-asking here c (RETIRE c) (same-conditions here c (imagesLeft c w) 34 refl))
 
 -- ---- along a tape
 -- a card that does as the model's in every world of a run

@@ -13,3 +13,4 @@ pub mod Committed33
 pub mod PlanChecks
 pub mod Planners
 pub mod PlanExamples
+pub mod RetireCards

@@ -18,9 +18,9 @@ use Rattle.model.specs.declared.CommitLayout.the-variants.{Lists, Numbers}
 use Rattle.crash.specs.Claims.{Start, from-down, StartFits, Claim, Demands}
 use Rattle.crash.proofs.Books.Tests.{clash}
 use Rattle.refuted.specs.Parts.{onTape}
-use Rattle.refuted.specs.WrongNumbers.{lastNamed, firstNamed, ownLeftOut, formatsZero, checkpointsZero, recoversZero, listsAlways, zeroRefused, layoutKept, numbersAlways, otherTaken}
+use Rattle.refuted.specs.WrongNumbers.{lastNamed, firstNamed, ownLeftOut, formatsZero, retiresZero, recoversZero, listsAlways, zeroRefused, layoutKept, numbersAlways, otherTaken}
 use Rattle.refuted.proofs.Checks.{refutes-claim, refutes-demands, refutes-claim-from, refutes-demands-from, answerCheck, bytesCheck, decidesTest, decides, leavesTest, leaves}
-use Rattle.refuted.proofs.Tapes.{tests, format, write, close, stores, checkpoints, cut, recovers}
+use Rattle.refuted.proofs.Tapes.{tests, format, write, close, stores, checkpoints, retires, cut, recovers}
 
 -- ---- 'the highest number named for each core'
 -- (0,1) names (1,2), which runs and is lost, then (1,1), which is closed.
@@ -69,11 +69,11 @@ unfolding tests
 formats-zero = refutes-claim in-sequence (onTape formatsZero) (format 2 1 4 ++ namesLost) refl
 
 -- the same of (0,2), once (0,1) is retired
-pub checkpoints-zero : Claim in-sequence (onTape checkpointsZero) → ⊥
+pub retires-zero : Claim in-sequence (onTape retiresZero) → ⊥
 unfolding tests
-checkpoints-zero =
-    refutes-claim in-sequence (onTape checkpointsZero)
-    (format 2 1 4 ++ write 0 0 0 1 ++ close 0 ++ stores 0 3 ++ checkpoints 0 2 ++ write 0 0 4 2 ++ write 1 0 8 3 ++ close 0 ++ stores 0 3 ++ cut ++ recovers 2)
+retires-zero =
+    refutes-claim in-sequence (onTape retiresZero)
+    (format 2 1 4 ++ write 0 0 0 1 ++ close 0 ++ stores 0 3 ++ checkpoints 0 1 ++ retires 0 ++ write 0 0 4 2 ++ write 1 0 8 3 ++ close 0 ++ stores 0 3 ++ cut ++ recovers 2)
     refl
 
 -- 'the closing master store of that recovery writes 1': the first coming up is right, the second is not
@@ -86,10 +86,10 @@ pub formats-zero-byte : Demands in-sequence (onTape formatsZero) → ⊥
 unfolding tests
 formats-zero-byte = refutes-demands in-sequence (onTape formatsZero) bytesCheck (format 1 1 4) refl
 
-pub checkpoints-zero-byte : Demands in-sequence (onTape checkpointsZero) → ⊥
+pub retires-zero-byte : Demands in-sequence (onTape retiresZero) → ⊥
 unfolding tests
-checkpoints-zero-byte =
-    refutes-demands in-sequence (onTape checkpointsZero) bytesCheck (format 1 1 4 ++ write 0 0 0 1 ++ close 0 ++ stores 0 3 ++ checkpoints 0 2) refl
+retires-zero-byte =
+    refutes-demands in-sequence (onTape retiresZero) bytesCheck (format 1 1 4 ++ write 0 0 0 1 ++ close 0 ++ stores 0 3 ++ checkpoints 0 1 ++ retires 0) refl
 
 pub recovers-zero-byte : Demands in-sequence (onTape recoversZero) → ⊥
 unfolding tests

@@ -14,7 +14,7 @@ use Rattle.crash.specs.Claims.{Claim, Demands}
 use Rattle.refuted.specs.Parts.{onTape}
 use Rattle.refuted.specs.WrongOrder.{inRecoveryAlone, inRunningAlone, oneRound, askedBelowTail}
 use Rattle.refuted.proofs.Checks.{refutes-claim, refutes-demands, answerCheck}
-use Rattle.refuted.proofs.Tapes.{tests, format, write, close, stores, checkpoints, cut, recovers, linked}
+use Rattle.refuted.proofs.Tapes.{tests, format, write, close, stores, checkpoints, retires, cut, recovers, linked}
 
 -- ---- 'claimed for tapes run under one of the two rules throughout'
 -- (0,1) is stored home in running, by the old rule; recovery, by the new, keeps neither it nor (1,2), which it names. The old book
@@ -78,7 +78,7 @@ pub retired-asked : Claim in-sequence (onTape askedBelowTail) → ⊥
 unfolding tests
 retired-asked =
     refutes-claim in-sequence (onTape askedBelowTail)
-    (format 1 1 4 ++ write 0 0 0 1 ++ close 0 ++ stores 0 3 ++ checkpoints 0 2 ++ write 0 0 4 2 ++ close 0 ++ stores 0 3 ++ cut ++ recovers 2)
+    (format 1 1 4 ++ write 0 0 0 1 ++ close 0 ++ stores 0 3 ++ checkpoints 0 1 ++ retires 0 ++ write 0 0 4 2 ++ close 0 ++ stores 0 3 ++ cut ++ recovers 2)
     refl
 
 pub asked-below-tail-answer : Demands in-sequence (onTape askedBelowTail) → ⊥

@@ -5,14 +5,12 @@ use lib.ListN.{getD}
 use Rattle.model.specs.Valid.{in-sequence}
 use Rattle.model.specs.Bytes.{Bytes}
 use Rattle.model.specs.Layout.{mark}
-use Rattle.model.specs.Tape.{run, worldAfter}
 use Rattle.model.specs.Step.{stepAt}
-use Rattle.model.specs.Printing.{blankWorld}
 use Rattle.crash.specs.Claims.{Claim, Demands, Readings}
 use Rattle.refuted.specs.Parts.{onTape, ignoring}
 use Rattle.refuted.specs.Wrong.{tailOneAbove, tailKept, stampsGoOn, validityOneDeep, allCommittedValid, highestFirst, flagIgnored, cutKeepsPlace, cutKeepsMemory, writerTakesRunning, onlyWriterNames, onlyHolderNames, notLoaded, no26OnOpen, only26Stored, stampAtOpen, stampAtCommit, noEscape, storesImages, noWrap, retiresAtOnce, homeFromMemory, holderStays, refusalOverwrites, fromHome, fromMemory, exchanged, handsWhileDown, neverRefuses}
 use Rattle.refuted.proofs.Checks.{refutes-claim, refutes-demands, refutes-readings, unchanged, bytesCheck, left-in-memory}
-use Rattle.refuted.proofs.Tapes.{tests, format, write, writeWord, close, stores, checkpoints, cut, recovers, lostWriter, oneKept}
+use Rattle.refuted.proofs.Tapes.{tests, endOf, format, write, writeWord, close, stores, checkpoints, retires, cut, recovers, lostWriter, oneKept}
 
 -- ---- tails and stamps after recovery
 pub tail-one-above : Demands in-sequence (onTape tailOneAbove) → ⊥
@@ -146,7 +144,7 @@ pub no-wrap : Claim in-sequence (onTape noWrap) → ⊥
 unfolding tests
 no-wrap =
     refutes-claim in-sequence (onTape noWrap)
-    (format 1 1 4 ++ write 0 0 0 1 ++ close 0 ++ stores 0 3 ++ checkpoints 0 2 ++ write 0 0 4 2 ++ close 0 ++ stores 0 3 ++ cut ++ recovers 2)
+    (format 1 1 4 ++ write 0 0 0 1 ++ close 0 ++ stores 0 3 ++ checkpoints 0 1 ++ retires 0 ++ write 0 0 4 2 ++ close 0 ++ stores 0 3 ++ cut ++ recovers 2)
     refl
 
 -- ---- CHECKPOINT
@@ -160,7 +158,7 @@ pub no-33 : Claim in-sequence (onTape (ignoring 33)) → ⊥
 unfolding tests
 no-33 =
     refutes-claim in-sequence (onTape (ignoring 33))
-    (format 2 1 4 ++ write 1 0 0 1 ++ close 1 ++ stores 1 3 ++ write 0 0 4 2 ++ close 0 ++ stores 0 3 ++ checkpoints 0 2 ++ cut ++ recovers 2)
+    (format 2 1 4 ++ write 1 0 0 1 ++ close 1 ++ stores 1 3 ++ write 0 0 4 2 ++ close 0 ++ stores 0 3 ++ checkpoints 0 1 ++ retires 0 ++ cut ++ recovers 2)
     refl
 
 pub retires-at-once : Claim in-sequence (onTape retiresAtOnce) → ⊥
@@ -171,14 +169,14 @@ retires-at-once = refutes-claim in-sequence (onTape retiresAtOnce) (format 1 1 4
 pub home-from-memory : Claim in-sequence (onTape homeFromMemory) → ⊥
 unfolding tests
 home-from-memory =
-    refutes-claim in-sequence (onTape homeFromMemory) (format 1 1 6 ++ write 0 0 0 1 ++ close 0 ++ stores 0 3 ++ write 0 0 4 2 ++ checkpoints 0 2 ++ cut ++ recovers 1) refl
+    refutes-claim in-sequence (onTape homeFromMemory) (format 1 1 6 ++ write 0 0 0 1 ++ close 0 ++ stores 0 3 ++ write 0 0 4 2 ++ checkpoints 0 1 ++ retires 0 ++ cut ++ recovers 1) refl
 
 -- The next transaction names the retired one.
 pub holder-stays : Demands in-sequence (onTape holderStays) → ⊥
 unfolding tests
 holder-stays =
     refutes-demands in-sequence (onTape holderStays) bytesCheck
-    (format 1 1 4 ++ write 0 0 0 1 ++ close 0 ++ stores 0 3 ++ checkpoints 0 2 ++ write 0 0 0 2 ++ close 0 ++ stores 0 3)
+    (format 1 1 4 ++ write 0 0 0 1 ++ close 0 ++ stores 0 3 ++ checkpoints 0 1 ++ retires 0 ++ write 0 0 0 2 ++ close 0 ++ stores 0 3)
     refl
 
 -- ---- memory
@@ -190,7 +188,7 @@ unfolding tests
 cut-keeps-memory = refutes-demands in-sequence (onTape cutKeepsMemory) left-in-memory writtenAndCut refl
 
 -- the model's card leaves zeros there
-pub cut-zeroes-memory : getD ((worldAfter blankWorld (run stepAt writtenAndCut blankWorld)) .memory) 0 9 ≡ 0
+pub cut-zeroes-memory : getD ((endOf writtenAndCut) .memory) 0 9 ≡ 0
 unfolding tests
 cut-zeroes-memory = refl
 

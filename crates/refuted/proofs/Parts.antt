@@ -11,15 +11,15 @@ use Rattle.model.specs.Commit.{nextStored, nextPosition, stored}
 use Rattle.model.specs.Valid.{Order, in-sequence, validSet}
 use Rattle.model.specs.Format.{formatted}
 use Rattle.model.specs.Write.{writerAfter, writtenCard, written}
-use Rattle.model.specs.Checkpoint.{validNow, checkpointConditions, storedMaster, checkpointed}
+use Rattle.model.specs.Checkpoint.{validNow, checkpointConditions, retireConditions, storedMaster, retiredOldest, foundConditions, committedConditions}
 use Rattle.model.specs.Recovery.{validOn, validOnBy, layoutOn, recoverConditions, blocksLeft, newestImage, emptiedTail, broughtUp, recoverStep, recoveredBy, recovered}
-use Rattle.model.specs.Tape.{Command, FORMAT, WRITE, CLOSE, STORE, CHECKPOINT, CUT, RECOVER, Step, readAt}
+use Rattle.model.specs.Tape.{Command, FORMAT, WRITE, CLOSE, STORE, CHECKPOINT, CUT, RECOVER, RETIRE, Step, readAt}
 use Rattle.model.specs.Step.{conditionsOf, doneBy, step, stepBy, stepAt, stepAtBy, conditionsOn, doneOn}
 use Rattle.model.specs.Limits.{maxNumber}
 use Rattle.model.specs.declared.Card.{Card}
 use Rattle.model.specs.declared.CommitLayout.the-variants.{Numbers}
 use Rattle.model.proofs.Command.{command-unless}
-use Rattle.refuted.specs.Parts.{onTape, otherFormat, otherWrite, otherStore, otherCheckpoint, otherRecover, storeBy, recoverStepBy, recoverBy, ownLeft, ownImage, ownTail, recoverSet, recoverTail, byOrders, validBy, formatAs, checkpointAs, recoverAs, alwaysNumbers, writeNaming}
+use Rattle.refuted.specs.Parts.{onTape, otherFormat, otherWrite, otherStore, otherCheckpoint, otherRetire, otherRecover, storeBy, recoverStepBy, recoverBy, ownLeft, ownImage, ownTail, recoverSet, recoverTail, byOrders, validBy, formatAs, retireAs, recoverAs, alwaysNumbers, writeNaming}
 
 -- a card that does as the model's in a world, and in every world
 abbrev pub SameIn : World → Step World → Type 0
@@ -43,6 +43,7 @@ module _ (w : World) where
   other-format g h (CHECKPOINT c) = refl
   other-format g h CUT = refl
   other-format g h RECOVER = refl
+  other-format g h (RETIRE c) = refl
 
   other-write : (g : ℕ → ℕ → ℕ → Bytes → World → Outcome World) → ((c b o : ℕ) (v : Bytes) → g c b o v w ≡ step (WRITE c b o v) w) → SameIn w (otherWrite step g)
   other-write g h (FORMAT c b j) = refl
@@ -52,6 +53,7 @@ module _ (w : World) where
   other-write g h (CHECKPOINT c) = refl
   other-write g h CUT = refl
   other-write g h RECOVER = refl
+  other-write g h (RETIRE c) = refl
 
   other-store : (g : ℕ → World → Outcome World) → ((c : ℕ) → g c w ≡ step (STORE c) w) → SameIn w (otherStore step g)
   other-store g h (FORMAT c b j) = refl
@@ -61,6 +63,7 @@ module _ (w : World) where
   other-store g h (CHECKPOINT c) = refl
   other-store g h CUT = refl
   other-store g h RECOVER = refl
+  other-store g h (RETIRE c) = refl
 
   pub other-checkpoint : (f : Step World) → SameIn w f → (g : ℕ → World → Outcome World) → ((c : ℕ) → g c w ≡ step (CHECKPOINT c) w) → SameIn w (otherCheckpoint f g)
   other-checkpoint f same g h (FORMAT c b j) = same (FORMAT c b j)
@@ -70,6 +73,17 @@ module _ (w : World) where
   other-checkpoint f same g h (CHECKPOINT c) = h c
   other-checkpoint f same g h CUT = same CUT
   other-checkpoint f same g h RECOVER = same RECOVER
+  other-checkpoint f same g h (RETIRE c) = same (RETIRE c)
+
+  pub other-retire : (f : Step World) → SameIn w f → (g : ℕ → World → Outcome World) → ((c : ℕ) → g c w ≡ step (RETIRE c) w) → SameIn w (otherRetire f g)
+  other-retire f same g h (FORMAT c b j) = same (FORMAT c b j)
+  other-retire f same g h (WRITE c b o v) = same (WRITE c b o v)
+  other-retire f same g h (CLOSE c) = same (CLOSE c)
+  other-retire f same g h (STORE c) = same (STORE c)
+  other-retire f same g h (CHECKPOINT c) = same (CHECKPOINT c)
+  other-retire f same g h CUT = same CUT
+  other-retire f same g h RECOVER = same RECOVER
+  other-retire f same g h (RETIRE c) = h c
 
   other-recover : (g : World → Outcome World) → g w ≡ step RECOVER w → SameIn w (otherRecover step g)
   other-recover g h (FORMAT c b j) = refl
@@ -79,9 +93,10 @@ module _ (w : World) where
   other-recover g h (CHECKPOINT c) = refl
   other-recover g h CUT = refl
   other-recover g h RECOVER = h
+  other-recover g h (RETIRE c) = refl
 
 -- ---- the parts
--- `ignoring` changes one of these conditions
+-- `asking`, and with it `ignoring`, changes one of these conditions
 pub by-conditions : IsModel (λ (k : Command) (w : World). unless (conditionsOf in-sequence k w) w (doneBy in-sequence k w))
 unfolding stepBy
 by-conditions w k = refl
@@ -120,20 +135,21 @@ by-orders o (STORE c) w = refl
 by-orders o (CHECKPOINT c) w = refl
 by-orders o CUT w = refl
 by-orders o RECOVER w = refl
+by-orders o (RETIRE c) w = refl
 
--- the valid set of CHECKPOINT and RECOVER
+-- the valid set of CHECKPOINT, RETIRE and RECOVER
 pub valid-by : IsModel (validBy (validSet in-sequence))
-unfolding stepBy conditionsOf doneBy checkpointConditions validNow validOnBy
-valid-by w = other-checkpoint w _ (recover-set w) _ (λ c. refl)
+unfolding stepBy conditionsOf doneBy checkpointConditions retireConditions validNow validOnBy committedConditions foundConditions
+valid-by w = other-retire w _ (other-checkpoint w _ (recover-set w) _ (λ c. refl)) _ (λ c. refl)
 
 -- paper 02, (d): the masters, the layout read, and what comes of a name
 pub format-as : IsModel (formatAs Numbers)
 unfolding stepBy conditionsOf doneBy formatted
 format-as w = other-format w _ (λ c b j. refl)
 
-pub checkpoint-as : IsModel (checkpointAs Numbers)
-unfolding stepBy conditionsOf doneBy checkpointed storedMaster
-checkpoint-as w = other-checkpoint w _ (λ k. refl) _ (λ c. refl)
+pub retire-as : IsModel (retireAs Numbers)
+unfolding stepBy conditionsOf doneBy retiredOldest storedMaster
+retire-as w = other-retire w _ (λ k. refl) _ (λ c. refl)
 
 pub recover-as : IsModel (recoverAs isMaster layoutOn alwaysNumbers)
 unfolding stepBy conditionsOf doneBy recovered

@@ -12,7 +12,6 @@ use Rattle.model.specs.Bytes.{Bytes}
 use Rattle.model.specs.Card.{isBlank, isUp, isDown, sameName}
 use Rattle.model.specs.Journal.{nameOf}
 use Rattle.model.specs.Command.{World}
-use Rattle.model.specs.Tape.{run, worldAfter}
 use Rattle.model.specs.Step.{stepAt}
 use Rattle.model.specs.Printing.{blankWorld}
 use Rattle.model.specs.declared.Phase.{Phase}
@@ -25,6 +24,7 @@ use Rattle.planner.specs.Emptying.{oldestOnes, choices, firstChoice, nextComman
 use Rattle.planner.specs.Met.{Planner, PlanUp, PlanMet, Plans}
 use Rattle.planner.proofs.Doing.Theorem.{met-after}
 use Rattle.refuted.proofs.Checks.{sameList, same-lists, asked, blankStart, blank-fits, Fails, failed}
+use Rattle.refuted.proofs.Tapes.{endOf}
 
 -- a test of a plan that follows from what is claimed of its planner
 pub record PlanCheck : Type 0 where
@@ -78,9 +78,6 @@ orderCheck =
     record { test = upTest test; follows = up-follows test (λ planner w u. same-lists sameName sameName-refl (u .met .order)) }
 
 -- ---- a planner that fails a test at the end of a tape
-abbrev pub endOf : Bytes → World
-endOf t = worldAfter blankWorld (run stepAt t blankWorld)
-
 plan-met : (planner : Planner) (t : Bytes) → Plans planner stepAt → IsBytes t → PlanMet planner (endOf t)
 unfolding blankWorld startWorld
 plan-met planner t h b = met-after planner h t b blankStart blank-fits

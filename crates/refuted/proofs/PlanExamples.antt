@@ -17,8 +17,8 @@ use Rattle.crash.specs.Book.{running, closed, committed}
 use Rattle.planner.specs.Plan.{Unretired, Planned, noPlan, unretiredNow, mostCommands, runs, plan}
 use Rattle.planner.specs.Emptying.{emptyingRun, worldDone, allDone, storesDone, retiredDone, isEmptied}
 use Rattle.refuted.specs.Parts.{onClosed, withCard}
-use Rattle.refuted.proofs.Tapes.{format, write, close, stores, checkpoints, cut, recovers}
-use Rattle.refuted.proofs.PlanChecks.{computesPlans, endOf, oneByteShort}
+use Rattle.refuted.proofs.Tapes.{endOf, format, write, close, stores, checkpoints, cut, recovers}
+use Rattle.refuted.proofs.PlanChecks.{computesPlans, oneByteShort}
 
 -- nothing to do
 abbrev nothingLeft : Planned

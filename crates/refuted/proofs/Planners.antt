@@ -5,15 +5,15 @@ use mathlib.Core.Path.{_≡_, refl, ap}
 use mathlib.Core.List.{List, [], _∷_, _++_, flatMap}
 use Rattle.model.specs.Bytes.{Bytes}
 use Rattle.model.specs.Command.{World}
-use Rattle.model.specs.Tape.{Command, CHECKPOINT}
+use Rattle.model.specs.Tape.{Command, CHECKPOINT, RETIRE}
 use Rattle.model.specs.Step.{step, stepAt}
 use Rattle.model.specs.Printing.{blankWorld}
 use Rattle.model.specs.declared.Name.{Name}
 use Rattle.planner.specs.Plan.{Planned, commandsLeft, storesLeft, inOrder, unretiredNow, planFor, plan}
 use Rattle.planner.specs.Met.{Planner, PlanAnswers, Plans}
 use Rattle.refuted.specs.WrongPlanners.{planBy, refusesNone, byCoreAndNumber, runningFirst, closedLast, boundAsFigure, workNotTakenOff, homedOffAll, closesAsStores, runningLeftOut, validAlone}
-use Rattle.refuted.proofs.Tapes.{format, write, close, stores, checkpoints, cut}
-use Rattle.refuted.proofs.PlanChecks.{computesPlans, numberCheck, commandsCheck, storesCheck, orderCheck, endOf, oneByteShort, refutes-plans}
+use Rattle.refuted.proofs.Tapes.{endOf, format, write, close, stores, checkpoints, cut}
+use Rattle.refuted.proofs.PlanChecks.{computesPlans, numberCheck, commandsCheck, storesCheck, orderCheck, oneByteShort, refutes-plans}
 
 -- with its own parts it is ours
 pub plan-by : (w : World) → planBy commandsLeft storesLeft inOrder unretiredNow w ≡ plan w
@@ -49,9 +49,9 @@ abbrev answers : List Command → World → List ℕ
 answers [] w = []
 answers (k ∷ ks) w = let o = step k w in o .answer ∷ answers ks (o .world)
 
--- two CHECKPOINTs, one for its block and one for the master, for each in a planner's order
+-- a CHECKPOINT for its block and a RETIRE, for each in a planner's order
 abbrev followed : Planner → World → List ℕ
-followed planner w = answers (flatMap (λ (n : Name). CHECKPOINT (n .core) ∷ CHECKPOINT (n .core) ∷ []) ((planner w) .order)) w
+followed planner w = answers (flatMap (λ (n : Name). CHECKPOINT (n .core) ∷ RETIRE (n .core) ∷ []) ((planner w) .order)) w
 
 -- by our order none is refused, by that one the first two are, with 33
 abbrev followedBoth : World → List (List ℕ)

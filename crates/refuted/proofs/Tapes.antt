@@ -4,15 +4,24 @@ use mathlib.Core.List.{[], _∷_, _++_, flatMap}
 use lib.ListN.{replicate}
 use Rattle.model.specs.Lists.{below}
 use Rattle.model.specs.Bytes.{Bytes, bytes}
-use Rattle.crash.specs.Claims.{homeArea, startWorld, startService, startLedger, fedPoint, enteredPoint}
+use Rattle.model.specs.Command.{World}
+use Rattle.model.specs.Recovery.{homeArea}
+use Rattle.model.specs.Tape.{run, worldAfter}
+use Rattle.model.specs.Step.{stepAt, worldBy}
+use Rattle.model.specs.Printing.{blankWorld}
+use Rattle.crash.specs.Claims.{startWorld, startService, startLedger, fedPoint, enteredPoint}
 use Rattle.crash.specs.Service.{bookArea}
-use Rattle.crash.specs.Ledger.{blankLedger, freshLedger, imageNow, closeLedger, unretired, metIn, validIn, blocksIn, cutLedger, recoverLedger, carriedOut, entered, storedOf, storedSince, recordTags, recordOf, recordBlocks, recordStored, tailsPast, checkpointStored, recoverStored, diskAfter, storeCount, copiesStored, memoryAfter, formatRefusals, blocksAfter, journalPasses, numberPasses, writeRefusals, closeRefusals, storeRefusals, sharesLowerIn, checkpointRefusals, refusalsOf, answerOf, readNow, readRefusals}
+use Rattle.crash.specs.Ledger.{blankLedger, freshLedger, imageNow, closeLedger, unretired, metIn, validIn, blocksIn, cutLedger, recoverLedger, carriedOut, entered, storedOf, storedSince, recordTags, recordOf, recordBlocks, recordStoreIn, tailsPast, homeStoreIn, masterStoreIn, recoverStoreIn, diskAfter, copiesStored, memoryAfter, formatRefusals, blocksAfter, journalPasses, numberPasses, writeRefusals, closeRefusals, storeRefusals, sharesLowerIn, checkpointRefusals, retireRefusals, refusalsOf, answerOf, readNow, readRefusals}
 use Rattle.crash.proofs.Books.BookExamples.{books}
-use Rattle.refuted.proofs.Checks.{sameList, isRecover, comesUp, areaHolds, answerTest, usedBytes, imageBytes, sameWorld, refusedTest, ofDone, countTest, bytesTest, memoryTest, holds, readsTest, readsHold, decidesTest, leavesTest}
+use Rattle.refuted.proofs.Checks.{sameList, isRecover, comesUp, areaHolds, answerTest, usedBytes, imageBytes, sameWorld, refusedTest, ofDone, countTest, bytesTest, memoryTest, holds, readsTest, readsHold, spanTest, decidesTest, leavesTest}
 
 unfoldable pub tests : Unit {0}
-unfolding books readRefusals readNow homeArea startWorld startService startLedger fedPoint enteredPoint bookArea blankLedger freshLedger imageNow closeLedger unretired metIn validIn blocksIn cutLedger recoverLedger carriedOut entered storedOf storedSince recordTags recordOf recordBlocks recordStored tailsPast checkpointStored recoverStored diskAfter storeCount copiesStored memoryAfter formatRefusals blocksAfter journalPasses numberPasses writeRefusals closeRefusals storeRefusals sharesLowerIn checkpointRefusals refusalsOf answerOf sameList isRecover comesUp areaHolds answerTest usedBytes imageBytes sameWorld refusedTest ofDone countTest bytesTest memoryTest holds readsTest readsHold decidesTest leavesTest
+unfolding books readRefusals readNow homeArea startWorld startService startLedger fedPoint enteredPoint bookArea blankLedger freshLedger imageNow closeLedger unretired metIn validIn blocksIn cutLedger recoverLedger carriedOut entered storedOf storedSince recordTags recordOf recordBlocks recordStoreIn tailsPast homeStoreIn masterStoreIn recoverStoreIn diskAfter copiesStored memoryAfter formatRefusals blocksAfter journalPasses numberPasses writeRefusals closeRefusals storeRefusals sharesLowerIn checkpointRefusals retireRefusals refusalsOf answerOf sameList isRecover comesUp areaHolds answerTest usedBytes imageBytes sameWorld refusedTest ofDone countTest bytesTest memoryTest holds readsTest readsHold worldBy spanTest decidesTest leavesTest
 tests = tt
+
+-- the world at the end of a run of the model's card
+abbrev pub endOf : Bytes → World
+endOf t = worldAfter blankWorld (run stepAt t blankWorld)
 
 -- ---- commands of a tape
 abbrev pub format : ℕ → ℕ → ℕ → Bytes
@@ -34,6 +43,9 @@ stores c n = flatMap (λ (i : ℕ). 4 ∷ c ∷ []) (below n)
 
 abbrev pub checkpoints : ℕ → ℕ → Bytes
 checkpoints c n = flatMap (λ (i : ℕ). 5 ∷ c ∷ []) (below n)
+
+abbrev pub retires : ℕ → Bytes
+retires c = 8 ∷ c ∷ []
 
 abbrev pub cut : Bytes
 cut = 6 ∷ []

@@ -4,3 +4,4 @@ pub mod Wrong
 pub mod WrongOrder
 pub mod WrongNumbers
 pub mod WrongPlanners
+pub mod WrongRetire

@@ -14,11 +14,11 @@ use Rattle.model.specs.Journal.{journal, nameOf}
 use Rattle.model.specs.Valid.{Order, in-sequence, isIn, blocksHeld, newest}
 use Rattle.model.specs.Command.{World, Outcome, wrongLength, unstored, storing, refusedWith, unless}
 use Rattle.model.specs.Format.{formatConditions, formattedDisk, formatted}
-use Rattle.model.specs.Write.{writer, writerName, ruleFor, takesBlock, namesHolder, isNamedBack, writeConditions, writtenMemory, written}
+use Rattle.model.specs.Write.{writer, writerName, ruleFor, takesBlock, namesHolder, isNamedBack, writeConditions, writtenMemory}
 use Rattle.model.specs.Commit.{coreStored, storeConditions}
-use Rattle.model.specs.Checkpoint.{committedNow, committedOf, oldest, checkpointConditions, storedHome, retiredCard, checkpointed}
+use Rattle.model.specs.Checkpoint.{committedNow, committedOf, oldest, retireConditions, retiredCard}
 use Rattle.model.specs.Recovery.{shapeOn, tailOn, layoutOn, committedOn, recoverConditionsBy, recoverConditions, blocksLeft, imageFound, newestImage, recoveredTo, emptiedTail, recoveredBy}
-use Rattle.model.specs.Tape.{Command, FORMAT, WRITE, CLOSE, STORE, CHECKPOINT, CUT, RECOVER, Step, TapeStep, readAt, commandAt}
+use Rattle.model.specs.Tape.{Command, FORMAT, WRITE, CLOSE, STORE, CHECKPOINT, CUT, RECOVER, RETIRE, Step, TapeStep, readAt, commandAt}
 use Rattle.model.specs.Step.{conditionsOf, doneBy, step, stepBy, conditionsOn, doneOn}
 use Rattle.model.specs.declared.Phase.the-variants.{Up}
 use Rattle.model.specs.declared.Found.the-variants.{Miss}
@@ -45,6 +45,7 @@ otherFormat f g (STORE c) w = f (STORE c) w
 otherFormat f g (CHECKPOINT c) w = f (CHECKPOINT c) w
 otherFormat f g CUT w = f CUT w
 otherFormat f g RECOVER w = f RECOVER w
+otherFormat f g (RETIRE c) w = f (RETIRE c) w
 
 abbrev pub otherWrite : Step World → (ℕ → ℕ → ℕ → Bytes → World → Outcome World) → Step World
 otherWrite f g (FORMAT c b j) w = f (FORMAT c b j) w
@@ -54,6 +55,7 @@ otherWrite f g (STORE c) w = f (STORE c) w
 otherWrite f g (CHECKPOINT c) w = f (CHECKPOINT c) w
 otherWrite f g CUT w = f CUT w
 otherWrite f g RECOVER w = f RECOVER w
+otherWrite f g (RETIRE c) w = f (RETIRE c) w
 
 abbrev pub otherClose : Step World → (ℕ → World → Outcome World) → Step World
 otherClose f g (FORMAT c b j) w = f (FORMAT c b j) w
@@ -63,6 +65,7 @@ otherClose f g (STORE c) w = f (STORE c) w
 otherClose f g (CHECKPOINT c) w = f (CHECKPOINT c) w
 otherClose f g CUT w = f CUT w
 otherClose f g RECOVER w = f RECOVER w
+otherClose f g (RETIRE c) w = f (RETIRE c) w
 
 abbrev pub otherStore : Step World → (ℕ → World → Outcome World) → Step World
 otherStore f g (FORMAT c b j) w = f (FORMAT c b j) w
@@ -72,6 +75,7 @@ otherStore f g (STORE c) w = g c w
 otherStore f g (CHECKPOINT c) w = f (CHECKPOINT c) w
 otherStore f g CUT w = f CUT w
 otherStore f g RECOVER w = f RECOVER w
+otherStore f g (RETIRE c) w = f (RETIRE c) w
 
 abbrev pub otherCheckpoint : Step World → (ℕ → World → Outcome World) → Step World
 otherCheckpoint f g (FORMAT c b j) w = f (FORMAT c b j) w
@@ -81,6 +85,17 @@ otherCheckpoint f g (STORE c) w = f (STORE c) w
 otherCheckpoint f g (CHECKPOINT c) w = g c w
 otherCheckpoint f g CUT w = f CUT w
 otherCheckpoint f g RECOVER w = f RECOVER w
+otherCheckpoint f g (RETIRE c) w = f (RETIRE c) w
+
+abbrev pub otherRetire : Step World → (ℕ → World → Outcome World) → Step World
+otherRetire f g (FORMAT c b j) w = f (FORMAT c b j) w
+otherRetire f g (WRITE c b o v) w = f (WRITE c b o v) w
+otherRetire f g (CLOSE c) w = f (CLOSE c) w
+otherRetire f g (STORE c) w = f (STORE c) w
+otherRetire f g (CHECKPOINT c) w = f (CHECKPOINT c) w
+otherRetire f g CUT w = f CUT w
+otherRetire f g RECOVER w = f RECOVER w
+otherRetire f g (RETIRE c) w = g c w
 
 abbrev pub otherCut : Step World → (World → Outcome World) → Step World
 otherCut f g (FORMAT c b j) w = f (FORMAT c b j) w
@@ -90,6 +105,7 @@ otherCut f g (STORE c) w = f (STORE c) w
 otherCut f g (CHECKPOINT c) w = f (CHECKPOINT c) w
 otherCut f g CUT w = g w
 otherCut f g RECOVER w = f RECOVER w
+otherCut f g (RETIRE c) w = f (RETIRE c) w
 
 abbrev pub otherRecover : Step World → (World → Outcome World) → Step World
 otherRecover f g (FORMAT c b j) w = f (FORMAT c b j) w
@@ -99,6 +115,7 @@ otherRecover f g (STORE c) w = f (STORE c) w
 otherRecover f g (CHECKPOINT c) w = f (CHECKPOINT c) w
 otherRecover f g CUT w = f CUT w
 otherRecover f g RECOVER w = g w
+otherRecover f g (RETIRE c) w = f (RETIRE c) w
 
 -- ---- tables
 -- the byte of a command
@@ -110,6 +127,7 @@ byteOf (STORE c) = 4
 byteOf (CHECKPOINT c) = 5
 byteOf CUT = 6
 byteOf RECOVER = 7
+byteOf (RETIRE c) = 8
 
 -- the command of byte k always answers n
 abbrev pub refusing : ℕ → ℕ → Step World
@@ -119,13 +137,21 @@ refusing k n m w = cond (eqb (byteOf m) k) (refusedWith n w) (step m w)
 abbrev pub withCondition : ℕ → Bool → List (Bool × ℕ) → List (Bool × ℕ)
 withCondition n test ts = map (λ (t : Bool × ℕ). cond (eqb (t .1) n) (test, n) t) ts
 
--- .. in WRITE
+-- .. in a command
+abbrev pub asking : ℕ → Bool → Step World
+asking n test k w = unless (withCondition n test (conditionsOf in-sequence k w)) w (doneBy in-sequence k w)
+
 abbrev pub writeAsking : ℕ → (ℕ → ℕ → World → Bool) → Step World
-writeAsking n test = otherWrite step (λ c b o v w. unless (withCondition n (test c b w) (writeConditions c b o w)) w (written c b o v w))
+writeAsking n test = otherWrite step (λ c b o v w. asking n (test c b w) (WRITE c b o v) w)
+
+-- .. in CHECKPOINT and RETIRE, of the card f
+abbrev pub oldestAsking : Step World → ℕ → (ℕ → World → Bool) → Step World
+oldestAsking f n test =
+    otherRetire (otherCheckpoint f (λ c w. asking n (test c w) (CHECKPOINT c) w)) (λ c w. asking n (test c w) (RETIRE c) w)
 
 -- the condition of number n is not asked
 abbrev pub ignoring : ℕ → Step World
-ignoring n k w = unless (withCondition n false (conditionsOf in-sequence k w)) w (doneBy in-sequence k w)
+ignoring n k w = asking n false k w
 
 -- .. with 1, 2 and 3 among them, which are the tape's
 abbrev pub ignoringAt : ℕ → TapeStep World
@@ -208,25 +234,23 @@ recoverTail next = recoverBy ownLeft ownImage (tailBy next)
 abbrev pub byOrders : Order → Order → Step World
 byOrders running recovery = otherRecover (stepBy running) (stepBy recovery RECOVER)
 
--- CHECKPOINT and RECOVER by another valid set, of layout, shape, disk, tails and the transactions read
+-- CHECKPOINT, RETIRE and RECOVER by another valid set, of layout, shape, disk, tails and the transactions read
 abbrev pub validBy : (CommitLayout → Shape → Bytes → (ℕ → Tail) → List Committed → List Committed) → Step World
 validBy set =
-    otherCheckpoint (recoverSet (λ (d : Bytes). set (layoutOn d) (shapeOn d) d (tailOn d) (committedOn d)))
+    oldestAsking (recoverSet (λ (d : Bytes). set (layoutOn d) (shapeOn d) d (tailOn d) (committedOn d))) 32
     (λ c w.
     let valid = set Numbers (shapeOf (w .card)) (w .disk) (tailOf (w .card)) (committedNow w) in
-    unless (withCondition 32 (not (isIn valid (nameOf (oldest (committedOf w c))))) (checkpointConditions in-sequence c w)) w (checkpointed c w))
+    not (isIn valid (nameOf (oldest (committedOf w c)))))
 
 -- ---- paper 02, (d): the layout of which each command's master says that its commits are
 abbrev pub formatAs : CommitLayout → Step World
 formatAs y = otherFormat step (λ c b j w. unless (formatConditions c b j w) w (let s = newShape c b j in withDisk (formattedDisk y s) (formatted s)))
 
-abbrev pub checkpointAs : CommitLayout → Step World
-checkpointAs y =
-    otherCheckpoint step (λ c w.
-    let e = oldest (committedOf w c) in
-    let x = retiredCard c e (w .card) in
-    unless (checkpointConditions in-sequence c w) w
-    (cond (ltb ((coreOf (w .card) c) .homed) (e .count)) (storedHome c e w) (storing w x 0 (masterBlock y (shapeOf x) (tailOf x)))))
+abbrev pub retireAs : CommitLayout → Step World
+retireAs y =
+    otherRetire step (λ c w.
+    let x = retiredCard c (oldest (committedOf w c)) (w .card) in
+    unless (retireConditions in-sequence c w) w (storing w x 0 (masterBlock y (shapeOf x) (tailOf x))))
 
 -- .. RECOVER also by what it takes for a master and by the layout that it reads
 abbrev pub recoverAs : (Bytes → Bool) → (Bytes → CommitLayout) → (Bytes → CommitLayout) → Step World

@@ -10,15 +10,15 @@ use Rattle.model.specs.Bytes.{Bytes, blockAt, replaced}
 use Rattle.model.specs.Shape.{homeBlock, journalBlock}
 use Rattle.model.specs.Card.{taken, stamped, withBlock, newHolder, withHolder, recordSize, freshCard, shapeOf, tailOf, coreOf, holderOf, isDown}
 use Rattle.model.specs.Layout.{masterBlock, newTag, descriptorBlock}
-use Rattle.model.specs.Journal.{journalAt, nameOf, blocksOf}
+use Rattle.model.specs.Journal.{journalAt, blocksOf}
 use Rattle.model.specs.Shrink.{strike}
-use Rattle.model.specs.Valid.{in-sequence, isIn, namesMet, blocksHeld, newest}
-use Rattle.model.specs.Command.{World, Outcome, storing, unless, notUp, noCore}
+use Rattle.model.specs.Valid.{in-sequence, namesMet, blocksHeld, newest}
+use Rattle.model.specs.Command.{World, Outcome, storing, unless}
 use Rattle.model.specs.Write.{writer, writerName, ruleFor, takesBlock, namesHolder, isNamedBack, writerAfter, journalFull}
 use Rattle.model.specs.Commit.{copyBlock, closedNumber, nextStored, nextPosition}
-use Rattle.model.specs.Checkpoint.{committedNow, validNow, committedOf, oldest, share, checkpointConditions, checkpointed, storedMaster}
+use Rattle.model.specs.Checkpoint.{committedNow, committedOf, oldest, share, checkpointConditions, storedMaster}
 use Rattle.model.specs.Recovery.{shapeOn, tailOn, layoutOn, committedOn, validOn, recoverConditions, placeOf, imageFound, recoveredTo, recoverStep}
-use Rattle.model.specs.Tape.{Step, CHECKPOINT, CLOSE, CUT, Command, FORMAT, RECOVER, STORE, WRITE}
+use Rattle.model.specs.Tape.{Step, CHECKPOINT, CLOSE, CUT, Command, FORMAT, RECOVER, RETIRE, STORE, WRITE}
 use Rattle.model.specs.Step.{step}
 use Rattle.model.specs.Reading.{readNumber, Reader, readBlock}
 use Rattle.model.specs.Limits.{maxNumber}
@@ -32,7 +32,7 @@ use Rattle.model.specs.declared.Core.{Core}
 use Rattle.model.specs.declared.Card.{Card}
 use Rattle.model.specs.declared.CommitLayout.the-variants.{Numbers}
 use Rattle.model.specs.declared.Committed.{Committed}
-use Rattle.refuted.specs.Parts.{otherWrite, otherClose, otherStore, otherCheckpoint, otherCut, otherRecover, refusing, writeAsking, patched, withMemory, withCard, putCloses, onRunning, onClosed, storeBy, recoverBy, ownLeft, ownImage, ownTail, recoverSet, recoverTail}
+use Rattle.refuted.specs.Parts.{otherWrite, otherClose, otherStore, otherCheckpoint, otherRetire, otherCut, otherRecover, refusing, writeAsking, oldestAsking, patched, withMemory, withCard, putCloses, onRunning, onClosed, storeBy, recoverBy, ownLeft, ownImage, ownTail, recoverSet, recoverTail}
 
 -- ---- 'Where a card goes astray'
 -- 'No name for a holder already committed': what the writer names stays as it was
@@ -111,6 +111,7 @@ nothingChanges (STORE c) w = counting 1 w
 nothingChanges (CHECKPOINT c) w = counting 1 w
 nothingChanges CUT w = counting 0 w
 nothingChanges RECOVER w = counting 1 w
+nothingChanges (RETIRE c) w = counting 1 w
 
 -- 'one that recovers a blank area always'
 abbrev pub blankAlways : Step World
@@ -285,14 +286,14 @@ homeFromMemory =
     let e = oldest (committedOf w c) in
     let k = coreOf (w .card) c in
     let b = getD (blocksOf (shapeOf (w .card)) (w .disk) e) (k .homed) 0 in
-    cond (eqb (o .answer) 0 && ltb (k .homed) (e .count)) (storing w (o .world .card) (homeBlock b) (blockAt (w .memory) b)) o)
+    cond (eqb (o .answer) 0) (storing w (o .world .card) (homeBlock b) (blockAt (w .memory) b)) o)
 
 -- 'until that one is retired': its blocks stay held
 abbrev pub holderStays : Step World
 holderStays =
-    otherCheckpoint step (λ c w.
+    otherRetire step (λ c w.
     patched (λ x. record { phase = x .phase; shape = x .shape; closes = x .closes; recovered = x .recovered; tails = x .tails; cores = x .cores; holders = w .card .holders })
-    (step (CHECKPOINT c) w))
+    (step (RETIRE c) w))
 
 -- ---- refusals
 -- 'A refusal .. changes no byte of any lent buffer': while the card is down, memory is overwritten
@@ -338,15 +339,5 @@ sharesCommitted w e =
     let bs = blocksOf s (w .disk) e in
     any (λ (f : Committed). ltb (f .stamp) (e .stamp) && share bs (blocksOf s (w .disk) f)) (committedNow w)
 
-abbrev pub committedConditions : ℕ → World → List (Bool × ℕ)
-committedConditions c w =
-    let e = oldest (committedOf w c) in
-    notUp w
-    ((noCore w c, 5)
-    ∷ (eqb (length (committedOf w c)) 0, 31)
-    ∷ (not (isIn (validNow in-sequence w) (nameOf e)), 32)
-    ∷ (sharesCommitted w e, 33)
-    ∷ [])
-
 abbrev pub onlyCommitted33 : Step World
-onlyCommitted33 = otherCheckpoint step (λ c w. unless (committedConditions c w) w (checkpointed c w))
+onlyCommitted33 = oldestAsking step 33 (λ c w. sharesCommitted w (oldest (committedOf w c)))

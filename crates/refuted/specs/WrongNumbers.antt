@@ -14,7 +14,7 @@ use Rattle.model.specs.declared.Name.{Name}
 use Rattle.model.specs.declared.Transaction.{Transaction}
 use Rattle.model.specs.declared.Core.{Core}
 use Rattle.model.specs.declared.CommitLayout.the-variants.{Lists}
-use Rattle.refuted.specs.Parts.{storeBy, formatAs, checkpointAs, recoverAs, alwaysLists, alwaysNumbers, writeNaming}
+use Rattle.refuted.specs.Parts.{storeBy, formatAs, retireAs, recoverAs, alwaysLists, alwaysNumbers, writeNaming}
 use Rattle.refuted.specs.Wrong.{rightPlace}
 
 -- ---- 'the highest number named for each core'
@@ -36,12 +36,12 @@ ownLeftOut =
     cond (leb (k .stored) (length (taken (k .closed)))) (nextStored c k m)
     (commitBlock (closedNumber k) (k .closed .stamp) (λ (i : ℕ). cond (eqb i c) 0 (highestOf (k .closed) i))))
 
--- ---- 'Bytes 8 to 11 of a new master hold 1': FORMAT's, CHECKPOINT's, the closing one of every recovery holds 0
+-- ---- 'Bytes 8 to 11 of a new master hold 1': FORMAT's, RETIRE's, the closing one of every recovery holds 0
 abbrev pub formatsZero : Step World
 formatsZero = formatAs Lists
 
-abbrev pub checkpointsZero : Step World
-checkpointsZero = checkpointAs Lists
+abbrev pub retiresZero : Step World
+retiresZero = retireAs Lists
 
 abbrev pub recoversZero : Step World
 recoversZero = recoverAs isMaster layoutOn alwaysLists

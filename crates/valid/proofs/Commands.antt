@@ -1,4 +1,4 @@
--- For CHECKPOINT and RECOVER: the records that were read are the journals, and what the counts were lowered to is the valid set.
+-- For CHECKPOINT, RETIRE and RECOVER: the records that were read are the journals, and what the counts were lowered to is the valid set.
 use Rattle.model.proofs.Base.{ℕ, _<_, arith, _≡_, ap, _∙_, List, getD, lt-ltb, Bytes}
 use Rattle.model.specs.Journal.{journal, journals}
 use Rattle.model.specs.Valid.{Order, validSet}

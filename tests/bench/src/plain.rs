@@ -1,7 +1,7 @@
 // plain.rs: the card as a firmware engineer writes it without proofs, in safe Rust over the same lent slices and bytes. What is
 // committed is read from the journals each time, as in the library; the library is measured against this card.
 
-use crate::records::Records;
+use crate::records::{Record, Records};
 use card_library::session::Done;
 use card_library::stage::Implementation;
 use card_tests::command::{self, Command};
@@ -87,6 +87,7 @@ impl Plain {
             (_, Command::Close { core }) => self.close(core, memory),
             (_, Command::Store { core }) => self.store(core, disk, memory),
             (_, Command::Checkpoint { core }) => self.checkpoint(core, disk),
+            (_, Command::Retire { core }) => self.retire(core, disk),
         }
     }
 
@@ -212,7 +213,8 @@ impl Plain {
         Ok(1)
     }
 
-    fn checkpoint(&mut self, core: u8, disk: &mut [u8]) -> Answer {
+    /// The core's oldest committed transaction with its blocks, after 5, 31, 32 and 33.
+    fn oldest(&self, core: u8, disk: &[u8]) -> Result<(Record, Few<u8, TAKEN>), u8> {
         let c = self.core(core)?;
         if self.cores[c].committed == 0 {
             return Err(31);
@@ -228,13 +230,24 @@ impl Plain {
         if records.shares_lower(disk, &oldest, &blocks) || self.closed_shares_lower(oldest.stamp, &blocks) {
             return Err(33);
         }
-        match blocks.get(self.cores[c].homed as usize) {
-            Some(&block) => {
-                put(disk, self.shape.home(block), &oldest.image(disk, self.shape, self.cores[c].homed as usize));
-                self.cores[c].homed += 1;
-            }
-            None => self.retire(oldest.name, blocks.len() + 2, disk),
+        Ok((oldest, blocks))
+    }
+
+    fn checkpoint(&mut self, core: u8, disk: &mut [u8]) -> Answer {
+        let (oldest, blocks) = self.oldest(core, disk)?;
+        let homed = &mut self.cores[core as usize].homed;
+        let block = *blocks.get(*homed as usize).ok_or(35)?;
+        put(disk, self.shape.home(block), &oldest.image(disk, self.shape, *homed as usize));
+        *homed += 1;
+        Ok(1)
+    }
+
+    fn retire(&mut self, core: u8, disk: &mut [u8]) -> Answer {
+        let (oldest, blocks) = self.oldest(core, disk)?;
+        if (self.cores[core as usize].homed as usize) < blocks.len() {
+            return Err(34);
         }
+        self.move_tail(oldest.name, blocks.len() + 2, disk);
         Ok(1)
     }
 
@@ -243,7 +256,7 @@ impl Plain {
         closed.any(|other| other.stamp < stamp && other.blocks.iter().any(|block| blocks.contains(block)))
     }
 
-    fn retire(&mut self, name: Name, length: usize, disk: &mut [u8]) {
+    fn move_tail(&mut self, name: Name, length: usize, disk: &mut [u8]) {
         let c = name.core as usize;
         let position = (self.tails[c].position as usize + length) % self.shape.journal as usize;
         self.tails[c] = Tail { number: name.number + 1, position: position as u8 };

@@ -125,10 +125,13 @@ impl Script {
         }
     }
 
-    /// Every core in turn tries a checkpoint, until nothing is left.
+    /// Every core in turn tries to store its oldest one home, which took one block, and then to retire it, until nothing is left.
     fn drain(&mut self) {
         while self.card.cores.iter().any(|core| core.committed > 0) {
-            (0..self.shape.cores).for_each(|core| self.issue(Command::Checkpoint { core }));
+            for core in 0..self.shape.cores {
+                let is_home = self.card.cores[core as usize].home > 0;
+                self.issue(if is_home { Command::Retire { core } } else { Command::Checkpoint { core } });
+            }
         }
     }
 
@@ -147,11 +150,11 @@ impl Script {
         self.fill(self.shape.cores as usize * (self.shape.journal as usize / 3), is_shared);
     }
 
-    /// What `fill` left is checkpointed in the same order, that of the stamps, so that nothing is refused.
+    /// What `fill` left is stored home and retired in the same order, that of the stamps, so that nothing is refused.
     fn empty(&mut self, count: usize) {
         for i in 0..count {
             let core = (i % self.shape.cores as usize) as u8;
-            (0..2).for_each(|_| self.carry_out(Command::Checkpoint { core }));
+            directed::retire_of(core, 1).into_iter().for_each(|command| self.carry_out(command));
         }
         assert!(self.card.cores.iter().all(|core| core.committed == 0), "{count} records");
     }
@@ -190,19 +193,19 @@ impl Script {
     }
 }
 
-/// Each core in turn writes 32 times into its own blocks, at most four; the transaction is committed and checkpointed.
+/// Each core in turn writes 32 times into its own blocks, at most four; the transaction is committed, stored home and retired.
 fn write_heavy(shape: Shape, length: usize) -> Workload {
     let own = (shape.blocks / shape.cores).min(4) as usize;
     Script::new(shape).rounds("write", length, |script| {
         for core in 0..shape.cores {
             (0..32).for_each(|i| script.write(core, core as usize * own + i % own));
             script.commit(core);
-            (0..own + 1).for_each(|_| script.issue(Command::Checkpoint { core }));
+            directed::retire_of(core, own).into_iter().for_each(|command| script.issue(command));
         }
     })
 }
 
-/// Full journals of transactions that share blocks; then every core in turn tries a checkpoint until all are empty.
+/// Full journals of transactions that share blocks; then every core in turn tries to store home and to retire until all are empty.
 fn checkpoint_heavy(shape: Shape, length: usize) -> Workload {
     Script::new(shape).rounds("checkpoint", length, |script| {
         script.fill_up(true);
@@ -280,7 +283,7 @@ pub fn whole_recovery(count: usize) -> Workload {
     after(filled, format!("recovery of {count} records"), Script::recover)
 }
 
-/// CHECKPOINT of so many records of one block each, until the journals are empty.
+/// CHECKPOINT and RETIRE of so many records of one block each, until the journals are empty.
 pub fn whole_checkpointing(count: usize) -> Workload {
     let filled = |script: &mut Script| script.fill(count, false);
     after(filled, format!("checkpointing of {count} records"), |script| script.empty(count))

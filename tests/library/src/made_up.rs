@@ -23,9 +23,10 @@ fn answers(command: Command) -> &'static [u8] {
         Command::Write { .. } => &[0, 20, 22, 5, 6, 7, 25, 26, 27],
         Command::Close { .. } => &[0, 20, 22, 5, 28, 29],
         Command::Store { .. } => &[0, 20, 22, 5, 30],
-        Command::Checkpoint { .. } => &[0, 20, 22, 5, 31, 32, 33],
+        Command::Checkpoint { .. } => &[0, 20, 22, 5, 31, 32, 33, 35],
         Command::Cut => &[0, 20],
         Command::Recover => &[0, 20, 23, 8],
+        Command::Retire { .. } => &[0, 20, 22, 5, 31, 32, 33, 34],
     }
 }
 
@@ -34,12 +35,12 @@ pub struct MadeUp {
     run: Stage<Session>,
     random: Random,
     /// How often each number was answered.
-    pub answers: [u64; 34],
+    pub answers: [u64; 36],
 }
 
 impl MadeUp {
     pub fn new(seed: u64) -> MadeUp {
-        MadeUp { run: Stage::default(), random: Random::new(seed), answers: [0; 34] }
+        MadeUp { run: Stage::default(), random: Random::new(seed), answers: [0; 36] }
     }
 
     fn any_cells(&mut self) -> Cells {
@@ -95,7 +96,7 @@ impl MadeUp {
     fn any_tape(&mut self) -> Vec<u8> {
         let random = &mut self.random;
         if random.chance(50) {
-            return (0..random.below(12)).map(|_| random.below(9) as u8).collect();
+            return (0..random.below(12)).map(|_| random.below(10) as u8).collect();
         }
         let commands: Vec<Command> = (0..random.between(1, 3)).map(|_| any_command(random)).collect();
         let mut tape = tape_of(&commands);
@@ -122,7 +123,7 @@ impl MadeUp {
         let at = self.any_offset(&tape);
         let mut after = before.clone();
         let done = after.command(&tape, at);
-        self.answers[(done.number as usize).min(33)] += 1;
+        self.answers[(done.number as usize).min(35)] += 1;
         check_answer(&before, &tape, at, done)?;
         check_change(&before, &after, &tape, at, done)?;
         let mut plain = Stage { card: Session::of_cells(meaning(&cells)), ..before.clone() };
@@ -137,10 +138,10 @@ impl MadeUp {
             return Err(format!("what has no meaning changed where block {block} is read: {one:?}, {other:?}"));
         }
         if self.random.chance(250) {
-            check_tape(before, &tape)
-        } else {
-            Ok(())
+            check_opposites(&before, any_operand(&mut self.random, 8))?;
+            check_tape(before, &tape)?;
         }
+        Ok(())
     }
 }
 
@@ -179,7 +180,7 @@ fn any_operand(random: &mut Random, limit: usize) -> u8 {
 fn any_command(random: &mut Random) -> Command {
     let [core, block, offset] = [8, 64, 125].map(|limit| any_operand(random, limit));
     let high = if random.chance(20) { random.byte() } else { 0 };
-    match random.below(9) {
+    match random.below(10) {
         0 => {
             let [cores, blocks, journal] = [9, 65, 25].map(|limit| any_operand(random, limit));
             Command::Format { cores, blocks, journal: journal.max(4) }
@@ -189,6 +190,7 @@ fn any_command(random: &mut Random) -> Command {
         5 => Command::Store { core },
         6 => Command::Checkpoint { core },
         7 => Command::Cut,
+        8 => Command::Retire { core },
         _ => Command::Recover,
     }
 }
@@ -220,7 +222,7 @@ fn check_change(
     if done.number != 0 {
         return if after == before { Ok(()) } else { Err(format!("{done:?} changed something")) };
     }
-    let stores = matches!(tape[at], 4 | 5 | 7) as u64;
+    let stores = matches!(tape[at], 4 | 5 | 7 | 8) as u64;
     let changed = before.disk.chunks(BLOCK).zip(after.disk.chunks(BLOCK)).filter(|(one, other)| one != other).count();
     match () {
         _ if after.card.stores() != before.card.stores().saturating_add(stores) => {
@@ -229,6 +231,16 @@ fn check_change(
         _ if changed > stores as usize && done.byte != 1 => Err(format!("{done:?}: {changed} blocks changed")),
         _ if stores == 1 && before.memory != after.memory => Err(format!("{done:?}: memory changed")),
         _ => Ok(()),
+    }
+}
+
+/// Of CHECKPOINT and RETIRE just one is done where neither is refused with a number that both have.
+fn check_opposites(before: &Stage<Session>, core: u8) -> Result<(), String> {
+    let number = |byte| before.clone().command(&[byte, core], 0).number;
+    match (number(5), number(8)) {
+        (0, 34) | (35, 0) => Ok(()),
+        (one, other) if one == other && one != 0 => Ok(()),
+        both => Err(format!("CHECKPOINT and RETIRE of core {core} answer {both:?}")),
     }
 }
 

@@ -10,6 +10,7 @@ use crate::stage::Stage;
 use card_tests::card::{Card, Phase};
 use card_tests::checks::{Seen, Watcher};
 use card_tests::command::Command;
+use card_tests::emptying::World;
 use card_tests::layout::{Name, CORES, DISK, MEMORY};
 use card_tests::planner::{plan_by, Plan};
 use card_tests::random::{hash_of, Random};
@@ -143,8 +144,9 @@ impl Plans {
         }
     }
 
-    /// The library's commands on the library itself: STORE and CLOSE until nothing is closed or running, then CHECKPOINT for each of
-    /// the names in their order until it is retired. None is refused, each lowers the figure by one, and all is empty at the end.
+    /// The library's commands on the library itself: STORE and CLOSE until nothing is closed or running, then for each of the names in
+    /// their order CHECKPOINT until it is stored home, and RETIRE. None is refused, each lowers the figure by one, and all is empty at
+    /// the end.
     fn carry_out(&mut self, found: &Planned) -> Result<(), String> {
         let [_, commands, stores, count] = [0, 1, 2, 3].map(|i| found[i]);
         let mut doing = Doing { planner: self.planner, stage: self.run.clone(), commands: 0, figure: commands };
@@ -208,13 +210,15 @@ impl Doing {
         }
     }
 
-    /// It is its core's oldest; all of its checkpoints.
+    /// It is its core's oldest; all of its home stores, then the master's.
     fn retire(&mut self, Name { core, number }: Name) -> Result<(), String> {
         if self.tail(core) != number as u64 {
             return Err(format!("{number} of core {core} is not the oldest"));
         }
         while self.tail(core) == number as u64 {
-            self.step(Command::Checkpoint { core })?;
+            let Stage { card, disk, memory } = &self.stage;
+            let next = World::new(&to_card(card.cells()), disk, memory).next_of(core);
+            self.step(next)?;
         }
         Ok(())
     }

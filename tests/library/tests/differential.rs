@@ -2,15 +2,19 @@
 
 use card_library::cells::CELLS;
 use card_library::session::Session;
+use card_library::stage::Stage;
 use card_library::watcher::Library;
 use card_tests::card::Kind;
 use card_tests::checks::{Bench, Checks, Failure, Shares};
 use card_tests::command::from_hex;
 use card_tests::endings;
-use card_tests::layout::{DISK, MEMORY};
+use card_tests::layout::{BLOCK, DISK, MEMORY};
 use card_tests::older;
 use card_tests::random::Random;
+use card_tests::recovered::recovered;
+use card_tests::runs;
 use card_tests::sequence;
+use card_tests::wide;
 use card_tests::wrong::{caught_by_generated, words, Wrong};
 
 fn differs(wrong: Wrong, commands: u64, seed: u64) -> Option<String> {
@@ -32,6 +36,24 @@ fn the_library_recovers_made_endings_as_the_model_does() {
     let mut bench = Bench::new(Wrong::No, Checks::NONE, Some(&mut library));
     for _ in 0..2000 {
         bench.run_tape_over(endings::disk(&mut random), endings::RECOVERED).expect("the same");
+    }
+}
+
+/// With as many RECOVERs as blocks are held and one more, each of them done, the card is up with the area that the disk gives.
+#[test]
+fn the_library_brings_back_what_the_disk_gives() {
+    let (mut random, mut stage) = (Random::new(29), Stage::<Session>::default());
+    for _ in 0..1000 {
+        for disk in [endings::disk(&mut random), wide::disk(&mut random).disk, runs::any_disk(&mut random)] {
+            let due = recovered(&disk).expect("a fit master");
+            stage.start(true, &disk, &[0x5A; MEMORY]);
+            for _ in 0..=due.held {
+                assert_eq!(stage.card.read_number(0, &stage.disk, &stage.memory), 22);
+                assert_eq!(stage.command(&[7], 0).number, 0);
+            }
+            assert_eq!(stage.card.read_number(0, &stage.disk, &stage.memory), 0);
+            assert!(stage.disk[BLOCK..][..due.area.len()] == due.area);
+        }
     }
 }
 
@@ -97,7 +119,7 @@ fn slices_of_a_wrong_length_are_refused() {
     for _ in 0..2000 {
         let (mut disk, mut memory) = (vec![1; random.below(2 * DISK)], vec![2; random.below(2 * MEMORY)]);
         let (disk_before, memory_before) = (disk.clone(), memory.clone());
-        let tape: Vec<u8> = (0..random.below(12)).map(|_| random.below(9) as u8).collect();
+        let tape: Vec<u8> = (0..random.below(12)).map(|_| random.below(10) as u8).collect();
         let mut session = if random.chance(500) { Session::blank() } else { Session::down() };
         let done = session.command(&tape, random.below(14), &mut disk, &mut memory);
         let is_wrong = disk_before.len() != DISK || memory_before.len() != MEMORY;

@@ -1,6 +1,6 @@
 // runs.rs: the library does what the model does over disks made for how records that were read are kept and counted: recovery from any
-// place with cuts in it, the journal page, and of cards that are up CHECKPOINT of every core and the plan. It is told from cards that
-// are wrong in just this.
+// place with cuts in it, the journal page, and of cards that are up CHECKPOINT and RETIRE of every core and the plan. It is told from
+// cards that are wrong in just this.
 
 use card_library::cells::of_card;
 use card_library::page::compared;
@@ -70,32 +70,39 @@ fn the_page_of_made_disks_is_the_models() {
     assert!(kept > 2_000 && lines - kept > 2_000);
 }
 
-/// What CHECKPOINT of a core that is there answers.
-const ANSWERS: [u8; 4] = [0, 31, 32, 33];
+/// What CHECKPOINT and RETIRE of a core that is there answer.
+const ANSWERS: [[u8; 5]; 2] = [[0, 31, 32, 33, 35], [0, 31, 32, 33, 34]];
 
-/// How often it had each answer.
+/// How often they had each answer.
 #[derive(Default)]
-struct Answers([usize; ANSWERS.len()]);
+struct Answers([[usize; 5]; 2]);
 
 impl Answers {
-    /// Each core is tried first on a card that is up, and the plan is asked for.
+    /// Each command of each core is tried first on a card that is up, and the plan is asked for.
     fn try_cores(&mut self, card: &Card, disk: &[u8], memory: &[u8]) -> Result<(), String> {
         check_plan(plan, &of_card(card, 0, 0), card, disk, memory)?;
-        for core in 0..card.shape.cores {
+        for (command, i) in (0..card.shape.cores).flat_map(tries) {
             let mut pair = Pair::begin(*card, disk, memory);
-            pair.command(Command::Checkpoint { core })?;
-            let place = ANSWERS.iter().position(|answer| *answer == pair.answer);
-            self.0[place.ok_or(format!("CHECKPOINT answers {}", pair.answer))?] += 1;
+            pair.command(command)?;
+            let place = ANSWERS[i].iter().position(|answer| *answer == pair.answer);
+            self.0[i][place.ok_or(format!("{command:?} answers {}", pair.answer))?] += 1;
         }
         Ok(())
     }
 
     fn require(&self, least: usize) {
-        for (count, answer) in self.0.iter().zip(ANSWERS) {
-            println!("CHECKPOINT answers {answer}: {count} times");
-            assert!(*count >= least, "{answer} is met {count} times");
+        for (i, name) in ["CHECKPOINT", "RETIRE"].iter().enumerate() {
+            for (count, answer) in self.0[i].iter().zip(ANSWERS[i]) {
+                println!("{name} answers {answer}: {count} times");
+                assert!(*count >= least, "{name}: {answer} is met {count} times");
+            }
         }
     }
+}
+
+/// Both commands of a core, each with its place.
+fn tries(core: u8) -> [(Command, usize); 2] {
+    [(Command::Checkpoint { core }, 0), (Command::Retire { core }, 1)]
 }
 
 /// Cards that count every record of a made disk as committed. They read numbers, as they would have written them; over lists and behind
@@ -146,7 +153,7 @@ fn without_blocks(card: &Card, core: usize) -> u8 {
     }
 }
 
-/// The library beside the model on tapes; after each STORE that commits and each CHECKPOINT done every core is tried.
+/// The library beside the model on tapes; after each STORE that commits and each CHECKPOINT and RETIRE done every core is tried.
 #[derive(Default)]
 struct Tries {
     library: Library,
@@ -165,7 +172,7 @@ impl Watcher for Tries {
         self.library.command(tape, offset, seen)?;
         let is_new = match tape[offset] {
             4 => card.cores[tape[offset + 1] as usize].closed.is_none(),
-            byte => byte == 5,
+            byte => matches!(byte, 5 | 8),
         };
         if outcome.answer != 0 || !is_new {
             return Ok(());
@@ -201,11 +208,11 @@ fn disks_until_told(wrong: Wrong, most: usize, seed: u64) -> Option<usize> {
     })
 }
 
-/// Whether a card that is up over a disk is told from the library by the first CHECKPOINT of some core.
+/// Whether a card that is up over a disk is told from the library by the first CHECKPOINT or RETIRE of some core.
 fn is_told_up(wrong: Wrong, made: &Made) -> bool {
     let card = Card { kind: wrong.into(), ..made.card() };
-    (0..card.shape.cores)
-        .any(|core| Pair::begin(card, &made.disk, &[0; MEMORY]).command(Command::Checkpoint { core }).is_err())
+    let mut all = (0..card.shape.cores).flat_map(tries);
+    all.any(|(command, _)| Pair::begin(card, &made.disk, &[0; MEMORY]).command(command).is_err())
 }
 
 /// Down by 60 disks with each seed; up over some of 130, but for the card that is wrong in recovery alone.

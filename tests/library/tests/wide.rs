@@ -49,16 +49,19 @@ fn cards_that_narrow_too_early_are_told_apart() {
     }
 }
 
-/// A card that is up over a made disk and counts every record as committed, beside the library: CHECKPOINT for each core in turn, then
-/// generated commands. The answers to the first round, and after how many commands the two differ.
+/// A card that is up over a made disk and counts every record as committed, beside the library: CHECKPOINT, then RETIRE
+/// for each core in turn, both twice, then generated commands. The answers to the first round, and after how many commands the two differ.
 fn run_up(wrong: Wrong, made: &Made, generator: &mut Generator) -> (Vec<u8>, Option<usize>) {
     let mut pair = Pair::begin(Card { kind: wrong.into(), ..made.card() }, &made.disk, &[0; MEMORY]);
     let (mut first, cores) = (Vec::new(), made.master.shape.cores);
     generator.begin_with(made.master.shape);
-    for i in 0..40 + 3 * cores {
-        let is_checkpoint = i < 3 * cores;
-        let command =
-            if is_checkpoint { Command::Checkpoint { core: i % cores } } else { generator.command(&pair.card) };
+    for i in 0..40 + 4 * cores {
+        let core = i % cores;
+        let command = match i / cores {
+            0 | 2 => Command::Checkpoint { core },
+            1 | 3 => Command::Retire { core },
+            _ => generator.command(&pair.card),
+        };
         let compared = pair.command(command);
         first.extend((i < cores).then_some(pair.answer));
         if compared.is_err() {
@@ -104,10 +107,10 @@ fn a_card_that_is_up_meets_wide_numbers() {
 fn a_checkpoint_shares_no_block_with_a_wide_number() {
     for sharing in Sharing::all() {
         let (disk, card) = sharing.made();
-        let answers = [0, 1].map(|core| {
+        let answer = |byte, core| {
             let mut session = Session::of_cells(of_card(&card, 0, 0));
-            session.command(&[5, core], 0, &mut disk.clone(), &mut [0; MEMORY]).number
-        });
-        assert_eq!(answers, sharing.due(), "{sharing:?}");
+            session.command(&[byte, core], 0, &mut disk.clone(), &mut [0; MEMORY]).number
+        };
+        assert_eq!([5, 8].map(|byte| [0, 1].map(|core| answer(byte, core))), sharing.due(), "{sharing:?}");
     }
 }

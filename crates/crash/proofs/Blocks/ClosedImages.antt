@@ -1,7 +1,7 @@
 -- The images that the ledger notes at CLOSE are those of the histories: `Imaged`, kept by every command.
 -- At CLOSE the running transaction that took a block still holds it, so the block's history up to its last held write is
 -- the whole history. From then on no write is held by it, so that part of the history stays as it is.
-use Rattle.model.proofs.Base.{ℕ, _≤_, _<_, _≡_, refl, sym, ap, fun-ext, _∙_, _⊎_, false, So, some, List, [], _∷_, map, length}
+use Rattle.model.proofs.Base.{ℕ, _<_, _≡_, refl, sym, ap, fun-ext, _∙_, _⊎_, false, So, some, List, [], _∷_, map, length}
 use Rattle.model.proofs.Base.{getD, eqb, Bytes}
 use Rattle.model.specs.Valid.{Order}
 use Rattle.model.specs.Card.{sameName}
@@ -9,7 +9,7 @@ use Rattle.model.specs.declared.Name.{Name}
 use Rattle.model.specs.declared.Shape.{Shape}
 use Rattle.model.proofs.Lists.{cases, map-same, getD-map}
 use Rattle.model.proofs.Valid.{sameName-true, sameName-refl}
-use Rattle.crash.specs.Book.{Stage, absent, running, closed, committed, isClosed, Entry, Write, emptyBook, begin, storeBook, checkpointBook, bookHolder, Meeting, meets, ruled, holderAfter, note, writeBook, Book}
+use Rattle.crash.specs.Book.{Stage, absent, running, closed, committed, isClosed, Entry, Write, emptyBook, begin, storeBook, checkpointBook, retireBook, bookHolder, Meeting, meets, ruled, holderAfter, note, writeBook, Book}
 use Rattle.crash.specs.Ledger.{Ledger, freshLedger, withBook, imageNow, closeLedger}
 use Rattle.crash.proofs.Books.Tests.{clash, false-of, in-any, blockEquality}
 use Rattle.crash.proofs.Books.BookEntries.{nextName, uncommittedName, oldestName}
@@ -70,11 +70,11 @@ module _ {home : ℕ → Bytes} {l : Ledger} (v : Inv home l) (imaged : Imaged l
     imaged-store n r = imaged-moved (store-staged v c n r) (λ p q. clash (rw r refl) p) imaged
 
     module _ (m : ℕ) (r : stageOf (l .book) (oldestName c (l .book)) ≡ committed m) where
-      pub imaged-retire : length ((l .book .entry (oldestName c (l .book))) .blocks) ≤ m → Imaged (withBook l (checkpointBook c (l .book)))
-      imaged-retire h = imaged-moved (retire-staged v c m r h) (λ p q. clash (rw r refl) p) imaged
+      pub imaged-retire : Imaged (withBook l (retireBook c (l .book)))
+      imaged-retire = imaged-moved (retire-staged v c m r) (λ p q. clash (rw r refl) p) imaged
 
-      pub imaged-home-store : m < length ((l .book .entry (oldestName c (l .book))) .blocks) → Imaged (withBook l (checkpointBook c (l .book)))
-      imaged-home-store h = imaged-moved (home-staged v c m r h) (λ p q. clash (rw r refl) p) imaged
+      pub imaged-home-store : Imaged (withBook l (checkpointBook c (l .book)))
+      imaged-home-store = imaged-moved (home-staged v c m r) (λ p q. clash (rw r refl) p) imaged
 
 -- ---- WRITE
 module _ (l : Ledger) (w : Write) (entry : Name → Entry) (edits : (u : Name) → WriteEdits (l .book .entry u) (entry u))

@@ -1,9 +1,9 @@
--- CLOSE, STORE and CHECKPOINT keep the invariant, as opening a transaction does; it holds of a card that has come up.
+-- CLOSE, STORE, CHECKPOINT and RETIRE keep the invariant, as opening a transaction does; it holds of a card that has come up.
 -- Each moves one transaction one stage on (`Moves`) and writes nothing. All but a home store leave alone who has stored
 -- which block home; a home store adds one, whose older holders are retired since 33 did not apply.
 use Rattle.model.proofs.Base.{ℕ, suc, _+_, _≤_, _<_, arith, _≡_, refl, sym, ap, subst, _∙_, _≢_, Bool, false, cond, _||_, So}
 use Rattle.model.proofs.Base.{List, [], _∷_, List·Memᴰ, List·Memᴰ·head, List·Memᴰ·tail, length, take, getD, take-all, take-suc}
-use Rattle.model.proofs.Base.{eqb, leb, eqb-true, lt-ltb, le-leb, lt-leb, any, Bytes}
+use Rattle.model.proofs.Base.{eqb, leb, eqb-true, lt-ltb, any, Bytes}
 use mathlib.Core.Bool.{or-false}
 use Rattle.model.specs.Checkpoint.{share}
 use Rattle.model.specs.declared.Name.{Name}
@@ -11,7 +11,7 @@ use Rattle.model.specs.Valid.{Order}
 use Rattle.model.specs.declared.Shape.{Shape}
 use Rattle.model.proofs.Lists.{cases, and-both, or-left, or-right, mem-any, any-append, getD-mem}
 use Rattle.model.proofs.Valid.{sameName-refl}
-use Rattle.crash.specs.Book.{Stage, absent, running, closed, committed, retired, isClosed, isCommitted, isRetired, Entry, Write, Book, emptyBook, change, staged, begin, closeBook, storeBook, checkpointBook, kept, image, blank}
+use Rattle.crash.specs.Book.{Stage, absent, running, closed, committed, retired, isClosed, isCommitted, isRetired, Entry, Write, Book, emptyBook, change, staged, begin, closeBook, storeBook, checkpointBook, retireBook, kept, image, blank}
 use Rattle.crash.specs.Ledger.{Ledger, freshLedger, withBook, closeLedger, sharesLowerIn}
 use Rattle.crash.proofs.Books.Tests.{clash, any-in, in-any, nameEquality, blockEquality}
 use Rattle.crash.proofs.Books.BookEntries.{same-or-not, sameName-false, change-at, change-other, change-each, nextName, uncommittedName, oldestName}
@@ -245,7 +245,7 @@ module _ {home : ℕ → Bytes} {l : Ledger} (v : Inv home l) (c : ℕ) where
         (λ h. cases isLastStore (λ e. clash (rw e at h) refl) (λ e. clash (rw e at h) refl))
         (λ b. rw r (cases isLastStore (λ h. rw h refl) (λ h. rw h refl)))
 
-  -- ---- CHECKPOINT
+  -- ---- CHECKPOINT and RETIRE
   module _ (m : ℕ) (r : stageOf (l .book) (oldestName c (l .book)) ≡ committed m) where
     abbrev oldestBlocks : List ℕ
     oldestBlocks = (l .book .entry (oldestName c (l .book))) .blocks
@@ -253,25 +253,24 @@ module _ {home : ℕ → Bytes} {l : Ledger} (v : Inv home l) (c : ℕ) where
     abbrev checkpointed : Ledger
     checkpointed = withBook l (checkpointBook c (l .book))
 
-    checkpoint-staged : (g : Stage) → cond (leb (length oldestBlocks + 1) (suc m)) retired (committed (suc m)) ≡ g → Moves (committed m) g
-        → Staged (oldestName c (l .book)) g l checkpointed
+    pub retire-staged : Staged (oldestName c (l .book)) retired l (withBook l (retireBook c (l .book)))
+    unfolding retireBook
+    retire-staged =
+        book-staged l (retireBook c (l .book)) (oldestName c (l .book)) retired refl (rw r retires)
+        refl (λ u h. h) (v .known (oldestName c (l .book)) (rw r refl)) (λ u. refl) (λ h. rw r refl)
+
+    pub home-staged : Staged (oldestName c (l .book)) (committed (suc m)) l (withBook l (checkpointBook c (l .book)))
     unfolding checkpointBook
-    checkpoint-staged g e moves =
-        book-staged l (checkpointBook c (l .book)) (oldestName c (l .book)) g refl (rw r moves)
-        refl (λ u h. h) (v .known (oldestName c (l .book)) (rw r refl)) (λ u. rw (r, e) refl) (λ h. rw r refl)
-
-    pub retire-staged : length oldestBlocks ≤ m → Staged (oldestName c (l .book)) retired l (withBook l (checkpointBook c (l .book)))
-    retire-staged h = checkpoint-staged retired (rw (le-leb (length oldestBlocks + 1) (suc m) (omega arith)) refl) retires
-
-    pub home-staged : m < length oldestBlocks → Staged (oldestName c (l .book)) (committed (suc m)) l (withBook l (checkpointBook c (l .book)))
-    home-staged h = checkpoint-staged (committed (suc m)) (rw (lt-leb (length oldestBlocks + 1) (suc m) (omega arith)) refl) stores-home
+    home-staged =
+        book-staged l (checkpointBook c (l .book)) (oldestName c (l .book)) (committed (suc m)) refl (rw r stores-home)
+        refl (λ u h. h) (v .known (oldestName c (l .book)) (rw r refl)) (λ u. rw r refl) (λ h. rw r refl)
 
     module _ (is-kept : So (memberOf (kept (l .book)) (oldestName c (l .book)))) where
       -- the master store, after the home stores of all its blocks
-      pub inv-retire : length oldestBlocks ≤ m → Inv home (withBook l (checkpointBook c (l .book)))
+      pub inv-retire : length oldestBlocks ≤ m → Inv home (withBook l (retireBook c (l .book)))
       inv-retire h =
           let whole : take m oldestBlocks ≡ oldestBlocks = take-all m oldestBlocks h in
-          inv-staged (retire-staged h) v (λ q. (is-kept, λ b k. rw (r, whole) k)) (λ b. rw (r, whole) refl)
+          inv-staged retire-staged v (λ q. (is-kept, λ b k. rw (r, whole) k)) (λ b. rw (r, whole) refl)
 
       -- a home store, of its m-th block; 33 does not apply: each closed one that took the block with a lower stamp is retired
       module _ (less : m < length oldestBlocks)
@@ -289,26 +288,26 @@ module _ {home : ℕ → Bytes} {l : Ledger} (v : Inv home l) (c : ℕ) where
 
         blockInv-other : (b : ℕ) → eqb b homeBlock ≡ false → BlockInv (status checkpointed) (homed checkpointed b) (areaBefore l b) (home b) (historyOf l b)
         blockInv-other b e =
-            staged-blockInv (home-staged less) v b (home b) (homed l b) (v .block-inv b)
-            (staged-stored (home-staged less) v (λ h. clash h refl) b)
+            staged-blockInv home-staged v b (home b) (homed l b) (v .block-inv b)
+            (staged-stored home-staged v (λ h. clash h refl) b)
             (sym (homed-next b ∙ rw e (or-false (homed l b (oldestName c (l .book)))))) (λ u h. refl)
 
         blockInv-here : BlockInv (status checkpointed) (homed checkpointed homeBlock) (areaBefore l homeBlock) homeImage (historyOf l homeBlock)
         blockInv-here =
             let t : Name = oldestName c (l .book) in
-            staged-blockInv (home-staged less) v homeBlock homeImage (with-one nameEquality (homed l homeBlock) t)
+            staged-blockInv home-staged v homeBlock homeImage (with-one nameEquality (homed l homeBlock) t)
             (blockInv-home nameEquality (status l) (sound-of l (v .known) (v .retired-kept)) (homed l homeBlock) t is-kept
             (areaBefore l homeBlock) (home homeBlock) (historyOf l homeBlock) (rw r refl)
             (v .took homeBlock t (in-any blockEquality (getD-mem oldestBlocks m 0 less)))
             (λ u k. lower-retired u (v .taken homeBlock u k)) (v .block-inv homeBlock))
-            (λ u k h. or-left _ (staged-stored (home-staged less) v (λ q. clash q refl) homeBlock u k h))
+            (λ u k h. or-left _ (staged-stored home-staged v (λ q. clash q refl) homeBlock u k h))
             (or-right (homed l homeBlock t) (sameName-refl t)
             ∙ sym (homed-next homeBlock ∙ or-right (homed l homeBlock t) (blockEquality .is-refl homeBlock)))
             (λ u ne. rw (sameName-false t u (λ e. ne (sym e))) (or-false (homed l homeBlock u)))
 
         pub inv-home-store : Inv (λ b. cond (eqb b (getD oldestBlocks m 0)) (imageAt l (oldestName c (l .book)) (getD oldestBlocks m 0)) (home b)) (withBook l (checkpointBook c (l .book)))
         inv-home-store =
-            inv-by-blockInv (home-staged less) v (λ h. clash h refl)
+            inv-by-blockInv home-staged v (λ h. clash h refl)
             (λ b. cases (eqb b homeBlock)
             (λ e. rw (eqb-true b homeBlock e, blockEquality .is-refl homeBlock) blockInv-here)
             (λ e. rw e (blockInv-other b e)))

@@ -15,7 +15,7 @@ use Rattle.crash.specs.Service.{Service, emptyService, noted, cutService
 use Rattle.crash.specs.Ledger.{Ledger, freshLedger, blankLedger, withBook, closeLedger, cutLedger, firstNumber, recoverLedger, entered, carriedOut}
 use Rattle.crash.proofs.Books.Rename.{Renamed, SameWrites, empty-renamed, close-renamed, noted-renamed, same-image, kept-saved, running-renamed}
 use Rattle.crash.proofs.Books.Tests.{clash}
-use Rattle.model.specs.Tape.{CHECKPOINT, CLOSE, CUT, Command, FORMAT, RECOVER, Read, STORE, WRITE, early, heard, unknown, whole}
+use Rattle.model.specs.Tape.{CHECKPOINT, CLOSE, CUT, Command, FORMAT, RECOVER, RETIRE, Read, STORE, WRITE, early, heard, unknown, whole}
 use Rattle.crash.specs.Claims.{Start, from-blank, from-down, startLedger, startService}
 use Rattle.model.specs.Shape.{newShape}
 use Rattle.model.specs.declared.Phase.{Phase}
@@ -35,6 +35,7 @@ PhaseFor (STORE c) p = isDown p ≡ false
 PhaseFor (CHECKPOINT c) p = isDown p ≡ false
 PhaseFor CUT p = Unit {0}
 PhaseFor RECOVER p = isDown p ≡ true
+PhaseFor (RETIRE c) p = isDown p ≡ false
 
 -- ---- the starts
 fresh-agrees : (o : Order) (n : ℕ) (s : Shape) → Agrees (emptyService o n) (freshLedger o s [] (λ (c : ℕ). 1))
@@ -99,6 +100,7 @@ module _ (v : Service) (l : Ledger) where
   served-agrees (CHECKPOINT c) h g = noted-agrees (CHECKPOINT c) h g
   served-agrees CUT h g = cut-agrees g
   served-agrees RECOVER h g = recover-agrees h g (l .left)
+  served-agrees (RETIRE c) h g = noted-agrees (RETIRE c) h g
 
   fed-agrees : (k : Command) (answer : ℕ) → (answer ≡ 0 → PhaseFor k (l .phase)) → Agrees v l → Agrees (fed k answer v) (entered k answer l)
   unfolding fed entered

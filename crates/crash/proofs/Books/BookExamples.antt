@@ -7,9 +7,9 @@ use mathlib.Core.List.{List, [], _∷_, _++_, map}
 use Rattle.model.specs.Card.{newName}
 use Rattle.model.specs.Valid.{Order, unordered, in-sequence}
 use Rattle.model.proofs.Computes.{computes}
-use Rattle.crash.specs.Book.{Write, emptyBook, change, raise, begin, bookHolder, meets, ruled, holderAfter, note, writeBook, closeBook, storeBook, checkpointBook, requiredIn, committedIn, requiredWithin, kept, keptWrites, image, blank}
+use Rattle.crash.specs.Book.{Write, emptyBook, change, raise, begin, bookHolder, meets, ruled, holderAfter, note, writeBook, closeBook, storeBook, checkpointBook, retireBook, requiredIn, committedIn, requiredWithin, kept, keptWrites, image, blank}
 use Rattle.crash.specs.Service.{Service, emptyService, noted, cutService, fed, served}
-use Rattle.model.specs.Tape.{CHECKPOINT, CLOSE, CUT, Command, STORE, WRITE}
+use Rattle.model.specs.Tape.{CHECKPOINT, CLOSE, CUT, Command, STORE, WRITE, RETIRE}
 use Rattle.model.specs.declared.Name.{Name}
 
 -- ---- commands that were carried out
@@ -30,7 +30,7 @@ abbrev keptBy : Order → List Command → List Name
 keptBy o ks = map (λ (w : Write). w .writer) ((fedAll (emptyService o 1) ks) .saved)
 
 unfoldable pub books : Unit {0}
-unfolding computes emptyBook change raise begin bookHolder meets ruled holderAfter note writeBook closeBook storeBook checkpointBook requiredIn committedIn requiredWithin kept keptWrites image blank emptyService noted cutService served fed
+unfolding computes emptyBook change raise begin bookHolder meets ruled holderAfter note writeBook closeBook storeBook checkpointBook retireBook requiredIn committedIn requiredWithin kept keptWrites image blank emptyService noted cutService served fed
 books = tt
 
 -- Core 1 writes into core 0's block, core 0 commits, core 2 takes the block and commits: core 1 is lost, and so all are.
@@ -58,7 +58,7 @@ unfolding books
 later-kept-alone = (refl, refl)
 
 -- In sequence a retired one counts as kept, so the one after it is kept too.
-pub after-retired-kept : keptBy in-sequence (write 0 0 1 ∷ commits 0 ++ CHECKPOINT 0 ∷ CHECKPOINT 0 ∷ write 0 4 2 ∷ commits 0 ++ CUT ∷ []) ≡ newName 0 2 ∷ newName 0 1 ∷ []
+pub after-retired-kept : keptBy in-sequence (write 0 0 1 ∷ commits 0 ++ CHECKPOINT 0 ∷ RETIRE 0 ∷ write 0 4 2 ∷ commits 0 ++ CUT ∷ []) ≡ newName 0 2 ∷ newName 0 1 ∷ []
 unfolding books
 after-retired-kept = refl
 
@@ -67,11 +67,11 @@ pub first-after-cut-kept : keptBy in-sequence (write 0 0 1 ∷ CUT ∷ write 0 4
 unfolding books
 first-after-cut-kept = refl
 
--- After the one home store of two checkpoints core 0's transaction is not retired yet, and the next writer names it.
+-- After the home store core 0's transaction is not retired yet, and the next writer names it.
 pub home-store-retires-none : ((fedAll (emptyService in-sequence 1) (write 0 0 1 ∷ commits 0 ++ CHECKPOINT 0 ∷ write 1 4 2 ∷ [])) .book .entry (newName 1 1)) .names ≡ newName 0 1 ∷ []
 unfolding books
 home-store-retires-none = refl
 
-pub master-store-retires : ((fedAll (emptyService in-sequence 1) (write 0 0 1 ∷ commits 0 ++ CHECKPOINT 0 ∷ CHECKPOINT 0 ∷ write 1 4 2 ∷ [])) .book .entry (newName 1 1)) .names ≡ []
+pub master-store-retires : ((fedAll (emptyService in-sequence 1) (write 0 0 1 ∷ commits 0 ++ CHECKPOINT 0 ∷ RETIRE 0 ∷ write 1 4 2 ∷ [])) .book .entry (newName 1 1)) .names ≡ []
 unfolding books
 master-store-retires = refl

@@ -1,4 +1,4 @@
--- A book after CLOSE, STORE and CHECKPOINT, which give one transaction its next stage, and after WRITE: what each leaves
+-- A book after CLOSE, STORE, CHECKPOINT and RETIRE, which give one transaction its next stage, and after WRITE: what each leaves
 -- of entries, holders and record sizes, and what CLOSE and WRITE do to the images. Ledger and service book are both such
 -- books, so the layers share these laws.
 use Prim.Native.Nat.{ℕ, suc, _+_, _<_}
@@ -16,7 +16,7 @@ use Rattle.model.specs.Card.{newName}
 use Rattle.model.specs.declared.Name.{Name}
 use Rattle.model.proofs.Lists.{cases}
 use Rattle.model.proofs.Valid.{sameName-refl}
-use Rattle.crash.specs.Book.{Stage, absent, running, closed, committed, retired, isRunning, isClosed, isRetired, stageCount, Entry, Write, Book, change, raise, staged, begin, bookHolder, Meeting, no-holder, own, running-holder, closed-holder, meets, ruled, holderAfter, note, writeBook, closeBook, storeBook, checkpointBook, image}
+use Rattle.crash.specs.Book.{Stage, absent, running, closed, committed, retired, isRunning, isClosed, isRetired, stageCount, Entry, Write, Book, change, raise, staged, begin, bookHolder, Meeting, no-holder, own, running-holder, closed-holder, meets, ruled, holderAfter, note, writeBook, closeBook, storeBook, checkpointBook, retireBook, image}
 use Rattle.crash.specs.Ledger.{Ledger, withBook, imageNow, closeLedger, recordBlocks}
 use Rattle.crash.proofs.Books.Tests.{impossible}
 use Rattle.crash.proofs.Books.BookEntries.{nextName, uncommittedName, oldestName, same-or-not, sameName-false, change-at, change-other, change-by, metHolder, meets-met, meets-same, ruled-other, ruled-stage, ruled-blocks-other, holder-same, holder-live, records-same}
@@ -108,7 +108,7 @@ module _ (l : Ledger) (c : ℕ) where
   unfolding closeLedger
   close-images-other u ne = rw (sameName-false u (nextName c (l .book)) ne)
 
--- ---- STORE and CHECKPOINT
+-- ---- STORE, CHECKPOINT and RETIRE
 -- the stages that they give
 abbrev pub storedStage : Entry → Stage
 storedStage e = cond (leb (length (e .blocks) + 2) (suc (stageCount (e .stage)))) (committed 0) (closed (suc (stageCount (e .stage))))
@@ -130,15 +130,14 @@ module _ (c n : ℕ) (k : Book) where
   unfolding storeBook
   store-last e h = rw (e, le-leb (length ((k .entry (uncommittedName c k)) .blocks) + 2) (suc n) (omega arith))
 
-  pub checkpoint-home : (k .entry (oldestName c k)) .stage ≡ committed n → n < length ((k .entry (oldestName c k)) .blocks)
+  pub checkpoint-home : (k .entry (oldestName c k)) .stage ≡ committed n
       → checkpointBook c k ≡ restaged (oldestName c k) (committed (suc n)) (k .oldest) (k .uncommitted) (k .next) k
   unfolding checkpointBook
-  checkpoint-home e h = rw (e, lt-leb (length ((k .entry (oldestName c k)) .blocks) + 1) (suc n) (omega arith))
+  checkpoint-home e = rw e
 
-  pub checkpoint-retires : (k .entry (oldestName c k)) .stage ≡ committed n → n ≡ length ((k .entry (oldestName c k)) .blocks)
-      → checkpointBook c k ≡ restaged (oldestName c k) retired (raise c (k .oldest)) (k .uncommitted) (k .next) k
-  unfolding checkpointBook
-  checkpoint-retires e h = rw (e, le-leb (length ((k .entry (oldestName c k)) .blocks) + 1) (suc n) (omega arith))
+  pub retire-restages : retireBook c k ≡ restaged (oldestName c k) retired (raise c (k .oldest)) (k .uncommitted) (k .next) k
+  unfolding retireBook
+  retire-restages = refl
 
   pub store-holder : (k .entry (uncommittedName c k)) .stage ≡ closed n → (b : ℕ) (ws : List Write) → bookHolder (storeBook c k) b ws ≡ bookHolder k b ws
   store-holder e =

@@ -12,7 +12,7 @@ use Rattle.model.specs.Bytes.{Bytes}
 use Rattle.model.specs.Card.{newName, sameName}
 use Rattle.model.specs.Layout.{namesFrom}
 use Rattle.model.specs.Command.{World}
-use Rattle.model.specs.Tape.{Point, CHECKPOINT, CLOSE, CUT, Command, FORMAT, RECOVER, STORE, WRITE}
+use Rattle.model.specs.Tape.{Point, CHECKPOINT, CLOSE, CUT, Command, FORMAT, RECOVER, RETIRE, STORE, WRITE}
 use Rattle.model.specs.Valid.{Order}
 use Rattle.model.specs.declared.Name.{Name}
 use Rattle.model.proofs.Command.{of-cond}
@@ -20,7 +20,7 @@ use Rattle.model.proofs.Tape.{heard-keeps}
 use Rattle.model.proofs.Lists.{cases, and-both, and-left, and-right, or-none, any-append, mem-below}
 use Rattle.model.proofs.Select.{select-append, select-mem}
 use Rattle.model.proofs.Valid.{sameName-refl}
-use Rattle.crash.specs.Book.{Stage, Entry, Book, emptyBook, change, staged, taking, naming, hasRunning, hasClosed, hasCommitted, begin, bookHolder, Meeting, no-holder, own, running-holder, closed-holder, meets, ruled, note, writeBook, closeBook, storeBook, checkpointBook}
+use Rattle.crash.specs.Book.{Stage, Entry, Book, emptyBook, change, staged, taking, naming, hasRunning, hasClosed, hasCommitted, begin, bookHolder, Meeting, no-holder, own, running-holder, closed-holder, meets, ruled, note, writeBook, closeBook, storeBook, checkpointBook, retireBook}
 use Rattle.crash.specs.Service.{Service, emptyService, noted, cutService, fed, served}
 use Rattle.crash.specs.Ledger.{Ledger, freshLedger, blankLedger, closeLedger, cutLedger, recoverLedger, entered, carriedOut}
 use Rattle.crash.specs.Claims.{fedPoint, Start, from-blank, from-down, enteredPoint, startLedger}
@@ -104,6 +104,10 @@ module _ (c : ℕ) (k : Book) (h : NamesOnce k) where
   unfolding checkpointBook
   checkpoint-once = staged-once (k .entry) h _ _
 
+  retire-once : NamesOnce (retireBook c k)
+  unfolding retireBook
+  retire-once = staged-once (k .entry) h _ _
+
 empty-once : (o : Order) (first : ℕ → ℕ) → NamesOnce (emptyBook o first)
 unfolding emptyBook once
 empty-once o first t = refl
@@ -117,6 +121,7 @@ noted-once (STORE c) b h = of-cond NamesOnce (hasClosed b c) (store-once c b h) 
 noted-once (CHECKPOINT c) b h = of-cond NamesOnce (hasCommitted b c) (checkpoint-once c b h) h
 noted-once CUT b h = h
 noted-once RECOVER b h = h
+noted-once (RETIRE c) b h = of-cond NamesOnce (hasCommitted b c) (retire-once c b h) h
 
 served-once : (k : Command) (v : Service) → NamesOnce (v .book) → NamesOnce ((served k v) .book)
 unfolding served emptyService cutService
@@ -127,6 +132,7 @@ served-once (STORE c) v h = noted-once (STORE c) (v .book) h
 served-once (CHECKPOINT c) v h = noted-once (CHECKPOINT c) (v .book) h
 served-once CUT v h = empty-once _ _
 served-once RECOVER v h = h
+served-once (RETIRE c) v h = noted-once (RETIRE c) (v .book) h
 
 recover-once : (bs : List ℕ) (l : Ledger) → NamesOnce (l .book) → NamesOnce ((recoverLedger bs l) .book)
 unfolding recoverLedger freshLedger
@@ -142,6 +148,7 @@ carried-once (STORE c) l h = noted-once (STORE c) (l .book) h
 carried-once (CHECKPOINT c) l h = noted-once (CHECKPOINT c) (l .book) h
 carried-once CUT l h = h
 carried-once RECOVER l h = recover-once (l .left) l h
+carried-once (RETIRE c) l h = noted-once (RETIRE c) (l .book) h
 
 fed-once : (k : Command) (n : ℕ) (v : Service) → NamesOnce (v .book) → NamesOnce ((fed k n v) .book)
 unfolding fed

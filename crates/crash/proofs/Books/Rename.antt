@@ -18,11 +18,11 @@ use Rattle.model.specs.Valid.{Order, unordered, in-sequence, required}
 use Rattle.model.proofs.Lists.{cases, all-map, any-map}
 use Rattle.model.proofs.Select.{select-map}
 use Rattle.model.proofs.Shrink.{shrink-map}
-use Rattle.crash.specs.Book.{running, closed, committed, retired, isRunning, isClosed, isCommitted, isRetired, stageCount, Entry, Write, Beginning, Book, emptyBook, change, raise, staged, taking, naming, begin, bookHolder, Meeting, no-holder, own, running-holder, closed-holder, meets, ruled, holderAfter, note, writeBook, closeBook, storeBook, checkpointBook, requiredIn, committedIn, requiredWithin, kept, keptWrites, image, hasRunning}
+use Rattle.crash.specs.Book.{running, closed, committed, retired, isRunning, isClosed, isCommitted, isRetired, stageCount, Entry, Write, Beginning, Book, emptyBook, change, raise, staged, taking, naming, begin, bookHolder, Meeting, no-holder, own, running-holder, closed-holder, meets, ruled, holderAfter, note, writeBook, closeBook, storeBook, checkpointBook, retireBook, requiredIn, committedIn, requiredWithin, kept, keptWrites, image, hasRunning}
 use Rattle.crash.specs.Service.{noted}
 use Rattle.crash.proofs.Books.Tests.{cond-apply}
 use Rattle.crash.proofs.Books.BookEntries.{nextName, oldestName, uncommittedName}
-use Rattle.model.specs.Tape.{CHECKPOINT, CLOSE, CUT, Command, FORMAT, RECOVER, STORE, WRITE}
+use Rattle.model.specs.Tape.{CHECKPOINT, CLOSE, CUT, Command, FORMAT, RECOVER, RETIRE, STORE, WRITE}
 use Rattle.model.specs.declared.Name.{Name}
 
 -- ---- names, entries and writes renamed
@@ -219,17 +219,30 @@ module _ {shift : ℕ → ℕ} {k k′ : Book} (r : Renamed shift k k′) where
   unfolding checkpointBook
   checkpoint-renamed c =
       let t = oldestName c k in
-      let e = k .entry t in
-      let n = suc (stageCount (e .stage)) in
-      let last = leb (length (e .blocks) + 1) n in
-      let g = staged (cond last retired (committed n)) in
+      let g = staged (committed (suc (stageCount ((k .entry t) .stage)))) in
       let p : newName c (k′ .oldest c) ≡ renamed shift t = renamed-number shift c (k .oldest c) (k′ .oldest c) (r .oldest c) in
       record {
         begun = r .begun;
         opened = r .opened;
         entry = rw (p, r .entry t) (change-renamed shift t g g (λ x. refl) (k .entry) (k′ .entry) (r .entry));
         writes = r .writes;
-        oldest = rw (p, r .entry t) (counted-renamed shift last c (k .oldest) (k′ .oldest) (r .oldest));
+        oldest = r .oldest;
+        uncommitted = r .uncommitted;
+        next = r .next;
+      }
+
+  retire-renamed : (c : ℕ) → Renamed shift (retireBook c k) (retireBook c k′)
+  unfolding retireBook
+  retire-renamed c =
+      let t = oldestName c k in
+      let g = staged retired in
+      let p : newName c (k′ .oldest c) ≡ renamed shift t = renamed-number shift c (k .oldest c) (k′ .oldest c) (r .oldest c) in
+      record {
+        begun = r .begun;
+        opened = r .opened;
+        entry = rw p (change-renamed shift t g g (λ x. refl) (k .entry) (k′ .entry) (r .entry));
+        writes = r .writes;
+        oldest = counted-renamed shift true c (k .oldest) (k′ .oldest) (r .oldest);
         uncommitted = r .uncommitted;
         next = r .next;
       }
@@ -256,6 +269,7 @@ module _ {shift : ℕ → ℕ} {k k′ : Book} (r : Renamed shift k k′) where
   noted-renamed (CHECKPOINT c) = guard-renamed (less-renamed (shift c) _ _ _ _ (r .oldest c) (r .uncommitted c)) (checkpoint-renamed c)
   noted-renamed CUT = r
   noted-renamed RECOVER = r
+  noted-renamed (RETIRE c) = guard-renamed (less-renamed (shift c) _ _ _ _ (r .oldest c) (r .uncommitted c)) (retire-renamed c)
 
 -- ---- what a cut keeps
 -- writes that are the same but for the names of transactions

@@ -12,7 +12,7 @@ use Rattle.model.specs.Card.{newName}
 use Rattle.model.specs.Shrink.{Within}
 use Rattle.model.specs.Valid.{Order, unordered, in-sequence, required}
 use Rattle.model.specs.Command.{World}
-use Rattle.model.specs.Tape.{CHECKPOINT, CLOSE, CUT, Command, FORMAT, Point, RECOVER, STORE, WRITE}
+use Rattle.model.specs.Tape.{CHECKPOINT, CLOSE, CUT, Command, FORMAT, Point, RECOVER, RETIRE, STORE, WRITE}
 use Rattle.model.specs.declared.Name.{Name}
 use Rattle.model.proofs.Command.{of-cond}
 use Rattle.model.proofs.Tape.{heard-keeps}
@@ -80,6 +80,7 @@ served-one (STORE c) v h = noted-one (STORE c) v h
 served-one (CHECKPOINT c) v h = noted-one (CHECKPOINT c) v h
 served-one CUT v h = anew-one v h
 served-one RECOVER v h = h
+served-one (RETIRE c) v h = noted-one (RETIRE c) v h
 
 fed-one : (k : Command) (n : ℕ) (v : Service) → FromOne v → FromOne (fed k n v)
 unfolding fed

@@ -1,4 +1,4 @@
--- On a card that agrees with the ledger, the commands from WRITE to CHECKPOINT are answered by the ledger's conditions:
+-- On a card that agrees with the ledger, the commands of a card that is up are answered by the ledger's conditions:
 -- each condition of the card is the ledger's. Only 26 counts the card's array of eight blocks, and there 25 has said
 -- before that eight are enough. So the first that holds is the same, and with it the answer.
 use Prim.Native.Nat.{ℕ, suc, _+_, _-_, _≤_, _<_}
@@ -17,12 +17,14 @@ use Rattle.model.specs.Card.{newName, recordSize, coreOf}
 use Rattle.model.specs.Command.{World, refusal, notUp, noCore, noBlock}
 use Rattle.model.specs.Write.{writer, ruleFor, takesBlock, closedBlocks, journalFull, writeConditions}
 use Rattle.model.specs.Commit.{closeConditions, storeConditions}
-use Rattle.model.specs.Checkpoint.{checkpointConditions}
+use Rattle.model.specs.Checkpoint.{checkpointConditions, retireConditions, oldestConditions, foundConditions, committedConditions}
 use Rattle.model.specs.Limits.{maxNumber}
 use Rattle.model.specs.Valid.{in-sequence}
 use Rattle.model.proofs.Lists.{cases}
+use Rattle.model.proofs.OneStore.{lengths-right}
 use Rattle.crash.specs.Book.{absent, running, isRunning, Entry, Book, begin, staged, taking, bookHolder, writeBook}
-use Rattle.crash.specs.Ledger.{Ledger, recordBlocks, notUpFor, writeRefusals, closeRefusals, storeRefusals, checkpointRefusals, blocksAfter, journalPasses, numberPasses}
+use Rattle.crash.specs.Ledger.{Ledger, recordBlocks, notUpFor, writeRefusals, closeRefusals, storeRefusals, checkpointRefusals, retireRefusals, blocksAfter, journalPasses, numberPasses, oldestRefusals}
+use Rattle.crash.proofs.Commands.CardCheckpoint.{images-left}
 use Rattle.crash.proofs.Books.BookEntries.{change-at, records-snoc, nextName}
 use Rattle.crash.proofs.Books.BookSteps.{begun}
 use Rattle.crash.proofs.Disk.Relation.{Matches, CardUp}
@@ -30,7 +32,6 @@ use Rattle.crash.proofs.Disk.LedgerStages.{running-present}
 use Rattle.crash.proofs.Disk.ReadMaster.{shape-up}
 use Rattle.crash.proofs.Disk.ReadCheckpoint.{none-committed, oldest-valid, oldest-shares}
 use Rattle.crash.proofs.Commands.CardRules.{entry-free, entry-own, entry-running, entry-closed, live-runs, writer-matches, met-none, met-own, met-running, met-closed, rule-met, writer-after}
-use Rattle.crash.proofs.Commands.CardCut.{right-length}
 use Rattle.model.specs.declared.Shape.{Shape}
 use Rattle.model.specs.declared.Name.{Name}
 use Rattle.model.specs.declared.Transaction.{Transaction}
@@ -52,7 +53,7 @@ module _ {l : Ledger} {w : World} (u : CardUp l w) where
   unfolding refusal noCore
   up-refusal c xs ys h =
       let same : SameConditions ((leb (l .shape .cores) c, 5) ∷ xs) ((leb (l .shape .cores) c, 5) ∷ ys) = then refl (λ e. h (leb-false (l .shape .cores) c e)) in
-      rw (right-length w (u .disk .size) (u .memory), shape-up u, u .phase, u .ledger) (same-refusal same)
+      rw (lengths-right w (u .disk .size) (u .memory), shape-up u, u .phase, u .ledger) (same-refusal same)
 
   module _ (c : ℕ) (in-range : c < l .shape .cores) where
     pub closing-live : (coreOf (w .card) c) .closed .live ≡ ltb (l .book .uncommitted c) (l .book .next c)
@@ -81,7 +82,7 @@ module _ {l : Ledger} {w : World} (u : CardUp l w) where
               rw (y .none-closing (sym e), y .used, e) (omega arith))
         ]
 
-  -- ---- CLOSE, STORE and CHECKPOINT
+  -- ---- CLOSE, STORE, CHECKPOINT and RETIRE
   pub close-answers : (c : ℕ) → refusal (closeConditions c w) ≡ refusal (closeRefusals c l)
   unfolding closeConditions closeRefusals
   close-answers c = up-refusal c _ _ (λ h. then (ap not (live-runs u c h)) (λ _. then (closing-live c h) (λ _. none-left)))
@@ -90,15 +91,24 @@ module _ {l : Ledger} {w : World} (u : CardUp l w) where
   unfolding storeConditions storeRefusals
   store-answers c = up-refusal c _ _ (λ h. then (ap not (closing-live c h)) (λ _. none-left))
 
-  pub checkpoint-answers : (c : ℕ) → refusal (checkpointConditions in-sequence c w) ≡ refusal (checkpointRefusals c l)
-  unfolding checkpointConditions checkpointRefusals
-  checkpoint-answers c =
+  oldest-answers : (c : ℕ) (xs ys : List (Bool × ℕ)) → (c < l .shape .cores → l .book .oldest c < l .book .uncommitted c → SameConditions xs ys)
+      → refusal (oldestConditions in-sequence c w xs) ≡ refusal (oldestRefusals c l ys)
+  unfolding committedConditions foundConditions
+  oldest-answers c xs ys own =
       up-refusal c _ _
       (λ h.
       then (none-committed u c h)
       (λ e.
       let some : l .book .oldest c < l .book .uncommitted c = ltb-true _ _ (not-false _ e) in
-      then (ap not (oldest-valid u c h some)) (λ _. then (oldest-shares u c h some) (λ _. none-left))))
+      then (ap not (oldest-valid u c h some)) (λ _. then (oldest-shares u c h some) (λ _. own h some))))
+
+  pub checkpoint-answers : (c : ℕ) → refusal (checkpointConditions in-sequence c w) ≡ refusal (checkpointRefusals c l)
+  unfolding checkpointConditions checkpointRefusals
+  checkpoint-answers c = oldest-answers c _ _ (λ h some. then (ap not (images-left u c h some)) (λ _. none-left))
+
+  pub retire-answers : (c : ℕ) → refusal (retireConditions in-sequence c w) ≡ refusal (retireRefusals c l)
+  unfolding retireConditions retireRefusals
+  retire-answers c = oldest-answers c _ _ (λ h some. then (images-left u c h some) (λ _. none-left))
 
 -- ---- blocks counted
 -- one more than so many

@@ -2,11 +2,11 @@
 -- Nothing that recovery reads depends on the phase or on how far recovery is, so journals, the newest images and the
 -- area of the kept writes stay; and recovery, starting over, has all held blocks before it.
 use Rattle.model.proofs.Base.{ℕ, _<_, arith, _≡_, refl, sym, subst, _∙_, false, List, List·Memᴰ, length, length-replicate, eqb}
-use Rattle.model.proofs.Base.{leb, eq-eqb, le-leb, below, any, select, Bytes}
+use Rattle.model.proofs.Base.{leb, le-leb, below, any, select, Bytes}
 use Rattle.model.specs.Bytes.{blockAt, zeroMemory}
 use Rattle.model.specs.Shape.{homeBlock}
 use Rattle.model.specs.Card.{freshCard, emptyCard, downCard}
-use Rattle.model.specs.Command.{World, unstored, wrongLength}
+use Rattle.model.specs.Command.{World, unstored}
 use Rattle.model.specs.declared.Phase.{Phase}
 use Rattle.model.specs.declared.Phase.the-variants.{Down}
 use Rattle.model.specs.declared.Tail.{Tail}
@@ -56,10 +56,6 @@ all-left : (bs : List ℕ) → bs ≡ select (leb 0) bs
 all-left bs = sym (select-same (leb 0) bs (λ b m. le-leb 0 b (omega arith)))
 
 -- ---- CUT
-pub right-length : (w : World) → length (w .disk) ≡ 32896 → length (w .memory) ≡ 16384 → wrongLength w ≡ false
-unfolding wrongLength
-right-length w d m = rw (eq-eqb (length (w .disk)) 32896 d, eq-eqb (length (w .memory)) 16384 m)
-
 -- what the commands before a cut leave to recovery
 pub record TargetsStand (l : Ledger) (d : Bytes) : Type 0 where
   pub held : (b : ℕ) → b < l .shape .blocks → List·Memᴰ b (blocksIn (l .shape .blocks) (l .book)) → Newest l b
@@ -93,7 +89,7 @@ pub cut-up : {l : Ledger} {w : World} → CardUp l w → TargetsStand l (w .disk
 cut-up u g = cut-over (u .well-formed) (u .disk) g
 
 -- 'a recovery under way starts over'
-down-gives : {l : Ledger} {w : World} → CardDown l w → TargetsStand l (w .disk)
+pub down-gives : {l : Ledger} {w : World} → CardDown l w → TargetsStand l (w .disk)
 down-gives {l} {w} v =
     let bs = blocksIn (l .shape .blocks) (l .book) in
     record {

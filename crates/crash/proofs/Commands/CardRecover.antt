@@ -1,23 +1,24 @@
 -- RECOVER on a card that is down by the ledger is carried out, and its store is the one that the ledger says. A home store
 -- changes neither journals nor master, so the rest of recovery stays as it was. With no block left the home area is the
 -- target, and the master store empties all journals: no commit has an uncommitted number, so a fresh card has come up.
-use Rattle.model.proofs.Base.{ℕ, zero, suc, _+_, _-_, _≤_, _<_, arith, ℕ-discrete, _≡_, refl, sym, ap, subst, _∙_, _≢_, inl, inr}
-use Rattle.model.proofs.Base.{Bool, false, List, [], _∷_, _++_, map, List·Memᴰ, List·Memᴰ·head, List·Memᴰ·tail, List·Memᴰ·not-nil}
-use Rattle.model.proofs.Base.{List·Memᴰ·append-cases, List·Memᴰ·eq-of-singleton, length, length-map, eqb, leb, ne-eqb, lt-ltb}
-use Rattle.model.proofs.Base.{le-leb, lt-leb, leb-true, leb-false, below, any, select}
-use Rattle.model.specs.Bytes.{blockAt, store}
+use Rattle.model.proofs.Base.{ℕ, suc, _+_, _-_, _≤_, _<_, arith, ℕ-discrete, _≡_, refl, sym, ap, subst, _∙_, _≢_}
+use Rattle.model.proofs.Base.{false, List, [], _∷_, _++_, map, List·Memᴰ, List·Memᴰ·head}
+use Rattle.model.proofs.Base.{length, length-map, eqb, leb, ne-eqb, lt-ltb}
+use Rattle.model.proofs.Base.{below, any}
+use Rattle.model.specs.Bytes.{Bytes, blockAt, store}
 use Rattle.model.specs.Shape.{homeBlock}
 use Rattle.model.specs.Card.{isUp, newTail, freshCard}
 use Rattle.model.specs.Layout.{hasHead, masterBlock}
 use Rattle.model.specs.Journal.{journal, journalAt}
+use Rattle.model.specs.Tape.{RECOVER}
 use Rattle.model.specs.Command.{World, Outcome, storing}
 use Rattle.model.specs.Recovery.{tailOn, layoutOn, blocksLeft, recoveredTo, emptiedTail, broughtUp, recoverStep, recoveredBy, recovered}
 use Rattle.model.proofs.Encoding.{master-same}
-use Rattle.model.proofs.Lists.{cases, mem-below, length-below, getD-map-below}
-use Rattle.model.proofs.Select.{select-mem, select-same}
+use Rattle.model.proofs.Lists.{length-below, getD-map-below}
+use Rattle.model.proofs.Select.{select-mem}
+use Rattle.model.proofs.Ascending.{Ascending, ascending-below, ascending-select, select-after}
 use Rattle.crash.specs.Book.{keptWrites, blank}
-use Rattle.crash.specs.Ledger.{Ledger, freshLedger, blocksIn, firstNumber, recoverLedger, recoverStored}
-use Rattle.crash.proofs.Books.Tests.{impossible}
+use Rattle.crash.specs.Ledger.{Ledger, freshLedger, blocksIn, firstNumber, recoverLedger, recoverStoreIn, diskAfter}
 use Rattle.crash.proofs.Disk.Relation.{IsBlock, WellFormed, CardUp, target, CardDown}
 use Rattle.crash.proofs.Disk.LedgerFresh.{image-block, blank-block, well-formed-home, withPhase, kept-fits}
 use Rattle.crash.proofs.Disk.ReadMaster.{shape-read, layout-read, master-block}
@@ -33,48 +34,6 @@ use Rattle.model.specs.declared.Tail.{Tail}
 use Rattle.model.specs.declared.CommitLayout.{CommitLayout}
 use Rattle.model.specs.declared.CommitLayout.the-variants.{Numbers}
 use Rattle.model.specs.Valid.{Order, in-sequence}
-
--- ---- ascending lists: those left after the first are those above it
-abbrev Ascending : List ℕ → Type 0
-Ascending [] = Unit {0}
-Ascending (x ∷ xs) = ((y : ℕ) → List·Memᴰ y xs → x < y) × Ascending xs
-
-ascending-snoc : (xs : List ℕ) (n : ℕ) → Ascending xs → ((y : ℕ) → List·Memᴰ y xs → y < n) → Ascending (xs ++ (n ∷ []))
-ascending-snoc [] n a h = (λ y m. absurd (List·Memᴰ·not-nil m), tt)
-ascending-snoc (x ∷ xs) n a h = (
-  λ y m. elim (List·Memᴰ·append-cases xs m) [ inl p ↦ a .0 y p | inr p ↦ (let e = List·Memᴰ·eq-of-singleton p in omega (arith, h x (List·Memᴰ·head refl))) ],
-  ascending-snoc xs n (a .1) (λ y m. h y (List·Memᴰ·tail m)),
-)
-
-ascending-below : (n : ℕ) → Ascending (below n)
-unfolding below
-ascending-below zero = tt
-ascending-below (suc n) = ascending-snoc (below n) n (ascending-below n) (λ y m. mem-below n m)
-
-ascending-select : (p : ℕ → Bool) (xs : List ℕ) → Ascending xs → Ascending (select p xs)
-unfolding select
-ascending-select p [] a = tt
-ascending-select p (x ∷ xs) a =
-    let r = ascending-select p xs (a .1) in
-    cases (p x) (λ h. rw h (λ y m. a .0 y (select-mem p xs y m .0), r)) (λ h. rw h r)
-
-select-after : (r b : ℕ) (bs xs : List ℕ) → Ascending xs → select (leb r) xs ≡ b ∷ bs → bs ≡ select (leb (b + 1)) xs
-unfolding select
-select-after r b bs [] a e = impossible cc
-select-after r b bs (x ∷ xs) a e =
-    cases (leb r x)
-    (λ h.
-    let k : x ∷ select (leb r) xs ≡ b ∷ bs = rw h at e in
-    let i : x ≡ b = cc in
-    let j : select (leb r) xs ≡ bs = cc in
-    let l = leb-true r x h in
-    let f : select (leb r) xs ≡ xs = select-same (leb r) xs (λ y m. le-leb r y (omega (arith, a .0 y m))) in
-    let g : select (leb (b + 1)) xs ≡ xs = select-same (leb (b + 1)) xs (λ y m. le-leb (b + 1) y (omega (arith, a .0 y m))) in
-    rw (lt-leb (b + 1) x (omega arith)) (sym j ∙ f ∙ sym g))
-    (λ h.
-    let k : select (leb r) xs ≡ b ∷ bs = rw h at e in
-    let m = select-mem (leb r) xs b (rw k (List·Memᴰ·head refl)) in
-    rw (lt-leb (b + 1) x (omega (arith, leb-false r x h, leb-true r b (m .1)))) (select-after r b bs xs (a .1) k))
 
 held-ascend : (l : Ledger) → Ascending (blocksIn (l .shape .blocks) (l .book))
 unfolding blocksIn
@@ -200,13 +159,16 @@ module _ {l : Ledger} {w : World} (v : CardDown l w) where
         (fresh-up (v .well-formed .range) recovered-comes-up (keptWrites (l .book) ++ l .saved) (kept-fits l (v .well-formed)) (λ c h. (omega arith, omega arith)))
 
   -- ---- the store that the ledger says, and when the card comes up
-  pub recovered-bytes : ((recovered in-sequence w) .world .disk ≡ recoverStored (l .left) l (w .disk)) × ((recovered in-sequence w) .stores ≡ 1)
-  unfolding recoverStored target
+  pub recovered-bytes : ((recovered in-sequence w) .world .disk ≡ diskAfter RECOVER l (w .disk)) × ((recovered in-sequence w) .stores ≡ 1)
+  unfolding diskAfter recoverStoreIn target
   recovered-bytes = go (l .left) refl
     where
-      go : (bs : List ℕ) → l .left ≡ bs → ((recovered in-sequence w) .world .disk ≡ recoverStored bs l (w .disk)) × ((recovered in-sequence w) .stores ≡ 1)
-      go [] e = (ap (λ (o : Outcome World). o .world .disk) (master-outcome e), ap (λ (o : Outcome World). o .stores) (master-outcome e))
-      go (b ∷ bs) e = (ap (λ (o : Outcome World). o .world .disk) (home-outcome e), ap (λ (o : Outcome World). o .stores) (home-outcome e))
+      made : List ℕ → Bytes
+      made bs = let b = recoverStoreIn bs l in store (w .disk) (b .place) (b .bytes)
+
+      go : (bs : List ℕ) → l .left ≡ bs → ((recovered in-sequence w) .world .disk ≡ made (l .left)) × ((recovered in-sequence w) .stores ≡ 1)
+      go [] e = (ap (λ (o : Outcome World). o .world .disk) (master-outcome e) ∙ ap made (sym e), ap (λ (o : Outcome World). o .stores) (master-outcome e))
+      go (b ∷ bs) e = (ap (λ (o : Outcome World). o .world .disk) (home-outcome e) ∙ ap made (sym e), ap (λ (o : Outcome World). o .stores) (home-outcome e))
 
   pub recover-up : isUp ((recovered in-sequence w) .world .card .phase) ≡ eqb (length (l .left)) 0
   recover-up = go (l .left) refl

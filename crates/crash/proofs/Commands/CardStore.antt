@@ -12,6 +12,7 @@ use Rattle.model.specs.Layout.{hasHead, newTag, highestIn, flagOf}
 use Rattle.model.proofs.Encoding.{commit-same}
 use Rattle.model.specs.Journal.{journalAt}
 use Rattle.model.specs.Command.{World}
+use Rattle.model.specs.Tape.{STORE}
 use Rattle.model.specs.Commit.{copyBlock, copyTags, nextStored, nextPosition, coreStored, stored}
 use Rattle.model.specs.declared.CommitLayout.the-variants.{Numbers}
 use Rattle.model.specs.declared.Name.{Name}
@@ -20,7 +21,7 @@ use Rattle.model.proofs.Lists.{cases, flatMap-append, map-below, flatMap-below}
 use Rattle.model.proofs.Store.{length-store, block-stored, block-other}
 use Rattle.model.proofs.Journal.{journal-low, home-apart, cores-apart, journal-apart}
 use Rattle.crash.specs.Book.{closed, committed, isClosed, stageCount, Entry, Book, raise, staged, storeBook}
-use Rattle.crash.specs.Ledger.{Ledger, withBook, recordBlocks, recordTags, recordOf, recordStored}
+use Rattle.crash.specs.Ledger.{Ledger, withBook, recordBlocks, recordTags, recordOf, recordStoreIn, diskAfter}
 use Rattle.crash.proofs.Books.BookEntries.{other-number, other-core, change-at, raise-at, raise-other, records-snoc, nextName, uncommittedName}
 use Rattle.crash.proofs.Books.BookSteps.{Restages, restaged, restages-records, storedStage, store-restages, store-more, store-last, store-holder}
 use Rattle.crash.proofs.Disk.BlockBytes.{bytes-store}
@@ -224,8 +225,8 @@ module _ {l : Ledger} {w : World} (u : CardUp l w) (c : ℕ) (in-range : c < l .
       rw (shape-up u, next-block, e) refl
 
   -- in the ledger's words: after the records that stand from the tail
-  pub stored-bytes : (stored c w) .world .disk ≡ recordStored c l (w .disk)
-  unfolding stored nextPosition recordStored
+  pub stored-bytes : (stored c w) .world .disk ≡ diskAfter (STORE c) l (w .disk)
+  unfolding stored nextPosition diskAfter recordStoreIn
   stored-bytes = rw (shape-up u, next-block, tail-read (u .well-formed) (u .disk) c in-range, u .cores c in-range .used, ap stageCount stage-now) refl
 
   pub is-block : IsBlock b

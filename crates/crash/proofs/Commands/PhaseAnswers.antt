@@ -16,16 +16,16 @@ use Rattle.model.specs.Command.{World, refusal, wrongLength, notUp}
 use Rattle.model.specs.Format.{formatConditions}
 use Rattle.model.specs.Write.{writeConditions}
 use Rattle.model.specs.Commit.{closeConditions, storeConditions}
-use Rattle.model.specs.Checkpoint.{checkpointConditions}
+use Rattle.model.specs.Checkpoint.{checkpointConditions, retireConditions, foundConditions, committedConditions}
 use Rattle.model.specs.Recovery.{cutConditions, recoverConditions, recoverConditionsBy}
-use Rattle.crash.specs.Ledger.{Ledger, blankLedger, notUpFor, formatRefusals, writeRefusals, closeRefusals, storeRefusals, checkpointRefusals, refusalsOf}
+use Rattle.model.proofs.OneStore.{lengths-right}
+use Rattle.crash.specs.Ledger.{Ledger, blankLedger, notUpFor, formatRefusals, writeRefusals, closeRefusals, storeRefusals, checkpointRefusals, retireRefusals, refusalsOf}
 use Rattle.crash.proofs.Books.Tests.{clash}
 use Rattle.crash.proofs.Disk.Relation.{CardUp, CardDown}
 use Rattle.crash.proofs.Disk.ReadMaster.{master-stands}
-use Rattle.crash.proofs.Commands.CardCut.{right-length}
-use Rattle.model.specs.Tape.{CHECKPOINT, CLOSE, CUT, Command, FORMAT, RECOVER, STORE, WRITE}
+use Rattle.model.specs.Tape.{CHECKPOINT, CLOSE, CUT, Command, FORMAT, RECOVER, RETIRE, STORE, WRITE}
 use Rattle.crash.specs.Book.{emptyBook, absent, bookHolder}
-use Rattle.crash.proofs.Commands.CardAnswers.{checkpoint-answers, close-answers, store-answers, write-answers}
+use Rattle.crash.proofs.Commands.CardAnswers.{checkpoint-answers, retire-answers, close-answers, store-answers, write-answers}
 use Rattle.model.specs.Step.{conditionsOf}
 use Rattle.model.specs.declared.Phase.{Phase}
 use Rattle.model.specs.declared.Phase.the-variants.{Blank, Up, Down}
@@ -60,7 +60,7 @@ module _ (l : Ledger) (w : World) (sizes : wrongLength w ≡ false) where
   -- while the card is not up
   phase-answers : (p : Phase) → isUp p ≡ false → (isDown p ≡ true → isMaster (blockAt (w .disk) 0) ≡ true) → w .card .phase ≡ p → l .phase ≡ p
       → (k : Command) → refusal (conditionsOf in-sequence k w) ≡ refusal (refusalsOf k l)
-  unfolding conditionsOf refusalsOf writeConditions writeRefusals closeConditions closeRefusals storeConditions storeRefusals checkpointConditions checkpointRefusals
+  unfolding conditionsOf refusalsOf writeConditions writeRefusals closeConditions closeRefusals storeConditions storeRefusals checkpointConditions retireConditions checkpointRefusals retireRefusals committedConditions foundConditions
   phase-answers p h m i j (FORMAT c b f) = format-answer c b f (i ∙ sym j)
   phase-answers p h m i j (WRITE c b o v) = not-up-answer p h i j c _ _
   phase-answers p h m i j (CLOSE c) = not-up-answer p h i j c _ _
@@ -68,22 +68,23 @@ module _ (l : Ledger) (w : World) (sizes : wrongLength w ≡ false) where
   phase-answers p h m i j (CHECKPOINT c) = not-up-answer p h i j c _ _
   phase-answers p h m i j CUT = cut-answer (i ∙ sym j)
   phase-answers p h m i j RECOVER = recover-answer p m i j
+  phase-answers p h m i j (RETIRE c) = not-up-answer p h i j c _ _
 
 -- ---- down: FORMAT 21, CUT and RECOVER 0, the others 22
 pub down-answers : {l : Ledger} {w : World} → CardDown l w → (k : Command) → refusal (conditionsOf in-sequence k w) ≡ refusal (refusalsOf k l)
 down-answers {l} {w} v =
-    phase-answers l w (right-length w (v .disk .size) (v .memory)) Down refl (λ h. master-stands (v .well-formed) (v .disk)) (v .phase) (v .ledger)
+    phase-answers l w (lengths-right w (v .disk .size) (v .memory)) Down refl (λ h. master-stands (v .well-formed) (v .disk)) (v .phase) (v .ledger)
 
 -- ---- blank: FORMAT 0 or 4, the others 20
 pub blank-answers : (w : World) → w .card ≡ blankCard → length (w .disk) ≡ 32896 → length (w .memory) ≡ 16384 → (k : Command)
     → refusal (conditionsOf in-sequence k w) ≡ refusal (refusalsOf k (blankLedger in-sequence))
 unfolding blankCard emptyCard freshCard blankLedger emptyBook
-blank-answers w e d m = phase-answers (blankLedger in-sequence) w (right-length w d m) Blank refl (λ h. clash h refl) (ap (λ (x : Card). x .phase) e) refl
+blank-answers w e d m = phase-answers (blankLedger in-sequence) w (lengths-right w d m) Blank refl (λ h. clash h refl) (ap (λ (x : Card). x .phase) e) refl
 
 -- ---- up: FORMAT 21, CUT 0, RECOVER 23; the others by what the transactions are
 module _ {l : Ledger} {w : World} (u : CardUp l w) (opens : (b : ℕ) (n : Name) → bookHolder (l .book) b (l .book .writes) ≡ some n → (l .book .entry n) .stage ≢ absent) where
   abbrev sizes : wrongLength w ≡ false
-  sizes = right-length w (u .disk .size) (u .memory)
+  sizes = lengths-right w (u .disk .size) (u .memory)
 
   pub up-answers : (k : Command) → refusal (conditionsOf in-sequence k w) ≡ refusal (refusalsOf k l)
   unfolding conditionsOf refusalsOf
@@ -94,3 +95,4 @@ module _ {l : Ledger} {w : World} (u : CardUp l w) (opens : (b : ℕ) (n : Name)
   up-answers (CHECKPOINT c) = checkpoint-answers u c
   up-answers CUT = cut-answer l w sizes (u .phase ∙ sym (u .ledger))
   up-answers RECOVER = recover-answer l w sizes Up (λ z. clash z refl) (u .phase) (u .ledger)
+  up-answers (RETIRE c) = retire-answers u c

@@ -1,5 +1,5 @@
--- The ledger after CHECKPOINT, against the one before: one stage and the oldest numbers changed, so records stay, a journal
--- and a core agree with it under the new tail, and who held a block of the retired transaction holds it no more.
+-- The ledger after CHECKPOINT or RETIRE, against the one before: one stage and the oldest numbers changed, so records stay, and a journal
+-- and a core agree with it under the new tail. After RETIRE, who held a block of the retired transaction holds it no more.
 use Rattle.model.proofs.Base.{ℕ, _+_, _-_, _≤_, _<_, arith, _≡_, refl, sym, ap, _∙_, _≢_, true, cond, _&&_, Option, none, some}
 use Rattle.model.proofs.Base.{List, [], length, getD, Bytes}
 use Rattle.model.specs.Card.{newName, sameName, noHolder}

@@ -1,12 +1,12 @@
--- The stages of a core's transactions stay ranked by number: where no stage of a lower number changes, and where CLOSE, STORE
--- or CHECKPOINT gives one transaction its next stage and raises the number that counts those past it. The numbers of all
+-- The stages of a core's transactions stay ranked by number: where no stage of a lower number changes, and where CLOSE, STORE,
+-- CHECKPOINT or RETIRE gives one transaction its next stage and raises the number, if any, that counts those past it. The numbers of all
 -- cores together, which bound the count of closes.
 use Rattle.model.proofs.Base.{ℕ, zero, suc, _+_, _*_, _≤_, _<_, arith, decLt, ℕ-discrete, _≡_, refl, ap, _∙_, _≢_, _⊎_, inl, inr}
 use Rattle.model.proofs.Base.{length}
 use Rattle.model.specs.Card.{newName}
-use Rattle.crash.specs.Book.{Stage, absent, running, closed, committed, retired, Book, raise, storeBook, checkpointBook}
+use Rattle.crash.specs.Book.{Stage, absent, running, closed, committed, retired, Book, raise, storeBook}
 use Rattle.crash.proofs.Books.BookEntries.{nextName, uncommittedName, oldestName, other-number, other-core, raise-at, raise-other}
-use Rattle.crash.proofs.Books.BookSteps.{Restages, restaged, restages, store-more, store-last, checkpoint-home, checkpoint-retires}
+use Rattle.crash.proofs.Books.BookSteps.{Restages, restaged, restages, store-more, store-last}
 use Rattle.crash.proofs.Disk.Relation.{first-waiting, RanksBelow, Ranks, sumNext}
 
 -- where the oldest number, the first one and all stages below stay
@@ -213,19 +213,4 @@ module _ (k : Book) (c : ℕ) (r : Ranks k c) where
       elim (decLt (s .0) (length ((k .entry (uncommittedName c k)) .blocks) + 1)) [
         | yes lt ↦ rw (store-more c (s .0) k (s .1) lt) (more (s .0) (s .1) lt)
         | no ge ↦ (let e : s .0 ≡ length ((k .entry (uncommittedName c k)) .blocks) + 1 = omega arith in rw (store-last c (s .0) k (s .1) e) (last (s .0) (s .1) e))
-      ]
-
-  -- and a CHECKPOINT
-  pub checkpoint-by : (P : Book → Type 0) → k .oldest c < k .uncommitted c
-      → ((n : ℕ) → (k .entry (oldestName c k)) .stage ≡ committed n → n < length ((k .entry (oldestName c k)) .blocks)
-      → P (restaged (oldestName c k) (committed (suc n)) (k .oldest) (k .uncommitted) (k .next) k))
-      → ((n : ℕ) → (k .entry (oldestName c k)) .stage ≡ committed n → n ≡ length ((k .entry (oldestName c k)) .blocks)
-      → P (restaged (oldestName c k) retired (raise c (k .oldest)) (k .uncommitted) (k .next) k))
-      → P (checkpointBook c k)
-  checkpoint-by P due home retires =
-      let s = r .first due in
-      let bound : s .0 ≤ length ((k .entry (oldestName c k)) .blocks) = s .2 in
-      elim (decLt (s .0) (length ((k .entry (oldestName c k)) .blocks))) [
-        | yes lt ↦ rw (checkpoint-home c (s .0) k (s .1) lt) (home (s .0) (s .1) lt)
-        | no ge ↦ (let e : s .0 ≡ length ((k .entry (oldestName c k)) .blocks) = omega arith in rw (checkpoint-retires c (s .0) k (s .1) e) (retires (s .0) (s .1) e))
       ]

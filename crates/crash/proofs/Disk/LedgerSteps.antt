@@ -1,5 +1,6 @@
--- CLOSE, STORE and CHECKPOINT keep the ledger in order: each gives one transaction its next stage and raises the number that
--- counts those past it; limits, names and images of all others stay.
+-- CLOSE, STORE, CHECKPOINT and RETIRE keep the ledger in order: each gives one transaction its next stage and raises the number, if any,
+-- that counts those past it; limits, names and images of all others stay.
+use Rattle.model.proofs.Base.{length}
 use Rattle.model.proofs.Base.{ℕ, suc, _≤_, _<_, arith, ℕ-discrete, _≡_, refl, sym, ap, subst, _∙_, _≢_, true, List, [], map}
 use Rattle.model.proofs.Base.{length-map, Bytes}
 use mathlib.Core.List.{Memᴰ·of-map}
@@ -7,15 +8,15 @@ use Rattle.model.specs.Card.{newName}
 use Rattle.model.specs.declared.Shape.{Shape}
 use Rattle.model.specs.declared.Name.{Name}
 use Rattle.model.proofs.Lists.{getD-mem}
-use Rattle.crash.specs.Book.{Stage, absent, running, closed, committed, retired, isClosed, Entry, Book, raise, closeBook, storeBook, checkpointBook}
+use Rattle.crash.specs.Book.{Stage, absent, running, closed, committed, retired, isClosed, Entry, Book, raise, closeBook, storeBook, checkpointBook, retireBook}
 use Rattle.crash.specs.Ledger.{Ledger, withBook, imageNow, closeLedger}
 use Rattle.crash.proofs.Books.Tests.{clash}
-use Rattle.crash.proofs.Books.BookEntries.{nextName, same-or-not, raise-other}
-use Rattle.crash.proofs.Books.BookSteps.{Restages, restaged, restages, restages-keep, close-stamp, close-images, close-stamp-other, close-images-other}
+use Rattle.crash.proofs.Books.BookEntries.{oldestName, nextName, same-or-not, raise-other}
+use Rattle.crash.proofs.Books.BookSteps.{Restages, restaged, restages, restages-keep, checkpoint-home, retire-restages, close-stamp, close-images, close-stamp-other, close-images-other}
 use Rattle.crash.proofs.Disk.Relation.{IsBlock, Limits, Frozen, Ranks, sumNext, WellFormed}
 use Rattle.crash.proofs.Disk.LedgerStages.{closed-present, running-present}
 use Rattle.crash.proofs.Disk.LedgerFresh.{now-block, same-frozen}
-use Rattle.crash.proofs.Disk.LedgerRanks.{sum-same, sum-raised, ranks-elsewhere, ranks-closed, ranks-stored, ranks-committed, ranks-homed, ranks-retired, store-by, checkpoint-by}
+use Rattle.crash.proofs.Disk.LedgerRanks.{sum-same, sum-raised, ranks-elsewhere, ranks-closed, ranks-stored, ranks-committed, ranks-homed, ranks-retired, store-by}
 
 -- ---- the ledger with one transaction's stage, numbers, stamps and images replaced
 pub limits-same : (s : Shape) (t : Name) (e e′ : Entry) → e′ .blocks ≡ e .blocks → Limits s t e → Limits s t e′
@@ -84,7 +85,7 @@ module _ (l : Ledger) (f : WellFormed l) (t : Name) (g : Stage) (was : (l .book 
         saved = f .saved;
       }
 
--- ---- CLOSE, STORE, CHECKPOINT
+-- ---- CLOSE, STORE, CHECKPOINT, RETIRE
 module _ (l : Ledger) (f : WellFormed l) (c : ℕ) (hc : c < l .shape .cores) where
   abbrev k : Book
   k = l .book
@@ -176,7 +177,7 @@ module _ (l : Ledger) (f : WellFormed l) (c : ℕ) (hc : c < l .shape .cores) wh
         closed-ascending
         (let h = sum-raised k (closeBook c k) c refl (l .shape .cores) .1 hc in let g = f .closes in omega arith)
 
-  -- STORE and CHECKPOINT: the closed one stays closed
+  -- STORE, CHECKPOINT and RETIRE: the closed one stays closed
   module _ (i : ℕ) (g : Stage) (o u : ℕ → ℕ) (was : isClosed ((k .entry (newName c i)) .stage) ≡ true) (is : isClosed g ≡ true)
       (elsewhere : (a : ℕ) → a ≢ c → (o a ≡ k .oldest a) × (u a ≡ k .uncommitted a)) (here : Ranks (restaged (newName c i) g o u (k .next) k) c) where
     well-formed-advanced : WellFormed (withBook l (restaged (newName c i) g o u (k .next) k))
@@ -204,10 +205,16 @@ module _ (l : Ledger) (f : WellFormed l) (c : ℕ) (hc : c < l .shape .cores) wh
       (λ n was last. well-formed-advanced (k .uncommitted c) (committed 0) (k .oldest) (raise c (k .uncommitted)) (ap isClosed was) refl
       (λ a ne. (refl, raise-other c (k .uncommitted) a ne)) (ranks-committed k c r n due))
 
-  pub well-formed-checkpoint : k .oldest c < k .uncommitted c → WellFormed (withBook l (checkpointBook c k))
-  well-formed-checkpoint due =
-      let r = f .ranks c hc in
-      checkpoint-by k c r (λ x. WellFormed (withBook l x)) due
-      (λ n was more. well-formed-advanced (k .oldest c) (committed (suc n)) (k .oldest) (k .uncommitted) (ap isClosed was) refl (λ a ne. (refl, refl)) (ranks-homed k c r n due more))
-      (λ n was last. well-formed-advanced (k .oldest c) retired (raise c (k .oldest)) (k .uncommitted) (ap isClosed was) refl
-      (λ a ne. (raise-other c (k .oldest) a ne, refl)) (ranks-retired k c r n due))
+  module _ (due : k .oldest c < k .uncommitted c) {n : ℕ} (was : (k .entry (oldestName c k)) .stage ≡ committed n) where
+    pub well-formed-checkpoint : n < length ((k .entry (oldestName c k)) .blocks) → WellFormed (withBook l (checkpointBook c k))
+    well-formed-checkpoint more =
+        let r = f .ranks c hc in
+        rw (checkpoint-home c n k was)
+        (well-formed-advanced (k .oldest c) (committed (suc n)) (k .oldest) (k .uncommitted) (ap isClosed was) refl (λ a ne. (refl, refl)) (ranks-homed k c r n due more))
+
+    pub well-formed-retire : WellFormed (withBook l (retireBook c k))
+    well-formed-retire =
+        let r = f .ranks c hc in
+        rw (retire-restages c n k)
+        (well-formed-advanced (k .oldest c) retired (raise c (k .oldest)) (k .uncommitted) (ap isClosed was) refl
+        (λ a ne. (raise-other c (k .oldest) a ne, refl)) (ranks-retired k c r n due))

@@ -1,4 +1,4 @@
--- On a card that is up, what CHECKPOINT reads is what the ledger says, and each of its conditions 31 to 33 is the ledger's.
+-- On a card that is up, what CHECKPOINT and RETIRE read is what the ledger says, and each of their conditions 31 to 33 is the ledger's.
 -- The card's count of committed ones is the ledger's, so the journals are read whole; the closed ones that still store
 -- stand in the card. Every closed unretired transaction is one of these two: so 33 looks at the same transactions.
 use Rattle.model.proofs.Base.{ℕ, _-_, _≤_, _<_, arith, decLt, ℕ-discrete, _≡_, refl, sym, ap, ap₂, subst, _∙_, inl, inr, Bool}

@@ -29,8 +29,8 @@ use Rattle.model.specs.declared.Transaction.{Transaction}
 use Rattle.model.specs.declared.Core.{Core}
 use Rattle.model.specs.declared.Holder.{Holder}
 use Rattle.model.proofs.Limits.{InRange}
-use Rattle.crash.specs.Book.{absent, running, closed, committed, retired, isRunning, isClosed, stageCount, Entry, Write, Book, bookHolder, keptWrites, image, blank}
-use Rattle.crash.specs.Ledger.{recordOf, Ledger, imageNow, validIn, blocksIn, recordBlocks}
+use Rattle.crash.specs.Book.{absent, running, closed, committed, retired, isRunning, isClosed, stageCount, Entry, Write, Book, bookHolder}
+use Rattle.crash.specs.Ledger.{recordOf, Ledger, imageNow, validIn, blocksIn, recordBlocks, keptImage}
 use Rattle.crash.specs.Claims.{IsBytes}
 use Rattle.crash.proofs.Books.BookEntries.{nextName, oldestName, uncommittedName}
 
@@ -190,7 +190,7 @@ pub record CardUp (l : Ledger) (w : World) : Type 0 where
 -- ---- down: what recovery will give is fixed
 -- the area that the kept writes give
 unfoldable pub target : Ledger → ℕ → Bytes
-target l b = image blank (keptWrites (l .book) ++ l .saved) b
+target l b = keptImage l b
 
 -- the newest image of block b among the ledger's valid transactions is the target's
 pub record Newest (l : Ledger) (b : ℕ) : Type 0 where

@@ -18,7 +18,8 @@ use Rattle.crash.specs.Service.{Service, emptyService}
 use Rattle.crash.specs.Ledger.{Ledger, blankLedger, freshLedger, imageNow, closeLedger, unretired, metIn, validIn, blocksIn, cutLedger, recoverLedger, entered, carriedOut}
 use Rattle.crash.proofs.Books.BookExamples.{write, commits, books}
 use Rattle.model.specs.Card.{newName}
-use Rattle.crash.specs.Claims.{homeArea, fedPoint}
+use Rattle.crash.specs.Claims.{fedPoint}
+use Rattle.model.specs.Recovery.{homeArea}
 use Rattle.model.specs.Command.{World}
 use Rattle.model.specs.Step.{stepAt, stepAtBy}
 use Rattle.model.specs.Valid.{Order, unordered, in-sequence}

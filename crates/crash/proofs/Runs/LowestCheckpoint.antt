@@ -1,6 +1,7 @@
--- Where no core runs a transaction or has one closed and uncommitted, every committed unretired one is valid. So a CHECKPOINT of the core whose
--- oldest one has the lowest stamp of all cores' oldest is not refused: every other closed unretired one of a core has a higher stamp than its
--- oldest.
+-- Where no core runs a transaction or has one closed and uncommitted, every committed unretired one is valid. So CHECKPOINT, or RETIRE once
+-- its home stores are done, of the core whose oldest one has the lowest stamp of all cores' oldest is not refused: every other closed
+-- unretired one of a core has a higher stamp than its oldest.
+use Rattle.model.proofs.Base.{List, [], _∷_, Bool, true, false, not, refl}
 use Rattle.model.proofs.Base.{ℕ, _≤_, _<_, arith, ℕ-discrete, _≡_, ap, inl, inr, _≢_, true, false, not, _&&_, lt-ltb, lt-leb, any}
 use mathlib.Core.Bool.{So}
 use Rattle.model.specs.Card.{newName, sameName}
@@ -8,7 +9,7 @@ use Rattle.model.specs.Command.{World, refusal}
 use Rattle.model.specs.declared.Name.{Name}
 use Rattle.model.proofs.Lists.{cases, and-both, and-left}
 use Rattle.crash.specs.Book.{absent, hasRunning, isClosed, isCommitted, isRetired}
-use Rattle.crash.specs.Ledger.{Ledger, validIn, sharesLowerIn, checkpointRefusals}
+use Rattle.crash.specs.Ledger.{Ledger, validIn, sharesLowerIn, checkpointRefusals, retireRefusals, oldestRefusals, homeLeft}
 use Rattle.crash.proofs.Books.Tests.{false-of, any-in, nameEquality}
 use Rattle.crash.proofs.Books.BookEntries.{oldestName}
 use Rattle.crash.proofs.Books.Largest.{stageOf, valid-largest}
@@ -66,13 +67,21 @@ module _ {l : Ledger} (f : WellFormed l) (q : Quiescent l) where
         false-of (sharesLowerIn l (oldestName c (l .book)))
         (λ h. let r = in-lower l (oldestName c (l .book)) h in omega (arith, r .1 .lower, none-lower (r .0) (r .1 .is-closed) (r .1 .not-retired)))
 
--- CHECKPOINT of the oldest one of lowest stamp is not refused
-pub lowest-unrefused : {l : Ledger} {w : World} → RelatedUp l w → Quiescent l → (c : ℕ) → c < l .shape .cores → l .book .oldest c < l .book .uncommitted c
-    → ((i : ℕ) → i < l .shape .cores → l .book .oldest i < l .book .uncommitted i → l .stamp (oldestName c (l .book)) ≤ l .stamp (oldestName i (l .book)))
-    → refusal (checkpointRefusals c l) ≡ 0
-unfolding checkpointRefusals refusal
-lowest-unrefused {l} u q c low some lowest =
-    let f = u .up .well-formed in
-    let x = stored-unretired (f .ranks c low) (l .book .oldest c) (omega arith) some in
-    let valid = all-valid f q (oldestName c (l .book)) (x .is-committed) (x .not-retired) in
-    rw (lt-leb (l .shape .cores) c low, lt-ltb _ _ some, valid, none-shared f q c lowest, u .up .ledger)
+-- CHECKPOINT of the oldest one of lowest stamp is not refused while home stores are left, and RETIRE where none is
+module _ {l : Ledger} {w : World} (u : RelatedUp l w) (q : Quiescent l) (c : ℕ) (low : c < l .shape .cores) (some : l .book .oldest c < l .book .uncommitted c)
+    (lowest : (i : ℕ) → i < l .shape .cores → l .book .oldest i < l .book .uncommitted i → l .stamp (oldestName c (l .book)) ≤ l .stamp (oldestName i (l .book))) where
+  oldest-unrefused : (ts : List (Bool × ℕ)) → refusal ts ≡ 0 → refusal (oldestRefusals c l ts) ≡ 0
+  unfolding refusal
+  oldest-unrefused ts z =
+      let f = u .up .well-formed in
+      let x = stored-unretired (f .ranks c low) (l .book .oldest c) (omega arith) some in
+      let valid = all-valid f q (oldestName c (l .book)) (x .is-committed) (x .not-retired) in
+      rw (lt-leb (l .shape .cores) c low, lt-ltb _ _ some, valid, none-shared f q c lowest, u .up .ledger) z
+
+  pub lowest-unrefused : homeLeft c (l .book) ≡ true → refusal (checkpointRefusals c l) ≡ 0
+  unfolding checkpointRefusals refusal
+  lowest-unrefused h = oldest-unrefused ((not (homeLeft c (l .book)), 35) ∷ []) (rw h refl)
+
+  pub lowest-retires : homeLeft c (l .book) ≡ false → refusal (retireRefusals c l) ≡ 0
+  unfolding retireRefusals refusal
+  lowest-retires h = oldest-unrefused ((homeLeft c (l .book), 34) ∷ []) (rw h refl)

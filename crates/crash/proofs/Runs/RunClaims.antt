@@ -6,25 +6,27 @@ use native.Mathlib.Omega.{arith}
 use mathlib.Core.Path.{_≡_, refl, sym, ap, _∙_, subst}
 use mathlib.Core.Logic.{_≢_}
 use mathlib.Core.Bool.{Bool, true, false, true≢false}
-use mathlib.Core.List.{List, [], _∷_, _++_, flatMap, append-nil}
-use lib.ListN.{length, take, drop}
-use lib.Seq.{take-add, drop-drop}
+use mathlib.Core.List.{List, [], _∷_, flatMap}
+use lib.ListN.{length}
 use Rattle.model.specs.Lists.{below}
 use Rattle.model.specs.Bytes.{Bytes, part, blockAt}
 use Rattle.model.specs.Shape.{homeBlock}
 use Rattle.model.specs.Card.{isBlank, isUp, isDown}
 use Rattle.model.specs.Command.{Outcome, refusal, refusedWith, World, wrongLength}
-use Rattle.model.specs.Tape.{Command, FORMAT, WRITE, CLOSE, STORE, CHECKPOINT, CUT, RECOVER, Read, whole, unknown, early, isUnknown, isEarly, readAt, operandsAt, TapeStep, Point, obeyed, commandAt, heard, commandByte, operandLength}
+use Rattle.model.specs.Tape.{Command, FORMAT, WRITE, CLOSE, STORE, CHECKPOINT, CUT, RECOVER, RETIRE, Read, whole, unknown, early, isUnknown, isEarly, readAt, operandsAt, TapeStep, Point, obeyed, commandAt, heard, commandByte, operandLength}
 use Rattle.model.specs.Valid.{Order, in-sequence}
+use Rattle.model.specs.Recovery.{homeArea}
 use Rattle.model.specs.Reading.{readConditions, readNumber, blockReader}
 use Rattle.model.specs.Step.{conditionsOf, doneBy, stepBy, step, stepAtBy, stepAt}
-use Rattle.model.proofs.Lists.{cases, flatMap-append, flatMap-below}
+use Rattle.model.proofs.Lists.{cases, flatMap-below}
+use Rattle.model.proofs.RecoveredArea.{area-blocks}
+use Rattle.model.proofs.WhileDown.{down-not-blank}
 use Rattle.model.proofs.Command.{unless-done, refusal-passed, step-answer, step-refused, step-done}
 use Rattle.model.proofs.Tape.{OfData, whole-data, length-data, whole-injective, Runs, at-end, one-more, run-runs}
-use Rattle.crash.specs.Book.{keptWrites, image, blank, hasRunning}
+use Rattle.crash.specs.Book.{image, blank, hasRunning}
 use Rattle.crash.specs.Service.{Service, emptyService, cutService, served, fed, bookArea}
-use Rattle.crash.specs.Ledger.{Ledger, freshLedger, blankLedger, closeLedger, cutLedger, recoverLedger, carriedOut, entered, writeRefusals, closeRefusals, storeRefusals, checkpointRefusals, refusalsOf, answerOf}
-use Rattle.crash.specs.Claims.{IsBytes, Start, StartFits, startWorld, startService, startLedger, from-blank, from-down, homeArea, fedPoint, AreaKept, Claim, enteredPoint, Between, DoneAs, LedgerKept, Demands, ReadsNow, ReadingsKept, Readings}
+use Rattle.crash.specs.Ledger.{Ledger, freshLedger, blankLedger, closeLedger, cutLedger, recoverLedger, carriedOut, entered, writeRefusals, closeRefusals, storeRefusals, checkpointRefusals, retireRefusals, refusalsOf, answerOf, keptImage}
+use Rattle.crash.specs.Claims.{IsBytes, Start, StartFits, startWorld, startService, startLedger, from-blank, from-down, fedPoint, AreaKept, Claim, enteredPoint, Between, DoneAs, LedgerKept, Demands, ReadsNow, ReadingsKept, Readings}
 use Rattle.crash.proofs.Books.Agreement.{Agrees, PhaseFor, start-agrees, heard-agrees, area-same}
 use Rattle.crash.proofs.Disk.BlockBytes.{bytes-take, bytes-drop}
 use Rattle.crash.proofs.Books.Tests.{clash}
@@ -44,7 +46,7 @@ whole-bytes t b at k e =
 -- ---- what each command keeps of a relation of ledger and world
 -- the last RECOVER leaves the home area that the kept writes give
 abbrev pub HomeGiven : Ledger → World → Type 0
-HomeGiven l w = l .left ≡ [] → (b : ℕ) → b < l .shape .blocks → blockAt (w .disk) (homeBlock b) ≡ image blank (keptWrites (l .book) ++ l .saved) b
+HomeGiven l w = l .left ≡ [] → (b : ℕ) → b < l .shape .blocks → blockAt (w .disk) (homeBlock b) ≡ keptImage l b
 
 -- a command carried out
 pub record Carried (Related : Ledger → World → Type 0) (l : Ledger) (w : World) (k : Command) : Type 0 where
@@ -159,16 +161,6 @@ module _ (Related : Ledger → World → Type 0) where
     readings-kept : ReadingsKept blockReader l w ps
     readings-kept = kept-along f go (ReadingsKept blockReader) (r .reads) (λ l w p ps here g rest. (r .reads l w here, rest)) t b here run
 
--- ---- the home area by its blocks
-area-blocks : (d : Bytes) (n : ℕ) → part 128 (128 * n) d ≡ flatMap (λ (b : ℕ). blockAt d (homeBlock b)) (below n)
-unfolding part blockAt below flatMap
-area-blocks d zero = refl
-area-blocks d (suc n) =
-    let e : 128 * suc n ≡ 128 * n + 128 = omega arith in
-    let f : 128 + 128 * n ≡ 128 * (1 + n) = omega arith in
-    rw (e, take-add (128 * n) 128 (drop 128 d), drop-drop (128 * n) 128 d, f, flatMap-append (λ (b : ℕ). blockAt d (homeBlock b)) (below n) (n ∷ []), append-nil (take 128 (drop (128 * (1 + n)) d)))
-    (ap (λ (x : Bytes). x ++ take 128 (drop (128 * (1 + n)) d)) (area-blocks d n))
-
 -- ---- an answer 0 tells the phase
 module _ (l : Ledger) where
   up-phase : (rest : List (Bool × ℕ)) → refusal ((isBlank (l .phase), 20) ∷ (isDown (l .phase), 22) ∷ rest) ≡ 0 → isDown (l .phase) ≡ false
@@ -180,7 +172,7 @@ module _ (l : Ledger) where
   down-only Down b u = refl
 
   answered-phase : (k : Command) → refusal (refusalsOf k l) ≡ 0 → PhaseFor k (l .phase)
-  unfolding refusalsOf writeRefusals closeRefusals storeRefusals checkpointRefusals
+  unfolding refusalsOf writeRefusals closeRefusals storeRefusals checkpointRefusals retireRefusals
   answered-phase (FORMAT c b j) z = tt
   answered-phase (WRITE c b o v) z = up-phase _ z
   answered-phase (CLOSE c) z = up-phase _ z
@@ -188,6 +180,7 @@ module _ (l : Ledger) where
   answered-phase (CHECKPOINT c) z = up-phase _ z
   answered-phase CUT z = tt
   answered-phase RECOVER z = let y = refusal-passed _ 20 _ (omega arith) z in down-only (l .phase) (y .0) (refusal-passed _ 23 [] (omega arith) (y .1) .0)
+  answered-phase (RETIRE c) z = up-phase _ z
 
 -- ---- demand 3
 -- service book and ledger count the same home blocks
@@ -206,6 +199,7 @@ module _ (v : Service) (l : Ledger) (same : v .blocks ≡ l .shape .blocks) wher
   served-blocks (CHECKPOINT c) = same
   served-blocks CUT = same
   served-blocks RECOVER = same ∙ sym (recover-shape l (l .left))
+  served-blocks (RETIRE c) = same
 
   heard-blocks : (r : Read) (n : ℕ) → (heard fed r n v) .blocks ≡ (heard entered r n l) .shape .blocks
   unfolding heard fed entered
@@ -218,12 +212,7 @@ module _ (Related : Ledger → World → Type 0) (r : Simulation Related) where
   -- a card that is down is read with 22
   down-reads : (l : Ledger) (w : World) → Related l w → isDown (w .card .phase) ≡ true → readNumber 0 w ≡ 22
   unfolding readNumber readConditions refusal
-  down-reads l w here d = let b : isBlank (w .card .phase) ≡ false = not-blank (w .card .phase) d in rw (r .sizes l w here, b, d)
-    where
-      not-blank : (p : Phase) → isDown p ≡ true → isBlank p ≡ false
-      not-blank Blank d = clash d refl
-      not-blank Up d = refl
-      not-blank Down d = refl
+  down-reads l w here d = rw (r .sizes l w here, down-not-blank (w .card .phase) d, d)
 
   module _ (v : Service) (l : Ledger) (w : World) (x : Read) (o : Outcome World) (g : PointKeeps Related l w x o) (agrees : Agrees v l) where
     pub agrees-after : Agrees (heard fed x (o .answer) v) (heard entered x (o .answer) l)

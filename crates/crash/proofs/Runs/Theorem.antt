@@ -23,9 +23,10 @@ use Rattle.model.specs.declared.CommitLayout.the-variants.{Numbers}
 use Rattle.model.proofs.Limits.{InRange, range-test}
 use Rattle.model.proofs.Lists.{cases}
 use Rattle.model.proofs.Command.{refusal-passed}
+use Rattle.model.proofs.OneStore.{lengths-right}
 use Rattle.crash.specs.Book.{Write, image, keptWrites, emptyBook, isRunning}
 use Rattle.crash.specs.Service.{noted}
-use Rattle.crash.specs.Ledger.{Ledger, freshLedger, blankLedger, refusalsOf, recoverLedger, formatRefusals, writeRefusals, closeRefusals, storeRefusals, checkpointRefusals, storedSince, diskAfter, storeCount, carriedOut, memoryAfter, readNow, readRefusals}
+use Rattle.crash.specs.Ledger.{Ledger, freshLedger, blankLedger, refusalsOf, recoverLedger, formatRefusals, writeRefusals, closeRefusals, storeRefusals, checkpointRefusals, retireRefusals, storedSince, diskAfter, carriedOut, memoryAfter, readNow, readRefusals}
 use Rattle.crash.specs.Claims.{JournalsRead, Claim, Demands, DoneAs, Readings, Start, StartFits, from-blank, from-down, startLedger, startWorld}
 use Rattle.crash.proofs.Commands.CardFormat.{format-home, format-up, down-start}
 use Rattle.crash.proofs.Commands.CardRecover.{recover-home, recovered-home, recover-master, recovered-bytes}
@@ -34,13 +35,13 @@ use Rattle.crash.proofs.Disk.ReadRecords.{journals-read}
 use Rattle.crash.proofs.Runs.RunClaims.{Simulation, CardKeeps, point-keeps, claim-kept, demands-kept, Carried, HasData, reading, same-keeps}
 use Rattle.crash.proofs.Books.Tests.{clash}
 use Rattle.crash.proofs.Disk.Relation.{CardUp, CardDown, target}
-use Rattle.crash.proofs.Commands.CardCut.{cut-down, right-length}
+use Rattle.crash.proofs.Commands.CardCut.{cut-down}
 use Rattle.crash.proofs.Commands.CardStore.{stored-bytes}
-use Rattle.crash.proofs.Commands.CardCheckpoint.{checkpointed-bytes}
-use Rattle.model.specs.Tape.{CHECKPOINT, CLOSE, CUT, Command, FORMAT, RECOVER, STORE, TapeStep, WRITE}
-use Rattle.crash.proofs.Runs.Unrefused.{in-range-of, may-close, may-store, may-checkpoint}
-use Rattle.crash.proofs.Runs.UpSteps.{RelatedUp, checkpoint-at, close-at, close-memory, cut-at, fresh-at, holder-open, store-at, up-reads, write-at, write-memory}
-use Rattle.model.proofs.Sizes.{checkpointed-memory, recoverStep-memory}
+use Rattle.crash.proofs.Commands.CardCheckpoint.{checkpointed-bytes, retired-bytes}
+use Rattle.model.specs.Tape.{CHECKPOINT, CLOSE, CUT, Command, FORMAT, RECOVER, RETIRE, STORE, TapeStep, WRITE}
+use Rattle.crash.proofs.Runs.Unrefused.{in-range-of, may-close, may-store, may-checkpoint, may-retire}
+use Rattle.crash.proofs.Runs.UpSteps.{RelatedUp, less-home, all-home, retire-at, checkpoint-at, close-at, close-memory, cut-at, fresh-at, holder-open, store-at, up-reads, write-at, write-memory}
+use Rattle.model.proofs.Sizes.{checkpointed-memory, retired-memory, recoverStep-memory}
 use Rattle.model.specs.Step.{conditionsOf, doneBy, stepAt}
 use Rattle.model.specs.Reading.{readBlock, blockReader, readConditions, readNumber}
 use Rattle.crash.proofs.Disk.ReadMaster.{shape-up}
@@ -73,6 +74,7 @@ isRecover (STORE c) = false
 isRecover (CHECKPOINT c) = false
 isRecover CUT = false
 isRecover RECOVER = true
+isRecover (RETIRE c) = false
 
 other : {k : Command} → isRecover k ≡ false → k ≡ RECOVER → ⊥
 unfolding isRecover
@@ -92,7 +94,7 @@ module _ {l : Ledger} {w : World} (b : RelatedBlank l w) where
       rw o (fresh-at in-sequence s [] (λ (c : ℕ). 1) ((formatted s) .world) (format-up s r) (format-home Numbers s r))
 
   format-carried : (c n j : ℕ) → refusal (formatRefusals c n j l) ≡ 0 → Carried Related l w (FORMAT c n j)
-  unfolding formatRefusals refusal doneBy carriedOut image blankLedger diskAfter memoryAfter storeCount formatted isRecover
+  unfolding formatRefusals refusal doneBy carriedOut image blankLedger diskAfter memoryAfter formatted isRecover
   format-carried c n j h =
       let s : Shape = newShape c n j in
       let ok : inRange c n j ≡ true =
@@ -102,7 +104,7 @@ module _ {l : Ledger} {w : World} (b : RelatedBlank l w) where
       plain (other refl) (related-up (at-format s r)) (record { disk = refl; memory = refl; stores = refl })
 
   blank-carries : (k : Command) → refusal (refusalsOf k l) ≡ 0 → Carried Related l w k
-  unfolding refusalsOf writeRefusals closeRefusals storeRefusals checkpointRefusals
+  unfolding refusalsOf writeRefusals closeRefusals storeRefusals checkpointRefusals retireRefusals
   blank-carries (FORMAT c n j) h = format-carried c n j h
   blank-carries (WRITE c n o v) h = not-done _ h
   blank-carries (CLOSE c) h = not-done _ h
@@ -110,6 +112,7 @@ module _ {l : Ledger} {w : World} (b : RelatedBlank l w) where
   blank-carries (CHECKPOINT c) h = not-done _ h
   blank-carries CUT h = not-done _ h
   blank-carries RECOVER h = not-done _ h
+  blank-carries (RETIRE c) h = not-done _ h
 
 -- ---- down: CUT starts over, RECOVER goes on
 module _ {l : Ledger} {w : World} (d : CardDown l w) where
@@ -129,7 +132,7 @@ module _ {l : Ledger} {w : World} (d : CardDown l w) where
   recover-next (b ∷ left) e = subst (λ (left : List ℕ). Related (recoverLedger left l) ((recovered in-sequence w) .world)) (sym e) (related-down (recover-home d e))
 
   recover-carried : Carried Related l w RECOVER
-  unfolding doneBy carriedOut diskAfter memoryAfter storeCount target recovered recoveredBy
+  unfolding doneBy carriedOut diskAfter memoryAfter target recovered recoveredBy
   recover-carried =
       record {
         next = recover-next (l .left) refl;
@@ -138,7 +141,7 @@ module _ {l : Ledger} {w : World} (d : CardDown l w) where
       }
 
   down-carries : (k : Command) → refusal (refusalsOf k l) ≡ 0 → Carried Related l w k
-  unfolding refusalsOf formatRefusals writeRefusals closeRefusals storeRefusals checkpointRefusals doneBy carriedOut diskAfter memoryAfter storeCount isRecover
+  unfolding refusalsOf formatRefusals writeRefusals closeRefusals storeRefusals checkpointRefusals retireRefusals doneBy carriedOut diskAfter memoryAfter isRecover
   down-carries (FORMAT c n j) h = refused-21 _ h
   down-carries (WRITE c n o v) h = refused-22 _ h
   down-carries (CLOSE c) h = refused-22 _ h
@@ -146,11 +149,12 @@ module _ {l : Ledger} {w : World} (d : CardDown l w) where
   down-carries (CHECKPOINT c) h = refused-22 _ h
   down-carries CUT h = plain (other refl) (related-down (cut-down d)) (record { disk = refl; memory = refl; stores = refl })
   down-carries RECOVER h = recover-carried
+  down-carries (RETIRE c) h = refused-22 _ h
 
 -- ---- up
 module _ {l : Ledger} {w : World} (u : RelatedUp l w) where
   write-carried : (c b o : ℕ) (v : Bytes) → HasData (WRITE c b o v) → refusal (writeRefusals c b o v l) ≡ 0 → Carried Related l w (WRITE c b o v)
-  unfolding writeRefusals doneBy carriedOut noted diskAfter memoryAfter storeCount written isRecover
+  unfolding writeRefusals doneBy carriedOut noted diskAfter memoryAfter written isRecover
   write-carried c b o v fits h =
       let z = in-range-of u c _ (omega arith, (omega arith, (omega arith, (omega arith, (omega arith, tt))))) h in
       let y = z .1 in
@@ -161,26 +165,36 @@ module _ {l : Ledger} {w : World} (u : RelatedUp l w) where
       (record { disk = refl; memory = write-memory u c (z .0) b low o inside v fits (y .1 .1 .0) (y .1 .1 .1 .0) (y .1 .1 .1 .1 .0); stores = refl })
 
   close-carried : (c : ℕ) → refusal (closeRefusals c l) ≡ 0 → Carried Related l w (CLOSE c)
-  unfolding doneBy carriedOut diskAfter memoryAfter storeCount closed isRecover
+  unfolding doneBy carriedOut diskAfter memoryAfter closed isRecover
   close-carried c h =
       let m = may-close u c h in
       plain (other refl) (rw (ap isRunning (m .runs)) (related-up (close-at u c (m .in-range) (m .runs) (m .none-closed))))
       (record { disk = refl; memory = close-memory u c (m .in-range) (m .runs) (m .none-closed); stores = refl })
 
   store-carried : (c : ℕ) → refusal (storeRefusals c l) ≡ 0 → Carried Related l w (STORE c)
-  unfolding doneBy carriedOut noted diskAfter memoryAfter storeCount stored isRecover
+  unfolding doneBy carriedOut noted diskAfter memoryAfter stored isRecover
   store-carried c h =
       let m = may-store u c h in
       plain (other refl) (rw (lt-ltb _ _ (m .some-closed)) (related-up (store-at u c (m .in-range) (m .some-closed))))
       (record { disk = stored-bytes (u .up) c (m .in-range) (m .some-closed); memory = refl; stores = refl })
 
   checkpoint-carried : (c : ℕ) → refusal (checkpointRefusals c l) ≡ 0 → Carried Related l w (CHECKPOINT c)
-  unfolding doneBy carriedOut noted diskAfter memoryAfter storeCount isRecover
+  unfolding doneBy carriedOut noted diskAfter memoryAfter isRecover
   checkpoint-carried c h =
-      let m = may-checkpoint u c h in
-      let b = checkpointed-bytes (u .up) c (m .in-range) (m .some-committed) in
-      plain (other refl) (rw (lt-ltb _ _ (m .some-committed)) (related-up (checkpoint-at u c (m .in-range) (m .some-committed) (m .valid) (m .none-shared))))
+      let x = may-checkpoint u c h in
+      let m = x .0 in
+      let b = checkpointed-bytes (u .up) c (m .in-range) (m .some-committed) (less-home u c (m .in-range) (m .some-committed) (m .valid) (m .none-shared) (x .1)) in
+      plain (other refl) (rw (lt-ltb _ _ (m .some-committed)) (related-up (checkpoint-at u c (m .in-range) (m .some-committed) (m .valid) (m .none-shared) (x .1))))
       (record { disk = b .0; memory = checkpointed-memory c w; stores = b .1 })
+
+  retire-carried : (c : ℕ) → refusal (retireRefusals c l) ≡ 0 → Carried Related l w (RETIRE c)
+  unfolding doneBy carriedOut noted diskAfter memoryAfter isRecover
+  retire-carried c h =
+      let x = may-retire u c h in
+      let m = x .0 in
+      let b = retired-bytes (u .up) c (m .in-range) (m .some-committed) (all-home u c (m .in-range) (m .some-committed) (m .valid) (m .none-shared) (x .1)) in
+      plain (other refl) (rw (lt-ltb _ _ (m .some-committed)) (related-up (retire-at u c (m .in-range) (m .some-committed) (m .valid) (m .none-shared) (x .1))))
+      (record { disk = b .0; memory = retired-memory c w; stores = b .1 })
 
   -- FORMAT is refused with 21, RECOVER with 23
   up-21 : {A : Type 0} (ts : List (Bool × ℕ)) → refusal ((not (isBlank (l .phase)), 21) ∷ ts) ≡ 0 → A
@@ -190,7 +204,7 @@ module _ {l : Ledger} {w : World} (u : RelatedUp l w) where
   up-23 h = clash (ap isUp (u .up .ledger)) (refusal-passed _ 23 [] (omega arith) (refusal-passed _ 20 _ (omega arith) h .1) .0)
 
   up-carries : (k : Command) → HasData k → refusal (refusalsOf k l) ≡ 0 → Carried Related l w k
-  unfolding refusalsOf formatRefusals doneBy carriedOut diskAfter memoryAfter storeCount isRecover
+  unfolding refusalsOf formatRefusals doneBy carriedOut diskAfter memoryAfter isRecover
   up-carries (FORMAT c n j) fits h = up-21 _ h
   up-carries (WRITE c n o v) fits h = write-carried c n o v fits h
   up-carries (CLOSE c) fits h = close-carried c h
@@ -198,6 +212,7 @@ module _ {l : Ledger} {w : World} (u : RelatedUp l w) where
   up-carries (CHECKPOINT c) fits h = checkpoint-carried c h
   up-carries CUT fits h = plain (other refl) (related-down (cut-at u)) (record { disk = refl; memory = refl; stores = refl })
   up-carries RECOVER fits h = up-23 h
+  up-carries (RETIRE c) fits h = retire-carried c h
 
 -- ---- every command keeps the relation, and the claims follow
 pub blank-phase : {l : Ledger} {w : World} → RelatedBlank l w → w .card .phase ≡ Blank
@@ -207,9 +222,9 @@ blank-phase b = ap (λ (x : Card). x .phase) (b .card)
 -- a reading answers by the ledger
 read-number : (l : Ledger) (w : World) → Related l w → (b : ℕ) → readNumber b w ≡ refusal (readRefusals b l)
 unfolding readNumber readConditions noBlock refusal shapeOf readRefusals blankLedger
-read-number l w (related-blank h) b = rw (right-length w (h .disk) (h .memory), blank-phase h, h .ledger) refl
-read-number l w (related-down h) b = rw (right-length w (h .disk .size) (h .memory), h .phase, h .ledger) refl
-read-number l w (related-up h) b = rw (right-length w (h .up .disk .size) (h .up .memory), h .up .phase, h .up .ledger, shape-up (h .up)) refl
+read-number l w (related-blank h) b = rw (lengths-right w (h .disk) (h .memory), blank-phase h, h .ledger) refl
+read-number l w (related-down h) b = rw (lengths-right w (h .disk .size) (h .memory), h .phase, h .ledger) refl
+read-number l w (related-up h) b = rw (lengths-right w (h .up .disk .size) (h .up .memory), h .up .phase, h .up .ledger, shape-up (h .up)) refl
 
 read-bytes : (l : Ledger) (w : World) → Related l w → (b : ℕ) → readBlock b w ≡ readNow b l
 unfolding readBlock readNow readRefusals refusal blankLedger
@@ -229,9 +244,9 @@ pub related-simulation : Simulation Related
 related-simulation = record { sizes = sizes; between = λ l w h. record { phase = phase l w h; journals = journals l w h }; reads = λ l w h b. (read-number l w h b, read-bytes l w h b); answers = answers; carries = carries }
   where
     sizes : (l : Ledger) (w : World) → Related l w → wrongLength w ≡ false
-    sizes l w (related-blank b) = right-length w (b .disk) (b .memory)
-    sizes l w (related-up u) = right-length w (u .up .disk .size) (u .up .memory)
-    sizes l w (related-down d) = right-length w (d .disk .size) (d .memory)
+    sizes l w (related-blank b) = lengths-right w (b .disk) (b .memory)
+    sizes l w (related-up u) = lengths-right w (u .up .disk .size) (u .up .memory)
+    sizes l w (related-down d) = lengths-right w (d .disk .size) (d .memory)
 
     phase : (l : Ledger) (w : World) → Related l w → w .card .phase ≡ l .phase
     phase l w (related-blank b) = blank-phase b ∙ sym (unfold blankLedger in ap (λ (l : Ledger). l .phase) (b .ledger))

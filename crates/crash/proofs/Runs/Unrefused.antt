@@ -1,4 +1,4 @@
--- What the ledger has where CLOSE, STORE or CHECKPOINT meets none of its conditions; of CLOSE and STORE, that this is enough.
+-- What the ledger has where CLOSE, STORE, CHECKPOINT or RETIRE meets none of its conditions; of CLOSE and STORE, that this is enough.
 use Prim.Native.Nat.{ℕ, _<_}
 use native.Mathlib.Omega.{arith}
 use mathlib.Core.Path.{_≡_, refl, ap}
@@ -11,7 +11,7 @@ use Rattle.model.specs.Card.{sameName}
 use Rattle.model.specs.Command.{World, refusal, Clear}
 use Rattle.model.proofs.Command.{Numbered, refusal-clear}
 use Rattle.crash.specs.Book.{hasRunning, hasClosed, running, isRunning}
-use Rattle.crash.specs.Ledger.{Ledger, closeRefusals, storeRefusals, checkpointRefusals, notUpFor, validIn, sharesLowerIn}
+use Rattle.crash.specs.Ledger.{Ledger, closeRefusals, storeRefusals, checkpointRefusals, retireRefusals, notUpFor, validIn, sharesLowerIn, oldestRefusals, homeLeft}
 use Rattle.crash.proofs.Books.BookEntries.{nextName, oldestName}
 use Rattle.crash.proofs.Disk.LedgerStages.{running-is}
 use Rattle.crash.proofs.Runs.UpSteps.{RelatedUp}
@@ -25,6 +25,7 @@ pub record MayStore (l : Ledger) (c : ℕ) : Type 0 where
   pub in-range : c < l .shape .cores
   pub some-closed : l .book .uncommitted c < l .book .next c
 
+-- what CHECKPOINT and RETIRE both ask
 pub record MayCheckpoint (l : Ledger) (c : ℕ) : Type 0 where
   pub in-range : c < l .shape .cores
   pub some-committed : l .book .oldest c < l .book .uncommitted c
@@ -56,11 +57,18 @@ module _ {l : Ledger} {w : World} (u : RelatedUp l w) (c : ℕ) where
   unfolding storeRefusals
   may-store h = let z = in-range-of _ (omega arith, tt) h in record { in-range = z .0; some-closed = ltb-true _ _ (not-false _ (z .1 .0)) }
 
-  pub may-checkpoint : refusal (checkpointRefusals c l) ≡ 0 → MayCheckpoint l c
+  may-oldest : (ts : List (Bool × ℕ)) → Numbered ts → refusal (oldestRefusals c l ts) ≡ 0 → MayCheckpoint l c × Clear ts
+  may-oldest ts n h =
+      let z = in-range-of _ (omega arith, (omega arith, (omega arith, n))) h in
+      (record { in-range = z .0; some-committed = ltb-true _ _ (not-false _ (z .1 .0)); valid = not-false _ (z .1 .1 .0); none-shared = z .1 .1 .1 .0 }, z .1 .1 .1 .1)
+
+  pub may-checkpoint : refusal (checkpointRefusals c l) ≡ 0 → MayCheckpoint l c × (homeLeft c (l .book) ≡ true)
   unfolding checkpointRefusals
-  may-checkpoint h =
-      let z = in-range-of _ (omega arith, (omega arith, (omega arith, tt))) h in
-      record { in-range = z .0; some-committed = ltb-true _ _ (not-false _ (z .1 .0)); valid = not-false _ (z .1 .1 .0); none-shared = z .1 .1 .1 .0 }
+  may-checkpoint h = let z = may-oldest _ (omega arith, tt) h in (z .0, not-false _ (z .1 .0))
+
+  pub may-retire : refusal (retireRefusals c l) ≡ 0 → MayCheckpoint l c × (homeLeft c (l .book) ≡ false)
+  unfolding retireRefusals
+  may-retire h = let z = may-oldest _ (omega arith, tt) h in (z .0, z .1 .0)
 
   pub close-unrefused : MayClose l c → refusal (closeRefusals c l) ≡ 0
   unfolding closeRefusals refusal

@@ -19,10 +19,11 @@ use Rattle.model.specs.Command.{World, refusal, unstored, noBlock}
 use Rattle.model.specs.Valid.{Order, predecessor}
 use Rattle.model.specs.Write.{written, writtenMemory}
 use Rattle.model.specs.Commit.{closed, stored, copied}
-use Rattle.model.specs.Checkpoint.{checkpointed}
+use Rattle.model.specs.Checkpoint.{checkpointed, retiredOldest}
 use Rattle.model.proofs.Lists.{cases, and-left, getD-mem}
-use Rattle.crash.specs.Book.{Book, Write, absent, running, committed, requiredIn, kept, image, blank, isClosed, isCommitted, isRetired, bookHolder, storeBook, checkpointBook, writeBook}
-use Rattle.crash.specs.Ledger.{Ledger, freshLedger, cutLedger, withBook, closeLedger, validIn, sharesLowerIn, blocksAfter, copiesStored, imageNow, journalPasses, numberPasses}
+use Rattle.model.proofs.OneStore.{lengths-right}
+use Rattle.crash.specs.Book.{Book, Write, absent, running, committed, requiredIn, kept, image, blank, isClosed, isCommitted, isRetired, bookHolder, storeBook, checkpointBook, retireBook, writeBook}
+use Rattle.crash.specs.Ledger.{Ledger, freshLedger, cutLedger, withBook, closeLedger, validIn, sharesLowerIn, blocksAfter, copiesStored, imageNow, journalPasses, numberPasses, homeLeft}
 use Rattle.crash.proofs.Commands.CardWrite.{write-up, memory-written}
 use Rattle.crash.proofs.Disk.LedgerWrite.{well-formed-write}
 use Rattle.crash.proofs.Books.Tests.{clash, any-in, in-any, nameEquality, blockEquality}
@@ -34,12 +35,12 @@ use Rattle.crash.proofs.Blocks.InvariantSteps.{inv-fresh, inv-close, in
 use Rattle.crash.proofs.Blocks.InvariantWrite.{home-current, open-holds, holder-took, inv-write}
 use Rattle.crash.proofs.Blocks.ClosedImages.{Imaged, image-of-closed, imaged-fresh, imaged-close, imaged-store, imaged-retire, imaged-home-store, imaged-write}
 use Rattle.crash.proofs.Disk.Relation.{first-waiting, WellFormed, CardUp, CardDown, holderAs}
-use Rattle.crash.proofs.Disk.LedgerSteps.{well-formed-close, well-formed-store, well-formed-checkpoint}
-use Rattle.crash.proofs.Commands.CardCut.{cut-up, right-length}
+use Rattle.crash.proofs.Disk.LedgerSteps.{well-formed-close, well-formed-store, well-formed-checkpoint, well-formed-retire}
+use Rattle.crash.proofs.Commands.CardCut.{TargetsStand, cut-up}
 use Rattle.crash.proofs.Runs.CutTargets.{held-newest, home-target}
 use Rattle.crash.proofs.Commands.CardStore.{store-up, store-homes}
 use Rattle.crash.proofs.Commands.CardClose.{close-up, memory-closed}
-use Rattle.crash.proofs.Commands.CardCheckpoint.{checkpoint-up, home-stored, home-others, homes-stay}
+use Rattle.crash.proofs.Commands.CardCheckpoint.{checkpoint-up, retire-up, homed-now, home-stored, home-others, homes-stay}
 use Rattle.crash.proofs.Disk.LedgerStages.{below-oldest, closed-present, stored-unretired, committed-rank}
 use Rattle.crash.proofs.Runs.RunClaims.{HasData}
 use Rattle.model.specs.Tape.{WRITE}
@@ -100,7 +101,7 @@ module _ {l : Ledger} {w : World} (u : RelatedUp l w) where
   -- a block below B is read without a refusal
   up-number : (b : ℕ) → b < l .shape .blocks → readNumber b w ≡ 0
   unfolding readNumber readConditions noBlock refusal shapeOf
-  up-number b low = rw (right-length w (u .up .disk .size) (u .up .memory), u .up .phase, shape-up (u .up), lt-leb (l .shape .blocks) b low)
+  up-number b low = rw (lengths-right w (u .up .disk .size) (u .up .memory), u .up .phase, shape-up (u .up), lt-leb (l .shape .blocks) b low)
 
   -- a held one is read from memory, another from home, and both have the current image
   pub up-reads : (b : ℕ) → b < l .shape .blocks → readBlock b w ≡ imageNow l b
@@ -168,7 +169,7 @@ module _ {l : Ledger} {w : World} (u : RelatedUp l w) where
           imaged = imaged-close (u .inv) (u .imaged) c runs;
         }
 
-    -- CHECKPOINT of a transaction that is valid and shares no block with one of a lower stamp
+    -- CHECKPOINT and RETIRE of a transaction that is valid and shares no block with one of a lower stamp
     module _ (some-committed : k .oldest c < k .uncommitted c)
         (valid : any (sameName (oldestName c k)) (validIn k) ≡ true) (lowest : sharesLowerIn l (oldestName c k) ≡ false) where
       abbrev t : Name
@@ -182,26 +183,26 @@ module _ {l : Ledger} {w : World} (u : RelatedUp l w) where
           and-left (memberOf (kept k) t) _
           (sym (valid-is-kept k (opened-of k (u .inv .known)) (retired-below l (u .up .well-formed)) (u .inv .retired-kept) t) ∙ valid)
 
-      next-up : CardUp (withBook l (checkpointBook c k)) ((checkpointed c w) .world)
-      next-up = checkpoint-up (u .up) c in-range some-committed (well-formed-checkpoint l (u .up .well-formed) c in-range some-committed)
-
       module _ {m : ℕ} (stage : (k .entry t) .stage ≡ committed m) where
-        retire-at : m ≡ length bs → RelatedUp (withBook l (checkpointBook c k)) ((checkpointed c w) .world)
-        retire-at e =
+        homed-is : (coreOf (w .card) c) .homed ≡ m
+        homed-is = homed-now (u .up) c in-range some-committed stage
+
+        retire-by : m ≡ length bs → RelatedUp (withBook l (retireBook c k)) ((retiredOldest c w) .world)
+        retire-by e =
             record {
-              up = next-up;
+              up = retire-up (u .up) c in-range some-committed (homed-is ∙ e) (well-formed-retire l (u .up .well-formed) c in-range some-committed stage);
               home = u .home;
               homes = λ b h. homes-stay (u .up) c in-range some-committed stage e b ∙ u .homes b h;
               inv = inv-retire (u .inv) c m stage is-kept (omega arith);
-              imaged = imaged-retire (u .inv) (u .imaged) c m stage (omega arith);
+              imaged = imaged-retire (u .inv) (u .imaged) c m stage;
             }
 
-        home-at : m < length bs → RelatedUp (withBook l (checkpointBook c k)) ((checkpointed c w) .world)
-        home-at less =
+        home-by : m < length bs → RelatedUp (withBook l (checkpointBook c k)) ((checkpointed c w) .world)
+        home-by less =
             let b₀ = getD bs m 0 in
             let image : getD (l .images t) m [] ≡ imageAt l t b₀ = image-of-closed l (u .imaged) t (ap isClosed stage) m less in
             record {
-              up = next-up;
+              up = checkpoint-up (u .up) c in-range some-committed (omega (arith, homed-is)) (well-formed-checkpoint l (u .up .well-formed) c in-range some-committed stage less);
               home = λ b. cond (eqb b b₀) (imageAt l t b₀) (u .home b);
               homes =
                   λ b h.
@@ -211,23 +212,35 @@ module _ {l : Ledger} {w : World} (u : RelatedUp l w) where
               inv =
                   inv-home-store (u .inv) c m stage is-kept less
                   (lower-retired (u .inv) t lowest b₀ (in-any blockEquality (getD-mem bs m 0 less)));
-              imaged = imaged-home-store (u .inv) (u .imaged) c m stage less;
+              imaged = imaged-home-store (u .inv) (u .imaged) c m stage;
             }
 
-      pub checkpoint-at : RelatedUp (withBook l (checkpointBook c k)) ((checkpointed c w) .world)
-      checkpoint-at =
-          let s = u .up .well-formed .ranks c in-range .first some-committed in
-          elim (decLt (s .0) (length bs)) [ yes h ↦ home-at (s .1) h | no h ↦ retire-at (s .1) (omega (arith, s .2)) ]
+      abbrev first : (n : ℕ) × ((k .entry t) .stage ≡ committed n) × (n ≤ length bs)
+      first = u .up .well-formed .ranks c in-range .first some-committed
+
+      pub less-home : homeLeft c k ≡ true → (coreOf (w .card) c) .homed < length bs
+      less-home h = let z : ltb (first .0) (length bs) ≡ true = rw (first .1) at h in omega (arith, homed-is (first .1), ltb-true (first .0) (length bs) z)
+
+      pub all-home : homeLeft c k ≡ false → (coreOf (w .card) c) .homed ≡ length bs
+      all-home h = let z : ltb (first .0) (length bs) ≡ false = rw (first .1) at h in omega (arith, homed-is (first .1), ltb-false (first .0) (length bs) z, first .2)
+
+      pub checkpoint-at : homeLeft c k ≡ true → RelatedUp (withBook l (checkpointBook c k)) ((checkpointed c w) .world)
+      checkpoint-at h = home-by (first .1) (omega (arith, less-home h, homed-is (first .1)))
+
+      pub retire-at : homeLeft c k ≡ false → RelatedUp (withBook l (retireBook c k)) ((retiredOldest c w) .world)
+      retire-at h = retire-by (first .1) (omega (arith, all-home h, homed-is (first .1)))
 
   -- a cut hands on what recovery will give
-  pub cut-at : CardDown (cutLedger l) ((unstored w downCard zeroMemory) .world)
-  cut-at =
+  pub up-gives : TargetsStand l (w .disk)
+  up-gives =
       let f = u .up .well-formed in
-      cut-up (u .up)
-      (record {
+      record {
         held = λ b h m. held-newest (u .inv) (retired-below l f) b (u .imaged) m;
         home = λ b h n. u .homes b h ∙ home-target (u .inv) (retired-below l f) b h n;
-      })
+      }
+
+  pub cut-at : CardDown (cutLedger l) ((unstored w downCard zeroMemory) .world)
+  cut-at = cut-up (u .up) up-gives
 
 -- a card that has just come up, over the area that its saved writes give
 pub fresh-at : (o : Order) (s : Shape) (saved : List Write) (first : ℕ → ℕ) (w : World) → CardUp (freshLedger o s saved first) w

@@ -9,7 +9,7 @@ use Rattle.model.specs.declared.Core.{Core}
 use Rattle.model.specs.declared.Card.{Card}
 use Rattle.journal.specs.Records.{recordIn}
 use Rattle.cells.specs.Cells.{numberIn, byteIn, nameCell, transactionIn, cardIn, corePlace, runningPlace, closedPlace}
-use Rattle.cells.proofs.ReadLaws.{next-there, stored-there, homed-there, running-there, closed-there, running-live, closed-live, stamp-read}
+use Rattle.cells.proofs.ReadLaws.{next-there, stored-there, running-there, closed-there, running-live, closed-live, stamp-read}
 use Rattle.planner.specs.declared.Work.{Work}
 use Rattle.planner.specs.Plan.{committedAs, closedAs, runningAs, runs, storesLeft, storesFor}
 use Rattle.planner.specs.Works.{noWork, workOf, homedAt, committedWork, closedWork, runningWork}
@@ -22,10 +22,9 @@ pub homed-other : (k : Core) (j : ℕ) → (j ≡ 0 → ⊥) → 0 ≡ homedAt k
 unfolding homedAt
 homed-other k j h = rw (ne-eqb j 0 h)
 
-pub homed-oldest : (w : List ℕ) (c : ℕ) → c < 8 → (a : ℕ) → a ≡ corePlace c → (n : ℕ) → n ≡ byteIn w (a + 3) → (j : ℕ) → j ≡ 0
-    → n ≡ homedAt (coreOf (cardIn w) c) j
+pub homed-oldest : (k : Core) (n : ℕ) → n ≡ k .homed → (j : ℕ) → j ≡ 0 → n ≡ homedAt k j
 unfolding homedAt
-homed-oldest w c h a e n q j z = homed-there w c h a e n q ∙ rw (eq-eqb j 0 z)
+homed-oldest k n q j z = q ∙ rw (eq-eqb j 0 z)
 
 -- ---- committed
 module _ (x : Card) (xs zs : List ℕ) (c j i : ℕ) (n : ℕ) (e : n ≡ getD xs i 0 / 256) where

@@ -1,38 +1,40 @@
--- CHECKPOINT of a card that is up: it lowers the figure by one; of a transaction that no other comes before, the order stays, or loses its first.
+-- CHECKPOINT and RETIRE of a card that is up lower the figure by one each; CHECKPOINT leaves the order, and RETIRE of a transaction
+-- that no other comes before takes its first.
 use Prim.Native.Nat.{ℕ, suc, _<_, _≤_}
 use native.Mathlib.Omega.{arith}
 use mathlib.Core.Path.{_≡_, refl, sym, ap, ap₂, _∙_, subst}
 use mathlib.Core.Logic.{_≢_}
 use mathlib.Core.List.{List, [], _∷_, _++_, map, List·Memᴰ, List·Memᴰ·head, Memᴰ·append-right}
-use mathlib.Core.Bool.{Bool, false, not}
+use mathlib.Core.Bool.{Bool, true, false, not}
+use lib.Dec.{ltb}
 use lib.ListN.{length}
-use borrow.Author.Tests.{eq-eqb, ne-eqb}
+use borrow.Author.Tests.{ne-eqb, ltb-true, ltb-false}
 use Rattle.model.specs.Lists.{Each, Pairs, select, total}
 use Rattle.model.specs.Card.{tailOf}
 use Rattle.model.specs.Command.{World}
-use Rattle.model.specs.Checkpoint.{checkpointed, committedOf, oldest}
+use Rattle.model.specs.Checkpoint.{checkpointed, retiredOldest, committedOf, oldest}
 use Rattle.model.specs.Step.{doneBy, step}
-use Rattle.model.specs.Tape.{CHECKPOINT}
+use Rattle.model.specs.Tape.{CHECKPOINT, RETIRE}
 use Rattle.model.specs.declared.Name.{Name}
 use Rattle.model.specs.declared.Committed.{Committed}
-use Rattle.model.proofs.Base.{decLt, ℕ-discrete}
+use Rattle.model.proofs.Base.{ℕ-discrete}
 use Rattle.model.proofs.Each.{each-mem, each-left, each-right}
 use Rattle.model.proofs.Lists.{mem-each, each-append}
 use Rattle.model.proofs.Select.{select-append, select-in, mem-select}
 use Rattle.model.proofs.Sorting.{Differ}
-use Rattle.crash.specs.Book.{Book, committed, checkpointBook}
-use Rattle.crash.specs.Ledger.{Ledger, withBook}
+use Rattle.crash.specs.Book.{Book, committed, checkpointBook, retireBook}
+use Rattle.crash.specs.Ledger.{Ledger, withBook, homeLeft}
 use Rattle.crash.proofs.Books.BookEntries.{oldestName, raise-at}
-use Rattle.crash.proofs.Books.BookSteps.{checkpoint-home, checkpoint-retires}
-use Rattle.crash.proofs.Commands.CardCheckpoint.{checkpointed-bytes}
-use Rattle.crash.proofs.Runs.UpSteps.{RelatedUp, checkpoint-at}
+use Rattle.crash.proofs.Books.BookSteps.{retire-restages}
+use Rattle.crash.proofs.Commands.CardCheckpoint.{checkpointed-bytes, retired-bytes}
+use Rattle.crash.proofs.Runs.UpSteps.{RelatedUp, less-home, all-home, checkpoint-at, retire-at}
 use Rattle.crash.proofs.Runs.Unrefused.{MayCheckpoint}
 use Rattle.planner.specs.Plan.{Unretired, runs}
 use Rattle.planner.specs.Emptying.{retiredBy}
 use Rattle.planner.proofs.Transactions.Replaced.{Replaced, Stamped, newStamped, stampedAs, orderFrom}
 use Rattle.planner.proofs.Transactions.Orders.{order-stays, order-retires, most-stays, most-falls}
 use Rattle.planner.proofs.Transactions.LedgerList.{entryAs, ledgerList}
-use Rattle.planner.proofs.Transactions.ListSteps.{Lowered, checkpoint-lowered, home-list, retire-list}
+use Rattle.planner.proofs.Transactions.ListSteps.{Lowered, checkpoint-lowered, retire-lowered, home-list, retire-list}
 use Rattle.planner.proofs.Doing.OldestOnes.{oldest-at}
 use Rattle.planner.proofs.Doing.RunLaws.{withStamp}
 use Rattle.planner.proofs.Doing.Answered.{when-done}
@@ -71,47 +73,85 @@ module _ {l : Ledger} {w : World} (u : RelatedUp l w) (c : ℕ) (m : MayCheckpoi
   abbrev t : Name
   t = oldestName c k
 
-  abbrev l′ : Ledger
-  l′ = withBook l (checkpointBook c k)
+  abbrev first : (n : ℕ) × ((k .entry t) .stage ≡ committed n) × (n ≤ length ((k .entry t) .blocks))
+  first = u .up .well-formed .ranks c (m .in-range) .first (m .some-committed)
 
-  related-after : RelatedUp l′ ((checkpointed c w) .world)
-  related-after = checkpoint-at u c (m .in-range) (m .some-committed) (m .valid) (m .none-shared)
+  -- ---- CHECKPOINT: a home store
+  module _ (left : homeLeft c k ≡ true) where
+    abbrev l₁ : Ledger
+    l₁ = withBook l (checkpointBook c k)
 
-  checkpoint-to : LoweredTo l (checkpointed c w)
-  checkpoint-to =
-      record {
-        next = l′;
-        related = related-after;
-        lowered =
-            subst (Lowered (ledgerList l) (ledgerList l′)) (sym (checkpointed-bytes (u .up) c (m .in-range) (m .some-committed) .1))
-            (checkpoint-lowered (u .up .well-formed) c (m .in-range) (m .some-committed));
-      }
+    checkpoint-to : LoweredTo l (checkpointed c w)
+    checkpoint-to =
+        record {
+          next = l₁;
+          related = checkpoint-at u c (m .in-range) (m .some-committed) (m .valid) (m .none-shared) left;
+          lowered =
+              subst (Lowered (ledgerList l) (ledgerList l₁))
+              (sym (checkpointed-bytes (u .up) c (m .in-range) (m .some-committed) (less-home u c (m .in-range) (m .some-committed) (m .valid) (m .none-shared) left) .1))
+              (checkpoint-lowered (u .up .well-formed) c (m .in-range) (m .some-committed) left);
+        }
 
-  pub checkpoint-lowers : (step (CHECKPOINT c) w) .answer ≡ 0 → LoweredTo l (step (CHECKPOINT c) w)
-  unfolding doneBy
-  checkpoint-lowers h = when-done (LoweredTo l) (CHECKPOINT c) w h checkpoint-to
+    pub checkpoint-lowers : (step (CHECKPOINT c) w) .answer ≡ 0 → LoweredTo l (step (CHECKPOINT c) w)
+    unfolding doneBy
+    checkpoint-lowers h = when-done (LoweredTo l) (CHECKPOINT c) w h checkpoint-to
 
-  -- the tails tell whether it was retired
-  tail-before : (tailOf (w .card) c) .number ≡ k .oldest c
-  tail-before = u .up .disk .journals c (m .in-range) .number
+    home-chosen : ChosenTo l (CHECKPOINT c) w (checkpointed c w)
+    unfolding checkpoint-to total retiredBy
+    home-chosen =
+        let z : ltb (first .0) (length ((k .entry t) .blocks)) ≡ true = rw (first .1) at left in
+        let a = home-list (u .up .well-formed) c (m .in-range) (m .some-committed) (first .1) (ltb-true _ _ z) in
+        record {
+          to = checkpoint-to;
+          order = order-stays (l .closes) (a .replaced) (a .closed-before) (a .closed-after) (a .name) (a .stamp);
+          most = omega (arith, most-stays (a .replaced) (a .count));
+        }
 
-  tail-after : (tailOf ((checkpointed c w) .world .card) c) .number ≡ (checkpointBook c k) .oldest c
-  tail-after = related-after .up .disk .journals c (m .in-range) .number
+    pub checkpoint-chosen : (step (CHECKPOINT c) w) .answer ≡ 0 → ChosenTo l (CHECKPOINT c) w (step (CHECKPOINT c) w)
+    unfolding doneBy
+    checkpoint-chosen h = when-done (ChosenTo l (CHECKPOINT c) w) (CHECKPOINT c) w h home-chosen
 
-  none-retired : (checkpointBook c k) .oldest c ≡ k .oldest c → retiredBy (CHECKPOINT c) w ((checkpointed c w) .world) ≡ []
-  unfolding retiredBy
-  none-retired e = rw (eq-eqb ((tailOf ((checkpointed c w) .world .card) c) .number) ((tailOf (w .card) c) .number) (tail-after ∙ e ∙ sym tail-before)) refl
+  -- ---- RETIRE: the master store
+  module _ (done : homeLeft c k ≡ false) where
+    abbrev l₂ : Ledger
+    l₂ = withBook l (retireBook c k)
 
-  one-retired : (checkpointBook c k) .oldest c ≡ suc (k .oldest c) → retiredBy (CHECKPOINT c) w ((checkpointed c w) .world) ≡ oldest (committedOf w c) ∷ []
-  unfolding retiredBy
-  one-retired e =
-      let differ : (tailOf ((checkpointed c w) .world .card) c) .number ≢ (tailOf (w .card) c) .number = λ z. omega (arith, tail-after, tail-before, e, z) in
-      rw (ne-eqb ((tailOf ((checkpointed c w) .world .card) c) .number) ((tailOf (w .card) c) .number) differ) refl
+    related-after : RelatedUp l₂ ((retiredOldest c w) .world)
+    related-after = retire-at u c (m .in-range) (m .some-committed) (m .valid) (m .none-shared) done
 
-  module _ {n : ℕ} (stage : (k .entry t) .stage ≡ committed n) where
+    retire-to : LoweredTo l (retiredOldest c w)
+    retire-to =
+        record {
+          next = l₂;
+          related = related-after;
+          lowered =
+              subst (Lowered (ledgerList l) (ledgerList l₂))
+              (sym (retired-bytes (u .up) c (m .in-range) (m .some-committed) (all-home u c (m .in-range) (m .some-committed) (m .valid) (m .none-shared) done) .1))
+              (retire-lowered (u .up .well-formed) c (m .in-range) (m .some-committed) done);
+        }
+
+    pub retire-lowers : (step (RETIRE c) w) .answer ≡ 0 → LoweredTo l (step (RETIRE c) w)
+    unfolding doneBy
+    retire-lowers h = when-done (LoweredTo l) (RETIRE c) w h retire-to
+
+    -- the tails tell that it was retired
+    tail-before : (tailOf (w .card) c) .number ≡ k .oldest c
+    tail-before = u .up .disk .journals c (m .in-range) .number
+
+    tail-after : (tailOf ((retiredOldest c w) .world .card) c) .number ≡ suc (k .oldest c)
+    tail-after =
+        related-after .up .disk .journals c (m .in-range) .number
+        ∙ ap (λ (b : Book). b .oldest c) (retire-restages c (first .0) k) ∙ raise-at c (k .oldest)
+
+    one-retired : retiredBy (RETIRE c) w ((retiredOldest c w) .world) ≡ oldest (committedOf w c) ∷ []
+    unfolding retiredBy
+    one-retired =
+        let differ : (tailOf ((retiredOldest c w) .world .card) c) .number ≢ (tailOf (w .card) c) .number = λ z. omega (arith, tail-after, tail-before, z) in
+        rw (ne-eqb ((tailOf ((retiredOldest c w) .world .card) c) .number) ((tailOf (w .card) c) .number) differ) refl
+
     entry-stamp : (entryAs l t) .stamp ≡ l .stamp t
     unfolding entryAs
-    entry-stamp = rw stage refl
+    entry-stamp = rw (first .1) refl
 
     retired-stamped : withStamp (oldest (committedOf w c)) ≡ stampedAs (entryAs l t)
     unfolding entryAs
@@ -121,49 +161,24 @@ module _ {l : Ledger} {w : World} (u : RelatedUp l w) (c : ℕ) (m : MayCheckpoi
     unfolding entryAs
     entry-count = oldest-at (u .up) c (m .in-range) (m .some-committed) .count
 
-    -- a home store
-    home-chosen : n < length ((k .entry t) .blocks) → ChosenTo l (CHECKPOINT c) w (checkpointed c w)
-    unfolding checkpoint-to total
-    home-chosen h =
-        let a = home-list (u .up .well-formed) c (m .in-range) (m .some-committed) stage h in
-        let e : (checkpointBook c k) .oldest c ≡ k .oldest c = ap (λ (b : Book). b .oldest c) (checkpoint-home c n k stage h) in
-        record {
-          to = checkpoint-to;
-          order =
-              order-stays (l .closes) (a .replaced) (a .closed-before) (a .closed-after) (a .name) (a .stamp)
-              ∙ ap (λ (es : List Committed). map withStamp es ++ orderFrom (l .closes) (ledgerList l′)) (sym (none-retired e));
-          most = rw (none-retired e) (omega (arith, most-stays (a .replaced) (a .count)));
-        }
+    -- chosen: no stamp is lower, and no two are the same
+    module _ (low : Each (λ (v : Unretired). runs v ≡ false → l .stamp t ≤ v .stamp) (ledgerList l))
+        (apart : Pairs (Differ (λ (v : Unretired). v .stamp)) (select (λ (v : Unretired). not (runs v)) (ledgerList l))) where
+      retire-first : ChosenTo l (RETIRE c) w (retiredOldest c w)
+      unfolding retire-to total
+      retire-first =
+          let z : ltb (first .0) (length ((k .entry t) .blocks)) ≡ false = rw (first .1) at done in
+          let a = retire-list (u .up .well-formed) c (m .in-range) (m .some-committed) (first .1) (omega (arith, ltb-false (first .0) (length ((k .entry t) .blocks)) z, first .2)) in
+          let low₂ = subst (λ (x : ℕ). Each (λ (v : Unretired). runs v ≡ false → x ≤ v .stamp) (ledgerList l)) (sym entry-stamp) low in
+          record {
+            to = retire-to;
+            order =
+                order-retires (l .closes) (a .replaced) (a .closed-before) (lowest-apart (a .replaced) (a .closed-before) low₂ apart)
+                ∙ ap (λ (x : Stamped). x ∷ orderFrom (l .closes) (ledgerList l₂)) (sym retired-stamped)
+                ∙ ap (λ (es : List Committed). map withStamp es ++ orderFrom (l .closes) (ledgerList l₂)) (sym one-retired);
+            most = rw one-retired (omega (arith, most-falls (a .replaced), entry-count));
+          }
 
-    -- the master store, where no stamp is lower
-    retire-chosen : n ≡ length ((k .entry t) .blocks) → Each (λ (v : Unretired). runs v ≡ false → l .stamp t ≤ v .stamp) (ledgerList l)
-        → Pairs (Differ (λ (v : Unretired). v .stamp)) (select (λ (v : Unretired). not (runs v)) (ledgerList l)) → ChosenTo l (CHECKPOINT c) w (checkpointed c w)
-    unfolding checkpoint-to total
-    retire-chosen h low apart =
-        let a = retire-list (u .up .well-formed) c (m .in-range) (m .some-committed) stage h in
-        let e : (checkpointBook c k) .oldest c ≡ suc (k .oldest c) = ap (λ (b : Book). b .oldest c) (checkpoint-retires c n k stage h) ∙ raise-at c (k .oldest) in
-        let s : (entryAs l t) .stamp ≡ l .stamp t = entry-stamp in
-        let low₂ = subst (λ (x : ℕ). Each (λ (v : Unretired). runs v ≡ false → x ≤ v .stamp) (ledgerList l)) (sym s) low in
-        record {
-          to = checkpoint-to;
-          order =
-              order-retires (l .closes) (a .replaced) (a .closed-before) (lowest-apart (a .replaced) (a .closed-before) low₂ apart)
-              ∙ ap (λ (x : Stamped). x ∷ orderFrom (l .closes) (ledgerList l′)) (sym retired-stamped)
-              ∙ ap (λ (es : List Committed). map withStamp es ++ orderFrom (l .closes) (ledgerList l′)) (sym (one-retired e));
-          most = rw (one-retired e) (omega (arith, most-falls (a .replaced), entry-count));
-        }
-
-  -- chosen: no stamp is lower, and no two are the same
-  module _ (low : Each (λ (v : Unretired). runs v ≡ false → l .stamp t ≤ v .stamp) (ledgerList l))
-      (apart : Pairs (Differ (λ (v : Unretired). v .stamp)) (select (λ (v : Unretired). not (runs v)) (ledgerList l))) where
-    checkpoint-first : ChosenTo l (CHECKPOINT c) w (checkpointed c w)
-    checkpoint-first =
-        let s = u .up .well-formed .ranks c (m .in-range) .first (m .some-committed) in
-        elim (decLt (s .0) (length ((k .entry t) .blocks))) [
-          | yes h ↦ home-chosen (s .1) h
-          | no h ↦ retire-chosen (s .1) (omega (arith, s .2)) low apart
-        ]
-
-    pub checkpoint-chosen : (step (CHECKPOINT c) w) .answer ≡ 0 → ChosenTo l (CHECKPOINT c) w (step (CHECKPOINT c) w)
-    unfolding doneBy
-    checkpoint-chosen h = when-done (ChosenTo l (CHECKPOINT c) w) (CHECKPOINT c) w h checkpoint-first
+      pub retire-chosen : (step (RETIRE c) w) .answer ≡ 0 → ChosenTo l (RETIRE c) w (step (RETIRE c) w)
+      unfolding doneBy
+      retire-chosen h = when-done (ChosenTo l (RETIRE c) w) (RETIRE c) w h retire-first

@@ -4,28 +4,30 @@ use native.Mathlib.Omega.{arith}
 use mathlib.Core.Path.{_≡_, refl, sym, ap, ap₂, _∙_, subst}
 use mathlib.Core.List.{List, [], _∷_, _++_, flatMap, List·Memᴰ, List·Memᴰ·not-nil}
 use mathlib.Core.Option.{none, some}
-use mathlib.Core.Bool.{Bool, false}
+use mathlib.Core.Bool.{Bool, true, false, cond}
+use Rattle.model.specs.Checkpoint.{imagesLeft}
+use Rattle.crash.proofs.Commands.CardCheckpoint.{images-left}
 use borrow.Author.Tests.{ltb-true, ltb-false}
 use Rattle.model.specs.Lists.{Each, below, select, sortBy}
-use Rattle.model.specs.Command.{World, refusal}
+use Rattle.model.specs.Command.{World}
 use Rattle.model.specs.Step.{step}
-use Rattle.model.specs.Tape.{STORE, CLOSE, CHECKPOINT}
+use Rattle.model.specs.Tape.{STORE, CLOSE, CHECKPOINT, RETIRE}
 use Rattle.model.specs.declared.Committed.{Committed}
 use Rattle.model.proofs.Base.{decLt}
 use Rattle.model.proofs.Each.{each-mem}
-use Rattle.model.proofs.Lists.{mem-each, flatMap-append}
+use Rattle.model.proofs.Lists.{cases, mem-each, flatMap-append}
 use Rattle.model.proofs.Sorting.{sort-first, sort-none}
 use Rattle.crash.specs.Book.{hasRunning}
-use Rattle.crash.specs.Ledger.{Ledger, refusalsOf, checkpointRefusals}
+use Rattle.crash.specs.Ledger.{Ledger, refusalsOf, homeLeft}
 use Rattle.crash.proofs.Books.BookEntries.{oldestName}
 use Rattle.crash.proofs.Commands.CardRules.{live-runs}
 use Rattle.crash.proofs.Commands.CardAnswers.{closing-live}
 use Rattle.crash.proofs.Disk.LedgerStages.{running-is}
 use Rattle.crash.proofs.Runs.UpSteps.{RelatedUp}
-use Rattle.crash.proofs.Runs.Unrefused.{MayClose, MayStore, may-checkpoint}
-use Rattle.crash.proofs.Runs.LowestCheckpoint.{Quiescent, lowest-unrefused, none-lower}
+use Rattle.crash.proofs.Runs.Unrefused.{MayClose, MayStore, may-checkpoint, may-retire}
+use Rattle.crash.proofs.Runs.LowestCheckpoint.{Quiescent, lowest-unrefused, lowest-retires, none-lower}
 use Rattle.planner.specs.Plan.{Unretired, runs}
-use Rattle.planner.specs.Emptying.{coresOf, closedOn, runsOn, oldestOnes, choices, firstChoice, nextCommand}
+use Rattle.planner.specs.Emptying.{coresOf, closedOn, runsOn, oldestOnes, oldestNext, choices, firstChoice, nextCommand}
 use Rattle.planner.proofs.Transactions.LedgerList.{entriesFrom, closedOf, runningOf, coreList, ledgerList, list-up}
 use Rattle.planner.proofs.Transactions.ListMembers.{member, entry-closed, its-stamp}
 use Rattle.planner.proofs.Transactions.ListStamps.{distinct-stamps}
@@ -37,7 +39,7 @@ use Rattle.planner.proofs.Doing.OldestOnes.{OldestOf, in-oldest, oldest
 use Rattle.planner.proofs.Doing.Lowering.{IsUp, chosen-done}
 use Rattle.planner.proofs.Doing.StoreStep.{store-chosen}
 use Rattle.planner.proofs.Doing.CloseStep.{close-chosen}
-use Rattle.planner.proofs.Doing.CheckpointStep.{checkpoint-chosen}
+use Rattle.planner.proofs.Doing.CheckpointStep.{checkpoint-chosen, retire-chosen}
 
 abbrev stampOf : Committed → ℕ
 stampOf e = e .stamp
@@ -54,9 +56,9 @@ module _ (w : World) where
     next-close e = rw (none-closed, e) refl
 
     module _ (none-run : select (runsOn w) (coresOf w) ≡ []) where
-      next-checkpoint : {e : Committed} {es : List Committed} → sortBy stampOf (oldestOnes w) ≡ e ∷ es → nextCommand w ≡ some (CHECKPOINT (e .core))
+      next-oldest : {e : Committed} {es : List Committed} → sortBy stampOf (oldestOnes w) ≡ e ∷ es → nextCommand w ≡ some (oldestNext w (e .core))
       unfolding nextCommand choices firstChoice
-      next-checkpoint h = rw (none-closed, none-run, h) refl
+      next-oldest h = rw (none-closed, none-run, h) refl
 
       next-none : sortBy stampOf (oldestOnes w) ≡ [] → nextCommand w ≡ none
       unfolding nextCommand choices firstChoice
@@ -115,19 +117,12 @@ module _ {l : Ledger} {w : World} (u : RelatedUp l w) where
             none-closed = all-committed;
           }
 
-      -- ---- a CHECKPOINT
+      -- ---- a CHECKPOINT or a RETIRE
       module _ (c : ℕ) (e : Committed) (o : OldestOf (u .up) e c) (low : Each (λ (f : Committed). e .stamp ≤ f .stamp) (oldestOnes w)) where
         lowest : (i : ℕ) → i < l .shape .cores → l .book .oldest i < l .book .uncommitted i → l .stamp (oldestName c (l .book)) ≤ l .stamp (oldestName i (l .book))
         lowest i h g =
             let r = oldest-in (u .up) i h g in
             omega (arith, each-mem (λ (f : Committed). e .stamp ≤ f .stamp) low (r .1), o .stamp, r .2 .stamp)
-
-        unrefused : refusal (checkpointRefusals c l) ≡ 0
-        unrefused = lowest-unrefused u is-quiescent c (o .in-range) (o .some-committed) lowest
-
-        answered : (step (CHECKPOINT c) w) .answer ≡ 0
-        unfolding refusalsOf
-        answered = answer-is u (CHECKPOINT c) ∙ unrefused
 
         no-lower : Each (λ (v : Unretired). runs v ≡ false → l .stamp (oldestName c (l .book)) ≤ v .stamp) (ledgerList l)
         no-lower =
@@ -138,16 +133,35 @@ module _ {l : Ledger} {w : World} (u : RelatedUp l w) where
             let s = entry-closed f x h in
             omega (arith, its-stamp f x h, none-lower f is-quiescent c lowest (v .name) (s .0) (s .1)))
 
-        choose-oldest : nextCommand w ≡ some (CHECKPOINT c) → Choice IsUp w
-        choose-oldest n =
-            next-done (CHECKPOINT c) n
-            (chosen-done u (CHECKPOINT c) answered (checkpoint-chosen u c (may-checkpoint u c unrefused) no-lower (distinct-stamps (u .up .well-formed)) answered))
+        same-left : imagesLeft c w ≡ homeLeft c (l .book)
+        same-left = images-left (u .up) c (o .in-range) (o .some-committed)
 
-      choose-checkpoint : (e : Committed) (es : List Committed) → sortBy stampOf (oldestOnes w) ≡ e ∷ es → Choice IsUp w
-      choose-checkpoint e es h =
+        choose-home : homeLeft c (l .book) ≡ true → nextCommand w ≡ some (oldestNext w c) → Choice IsUp w
+        unfolding refusalsOf
+        choose-home left n =
+            let z = lowest-unrefused u is-quiescent c (o .in-range) (o .some-committed) lowest left in
+            let answered : (step (CHECKPOINT c) w) .answer ≡ 0 = answer-is u (CHECKPOINT c) ∙ z in
+            let m = may-checkpoint u c z in
+            let e : oldestNext w c ≡ CHECKPOINT c = ap (λ (b : Bool). cond b (CHECKPOINT c) (RETIRE c)) (same-left ∙ left) in
+            next-done (CHECKPOINT c) (n ∙ ap some e) (chosen-done u (CHECKPOINT c) answered (checkpoint-chosen u c (m .0) (m .1) answered))
+
+        choose-retire : homeLeft c (l .book) ≡ false → nextCommand w ≡ some (oldestNext w c) → Choice IsUp w
+        unfolding refusalsOf
+        choose-retire left n =
+            let z = lowest-retires u is-quiescent c (o .in-range) (o .some-committed) lowest left in
+            let answered : (step (RETIRE c) w) .answer ≡ 0 = answer-is u (RETIRE c) ∙ z in
+            let m = may-retire u c z in
+            let e : oldestNext w c ≡ RETIRE c = ap (λ (b : Bool). cond b (CHECKPOINT c) (RETIRE c)) (same-left ∙ left) in
+            next-done (RETIRE c) (n ∙ ap some e) (chosen-done u (RETIRE c) answered (retire-chosen u c (m .0) (m .1) no-lower (distinct-stamps (u .up .well-formed)) answered))
+
+        choose-oldest : nextCommand w ≡ some (oldestNext w c) → Choice IsUp w
+        choose-oldest n = cases (homeLeft c (l .book)) (λ h. choose-home h n) (λ h. choose-retire h n)
+
+      choose-lowest : (e : Committed) (es : List Committed) → sortBy stampOf (oldestOnes w) ≡ e ∷ es → Choice IsUp w
+      choose-lowest e es h =
           let s = sort-first stampOf (oldestOnes w) h in
           let r = in-oldest (u .up) e (s .0) in
-          choose-oldest (r .0) e (r .1) (s .1) (subst (λ (c : ℕ). nextCommand w ≡ some (CHECKPOINT c)) (r .1 .core) (next-checkpoint w no-closed no-running h))
+          choose-oldest (r .0) e (r .1) (s .1) (subst (λ (c : ℕ). nextCommand w ≡ some (oldestNext w c)) (r .1 .core) (next-oldest w no-closed no-running h))
 
       -- ---- nothing
       choose-nothing : sortBy stampOf (oldestOnes w) ≡ [] → Choice IsUp w
@@ -165,7 +179,7 @@ module _ {l : Ledger} {w : World} (u : RelatedUp l w) where
       by-oldest : (no-closed : select (closedOn w) (coresOf w) ≡ []) (no-running : select (runsOn w) (coresOf w) ≡ []) (es : List Committed)
           → sortBy stampOf (oldestOnes w) ≡ es → Choice IsUp w
       by-oldest a b [] e = choose-nothing a b e
-      by-oldest a b (x ∷ es) e = choose-checkpoint a b x es e
+      by-oldest a b (x ∷ es) e = choose-lowest a b x es e
 
       by-running : (no-closed : select (closedOn w) (coresOf w) ≡ []) (cs : List ℕ) → select (runsOn w) (coresOf w) ≡ cs → Choice IsUp w
       by-running a [] e = by-oldest a e (sortBy stampOf (oldestOnes w)) refl

@@ -1,4 +1,4 @@
--- Each core's oldest committed transaction, as CHECKPOINT reads it and as the ledger has it.
+-- Each core's oldest committed transaction, as CHECKPOINT and RETIRE read it and as the ledger has it.
 use Prim.Native.Nat.{ℕ, suc, _<_}
 use native.Mathlib.Omega.{arith}
 use mathlib.Core.Path.{_≡_, refl, sym, ap, _∙_, subst}

@@ -10,8 +10,8 @@ use Rattle.model.specs.Lists.{Each, Pairs, all, total}
 use Rattle.model.specs.Journal.{nameOf}
 use Rattle.model.specs.Command.{World, Outcome}
 use Rattle.model.specs.Valid.{in-sequence}
-use Rattle.model.specs.Step.{step}
-use Rattle.model.specs.Tape.{Command, FORMAT, WRITE, CLOSE, STORE, CHECKPOINT, CUT, RECOVER}
+use Rattle.model.specs.Step.{step, worldBy}
+use Rattle.model.specs.Tape.{Command, FORMAT, WRITE, CLOSE, STORE, CHECKPOINT, CUT, RECOVER, RETIRE}
 use Rattle.model.specs.declared.Committed.{Committed}
 use Rattle.model.proofs.Command.{step-refused}
 use Rattle.model.proofs.Base.{ℕ-discrete}
@@ -19,11 +19,11 @@ use Rattle.model.proofs.Lists.{mem-each, and-left, and-right}
 use Rattle.crash.specs.Ledger.{Ledger, refusalsOf}
 use Rattle.crash.proofs.Books.Tests.{impossible}
 use Rattle.crash.proofs.Disk.Relation.{WellFormed}
-use Rattle.crash.proofs.Commands.CardCut.{right-length}
+use Rattle.model.proofs.OneStore.{lengths-right}
 use Rattle.crash.proofs.Runs.UpSteps.{RelatedUp}
-use Rattle.crash.proofs.Runs.Unrefused.{may-close, may-store, may-checkpoint}
+use Rattle.crash.proofs.Runs.Unrefused.{may-close, may-store, may-checkpoint, may-retire}
 use Rattle.planner.specs.Plan.{Unretired, Planned, commandsLeft, unretiredNow, inOrder, planFor, plan}
-use Rattle.planner.specs.Emptying.{enough, emptyingRun, retiredDone, isEmpty, isEmptied, isEmptying, worldBy}
+use Rattle.planner.specs.Emptying.{enough, emptyingRun, retiredDone, isEmpty, isEmptied, isEmptying}
 use Rattle.planner.specs.Met.{MetByDoing, PlanUp}
 use Rattle.planner.proofs.Transactions.Replaced.{Stamped, orderFrom}
 use Rattle.planner.proofs.Transactions.Orders.{order-names, order-ascends}
@@ -37,7 +37,7 @@ use Rattle.planner.proofs.Doing.Answered.{unrefused}
 use Rattle.planner.proofs.Doing.Lowering.{IsUp, LoweredTo, figure-lowered, ordered-up}
 use Rattle.planner.proofs.Doing.StoreStep.{store-chosen}
 use Rattle.planner.proofs.Doing.CloseStep.{stamps-counted, close-lowered}
-use Rattle.planner.proofs.Doing.CheckpointStep.{checkpoint-lowers}
+use Rattle.planner.proofs.Doing.CheckpointStep.{checkpoint-lowers, retire-lowers}
 use Rattle.planner.proofs.Doing.Choosing.{choose}
 use Rattle.planner.proofs.Doing.PlanLaws.{up-plan}
 
@@ -49,9 +49,10 @@ module _ {l : Ledger} {w : World} (u : RelatedUp l w) where
   lowers (WRITE c b i v) e h = impossible e
   lowers (CLOSE c) e h = close-lowered u c (may-close u c (unrefused u (CLOSE c) h)) h
   lowers (STORE c) e h = store-chosen u c (may-store u c (unrefused u (STORE c) h)) h .to
-  lowers (CHECKPOINT c) e h = checkpoint-lowers u c (may-checkpoint u c (unrefused u (CHECKPOINT c) h)) h
+  lowers (CHECKPOINT c) e h = let x = may-checkpoint u c (unrefused u (CHECKPOINT c) h) in checkpoint-lowers u c (x .0) (x .1) h
   lowers CUT e h = impossible e
   lowers RECOVER e h = impossible e
+  lowers (RETIRE c) e h = let x = may-retire u c (unrefused u (RETIRE c) h) in retire-lowers u c (x .0) (x .1) h
 
 -- refused, it changes nothing
 unchanged : (k : Command) (w : World) → (step k w) .answer ≢ 0 → (step k w) .world ≡ w
@@ -140,7 +141,7 @@ module _ {l : Ledger} {w : World} (u : RelatedUp l w) where
 
 -- ---- all of it
 plan-of : {w : World} → IsUp w → plan w ≡ planFor (unretiredNow w)
-plan-of {w} g = let up = g .related .up in up-plan w (right-length w (up .disk .size) (up .memory)) (up .phase)
+plan-of {w} g = let up = g .related .up in up-plan w (lengths-right w (up .disk .size) (up .memory)) (up .phase)
 
 figure-of : {w : World} → IsUp w → (plan w) .commands ≡ figure w
 unfolding planFor

@@ -81,7 +81,7 @@ module _ {l : Ledger} {w : World} (u : CardUp l w) where
   pub cores-up : coresOf w ≡ below (l .shape .cores)
   cores-up = ap (λ (s : Shape). below (s .cores)) (shape-up u)
 
-  -- recovery would read what CHECKPOINT reads
+  -- recovery would read what CHECKPOINT and RETIRE read
   journalOn-up : (c : ℕ) → c < l .shape .cores → journalOn (w .disk) c ≡ committedOf w c
   journalOn-up c h =
       let f = u .well-formed in

@@ -1,14 +1,14 @@
--- What STORE and CHECKPOINT carried out make of the ledger's list of unretired transactions: one of them is replaced, by itself
--- further on or, retired, by nothing, and the work left falls by one command.
-use Rattle.model.proofs.Base.{ℕ, suc, _+_, _≤_, _<_, arith, decLt, _≡_, refl, ap, subst, _∙_, _≢_}
+-- What STORE, CHECKPOINT and RETIRE carried out make of the ledger's list of unretired transactions: one of them is replaced, by
+-- itself further on or, retired, by nothing, and the work left falls by one command.
+use Rattle.model.proofs.Base.{ℕ, suc, _+_, _≤_, _<_, arith, true, false, ltb, ltb-true, ltb-false, _≡_, refl, ap, subst, _∙_, _≢_}
 use Rattle.model.proofs.Base.{false, cond, List, [], _∷_, length}
 use Rattle.model.specs.Lists.{total}
 use Rattle.model.specs.Card.{newName}
 use Rattle.model.specs.declared.Name.{Name}
-use Rattle.crash.specs.Book.{Stage, Book, closed, committed, retired, isRunning, storeBook, checkpointBook, raise}
-use Rattle.crash.specs.Ledger.{Ledger, withBook}
+use Rattle.crash.specs.Book.{Stage, Book, closed, committed, retired, isRunning, storeBook, checkpointBook, retireBook, raise}
+use Rattle.crash.specs.Ledger.{Ledger, withBook, homeLeft}
 use Rattle.crash.proofs.Books.BookEntries.{oldestName, uncommittedName, raise-at, raise-other}
-use Rattle.crash.proofs.Books.BookSteps.{restaged, restages, checkpoint-home, checkpoint-retires}
+use Rattle.crash.proofs.Books.BookSteps.{restaged, restages, checkpoint-home, retire-restages}
 use Rattle.crash.proofs.Disk.Relation.{Ranks, WellFormed}
 use Rattle.crash.proofs.Disk.LedgerRanks.{store-by}
 use Rattle.planner.specs.Plan.{Unretired, closesFor, storesFor, closesLeft, storesLeft, commandsLeft, runs}
@@ -143,15 +143,15 @@ module _ {l : Ledger} (f : WellFormed l) (c : ℕ) (in-range : c < l .shape .cor
         → Advanced (ledgerList l) (ledgerList (withBook l (checkpointBook c k))) (entryAs l (oldestName c k)) (stagedAs l (oldestName c k) (committed (suc m)))
     unfolding closesFor storesFor
     home-list h =
-        rw (checkpoint-home c m k stage h)
+        rw (checkpoint-home c m k stage)
         (advances l c (k .oldest c) in-range (omega arith) low-next (committed m) (committed (suc m)) (k .uncommitted) stage refl refl refl (omega arith))
 
     pub retire-list : m ≡ length ((k .entry (oldestName c k)) .blocks)
-        → Removed (ledgerList l) (ledgerList (withBook l (checkpointBook c k))) (entryAs l (oldestName c k))
+        → Removed (ledgerList l) (ledgerList (withBook l (retireBook c k))) (entryAs l (oldestName c k))
     unfolding runs commandsLeft closesLeft storesLeft closesFor storesFor
     retire-list h =
         let a = entry-is l (oldestName c k) (committed m) stage in
-        rw (checkpoint-retires c m k stage h)
+        rw (retire-restages c m k)
         (record {
           replaced = removed l c (k .oldest c) in-range (omega arith) low-next retired refl;
           closed-before = rw a refl;
@@ -159,10 +159,14 @@ module _ {l : Ledger} (f : WellFormed l) (c : ℕ) (in-range : c < l .shape .cor
           stores = rw a (omega arith);
         })
 
-  pub checkpoint-lowered : k .oldest c < k .uncommitted c → Lowered (ledgerList l) (ledgerList (withBook l (checkpointBook c k))) 1
-  checkpoint-lowered some =
+  pub checkpoint-lowered : k .oldest c < k .uncommitted c → homeLeft c k ≡ true → Lowered (ledgerList l) (ledgerList (withBook l (checkpointBook c k))) 1
+  checkpoint-lowered some left =
       let s = ranks .first some in
-      elim (decLt (s .0) (length ((k .entry (oldestName c k)) .blocks))) [
-        | yes h ↦ advanced-lowered (home-list some (s .1) h)
-        | no h ↦ removed-lowered (retire-list some (s .1) (omega (arith, s .2)))
-      ]
+      let z : ltb (s .0) (length ((k .entry (oldestName c k)) .blocks)) ≡ true = rw (s .1) at left in
+      advanced-lowered (home-list some (s .1) (ltb-true _ _ z))
+
+  pub retire-lowered : k .oldest c < k .uncommitted c → homeLeft c k ≡ false → Lowered (ledgerList l) (ledgerList (withBook l (retireBook c k))) 1
+  retire-lowered some left =
+      let s = ranks .first some in
+      let z : ltb (s .0) (length ((k .entry (oldestName c k)) .blocks)) ≡ false = rw (s .1) at left in
+      removed-lowered (retire-list some (s .1) (omega (arith, ltb-false (s .0) (length ((k .entry (oldestName c k)) .blocks)) z, s .2)))

@@ -46,7 +46,7 @@ fn used(call: impl FnOnce()) -> usize {
 struct Gauge {
     stage: Stage<Session>,
     /// The most that each command used, by its byte.
-    most: [usize; 8],
+    most: [usize; 9],
     /// The same of reading a block, and of running one command as a tape.
     reading: usize,
     tape: usize,
@@ -61,7 +61,7 @@ impl Gauge {
         self.run_as_tape(&tape[offset..]);
         let mut next = offset;
         let bytes = used(|| next = self.stage.command(tape, offset).next);
-        let most = &mut self.most[(tape[offset] as usize).min(7)];
+        let most = &mut self.most[(tape[offset] as usize).min(8)];
         *most = bytes.max(*most);
         let (Stage { card, disk, memory }, mut block) = (&self.stage, [0; 128]);
         let readings = [
@@ -145,12 +145,12 @@ fn recovered_chains(layout: Layout) -> [Gauge; 5] {
     ]
 }
 
-/// A tape, then a CHECKPOINT of each core, then a cut and recovery.
+/// A tape, then a CHECKPOINT and a RETIRE of each core, then a cut and recovery.
 fn checkpointed(name: &str, commands: &[Command], change: impl FnOnce(&mut [u8])) -> Gauge {
     let mut gauge = Gauge::default();
     gauge.run_all(commands);
     change(&mut gauge.stage.disk);
-    (0..8).for_each(|core| gauge.run_all(&[Command::Checkpoint { core }]));
+    (0..8).for_each(|core| gauge.run_all(&directed::retire_of(core, 1)));
     gauge.run_all(&[Command::Cut, Command::Recover]);
     gauge.print(name);
     gauge
@@ -176,9 +176,9 @@ fn planned_fullest() -> Gauge {
 fn main() {
     let commands = std::env::args().nth(1).map_or(50_000, |arg| arg.parse().expect("a number"));
     println!("bytes of stack below the call of an entry");
-    let names =
-        ["FORMAT", "WRITE", "CLOSE", "STORE", "CHECKPOINT", "CUT", "RECOVER", "tape", "reading", "page", "plan"];
-    println!("{:<34} {}", "", names.map(|name| format!("{name:>10}")).join(" "));
+    let commands_by_byte = ["FORMAT", "WRITE", "CLOSE", "STORE", "CHECKPOINT", "CUT", "RECOVER", "RETIRE"];
+    let names = commands_by_byte.iter().chain(&["tape", "reading", "page", "plan"]);
+    println!("{:<34} {}", "", names.map(|name| format!("{name:>10}")).collect::<Vec<_>>().join(" "));
     let (chain, links) = directed::chain_tape();
     let full = directed::full_tape();
     let mut all: Vec<Gauge> = LAYOUTS.into_iter().flat_map(recovered_chains).collect();

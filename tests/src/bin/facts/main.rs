@@ -9,6 +9,7 @@ use card_tests::foreign;
 use card_tests::generator::Generator;
 use card_tests::layout::{block_at, highest, read_master, Layout, Master, Shape, Tail, BLOCK, DISK, MEMORY, TAKEN};
 use card_tests::random::Random;
+use card_tests::recovered::recovered_area;
 use card_tests::wrong::Wrong;
 use std::fs;
 use std::path::PathBuf;
@@ -32,7 +33,7 @@ use Rattle.model.specs.declared.CommitLayout.the-variants.{Lists, Numbers}
 use Rattle.model.specs.Printing.{Line, blankWorld}
 use Rattle.model.proofs.Computes.{computes}
 use Rattle.seen.specs.Seen.{Seen, Read, Met, noise, laid, resized, endOf, seen, met, line, read, against, changed, sees}
-use Rattle.seen.specs.Told.{told, mark, tells}
+use Rattle.seen.specs.Told.{told, mark, areaSum, tells}
 use Rattle.crash.specs.Claims.{from-blank, from-down}
 ";
 
@@ -67,9 +68,10 @@ struct Facts {
     files: usize,
     facts: usize,
     told: usize,
+    areas: usize,
     tapes: [usize; 2],
     commands: [usize; 2],
-    answers: [usize; 34],
+    answers: [usize; 36],
 }
 
 fn main() -> std::io::Result<()> {
@@ -274,8 +276,19 @@ fn differing(from: &[u8], to: &[u8]) -> Vec<(usize, Vec<u8>)> {
 
 impl Facts {
     fn new(folder: PathBuf) -> Facts {
-        let (tapes, commands, answers) = ([0; 2], [0; 2], [0; 34]);
-        Facts { folder, text: HEAD.into(), commands_here: 0, files: 0, facts: 0, told: 0, tapes, commands, answers }
+        let (tapes, commands, answers) = ([0; 2], [0; 2], [0; 36]);
+        Facts {
+            folder,
+            text: HEAD.into(),
+            commands_here: 0,
+            files: 0,
+            facts: 0,
+            told: 0,
+            areas: 0,
+            tapes,
+            commands,
+            answers,
+        }
     }
 
     /// A fact about a tape from a start on. Says the disk at the end.
@@ -287,6 +300,9 @@ impl Facts {
         self.tapes[is_down as usize] += 1;
         self.count(&ran.answers, is_down);
         self.put(&hex(tape), &left, &right);
+        if is_down {
+            self.area(start);
+        }
         if let Some(books) = start.of_books() {
             self.told += 1;
             self.commands_here += ran.answers.len();
@@ -295,6 +311,15 @@ impl Facts {
             }
         }
         ran.disk
+    }
+
+    /// What recovery of a disk gives, by the disk alone. The definitions read all journals again for each block.
+    fn area(&mut self, start: &Start) {
+        if let Some(area) = recovered_area(&start.disk).filter(|area| area.len() <= 8 * BLOCK) {
+            self.areas += 1;
+            let left = format!("areaSum ({})", start.disk_text);
+            self.put("what recovery gives", &left, &checksum(0, &area).to_string());
+        }
     }
 
     /// One command at an offset over slices of these lengths, by the card that another tape left.
@@ -397,12 +422,13 @@ impl Facts {
 
     fn report(&self) {
         println!("{} facts in {} files; {} tapes by the books alone too", self.facts, self.files, self.told);
+        println!("what recovery gives of {} disks", self.areas);
         println!("blank starts: {} tapes, {} commands", self.tapes[0], self.commands[0]);
         println!("down over a disk: {} tapes, {} commands", self.tapes[1], self.commands[1]);
         let met = self.answers.iter().enumerate().filter(|(_, count)| **count > 0);
         let met: Vec<String> = met.map(|(answer, count)| format!("{answer}: {count}")).collect();
         println!("answers met: {}", met.join(", "));
-        let listed = (1..=8).chain(20..=23).chain(25..=33);
+        let listed = (1..=8).chain(20..=23).chain(25..=35);
         let unmet: Vec<String> = listed.filter(|i| self.answers[*i] == 0).map(|i| i.to_string()).collect();
         println!("answers not met: {}", if unmet.is_empty() { "none".into() } else { unmet.join(", ") });
     }

@@ -1,5 +1,5 @@
 -- `checkpoint::stores::count_home` meets its contract.
-use Rattle.checkpoint.proofs.RetireLaws.{core-homed}
+use Rattle.checkpoint.proofs.StoreLaws.{core-homed}
 use borrow.Author.Needs.{needs}
 use Rattle.checkpoint.proofs.stores.count_home.Statement.{statement}
 use Rattle.checkpoint.proofs.stores.count_home.Tie as tie

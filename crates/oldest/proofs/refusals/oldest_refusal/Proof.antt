@@ -1,7 +1,7 @@
 -- `oldest::refusals::oldest_refusal` meets its contract: 32, 33, or none.
 use Rattle.oldest.proofs.CardLaws.{shape-range}
 use Rattle.oldest.proofs.SharedLaws.{read-shape}
-use Rattle.oldest.proofs.OldestLaws.{oldest-was-read, oldest-core, runs-tested, oldestConditions-32, oldestConditions-33, oldestConditions-none}
+use Rattle.oldest.proofs.OldestLaws.{oldest-was-read, oldest-core, runs-tested, foundConditions-32, foundConditions-33, foundConditions-none}
 use borrow.Author.Needs.{needs}
 use Rattle.oldest.proofs.refusals.oldest_refusal.Statement.{statement}
 use Rattle.oldest.proofs.refusals.oldest_refusal.Tie as tie
@@ -10,20 +10,20 @@ returns : tie.Need-returns
 returns c =
     let struck = c .before .before in
     let read = struck .before .before .before .before .before .pre .1 in
-    oldestConditions-32 _ _ _ _ _ _ _ _ read _ (search needs) _ (search needs) _ _ (struck .valid-runs .ensures .0 _) (c .if1 .taken)
+    foundConditions-32 _ _ _ _ _ _ _ _ read _ (search needs) _ (search needs) _ _ (struck .valid-runs .ensures .0 _) (c .if1 .taken)
 
 returns-2 : tie.Need-returns-2
 returns-2 c =
     let struck = c .before .before .before .before in
     let read = struck .before .before .before .before .before .pre .1 in
-    oldestConditions-33 _ _ _ _ _ _ _ _ read _ (search needs) _ (search needs) _ _ (struck .valid-runs .ensures .0 _) (search needs)
+    foundConditions-33 _ _ _ _ _ _ _ _ read _ (search needs) _ (search needs) _ _ (struck .valid-runs .ensures .0 _) (search needs)
     _ (c .before .shares-lower .ensures) (search needs)
 
 returns-3 : tie.Need-returns-3
 returns-3 c =
     let struck = c .before .before .before .before in
     let read = struck .before .before .before .before .before .pre .1 in
-    oldestConditions-none _ _ _ _ _ _ _ _ read _ (search needs) _ (search needs) _ _ (struck .valid-runs .ensures .0 _) (search needs)
+    foundConditions-none _ _ _ _ _ _ _ _ read _ (search needs) _ (search needs) _ _ (struck .valid-runs .ensures .0 _) (search needs)
     _ (c .before .shares-lower .ensures) (search needs)
 
 pub oldest-refusal-spec : {M : Type 1} → statement M

@@ -1,4 +1,4 @@
--- `planner::works::closed_work` meets its contract: none, or what is left of its record and its checkpoint.
+-- `planner::works::closed_work` meets its contract: none, or what is left of its record, its home stores and its master store.
 use Rattle.planner.proofs.CodeLaws.WorkLaws.{none-few, closed-none, closed-some}
 use borrow.Author.Needs.{needs}
 use Rattle.planner.proofs.works.closed_work.Statement.{statement}

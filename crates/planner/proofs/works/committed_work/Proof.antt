@@ -1,4 +1,4 @@
--- `planner::works::committed_work` meets its contract: what is left of its checkpoint.
+-- `planner::works::committed_work` meets its contract: what is left of its home stores, and its master store.
 use Rattle.planner.proofs.CodeLaws.WorkLaws.{committed-low, committed-some}
 use borrow.Author.Needs.{needs}
 use Rattle.planner.proofs.works.committed_work.Statement.{statement}

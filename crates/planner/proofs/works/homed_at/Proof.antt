@@ -7,5 +7,4 @@ use Rattle.planner.proofs.works.homed_at.Tie as tie
 pub homed-at-spec : {M : Type 1} → statement M
 homed-at-spec =
     tie.close
-    (tie.spec (λ c. search (needs, homed-other)) (λ c κs. search needs) (λ c. search needs) (λ c κs. search needs) (λ c. search needs)
-    (λ c. search (needs, homed-oldest)))
+    (tie.spec (λ c. search (needs, homed-other)) (λ c κs. search needs) (λ c. search needs) (λ c. search (needs, homed-oldest)))

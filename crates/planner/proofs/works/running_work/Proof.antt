@@ -1,4 +1,4 @@
--- `planner::works::running_work` meets its contract: none, or all of its record and its checkpoint.
+-- `planner::works::running_work` meets its contract: none, or all of its record, its home stores and its master store.
 use Rattle.planner.proofs.CodeLaws.WorkLaws.{none-few, running-none, running-some}
 use borrow.Author.Needs.{needs}
 use Rattle.planner.proofs.works.running_work.Statement.{statement}

@@ -1,2 +1,0 @@
--- What the contracts of CHECKPOINT say beyond crates `model` and `oldest`.
-pub mod NextStore

@@ -1,0 +1,2 @@
+-- What the contracts of RETIRE say beyond crates `model` and `oldest`.
+pub mod Released
