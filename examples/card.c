@@ -17,7 +17,7 @@ static uint64_t cells[REV_D_CELLS];
 static uint8_t disk[REV_D_DISK];
 static uint8_t memory[REV_D_MEMORY];
 
-static const char *const names[] = {"", "FORMAT", "WRITE", "CLOSE", "STORE", "CHECKPOINT", "CUT", "RECOVER", "RETIRE"};
+static const char *const names[] = {"", "FORMAT", "WRITE", "CLOSE", "STORE", "CHECKPOINT", "CUT", "RECOVER", "RETIRE", "WRITE (9)"};
 
 /* Block 3 is written by core 0, which commits; core 1 writes block 2 and does not, and after the cut does. */
 static const uint8_t tape[] = {
@@ -29,7 +29,7 @@ static const uint8_t tape[] = {
     4, 0, 4, 0,  4, 0,                    /* STORE: descriptor, data, commit */
     6,                                    /* CUT */
     7, 7,                                 /* RECOVER: block 3, then the master */
-    2, 1, 0, 2,  8, 'k', 'e', 'p', 't',   /* WRITE: core 1, block 2, offset 8 */
+    9, 1, 0, 2,  8, 'k', 'e', 'p', 't',   /* the report task's WRITE: core 1, block 2, offset 8 */
     3, 1, 4, 1,  4, 1, 4, 1,              /* CLOSE, STORE: core 1 */
     5, 1, 8, 1,                           /* CHECKPOINT: block 2 home; RETIRE: the master */
 };

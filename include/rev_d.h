@@ -46,7 +46,7 @@ extern "C" {
  *     looked at
  * 20  blank (all but FORMAT)
  * 21  FORMAT, not blank
- * 22  down (WRITE, CLOSE, STORE, CHECKPOINT, reading), RETIRE and the planner
+ * 22  down (WRITE, CLOSE, STORE, CHECKPOINT, reading), RETIRE, the report task's WRITE and the planner
  * 23  RECOVER while up
  * 25  a ninth block
  * 26  journal full: blocks of the records of closed unretired transactions, stored yet or not, plus 2 and the blocks of the
@@ -60,8 +60,9 @@ extern "C" {
  * 33  CHECKPOINT, a lower-stamped unretired transaction shares a block (both took it); RETIRE too
  * 34  home stores outstanding (RETIRE)
  * 35  all home stores done (CHECKPOINT)
+ * 36  the report task's block limit: its WRITE would take a block, and the running transaction has three or more
  *
- * Where several hold: 1, 2, 3, then 20 to 23, then 4 to 8, then 25 to 35, lowest first.
+ * Where several hold: 1, 2, 3, then 20 to 23, then 4 to 8, then 25, then 36, then 26 to 35, lowest first.
  */
 
 /* The cells. They may be looked at, copied and put back; a copy put back goes with the disk and memory of the same moment.
@@ -126,7 +127,10 @@ void rev_d_down(uint64_t *cells);
 /* The command at an offset of a tape: one byte, then operands of fixed widths, numbers big-endian.
  *
  * 1 FORMAT C, B, J | 2 WRITE core, block (2 bytes), offset, data (4 bytes) | 3 CLOSE core | 4 STORE core | 5 CHECKPOINT core | 6 CUT
- * | 7 RECOVER | 8 RETIRE core
+ * | 7 RECOVER | 8 RETIRE core | 9 the report task's WRITE, with the operands of 2
+ *
+ * Both WRITEs go to the core's one running transaction and do the same. Only 2 takes a fourth to eighth block. A block that the
+ * transaction holds, or another running one, may be written by either.
  *
  * CHECKPOINT stores the next block of the core's oldest committed transaction home. Once all of these are home, RETIRE stores the
  * master, which retires the transaction; one that took no block needs RETIRE alone. With no other command in between, a cut between the

@@ -1,8 +1,9 @@
 // book.rs: the service book: fed each command with its answer and nothing of the card, it knows what a cut brings back.
 
-use crate::command::Command;
+use crate::command::{Command, Task, Write};
 use crate::layout::{BLOCK, CORES, HOMES};
 use crate::order::Order;
+use crate::wrong::WrongBook;
 use std::collections::VecDeque;
 
 /// A transaction of the book; its place in `entries` is its identity.
@@ -33,6 +34,7 @@ struct NotedWrite {
 
 pub struct Book {
     order: Order,
+    wrong: WrongBook,
     entries: Vec<Entry>,
     cores: [BookCore; CORES],
     holders: [Option<usize>; HOMES],
@@ -49,12 +51,18 @@ impl Default for Book {
 
 impl Book {
     pub fn under(order: Order) -> Book {
-        Book::new(order, 0)
+        Book::with(order, WrongBook::No)
     }
 
-    fn new(order: Order, blocks: u8) -> Book {
+    /// The same, wrong in one rule.
+    pub fn with(order: Order, wrong: WrongBook) -> Book {
+        Book::new(order, wrong, 0)
+    }
+
+    fn new(order: Order, wrong: WrongBook, blocks: u8) -> Book {
         Book {
             order,
+            wrong,
             entries: Vec::new(),
             cores: Default::default(),
             holders: [None; HOMES],
@@ -73,8 +81,8 @@ impl Book {
             return;
         }
         match command {
-            Command::Format { blocks, .. } => *self = Book::new(self.order, blocks),
-            Command::Write { core, block, offset, data } => self.write(core, block as usize, offset, data),
+            Command::Format { blocks, .. } => *self = Book::new(self.order, self.wrong, blocks),
+            Command::Write(write) => self.write(write),
             Command::Close { core } => self.close(core),
             Command::Store { core } => self.store(core),
             Command::Cut => self.cut(),
@@ -84,7 +92,10 @@ impl Book {
         }
     }
 
-    fn write(&mut self, core: u8, block: usize, offset: u8, data: [u8; 4]) {
+    /// Whose WRITE it is makes no difference.
+    fn write(&mut self, write: Write) {
+        let Write { task, core, offset, data, .. } = write;
+        let block = write.block as usize;
         let at = block * BLOCK + offset as usize;
         if core as usize >= CORES || at + 4 > self.area.len() {
             return;
@@ -102,7 +113,9 @@ impl Book {
                 self.add_name(writer, holder);
             }
         }
-        self.writes.push(NotedWrite { entry: writer, at, data });
+        if task == Task::Lamp || self.wrong != WrongBook::ReportUnnoted {
+            self.writes.push(NotedWrite { entry: writer, at, data });
+        }
     }
 
     /// The core's running transaction, opened if there is none.
@@ -163,7 +176,7 @@ impl Book {
             self.area[write.at..write.at + 4].copy_from_slice(&write.data);
         }
         let area = std::mem::take(&mut self.area);
-        *self = Book { area, ..Book::new(self.order, 0) };
+        *self = Book { area, ..Book::new(self.order, self.wrong, 0) };
     }
 
     /// Of each core the transactions since the last cut, in the order opened: whether a cut would keep them under a rule.

@@ -142,7 +142,7 @@ impl Card {
         self.admit(command)?;
         match command {
             Command::Format { cores, blocks, journal } => self.format(lent, cores, blocks, journal),
-            Command::Write { core, block, offset, data } => self.write(lent, core, block, offset, data),
+            Command::Write(write) => self.write(lent, write),
             Command::Close { core } => self.close(lent, core),
             Command::Store { core } => self.store(lent, core),
             Command::Checkpoint { core } => self.checkpoint(lent, core),

@@ -2,17 +2,19 @@
 
 use crate::book::Book;
 use crate::card::{Card, Outcome, Phase};
-use crate::command::{self, Command};
+use crate::command::{self, Command, Task, Write, REPORT_LIMIT};
 use crate::generator::Generator;
-use crate::layout::{block_at, master, read_master, Layout, Master, Shape, BLOCK, DISK, HOMES, MEMORY};
+use crate::layout::{block_at, master, read_master, Layout, Master, Shape, BLOCK, CORES, DISK, HOMES, MEMORY};
 use crate::ledger::{Entry, Ledger, Line, Rules, Stored};
 use crate::order::Order;
 use crate::random::Random;
 use crate::second_reader::{journal_stop, read_journal, Stop};
-use crate::wrong::{Wrong, WrongReader};
+use crate::wrong::{Wrong, WrongBook, WrongReader};
 
+mod reporting;
 mod starts;
 
+pub use reporting::Reporting;
 pub use starts::Shares;
 
 /// Which checks are made; a wrong card can be tried against one demand alone.
@@ -37,7 +39,9 @@ impl Checks {
     pub const READING: Checks = Checks(256);
     /// On runs from FORMAT a journal's reading ends with 1, or with 4 where an uncommitted record's descriptor stands.
     pub const ENDS: Checks = Checks(512);
-    pub const ALL: Checks = Checks(1023);
+    /// A byte 9 leaves the blocks of its transaction as they were, or as at most three.
+    pub const LIMIT: Checks = Checks(1024);
+    pub const ALL: Checks = Checks(2047);
     pub const NONE: Checks = Checks(0);
 
     fn has(self, check: Checks) -> bool {
@@ -94,6 +98,7 @@ pub struct Tally {
     pub recoveries: u64,
     pub cuts_in_recovery: u64,
     pub retiring: Retiring,
+    pub reporting: Reporting,
     pub longest_list: usize,
     pub most_records: usize,
     pub answers: [u64; 42],
@@ -106,6 +111,7 @@ pub struct Bench<'w> {
     /// The rule of the book and the ledger.
     order: Order,
     wrong: Wrong,
+    wrong_book: WrongBook,
     card: Card,
     disk: Vec<u8>,
     memory: Vec<u8>,
@@ -123,6 +129,8 @@ pub struct Bench<'w> {
     /// RECOVERs carried out since the last cut or start.
     recovers: usize,
     last_command: Option<Command>,
+    /// Whose WRITE opened the last transaction of each core.
+    opened_by: [Task; CORES],
     tape: Vec<u8>,
     /// The tape of the card whose disk was handed over.
     before: Vec<u8>,
@@ -160,6 +168,7 @@ impl<'w> Bench<'w> {
             recoveries: 0,
             cuts_in_recovery: 0,
             retiring: Retiring::default(),
+            reporting: Reporting::default(),
             longest_list: 0,
             most_records: 0,
             answers,
@@ -169,6 +178,7 @@ impl<'w> Bench<'w> {
             checks,
             order,
             wrong,
+            wrong_book: WrongBook::No,
             card: Card::with(Phase::Blank, wrong.into()),
             disk: vec![0; DISK],
             memory: vec![0; MEMORY],
@@ -182,6 +192,7 @@ impl<'w> Bench<'w> {
             given_disk: None,
             recovers: 0,
             last_command: None,
+            opened_by: [Task::Lamp; CORES],
             tape: Vec::new(),
             before: Vec::new(),
             random: Random::new(1),
@@ -323,6 +334,9 @@ impl<'w> Bench<'w> {
         let command = command::read(&self.tape, offset).ok().map(|(command, _)| command);
         let is_cut = command == Some(Command::Cut);
         self.count_retiring(before, command, outcome.answer);
+        if let Some(Command::Write(write)) = command {
+            self.count_write(before, write, outcome.answer);
+        }
         self.last_command = command;
         self.tally.commands += 1;
         self.tally.recoveries += (was_down && self.card.phase == Phase::Up) as u64;
@@ -428,6 +442,9 @@ impl<'w> Bench<'w> {
         let stored = self.ledger.apply(command);
         self.recovers = if command == Command::Recover { self.recovers + 1 } else { 0 };
         self.check_stores(command, outcome, &stored, changed)?;
+        if self.checks.has(Checks::LIMIT) {
+            self.check_limit(before, command)?;
+        }
         if self.checks.has(Checks::JOURNAL) {
             self.check_journals(command, changed)?;
         }
@@ -482,6 +499,14 @@ impl<'w> Bench<'w> {
             Command::Recover => index <= shape.blocks as usize,
             _ => false,
         }
+    }
+
+    fn check_limit(&self, before: &Card, command: Command) -> Checked {
+        let Command::Write(Write { task: Task::Report, core, .. }) = command else { return Ok(()) };
+        let blocks = |card: &Card| card.cores[core as usize].running.map(|running| running.blocks);
+        let (old, new) = (blocks(before), blocks(&self.card));
+        let is_small = new.is_some_and(|blocks| blocks.len() <= REPORT_LIMIT);
+        require(old == new || is_small, "limit", || format!("{command:?} left the blocks {new:?}, there were {old:?}"))
     }
 
     /// Demand 2: each journal reads as exactly the ledger's transactions stored whole since its tail.

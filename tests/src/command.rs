@@ -1,9 +1,53 @@
 // command.rs: the commands of a tape, read from its bytes and written to them.
 
+/// The report task takes no block of a transaction that has so many.
+pub const REPORT_LIMIT: usize = 3;
+
+/// Whose WRITE it is: that of the lamp reports, command 2, or that of the report task, byte 9 (paper 02, request h).
+#[derive(Clone, Copy, PartialEq, Eq, Debug)]
+pub enum Task {
+    Lamp,
+    Report,
+}
+
+impl Task {
+    fn of(byte: u8) -> Task {
+        if byte == 9 {
+            Task::Report
+        } else {
+            Task::Lamp
+        }
+    }
+
+    pub fn byte(self) -> u8 {
+        match self {
+            Task::Lamp => 2,
+            Task::Report => 9,
+        }
+    }
+}
+
+#[derive(Clone, Copy, PartialEq, Eq, Debug)]
+pub struct Write {
+    pub task: Task,
+    pub core: u8,
+    pub block: u16,
+    pub offset: u8,
+    pub data: [u8; 4],
+}
+
+impl Write {
+    /// Only called with as many operands as a WRITE takes.
+    fn from_operands(task: Task, o: &[u8]) -> Write {
+        let (block, data) = (u16::from_be_bytes([o[1], o[2]]), [o[4], o[5], o[6], o[7]]);
+        Write { task, core: o[0], block, offset: o[3], data }
+    }
+}
+
 #[derive(Clone, Copy, PartialEq, Eq, Debug)]
 pub enum Command {
     Format { cores: u8, blocks: u8, journal: u8 },
-    Write { core: u8, block: u16, offset: u8, data: [u8; 4] },
+    Write(Write),
     Close { core: u8 },
     Store { core: u8 },
     Checkpoint { core: u8 },
@@ -16,7 +60,7 @@ pub enum Command {
 pub fn operand_width(byte: u8) -> Option<usize> {
     match byte {
         1 => Some(3),
-        2 => Some(8),
+        2 | 9 => Some(8),
         3..=5 => Some(1),
         6 | 7 => Some(0),
         8 => Some(1),
@@ -38,12 +82,7 @@ impl Command {
     fn from_parts(byte: u8, o: &[u8]) -> Command {
         match byte {
             1 => Command::Format { cores: o[0], blocks: o[1], journal: o[2] },
-            2 => Command::Write {
-                core: o[0],
-                block: u16::from_be_bytes([o[1], o[2]]),
-                offset: o[3],
-                data: [o[4], o[5], o[6], o[7]],
-            },
+            2 | 9 => Command::Write(Write::from_operands(Task::of(byte), o)),
             3 => Command::Close { core: o[0] },
             4 => Command::Store { core: o[0] },
             5 => Command::Checkpoint { core: o[0] },
@@ -56,9 +95,9 @@ impl Command {
     pub fn write_to(&self, tape: &mut Vec<u8>) {
         match *self {
             Command::Format { cores, blocks, journal } => tape.extend([1, cores, blocks, journal]),
-            Command::Write { core, block, offset, data } => {
+            Command::Write(Write { task, core, block, offset, data }) => {
                 let [high, low] = block.to_be_bytes();
-                tape.extend([2, core, high, low, offset]);
+                tape.extend([task.byte(), core, high, low, offset]);
                 tape.extend(data);
             }
             Command::Close { core } => tape.extend([3, core]),

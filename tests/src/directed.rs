@@ -1,7 +1,7 @@
 // directed.rs: disks and tapes made for the worst cases: full journals, names in a chain that strike one a round, and
-// transactions with the highest number, stamp and counts.
+// transactions with the highest number, stamp and counts. Tapes on which the report task meets its limit.
 
-use crate::command::Command;
+use crate::command::{Command, Task, Write};
 use crate::layout::{
     commit, descriptor, master, read_master, Layout, Master, Name, Shape, Tail, Tails, BLOCK, CORES, DISK, HOMES,
     LAST_NUMBER, LAST_TAIL, NAMES,
@@ -74,7 +74,7 @@ pub fn highest_disk(layout: Layout) -> Vec<u8> {
 }
 
 fn write(core: u8, block: usize) -> Command {
-    Command::Write { core, block: block as u16, offset: 0, data: [core, block as u8, 1, 2] }
+    Command::Write(Write { task: Task::Lamp, core, block: block as u16, offset: 0, data: [core, block as u8, 1, 2] })
 }
 
 /// CLOSE and all stores of a transaction of so many blocks.
@@ -139,3 +139,49 @@ fn roomiest(room: &[usize; CORES], least: usize, busy: &[u8]) -> Option<u8> {
     let free = (0..CORES as u8).filter(|core| !busy.contains(core) && room[*core as usize] >= least);
     free.max_by_key(|core| room[*core as usize])
 }
+
+/// A tape in hex, and what its commands are answered.
+pub type Answered = (&'static str, &'static [u8]);
+
+/// Tapes for 36, the report task's block limit (paper 02, request h).
+#[rustfmt::skip]
+pub const REPORTS: [Answered; 8] = [
+    // a fourth block is refused, one that is held is not; command 2 takes it, and byte 9 may then write into it and takes none
+    ("01 01 09 18 | 09 00 0000 00 01010101 | 09 00 0001 00 02020202 | 09 00 0002 00 03030303 | 09 00 0003 00 04040404 \
+      | 09 00 0001 04 05050505 | 02 00 0003 00 06060606 | 09 00 0003 04 07070707 | 09 00 0004 00 08080808",
+        &[0, 0, 0, 0, 36, 0, 0, 0, 36]),
+    // 25 before 36: byte 9 opens and command 2 takes up to eight; a ninth by either, one of the eight by either; after CLOSE byte 9 takes
+    ("01 01 09 18 | 09 00 0000 00 01010101 | 02 00 0001 00 02020202 | 02 00 0002 00 03030303 | 02 00 0003 00 04040404 \
+      | 02 00 0004 00 05050505 | 02 00 0005 00 06060606 | 02 00 0006 00 07070707 | 09 00 0007 00 08080808 \
+      | 02 00 0007 00 08080808 | 09 00 0008 00 09090909 | 02 00 0008 00 0A0A0A0A | 09 00 0007 04 0B0B0B0B \
+      | 02 00 0000 04 0C0C0C0C | 03 00 | 09 00 0008 00 0D0D0D0D",
+        &[0, 0, 0, 0, 0, 0, 0, 0, 36, 0, 25, 25, 0, 0, 0, 0]),
+    // 36 before 26: a closed one of three blocks and a running one of three fill the journal
+    ("01 01 08 0A | 02 00 0000 00 01010101 | 02 00 0001 00 02020202 | 02 00 0002 00 03030303 | 03 00 \
+      | 09 00 0003 00 04040404 | 09 00 0004 00 05050505 | 09 00 0005 00 06060606 | 09 00 0006 00 07070707 \
+      | 02 00 0006 00 08080808 | 09 00 0000 04 09090909 | 02 00 0000 04 0A0A0A0A | 09 00 0004 04 0B0B0B0B",
+        &[0, 0, 0, 0, 0, 0, 0, 0, 36, 26, 36, 26, 0]),
+    // a third block in a journal that is full: both meet 26
+    ("01 01 08 0A | 02 00 0000 00 01010101 | 02 00 0001 00 02020202 | 02 00 0002 00 03030303 | 02 00 0003 00 04040404 | 03 00 \
+      | 09 00 0004 00 05050505 | 09 00 0005 00 06060606 | 09 00 0006 00 07070707 | 02 00 0006 00 08080808",
+        &[0, 0, 0, 0, 0, 0, 0, 0, 26, 26]),
+    // closed holders, of the own core and of another, not stored yet and committed; command 2 takes the block of one
+    ("01 02 08 18 | 02 00 0000 00 01010101 | 03 00 | 09 01 0001 00 02020202 | 03 01 | 09 00 0002 00 03030303 \
+      | 09 00 0003 00 04040404 | 02 00 0004 00 05050505 | 09 00 0000 04 06060606 | 09 00 0001 04 07070707 \
+      | 04 00 | 04 00 | 04 00 | 04 01 | 04 01 | 04 01 | 09 00 0000 04 08080808 | 09 00 0001 04 09090909 \
+      | 02 00 0001 04 0A0A0A0A | 09 00 0001 08 0B0B0B0B | 09 00 0000 08 0C0C0C0C | 03 00 | 04 00 | 04 00 | 04 00 | 04 00 \
+      | 04 00 | 04 00 | 06 | 07 | 07 | 07 | 07 | 07 | 07",
+        &[0, 0, 0, 0, 0, 0, 0, 0, 36, 36, 0, 0, 0, 0, 0, 0, 36, 36, 0, 0, 36, 0, 0, 0, 0, 0, 0, 0, 0, 0, 0, 0, 0, 0, 0]),
+    // with three blocks, one that a running holder has: both name each other, and core 0's does not commit, so neither comes back
+    ("01 02 08 18 | 09 00 0000 00 01010101 | 09 00 0001 00 02020202 | 09 00 0002 00 03030303 | 09 01 0003 00 04040404 \
+      | 09 00 0003 04 05050505 | 09 01 0000 04 06060606 | 03 01 | 04 01 | 04 01 | 04 01 | 05 01 | 06 | 07 | 07",
+        &[0, 0, 0, 0, 0, 0, 0, 0, 0, 0, 0, 32, 0, 0, 23]),
+    // byte 9 takes a closed holder's block and names it; with the holder committed both come back
+    ("01 02 01 0A | 09 00 0000 00 C03B3998 | 03 00 | 09 01 0000 04 02020202 | 03 01 | 04 01 | 04 01 | 04 01 | 05 01 \
+      | 04 00 | 04 00 | 04 00 | 05 01 | 06 | 07 | 07",
+        &[0, 0, 0, 0, 0, 0, 0, 0, 32, 0, 0, 0, 33, 0, 0, 0]),
+    // 20; 22, 5, 6 and 7 in their order; operands that end early
+    ("09 00 0000 00 01010101 | 01 01 01 0A | 09 01 0001 7D 01010101 | 09 00 0001 7D 01010101 | 09 00 0000 7D 01010101 \
+      | 06 | 09 01 0001 7D 01010101 | 09 00 0000 00 010101",
+        &[20, 0, 5, 6, 7, 0, 22, 3]),
+];

@@ -1,7 +1,7 @@
 // generator.rs: tapes meant to hurt: heavy sharing, long lists, wraps, cuts in recovery, data that looks like records.
 
 use crate::card::{Card, Core, Phase};
-use crate::command::Command;
+use crate::command::{Command, Task, Write};
 use crate::layout::{Shape, COMMIT, DESCRIPTOR, MARK};
 use crate::random::Random;
 use std::collections::VecDeque;
@@ -13,6 +13,9 @@ struct Mood {
     cut_again: usize,
     wild: usize,
     forge: usize,
+    /// Share of WRITEs that are the report task's.
+    report: usize,
+    crowd: usize,
     /// Weights of WRITE, CLOSE, STORE, CHECKPOINT, RETIRE.
     weights: [usize; 5],
     hot_blocks: usize,
@@ -69,7 +72,7 @@ impl Generator {
         let mut bytes = vec![0; self.random.between(1, 60)];
         self.random.fill(&mut bytes);
         if self.random.chance(500) {
-            bytes.iter_mut().for_each(|byte| *byte %= 10);
+            bytes.iter_mut().for_each(|byte| *byte %= 11);
         }
         bytes
     }
@@ -107,6 +110,8 @@ impl Generator {
             self.queue_commit(card);
         } else if self.random.chance(30) {
             self.queue_drain(card);
+        } else if self.random.chance(self.mood.crowd) {
+            self.queue_crowd(card);
         } else if let (Some(slow), true) = (self.mood.slow_core, self.random.chance(300)) {
             self.queue_visit(card, slow);
         }
@@ -170,8 +175,26 @@ impl Generator {
             4..=5 => self.random.pick(&[4, 8, 12, 16, 20, 24]),
             _ => self.random.below(125) as u8,
         };
-        let data = self.data(offset);
-        Command::Write { core: self.hot_core(), block: self.hot_block(), offset, data }
+        let (core, block) = (self.hot_core(), self.hot_block());
+        self.write_at(core, block, offset)
+    }
+
+    /// By either task.
+    fn write_at(&mut self, core: u8, block: u16, offset: u8) -> Command {
+        let task = self.task();
+        self.write_by(task, core, block, offset)
+    }
+
+    fn write_by(&mut self, task: Task, core: u8, block: u16, offset: u8) -> Command {
+        Command::Write(Write { task, core, block, offset, data: self.data(offset) })
+    }
+
+    fn task(&mut self) -> Task {
+        if self.random.chance(self.mood.report) {
+            Task::Report
+        } else {
+            Task::Lamp
+        }
     }
 
     /// Four bytes, often the mark or a part of it at its place, or a small number as headers have them.
@@ -211,7 +234,7 @@ impl Generator {
         let beyond = [self.shape.blocks as u16, 256, 0xFFFF, 0];
         let block = if self.random.chance(500) { self.random.pick(&beyond) } else { self.hot_block() };
         let offset = self.random.pick(&[0, 121, 123, 124, 125, 126, 255]);
-        Command::Write { core, block, offset, data: self.data(offset) }
+        self.write_at(core, block, offset)
     }
 
     /// Writes that make a block look like a descriptor or a commit of a number near the next one.
@@ -221,7 +244,28 @@ impl Generator {
         let kind = self.random.pick(&[DESCRIPTOR, COMMIT, COMMIT]);
         let words = [(0, MARK), (4, kind), (8, number), (12, 0), (16, 1), (20, 0)];
         for (offset, word) in words {
-            self.queue.push_back(Command::Write { core, block, offset, data: word.to_be_bytes() });
+            let task = self.task();
+            self.queue.push_back(Command::Write(Write { task, core, block, offset, data: word.to_be_bytes() }));
+        }
+    }
+
+    /// One block after another by one core, whose journal is empty or not, so that its transaction meets the report task's limit and its
+    /// own: from the fourth to the eighth command 2 takes most. Writes into a block that is held come in between. Where the blocks have
+    /// holders, these are closed, of this core or another, or run.
+    fn queue_crowd(&mut self, card: &Card) {
+        let is_empty = |core: &Core| core.length == 0 && core.closed.is_none();
+        let empty = if self.random.chance(500) { self.core_where(card, is_empty) } else { None };
+        let (core, first) = (empty.unwrap_or_else(|| self.hot_core()), self.hot_block());
+        let running = card.cores[core as usize].running;
+        let held = running.and_then(|running| running.blocks.first().copied()).map_or(first, u16::from);
+        let most = if self.shape.blocks > 8 && self.shape.journal > 9 { 12 } else { 5 };
+        for i in 0..self.random.pick(&[4, most]) {
+            let (block, offset) = ((first + i) % self.shape.blocks as u16, self.random.pick(&[0, 0, 4, 124]));
+            let by_lamp = (3..8).contains(&i) && self.random.chance(600);
+            let task = if by_lamp { Task::Lamp } else { self.task() };
+            let write = self.write_by(task, core, block, offset);
+            let again = self.random.chance(200).then(|| self.write_at(core, held, offset));
+            self.queue.extend([write].into_iter().chain(again));
         }
     }
 
@@ -273,8 +317,8 @@ impl Generator {
         let core = if held.is_some() { other } else { slow };
         let block = held.map_or(self.hot_block(), |block| block as u16);
         let offset = self.random.below(125) as u8;
-        let data = self.data(offset);
-        self.queue.push_back(Command::Write { core, block, offset, data });
+        let visit = self.write_at(core, block, offset);
+        self.queue.push_back(visit);
         if held.is_some() {
             self.queue_commit_of(card, core);
         }
@@ -295,11 +339,14 @@ fn any_shape(random: &mut Random) -> Shape {
 
 fn any_mood(random: &mut Random, shape: Shape) -> Mood {
     let slow = shape.cores > 1 && random.chance(250);
+    let is_roomy = shape.blocks > 3 && shape.journal > 5;
     Mood {
         cut: random.pick(&[0, 3, 10, 30, 80]),
         cut_again: random.pick(&[0, 50, 200, 400]),
         wild: random.pick(&[0, 5, 20, 100]),
         forge: random.pick(&[0, 0, 20, 60]),
+        report: random.pick(&[0, 100, 500, 900]),
+        crowd: if is_roomy { random.pick(&[0, 0, 20, 60]) } else { 0 },
         weights: random.pick(&[
             [6, 2, 6, 4, 3],
             [3, 2, 6, 6, 4],

@@ -1,7 +1,7 @@
 // ledger.rs: a history of transactions with the card's own numbers, kept from commands and answers alone.
 
 use crate::card::Phase;
-use crate::command::Command;
+use crate::command::{Command, Task, Write};
 use crate::layout::{
     begins_with_mark, block_at, commit, copy_of, descriptor, escaped, master, read_master, Block, Layout, Master, Name,
     Shape, Tail, Tails, BLOCK, CORES, HOMES, LAST_NUMBER, LAST_TAIL, MEMORY, NAMES, TAKEN, ZERO,
@@ -193,7 +193,7 @@ impl Ledger {
                     4
                 }
             }
-            Command::Write { core, block, offset, .. } => self.write_answer(core, block, offset),
+            Command::Write(write) => self.write_answer(write),
             Command::Close { core } => self.close_answer(core),
             Command::Store { core } => self.store_answer(core),
             Command::Checkpoint { core } => self.checkpoint_answer(core),
@@ -214,7 +214,8 @@ impl Ledger {
         Some((name, self.lines[name.core as usize].find(name.number)?))
     }
 
-    fn write_answer(&self, core: u8, block: u16, offset: u8) -> u8 {
+    fn write_answer(&self, write: Write) -> u8 {
+        let Write { task, core, block, offset, .. } = write;
         if core >= self.shape.cores {
             return 5;
         }
@@ -231,12 +232,15 @@ impl Ledger {
         let other = holder.filter(|(name, _)| *name != writer);
         let tied = other.filter(|(_, entry)| entry.is_running());
         let takes = holder.is_none() || other.is_some() && tied.is_none();
-        let blocks = running.map_or(0, |entry| entry.blocks.len()) + takes as usize;
+        let before = running.map_or(0, |entry| entry.blocks.len());
+        let blocks = before + takes as usize;
         let held: usize = line.closed().map(Entry::length).sum();
         match () {
             _ if other.is_some_and(|(name, _)| self.would_pass(running, name)) => 24,
             _ if tied.is_some_and(|(_, entry)| self.would_pass(Some(entry), writer)) => 24,
             _ if blocks > TAKEN => 25,
+            // the transaction would have more blocks than before, and more than three
+            _ if task == Task::Report && blocks > before && blocks > 3 => 36,
             _ if held + 2 + blocks > self.shape.journal as usize => 26,
             _ if running.is_none() && line.next > LAST_NUMBER => 27,
             _ => 0,
@@ -331,7 +335,7 @@ impl Ledger {
     pub fn apply(&mut self, command: Command) -> Stored {
         match command {
             Command::Format { cores, blocks, journal } => self.format(cores, blocks, journal),
-            Command::Write { core, block, offset, data } => self.write(core, block as usize, offset as usize, data),
+            Command::Write(write) => self.write(write),
             Command::Close { core } => self.close(core),
             Command::Store { core } => return self.store(core),
             Command::Checkpoint { core } => return self.checkpoint(core),
@@ -351,7 +355,9 @@ impl Ledger {
         }
     }
 
-    fn write(&mut self, core: u8, block: usize, offset: usize, data: [u8; 4]) {
+    fn write(&mut self, write: Write) {
+        let Write { core, data, .. } = write;
+        let (block, offset) = (write.block as usize, write.offset as usize);
         if core >= self.shape.cores || block >= self.shape.blocks as usize || offset > 124 {
             return;
         }

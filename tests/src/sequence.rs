@@ -2,7 +2,7 @@
 // (paper 02, request c).
 
 use crate::checks::{Bench, Checks, Failure};
-use crate::command::Command;
+use crate::command::{Command, Task, Write};
 use crate::directed::{commit_of, retire_of};
 use crate::endings::RECOVERED;
 use crate::foreign::{any_shape, put};
@@ -119,7 +119,7 @@ fn some_commands(random: &mut Random, cores: u8, blocks: u8) -> Vec<Command> {
 
 pub(crate) fn write(random: &mut Random, core: u8, block: u8) -> Command {
     let (offset, data) = (4 * random.below(32) as u8, [random.byte(), random.byte(), core, block]);
-    Command::Write { core, block: block as u16, offset, data }
+    Command::Write(Write { task: Task::Lamp, core, block: block as u16, offset, data })
 }
 
 /// A foreign disk of whole records in either layout. In a journal the first that is not valid names one that is not committed, or

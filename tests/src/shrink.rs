@@ -1,7 +1,7 @@
 // shrink.rs: makes a tape that catches a wrong card as short and as plain as it can.
 
 use crate::checks::{Bench, Checks, Failure, Shares};
-use crate::command::{self, Command};
+use crate::command::{self, Command, Write};
 use crate::order::Order;
 use crate::wrong::Wrong;
 
@@ -81,10 +81,10 @@ fn plainer_choices(command: Command, at: usize) -> Vec<Command> {
             Command::Format { cores, blocks: blocks - 1, journal },
             Command::Format { cores, blocks, journal: journal - 1 },
         ],
-        Command::Write { core, block, offset, data } => vec![
-            Command::Write { core, block: 0, offset, data },
-            Command::Write { core, block, offset: 0, data },
-            Command::Write { core, block, offset, data: [at as u8; 4] },
+        Command::Write(write) => vec![
+            Command::Write(Write { block: 0, ..write }),
+            Command::Write(Write { offset: 0, ..write }),
+            Command::Write(Write { data: [at as u8; 4], ..write }),
         ],
         other => vec![other],
     }

@@ -1,6 +1,7 @@
 // transaction.rs: the card's WRITE, CLOSE and STORE: a transaction from its opening to its commit.
 
 use crate::card::{Card, Done, Lent, Transaction};
+use crate::command::{Task, Write, REPORT_LIMIT};
 use crate::few::Few;
 use crate::layout::{
     begins_with_mark, block_at, commit, copy_of, descriptor, escaped, Block, Layout, Name, BLOCK, HOMES, LAST_NUMBER,
@@ -10,6 +11,7 @@ use crate::wrong::Wrong;
 
 /// What a WRITE would do, settled before anything is changed.
 struct Plan {
+    task: Task,
     writer: Name,
     opens: bool,
     takes: bool,
@@ -24,7 +26,8 @@ struct Plan {
 }
 
 impl Card {
-    pub(crate) fn write(&mut self, lent: &mut Lent, core: u8, block: u16, offset: u8, data: [u8; 4]) -> Done {
+    pub(crate) fn write(&mut self, lent: &mut Lent, write: Write) -> Done {
+        let Write { task, core, block, offset, data } = write;
         self.check_core(core)?;
         if block >= self.shape.blocks as u16 {
             return Err(6);
@@ -32,7 +35,7 @@ impl Card {
         if offset > 124 {
             return Err(7);
         }
-        let plan = self.plan(core, block as u8);
+        let plan = self.plan(task, core, block as u8);
         self.refuse_write(&plan)?;
         self.carry_out(&plan, block as u8);
         let at = block as usize * BLOCK;
@@ -45,7 +48,7 @@ impl Card {
         Ok(0)
     }
 
-    fn is_running(&self, name: Name) -> bool {
+    pub(crate) fn is_running(&self, name: Name) -> bool {
         self.cores[name.core as usize].running.is_some_and(|running| running.number == name.number)
     }
 
@@ -55,7 +58,7 @@ impl Card {
     }
 
     /// The four rules for the holder of a block.
-    fn plan(&self, core: u8, block: u8) -> Plan {
+    fn plan(&self, task: Task, core: u8, block: u8) -> Plan {
         let mine = &self.cores[core as usize];
         let fresh = Transaction { number: mine.next, ..Transaction::default() };
         let transaction = mine.running.unwrap_or(fresh);
@@ -64,6 +67,7 @@ impl Card {
         let other = holder.filter(|name| *name != writer);
         let tied = other.filter(|name| self.is_running(*name) && !self.is(Wrong::WriterTakesRunning));
         let mut plan = Plan {
+            task,
             writer,
             opens: mine.running.is_none(),
             takes: holder.is_none() || other.is_some() && tied.is_none(),
@@ -82,6 +86,7 @@ impl Card {
             Wrong::NoNameForCommitted => plan.names = plan.names.filter(|name| !self.is_committed(*name)),
             Wrong::OnlyWriterNames => plan.names_back = None,
             Wrong::OnlyHolderNames if plan.names_back.is_some() => plan.names = None,
+            Wrong::ReportNamesNone if plan.task == Task::Report && plan.takes => plan.names = None,
             _ => {}
         }
     }
@@ -113,29 +118,42 @@ impl Card {
         Some(self.with_name(&holder.names, Some(plan.writer)))
     }
 
-    /// Refusals 25 to 27, and 24 by a card that writes lists, judged on what the WRITE would leave.
+    /// Refusals 25, 36, 26 and 27, and 24 by a card that writes lists, judged on what the WRITE would leave. The first is answered.
     fn refuse_write(&self, plan: &Plan) -> Result<(), u8> {
         let (_, writer_fits) = self.with_name(&plan.transaction.names, plan.names);
         let holder_fits = self.holders_list(plan).is_none_or(|(_, fits)| fits);
-        if !writer_fits || !holder_fits {
-            return Err(24);
-        }
         let taken = plan.transaction.blocks.len() + plan.takes as usize;
-        if taken > TAKEN {
-            return Err(25);
-        }
         let untested = self.is(Wrong::No26OnOpen) && !plan.takes;
-        if self.closed_length(plan.writer.core) + 2 + taken > self.shape.journal as usize && !untested {
-            return Err(26);
+        let is_full = self.closed_length(plan.writer.core) + 2 + taken > self.shape.journal as usize;
+        let mut conditions = [
+            (24, !writer_fits || !holder_fits),
+            (25, taken > TAKEN),
+            (36, self.passes_report_limit(plan)),
+            (26, is_full && !untested),
+            (27, plan.opens && plan.transaction.number > LAST_NUMBER),
+        ];
+        match self.kind.wrong {
+            Wrong::Early36 => conditions.swap(1, 2),
+            Wrong::Late36 => conditions.swap(2, 3),
+            _ => {}
         }
-        if plan.opens && plan.transaction.number > LAST_NUMBER {
-            return Err(27);
-        }
-        Ok(())
+        conditions.iter().find(|(_, holds)| *holds).map_or(Ok(()), |(refusal, _)| Err(*refusal))
+    }
+
+    /// 36: the report task would take a block, and the transaction has three or more.
+    fn passes_report_limit(&self, plan: &Plan) -> bool {
+        let is_asked = plan.task == Task::Report && !self.is(Wrong::No36) || self.is(Wrong::Lamp36);
+        let limit = REPORT_LIMIT + self.is(Wrong::Four36) as usize;
+        let takes = match self.kind.wrong {
+            Wrong::Held36 => plan.names_back.is_none(),
+            Wrong::Tied36 => plan.takes || plan.names_back.is_some(),
+            _ => plan.takes,
+        };
+        is_asked && takes && plan.transaction.blocks.len() >= limit
     }
 
     /// Blocks of the records of a core's closed unretired transactions, stored yet or not.
-    fn closed_length(&self, core: u8) -> usize {
+    pub(crate) fn closed_length(&self, core: u8) -> usize {
         let core = &self.cores[core as usize];
         let closed = core.closed.filter(|_| core.stored > 0 || !self.is(Wrong::Only26Stored));
         core.length as usize + closed.map_or(0, |closed| closed.blocks.len() + 2)

@@ -1,4 +1,5 @@
-// wrong.rs: the switches that make a card wrong in one rule, and those of a journal reader, of the journal page and of a planner.
+// wrong.rs: the switches that make a card wrong in one rule, and those of a service book, of a journal reader, of the journal page and
+// of a planner.
 
 macro_rules! switches {
     ($kind:ident, $all:ident: $($name:ident = $words:expr),* $(,)?) => {
@@ -82,6 +83,14 @@ switches! {
     No35 = "35 not asked: CHECKPOINT stores home once too often",
     StoreFromImages = "data stored from current images, not closed copies",
     NoWrap = "a record that does not wrap",
+    No36 = "36 not asked",
+    Four36 = "36 from four blocks on",
+    Held36 = "36 for a block that the transaction holds too",
+    Tied36 = "36 for a running holder's block too",
+    Early36 = "36 before 25",
+    Late36 = "36 after 26",
+    Lamp36 = "36 of command 2 too",
+    ReportNamesNone = "byte 9 takes a closed holder's block without naming it",
     No26OnOpen = "26 not tested for a WRITE that opens without a block",
     Only26Stored = "26 does not count a closed one not yet stored",
     NoSequence = "the one before not asked for: paper 01's rule",
@@ -109,6 +118,11 @@ switches! {
     CoreBeyond = "a core not below C in range",
     UnusedRead = "end 4 where bytes 20-23 of numbers are not zero",
     OtherLayout = "the layout that the master does not tell",
+}
+
+switches! {
+    WrongBook, BOOKS:
+    ReportUnnoted = "a write of byte 9 not noted",
 }
 
 switches! {

@@ -36,7 +36,7 @@ fn the_plan_is_met_by_doing_it() {
 
 #[test]
 fn no_shorter_run_empties_the_journals() {
-    let searched = search_states(100, 4_000, 52).unwrap_or_else(|detail| panic!("{detail}"));
+    let searched = search_states(100, 4_000, 54).unwrap_or_else(|detail| panic!("{detail}"));
     println!("{searched:?}");
     assert!(searched.starts == 100 && searched.refusing > 30 && searched.worlds > 10_000 && searched.largest > 15);
 }

@@ -93,8 +93,8 @@ fn past_the_end_there_is_no_command() {
 #[test]
 fn refusals_of_the_operands() {
     let up = "01 02 03 0C ";
-    assert_eq!([0, 9, 10, 255].map(|byte| last(&format!("01 01 01 0A {byte:02x} 00"))), [2; 4]);
-    assert_eq!([2, 3, 4, 5, 8].map(|byte| last(&format!("01 01 01 0A {byte:02x}"))), [3; 5]);
+    assert_eq!([0, 10, 11, 255].map(|byte| last(&format!("01 01 01 0A {byte:02x} 00"))), [2; 4]);
+    assert_eq!([2, 3, 4, 5, 8, 9].map(|byte| last(&format!("01 01 01 0A {byte:02x}"))), [3; 6]);
     for bad in ["00 01 04", "09 01 04", "01 00 04", "01 41 04", "01 01 03", "01 01 19"] {
         assert_eq!(last(&format!("01 {bad}")), 4, "{bad}");
     }
@@ -224,12 +224,13 @@ fn refusals_34_and_35() {
 fn generated_runs_meet_every_number() {
     let mut bench = Bench::new(Wrong::No, Checks::ALL, None);
     bench.soak(300_000, 3).expect("all checks hold");
-    let all = (0..=8).chain(20..=35);
-    let (answers, retiring) = (bench.tally.answers, bench.tally.retiring);
+    let all = (0..=8).chain(20..=36);
+    let (answers, retiring, reporting) = (bench.tally.answers, bench.tally.retiring, bench.tally.reporting);
     all.clone().for_each(|answer| println!("answer {answer:>2}: {}", answers[answer]));
-    println!("{retiring:?}");
+    println!("{retiring:?}\n{reporting:?}");
     let unmet: Vec<usize> = all.filter(|answer| answers[*answer] == 0).collect();
     assert_eq!(unmet, [24], "numbers never answered");
     assert!(bench.tally.answers_before[24] > 0 && bench.tally.longest_list > 12);
     assert!([retiring.later, retiring.without_blocks, retiring.first, retiring.cuts].iter().all(|count| *count > 100));
+    assert!(reporting.ways().iter().all(|count| *count > 30), "{reporting:?}");
 }

@@ -2,7 +2,11 @@
 
 use card_tests::checks::{Bench, Checks, Failure};
 use card_tests::command::from_hex;
-use card_tests::wrong::{words, Wrong};
+use card_tests::wrong::{words, Wrong, BOOKS};
+
+/// The report task tries to take a fourth block.
+const FOUR_REPORTS: &str = "01 01 04 0A | 09 00 0000 00 01010101 | 09 00 0001 00 02020202 | 09 00 0002 00 03030303 \
+    | 09 00 0003 00 04040404";
 
 /// Found by `short_tapes`, or written by hand. AREA is demand 3, DEMAND_2 demand 2, ANSWER demand 1:
 /// demand 3 where it sees the fault. A card that goes wrong only over foreign disks has no such tape. Tapes for the cards that are
@@ -159,6 +163,32 @@ const TAPES: &[(Wrong, Checks, &str)] = &[
         "01 02 01 04 | 02 00 0000 00 01010101 | 03 00 | 04 00 | 04 00 | 02 01 0000 03 05050505 | 03 01 \
          | 04 00 | 05 00 | 08 00 | 04 01 | 04 01 | 04 01 | 02 00 0000 00 0d0d0d0d | 03 00 | 04 00 | 04 00 \
          | 06 | 07"),
+    (Wrong::No36, Checks::LIMIT, FOUR_REPORTS),
+    (Wrong::No36, Checks::ANSWER, FOUR_REPORTS),
+    (Wrong::Four36, Checks::LIMIT, FOUR_REPORTS),
+    (Wrong::Four36, Checks::ANSWER, FOUR_REPORTS),
+    (Wrong::Held36, Checks::ANSWER,
+        "01 01 03 0A | 09 00 0000 00 01010101 | 09 00 0001 00 02020202 | 09 00 0002 00 03030303 \
+         | 09 00 0000 04 04040404"),
+    // core 1 runs and holds the block
+    (Wrong::Tied36, Checks::ANSWER,
+        "01 02 04 0A | 09 01 0003 00 01010101 | 09 00 0000 00 02020202 | 09 00 0001 00 03030303 \
+         | 09 00 0002 00 04040404 | 09 00 0003 04 05050505"),
+    (Wrong::Early36, Checks::ANSWER,
+        "01 01 09 0A | 02 00 0000 00 01010101 | 02 00 0001 00 02020202 | 02 00 0002 00 03030303 \
+         | 02 00 0003 00 04040404 | 02 00 0004 00 05050505 | 02 00 0005 00 06060606 | 02 00 0006 00 07070707 \
+         | 02 00 0007 00 08080808 | 09 00 0008 00 09090909"),
+    // a closed one of three blocks and a running one of three fill the journal
+    (Wrong::Late36, Checks::ANSWER,
+        "01 01 07 0A | 02 00 0000 00 01010101 | 02 00 0001 00 02020202 | 02 00 0002 00 03030303 | 03 00 \
+         | 09 00 0003 00 04040404 | 09 00 0004 00 05050505 | 09 00 0005 00 06060606 | 09 00 0006 00 07070707"),
+    (Wrong::Lamp36, Checks::ANSWER,
+        "01 01 04 0A | 02 00 0000 00 01010101 | 02 00 0001 00 02020202 | 02 00 0002 00 03030303 \
+         | 02 00 0003 00 04040404"),
+    // core 0's bytes come back in core 1's image, though core 0 did not commit
+    (Wrong::ReportNamesNone, Checks::AREA,
+        "01 02 01 0A | 02 00 0000 00 01010101 | 03 00 | 09 01 0000 04 02020202 | 03 01 | 04 01 | 04 01 | 04 01 \
+         | 06 | 07 | 07"),
     (Wrong::No26OnOpen, Checks::AREA,
         "01 03 01 04 | 02 00 0000 00 01010101 | 03 00 | 02 02 0000 00 03030303 | 04 00 | 04 00 | 04 00 \
          | 02 00 0000 06 07070707 | 03 00 | 04 00 | 04 00 | 06 | 07"),
@@ -175,6 +205,18 @@ fn run(wrong: Wrong, checks: Checks, tape: &str) -> Result<(), Failure> {
 fn each_short_tape_catches_its_wrong_card() {
     for (wrong, checks, tape) in TAPES {
         assert!(run(*wrong, *checks, tape).is_err(), "not caught: {}", words(*wrong));
+    }
+}
+
+/// What byte 9 wrote comes back, which a book that does not note it has not.
+#[test]
+fn a_short_tape_tells_wrong_books() {
+    let tape = from_hex("01 01 01 0A | 09 00 0000 00 01010101 | 03 00 | 04 00 | 04 00 | 04 00 | 06 | 07 | 07");
+    for (wrong, words) in BOOKS {
+        let mut bench = Bench::new(Wrong::No, Checks::AREA, None);
+        bench.run_tape(&tape).expect("the right book");
+        bench.set_book(*wrong);
+        assert_eq!(bench.run_tape(&tape).expect_err(words).check, "area");
     }
 }
 

@@ -26,7 +26,7 @@ fn tapes_of_random_bytes_pass_every_check() {
         let mut tape = vec![1, random.between(1, 8) as u8, random.between(1, 64) as u8, random.between(4, 24) as u8];
         for _ in 0..random.below(200) {
             // Small bytes are often commands, and operands in range.
-            tape.push(random.below(9) as u8);
+            tape.push(random.below(10) as u8);
         }
         bench.run_tape(&tape).expect("all checks hold");
     }

@@ -1,9 +1,9 @@
 // wrong_cards.rs: every wrong card is caught by the book or the ledger, and the equivalent one is not. Those of request (c) have tapes
-// of their own in `sequence.rs`.
+// of their own in `sequence.rs`. A wrong service book is told from the right card.
 
 use card_tests::checks::{Bench, Checks};
 use card_tests::twin::Twin;
-use card_tests::wrong::{caught_by_generated, words, Wrong};
+use card_tests::wrong::{caught_by_generated, words, Wrong, BOOKS};
 
 fn is_caught(wrong: Wrong, checks: Checks, commands: u64) -> bool {
     Bench::new(wrong, checks, None).soak(commands, 1).is_err()
@@ -17,7 +17,7 @@ fn every_wrong_card_is_caught() {
 }
 
 /// They lose or invent writes.
-const SEEN_BY_THE_BOOK: [Wrong; 39] = [
+const SEEN_BY_THE_BOOK: [Wrong; 40] = [
     Wrong::TailUnchanged,
     Wrong::NumbersFromOne,
     Wrong::FlagIgnored,
@@ -55,6 +55,7 @@ const SEEN_BY_THE_BOOK: [Wrong; 39] = [
     Wrong::RetireNo34,
     Wrong::StoreFromImages,
     Wrong::NoWrap,
+    Wrong::ReportNamesNone,
     Wrong::No26OnOpen,
     Wrong::Only26Stored,
 ];
@@ -64,6 +65,35 @@ const SEEN_BY_THE_BOOK: [Wrong; 39] = [
 fn the_book_alone_catches_those_that_lose_or_invent_writes() {
     for wrong in SEEN_BY_THE_BOOK {
         assert!(is_caught(wrong, Checks::AREA, 200_000), "not caught by the book alone: {}", words(wrong));
+    }
+}
+
+/// They are right in all but the answer to a byte 9, or to a command 2 where a byte 9 would be refused.
+#[test]
+fn demand_1_alone_catches_those_wrong_in_36() {
+    for wrong in
+        [Wrong::No36, Wrong::Four36, Wrong::Held36, Wrong::Tied36, Wrong::Early36, Wrong::Late36, Wrong::Lamp36]
+    {
+        assert!(is_caught(wrong, Checks::ANSWER, 200_000), "not caught by demand 1 alone: {}", words(wrong));
+    }
+}
+
+/// The report task takes a fourth block.
+#[test]
+fn the_limit_alone_catches_those_that_pass_it() {
+    for wrong in [Wrong::No36, Wrong::Four36] {
+        assert!(is_caught(wrong, Checks::LIMIT, 200_000), "not caught by the limit alone: {}", words(wrong));
+    }
+}
+
+/// The card is right, and the home area is not the book's.
+#[test]
+fn the_area_tells_wrong_books() {
+    for (wrong, words) in BOOKS {
+        let mut bench = Bench::new(Wrong::No, Checks::ALL, None);
+        bench.set_book(*wrong);
+        let failure = bench.soak(20_000, 1).expect_err(words);
+        assert_eq!(failure.check, "area", "{words}");
     }
 }
 

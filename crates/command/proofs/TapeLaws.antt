@@ -3,7 +3,8 @@ use Prim.Native.Nat.{ℕ, _+_, _*_, _-_, _≤_}
 use native.Mathlib.Omega.{arith}
 use mathlib.Core.Path.{_≡_, refl, sym, ap, _∙_, subst}
 use mathlib.Core.Option.{none, some, Option·some-injective}
-use mathlib.Core.Bool.{Bool, true, false, true≢false}
+use mathlib.Core.Bool.{Bool, true, false, cond, true≢false}
+use mathlib.Core.Logic.{_⊎_, inl, inr}
 use lib.Dec.{eqb}
 use mathlib.Core.List.{List, [], _∷_}
 use lib.ListN.{length, take, drop, getD, length-take, length-drop}
@@ -12,12 +13,13 @@ use borrow.Author.Tests.{ne-eqb, eqb-true}
 use Rattle.model.specs.Bytes.{Bytes, number, part}
 use Rattle.model.specs.Command.{World, refusal, wrongLength, Outcome}
 use Rattle.model.specs.Format.{format}
+use Rattle.model.specs.Limits.{maxTaken, maxReportTaken}
 use Rattle.model.specs.Write.{write}
 use Rattle.model.specs.Commit.{close, storeNext}
 use Rattle.model.specs.Valid.{in-sequence}
 use Rattle.model.specs.Checkpoint.{checkpoint, retire}
 use Rattle.model.specs.Recovery.{cut, recover}
-use Rattle.model.specs.Tape.{operandLengths, operandLength, commandByte, operandsAt, isUnknown, nextOffset, CHECKPOINT, CLOSE, CUT, Command, FORMAT, RECOVER, RETIRE, Read, STORE, WRITE, decoded, isEarly, obeyed, readAt, whole}
+use Rattle.model.specs.Tape.{Task, blockLimit, lampTask, reportTask, writeOf, operandLengths, operandLength, commandByte, operandsAt, isUnknown, nextOffset, CHECKPOINT, CLOSE, CUT, Command, FORMAT, RECOVER, RETIRE, Read, STORE, WRITE, decoded, isEarly, obeyed, readAt, whole}
 use Rattle.model.specs.Step.{stepBy, step, conditionsOf, doneBy, stepAt}
 use Rattle.model.proofs.Command.{tapeConditions, refusal-clear, unless-done, tape-unless}
 use Rattle.cells.specs.Answer.{newAnswer, Meets}
@@ -60,10 +62,10 @@ module _ (a : Bytes) (h : length a ≡ 8) where
   unfolding part
   bytes-operand = rw (drop-cons a 4 0 (omega arith), drop-cons a 5 0 (omega arith), drop-cons a 6 0 (omega arith), drop-cons a 7 0 (omega arith))
 
-  pub write-operands : (v : List ℕ) (d₀ m₀ : Bytes) (w : List ℕ) (d m : Bytes) (r : Answer) (x y : ℕ) → x ≡ getD a 1 0 → y ≡ getD a 2 0
-      → Meets (write (getD a 0 0) (x * 256 + y) (getD a 3 0) (getD a 4 0 ∷ getD a 5 0 ∷ getD a 6 0 ∷ getD a 7 0 ∷ []) (worldIn v d₀ m₀)) v w d m r
-      → Meets (write (getD a 0 0) (number 0 (part 1 2 a)) (getD a 3 0) (part 4 4 a) (worldIn v d₀ m₀)) v w d m r
-  write-operands v d₀ m₀ w d m r x y p q e = meets-same _ _ v w d m r e (rw (← block-operand, ← bytes-operand, ← p, ← q))
+  pub write-operands : (v : List ℕ) (d₀ m₀ : Bytes) (w : List ℕ) (d m : Bytes) (r : Answer) (x y limit : ℕ) → x ≡ getD a 1 0 → y ≡ getD a 2 0
+      → Meets (write limit (getD a 0 0) (x * 256 + y) (getD a 3 0) (getD a 4 0 ∷ getD a 5 0 ∷ getD a 6 0 ∷ getD a 7 0 ∷ []) (worldIn v d₀ m₀)) v w d m r
+      → Meets (write limit (getD a 0 0) (number 0 (part 1 2 a)) (getD a 3 0) (part 4 4 a) (worldIn v d₀ m₀)) v w d m r
+  write-operands v d₀ m₀ w d m r x y limit p q e = meets-same _ _ v w d m r e (rw (← block-operand, ← bytes-operand, ← p, ← q))
 
 -- ---- which command it is
 module _ (k : ℕ) (a : Bytes) (v : List ℕ) (d₀ m₀ : Bytes) (w : List ℕ) (d m : Bytes) (r : Answer) where
@@ -79,9 +81,18 @@ module _ (k : ℕ) (a : Bytes) (v : List ℕ) (d₀ m₀ : Bytes) (w : List ℕ)
     unfolding decoded stepBy conditionsOf doneBy format
     step-format h x p y q f = of-decoded (FORMAT c x y) (rw (h, e, p, q) refl) f
 
-    pub step-write : k ≡ 2 → Meets (write (getD a 0 0) (number 0 (part 1 2 a)) (getD a 3 0) (part 4 4 a) (worldIn v d₀ m₀)) v w d m r → Done
-    unfolding decoded stepBy conditionsOf doneBy write
-    step-write h f = of-decoded (WRITE (getD a 0 0) (number 0 (part 1 2 a)) (getD a 3 0) (part 4 4 a)) (rw h refl) f
+    -- a WRITE with this limit
+    abbrev Written : ℕ → Type 0
+    Written limit = Meets (write limit (getD a 0 0) (number 0 (part 1 2 a)) (getD a 3 0) (part 4 4 a) (worldIn v d₀ m₀)) v w d m r
+
+    of-task : (task : Task) → decoded k a ≡ some (writeOf task a) → Written (blockLimit task) → Done
+    unfolding stepBy conditionsOf doneBy write
+    of-task task q f = of-decoded (writeOf task a) q f
+
+    pub step-write : (k ≡ 2) ⊎ (k ≡ 9) → (limit : ℕ) → limit ≡ cond (eqb k 9) maxReportTaken maxTaken → Written limit → Done
+    unfolding decoded
+    step-write (inl h) limit q f = of-task lampTask (rw h refl) (subst Written (q ∙ rw h refl) f)
+    step-write (inr h) limit q f = of-task reportTask (rw h refl) (subst Written (q ∙ rw h refl) f)
 
     pub step-close : k ≡ 3 → Meets (close c (worldIn v d₀ m₀)) v w d m r → Done
     unfolding decoded stepBy conditionsOf doneBy close
@@ -103,19 +114,28 @@ module _ (k : ℕ) (a : Bytes) (v : List ℕ) (d₀ m₀ : Bytes) (w : List ℕ)
     unfolding decoded stepBy conditionsOf doneBy recover
     step-recover h f = of-decoded RECOVER (rw h refl) f
 
-    pub step-retire : (k ≡ 1 → ⊥) → (k ≡ 2 → ⊥) → (k ≡ 3 → ⊥) → (k ≡ 4 → ⊥) → (k ≡ 5 → ⊥) → (k ≡ 6 → ⊥) → (k ≡ 7 → ⊥)
+    pub step-retire : (k ≡ 1 → ⊥) → ((k ≡ 2) ⊎ (k ≡ 9) → ⊥) → (k ≡ 3 → ⊥) → (k ≡ 4 → ⊥) → (k ≡ 5 → ⊥) → (k ≡ 6 → ⊥) → (k ≡ 7 → ⊥)
         → Meets (retire in-sequence c (worldIn v d₀ m₀)) v w d m r → Done
     unfolding decoded stepBy conditionsOf doneBy retire
     step-retire h₁ h₂ h₃ h₄ h₅ h₆ h₇ f =
         cases (eqb k 8)
         (λ s. of-decoded (RETIRE c) (rw (eqb-true k 8 s, e) refl) f)
         (λ s z q.
-        let n : decoded k a ≡ none = simp (ne-eqb k 1 h₁, ne-eqb k 2 h₂, ne-eqb k 3 h₃, ne-eqb k 4 h₄, ne-eqb k 5 h₅, ne-eqb k 6 h₆, ne-eqb k 7 h₇, s) in
+        let n : decoded k a ≡ none = simp (ne-eqb k 1 h₁, ne-eqb k 2 (λ q. h₂ (inl q)), ne-eqb k 3 h₃, ne-eqb k 4 h₄, ne-eqb k 5 h₅, ne-eqb k 6 h₆, ne-eqb k 7 h₇, s, ne-eqb k 9 (λ q. h₂ (inr q))) in
         absurd (true≢false (sym (ap isCommand (sym n ∙ q)))))
 
-pub write-length : (a : Bytes) (k : ℕ) → length a ≡ operandLength k → k ≡ 2 → length a ≡ 8
+-- the limit of each task's WRITE
+pub limit-report : (k : ℕ) → k ≡ 9 → maxReportTaken ≡ cond (eqb k 9) maxReportTaken maxTaken
+limit-report k h = rw h refl
+
+pub limit-lamp : (k : ℕ) → (k ≡ 9 → ⊥) → maxTaken ≡ cond (eqb k 9) maxReportTaken maxTaken
+limit-lamp k h = rw (ne-eqb k 9 h) refl
+
+-- both have eight bytes
+pub write-length : (a : Bytes) (k : ℕ) → length a ≡ operandLength k → (k ≡ 2) ⊎ (k ≡ 9) → length a ≡ 8
 unfolding operandLength operandLengths
-write-length a k h e = h ∙ rw e
+write-length a k h (inl e) = h ∙ rw e
+write-length a k h (inr e) = h ∙ rw e
 
 -- ---- the command at an offset
 -- where its operands stand

@@ -1,8 +1,11 @@
 // One command at an offset of a tape: the refusals 1, 2 and 3, which command it is, and its stores counted.
 ghost use mathlib.Core.Path.{_≡_};
+ghost use mathlib.Core.Bool.{cond};
 ghost use mathlib.Core.List.{[], _∷_};
 ghost use mathlib.Core.Option.{some};
+ghost use lib.Dec.{eqb};
 ghost use lib.ListN.{length, getD};
+ghost use Rattle.model.specs.Limits.{maxTaken, maxReportTaken};
 ghost use Rattle.model.specs.Bytes.{number, part};
 ghost use Rattle.model.specs.Command.{refusal, wrongLength};
 ghost use Rattle.model.specs.Write.{write};
@@ -20,6 +23,7 @@ use commit::store;
 use cut::cut;
 use format::format;
 use model::Card;
+use model::Shape;
 use operands::byte_at;
 use operands::ends_early;
 use operands::is_unknown;
@@ -54,12 +58,28 @@ fn tape_refusal(tape: &[u8], at: usize, disk: &[u8], memory: &[u8]) -> u8
     0
 }
 
-// WRITE with its operands: core, block of two bytes, offset, the four bytes.
-fn perform_write(w: &mut [u64], operands: &[u8], disk: &[u8], memory: &mut [u8]) -> Answer
+// With so many blocks or more the WRITE of byte k takes none: 2 is the lamp reports', 9 the report task's.
+fn block_limit(k: u8) -> usize
+    ensures { λ r. ⌜ r ≡ cond (eqb k 9) maxReportTaken maxTaken ⌝ }
+{
+    if k == 9 {
+        return Shape::MAX_REPORT_TAKEN;
+    }
+    Shape::MAX_TAKEN
+}
+
+// WRITE of a task with this limit, and its operands: core, block of two bytes, offset, the four bytes.
+fn perform_write(
+    w: &mut [u64],
+    limit: usize,
+    operands: &[u8],
+    disk: &[u8],
+    memory: &mut [u8],
+) -> Answer
     requires { ⌜ (length (now w) ≡ 423) × (length (now operands) ≡ 8) ⌝ }
     ensures { λ r. ⌜
         (let a = now (operands .entry) in
-        Meets (write (getD a 0 0) (number 0 (part 1 2 a)) (getD a 3 0) (part 4 4 a) (worldIn (now (w .entry)) (now (disk .entry)) (now (memory .entry))))
+        Meets (write limit (getD a 0 0) (number 0 (part 1 2 a)) (getD a 3 0) (part 4 4 a) (worldIn (now (w .entry)) (now (disk .entry)) (now (memory .entry))))
         (now (w .entry)) (now (w .exit)) (now (disk .entry)) (now (memory .exit)) r)
         ⌝ }
 {
@@ -67,10 +87,19 @@ fn perform_write(w: &mut [u64], operands: &[u8], disk: &[u8], memory: &mut [u8])
     let low = byte_at(operands, 2);
     let block = high as u16 * 256 + low as u16;
     let bytes = [operands[4], operands[5], operands[6], operands[7]];
-    write(w, operands[0], block, operands[3], bytes, disk, memory)
+    write(
+        w,
+        limit,
+        operands[0],
+        block,
+        operands[3],
+        bytes,
+        disk,
+        memory,
+    )
 }
 
-// Command k with its operands, which are all there. The tape has no byte but 1 to 8 here, so the last case is 8.
+// Command k with its operands, which are all there. The tape has no byte but 1 to 9 here, so the last case is 8.
 fn perform(w: &mut [u64], k: u8, operands: &[u8], disk: &mut [u8], memory: &mut [u8]) -> Answer
     requires { ⌜ (length (now w) ≡ 423) × (length (now operands) ≡ operandLength k) ⌝ }
     ensures { λ r. ⌜
@@ -89,7 +118,7 @@ fn perform(w: &mut [u64], k: u8, operands: &[u8], disk: &mut [u8], memory: &mut 
             disk,
             memory,
         ),
-        2 => perform_write(w, operands, disk, memory),
+        2 | 9 => perform_write(w, block_limit(k), operands, disk, memory),
         3 => close(w, c, disk, memory),
         4 => store(w, c, disk, memory),
         5 => checkpoint(w, c, disk, memory),

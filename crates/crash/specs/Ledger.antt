@@ -1,5 +1,5 @@
 -- The ledger: the history of transactions with the card's own numbers, kept from commands and answers alone. It is no
--- part of paper 01; in its words the conditions 25 to 35, the content of the journals and the course of recovery are
+-- part of paper 01; in its words the conditions 25 to 36, the content of the journals and the course of recovery are
 -- stated without the card's state.
 use Prim.Native.Nat.{ℕ, zero, suc, _+_, _-_, _%_, min}
 use mathlib.Core.List.{List, [], _∷_, _++_, map}
@@ -18,7 +18,7 @@ use Rattle.model.specs.Recovery.{tailOn}
 use Rattle.model.specs.Shrink.{shrink}
 use Rattle.crash.specs.Book.{Book, Write, isClosed, isCommitted, isRetired, stageCount, emptyBook, requiredIn, hasRunning, hasClosed, hasCommitted, writeBook, closeBook, keptWrites, image, blank}
 use Rattle.crash.specs.Service.{noted}
-use Rattle.model.specs.Tape.{CHECKPOINT, CLOSE, CUT, Command, FORMAT, RECOVER, RETIRE, Read, STORE, WRITE, early, unknown, whole}
+use Rattle.model.specs.Tape.{blockLimit, CHECKPOINT, CLOSE, CUT, Command, FORMAT, RECOVER, RETIRE, Read, STORE, WRITE, early, unknown, whole}
 use Rattle.model.specs.Commit.{copyBlock}
 use Rattle.model.specs.Valid.{Order}
 use Rattle.model.specs.Command.{BlockStore, DiskStore, no-store, one-store, whole-disk, withStore, refusal}
@@ -148,7 +148,7 @@ recoverLedger (b ∷ bs) l = downWith bs l
 -- a command carried out
 unfoldable pub carriedOut : Command → Ledger → Ledger
 carriedOut (FORMAT c b j) l = freshLedger (l .book .begun .order) (newShape c b j) [] (λ (i : ℕ). 1)
-carriedOut (WRITE c b o v) l = withBook l (noted (WRITE c b o v) (l .book))
+carriedOut (WRITE task c b o v) l = withBook l (noted (WRITE task c b o v) (l .book))
 carriedOut (CLOSE c) l = cond (hasRunning (l .book) c) (closeLedger c l) l
 carriedOut (STORE c) l = withBook l (noted (STORE c) (l .book))
 carriedOut (CHECKPOINT c) l = withBook l (noted (CHECKPOINT c) (l .book))
@@ -236,7 +236,7 @@ recoverStoreIn (b ∷ bs) l = record { place = homeBlock b; bytes = keptImage l 
 -- the store of each command: its place and its bytes. 'Each does at most one store, save FORMAT'
 abbrev pub storeAfter : Command → Ledger → Bytes → DiskStore
 storeAfter (FORMAT c b j) l d = whole-disk (formattedDisk Numbers (newShape c b j))
-storeAfter (WRITE c b o v) l d = no-store
+storeAfter (WRITE task c b o v) l d = no-store
 storeAfter (CLOSE c) l d = no-store
 storeAfter (STORE c) l d = one-store (recordStoreIn c l d)
 storeAfter (CHECKPOINT c) l d = one-store (homeStoreIn c l)
@@ -257,7 +257,7 @@ copiesStored c i (x ∷ xs) m = copiesStored c (suc i) xs (store m (copyBlock c 
 -- memory after a command carried out: WRITE leaves there the block with all writes since the card came up; 'FORMAT and CUT zero it.'
 unfoldable pub memoryAfter : Command → Ledger → Bytes → Bytes
 memoryAfter (FORMAT c b j) l m = zeroMemory
-memoryAfter (WRITE c b o v) l m = store m b (replaced o 4 (imageNow l b) v)
+memoryAfter (WRITE task c b o v) l m = store m b (replaced o 4 (imageNow l b) v)
 memoryAfter (CLOSE c) l m = copiesStored c 0 (map (imageNow l) ((l .book .entry (newName c (l .book .next c))) .blocks)) m
 memoryAfter (STORE c) l m = m
 memoryAfter (CHECKPOINT c) l m = m
@@ -273,28 +273,34 @@ notUpFor c l rest = (isBlank (l .phase), 20) ∷ (isDown (l .phase), 22) ∷ (le
 unfoldable pub formatRefusals : ℕ → ℕ → ℕ → Ledger → List (Bool × ℕ)
 formatRefusals c b j l = (not (isBlank (l .phase)), 21) ∷ (not (inRange c b j), 4) ∷ []
 
--- the blocks that core c's transaction has after a WRITE, which makes the book k the book after
-unfoldable pub blocksAfter : ℕ → Book → Book → ℕ
-blocksAfter c k after = length ((after .entry (newName c (k .next c))) .blocks)
+-- the blocks that core c's transaction in the book k, running or about to open, has taken in the book later
+unfoldable pub writerBlocks : ℕ → Book → Book → List ℕ
+writerBlocks c k later = (later .entry (newName c (k .next c))) .blocks
+
+-- paper 02, (h): '36, the report task's block limit': by a WRITE, which makes the book k the book after, its transaction gets one block
+-- more, and then has more than the limit
+unfoldable pub limitPasses : ℕ → ℕ → Book → Book → Bool
+limitPasses limit c k after = ltb (length (writerBlocks c k k)) (length (writerBlocks c k after)) && ltb limit (length (writerBlocks c k after))
 
 -- '26 journal full: blocks of the records of closed unretired transactions, stored yet or not, plus 2 and the blocks of the
 -- running one, would pass J.'
 unfoldable pub journalPasses : ℕ → Shape → Book → Book → Bool
-journalPasses c s k after = ltb (s .journal) (recordBlocks k c (k .oldest c) (k .next c - k .oldest c) + 2 + blocksAfter c k after)
+journalPasses c s k after = ltb (s .journal) (recordBlocks k c (k .oldest c) (k .next c - k .oldest c) + 2 + length (writerBlocks c k after))
 
 -- '27 a number above 4,000,000,000 would open'
 unfoldable pub numberPasses : ℕ → Book → Bool
 numberPasses c k = not (hasRunning k c) && ltb maxNumber (k .next c)
 
--- paper 02, (d): 'Refusal 24 can no longer occur'; a list may pass 12 names
-unfoldable pub writeRefusals : ℕ → ℕ → ℕ → Bytes → Ledger → List (Bool × ℕ)
-writeRefusals c b o v l =
+-- paper 02, (d): 'Refusal 24 can no longer occur'; a list may pass 12 names. (h): '36 .. comes directly after 25', with the task's limit
+unfoldable pub writeRefusals : ℕ → ℕ → ℕ → ℕ → Bytes → Ledger → List (Bool × ℕ)
+writeRefusals limit c b o v l =
     let k = l .book in
     let after = writeBook c b o v k in
     notUpFor c l
     ((leb (l .shape .blocks) b, 6)
     ∷ (ltb maxOffset o, 7)
-    ∷ (ltb maxTaken (blocksAfter c k after), 25)
+    ∷ (ltb maxTaken (length (writerBlocks c k after)), 25)
+    ∷ (limitPasses limit c k after, 36)
     ∷ (journalPasses c (l .shape) k after, 26)
     ∷ (numberPasses c k, 27)
     ∷ [])
@@ -338,7 +344,7 @@ retireRefusals c l = oldestRefusals c l ((homeLeft c (l .book), 34) ∷ [])
 -- 'On such a tape no RECOVER meets 8.'
 unfoldable pub refusalsOf : Command → Ledger → List (Bool × ℕ)
 refusalsOf (FORMAT c b j) l = formatRefusals c b j l
-refusalsOf (WRITE c b o v) l = writeRefusals c b o v l
+refusalsOf (WRITE task c b o v) l = writeRefusals (blockLimit task) c b o v l
 refusalsOf (CLOSE c) l = closeRefusals c l
 refusalsOf (STORE c) l = storeRefusals c l
 refusalsOf (CHECKPOINT c) l = checkpointRefusals c l

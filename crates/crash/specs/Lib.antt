@@ -4,3 +4,4 @@ pub mod Service
 pub mod Ledger
 pub mod Claims
 pub mod Spans
+pub mod ReportLimit

@@ -18,10 +18,11 @@ pub record Service : Type 0 where
 unfoldable pub emptyService : Order → ℕ → Service
 emptyService o n = record { blocks = n; saved = []; book = emptyBook o (λ (c : ℕ). 1) }
 
--- what a command does in a book: the transactions, holders and names; one for a transaction that is not there does nothing
+-- what a command does in a book: the transactions, holders and names; one for a transaction that is not there does nothing. Paper 02, (h):
+-- a WRITE of either task is noted alike, 'Such writes count as issued writes in what a cut brings back.'
 unfoldable pub noted : Command → Book → Book
 noted (FORMAT c b j) k = k
-noted (WRITE c b o v) k = writeBook c b o v k
+noted (WRITE task c b o v) k = writeBook c b o v k
 noted (CLOSE c) k = cond (hasRunning k c) (closeBook c k) k
 noted (STORE c) k = cond (hasClosed k c) (storeBook c k) k
 noted (CHECKPOINT c) k = cond (hasCommitted k c) (checkpointBook c k) k
@@ -40,7 +41,7 @@ cutService v = record { blocks = v .blocks; saved = keptWrites (v .book) ++ v .s
 -- a command carried out; 'RECOVER does nothing.'
 unfoldable pub served : Command → Service → Service
 served (FORMAT c b j) v = emptyService (v .book .begun .order) b
-served (WRITE c b o d) v = withNoted (WRITE c b o d) v
+served (WRITE task c b o d) v = withNoted (WRITE task c b o d) v
 served (CLOSE c) v = withNoted (CLOSE c) v
 served (STORE c) v = withNoted (STORE c) v
 served (CHECKPOINT c) v = withNoted (CHECKPOINT c) v

@@ -19,7 +19,7 @@ use Rattle.crash.specs.Claims.{OnRuns, Start, StartFits, startWorld, sta
 -- the commands of such a span
 abbrev pub inSpan : Command → Bool
 inSpan (FORMAT c b j) = false
-inSpan (WRITE c b o v) = false
+inSpan (WRITE task c b o v) = false
 inSpan (CLOSE c) = false
 inSpan (STORE c) = false
 inSpan (CHECKPOINT c) = true

@@ -24,9 +24,11 @@ use Rattle.model.proofs.Store.{length-blockAt}
 use Rattle.model.proofs.Tape.{Runs, at-end, one-more, next-past, next-within, run-runs}
 use Rattle.crash.specs.Claims.{IsBytes, AreaKept, LedgerKept, ReadingsKept, Start, StartFits, Stated, startLedger, startService, startWorld}
 use Rattle.crash.specs.Spans.{SpansKeep}
+use Rattle.crash.specs.ReportLimit.{WritesLimited}
 use Rattle.crash.proofs.Books.Sequence.{kept-begins}
 use Rattle.crash.proofs.Runs.Theorem.{claim, demands, readings}
 use Rattle.crash.proofs.Runs.BroughtBack.{spans}
+use Rattle.crash.proofs.Runs.ReportLimited.{report-limit}
 use Rattle.crash.proofs.Books.Largest.{largest-kept}
 use Rattle.cells.specs.Cells.{storesIn, Exact, world, worldIn}
 use Rattle.reading.specs.declared.BlockPart.{BlockPart}
@@ -194,6 +196,7 @@ module _ (t : Bytes) (w : World) (tape-bytes : IsBytes t) (disk-bytes : IsBytes 
         largest = largest-kept;
         begins = λ s. kept-begins s (run stepAt t w);
         spans = from-start (λ (s : Start) (w : World) (ps : List (Point World)). SpansKeep w ps) spans;
+        limited = from-start (λ (s : Start) (w : World) (ps : List (Point World)). WritesLimited (startLedger in-sequence s) ps) report-limit;
       }
 
 -- ---- reading into a buffer

@@ -15,6 +15,7 @@ use Rattle.model.specs.Valid.{in-sequence}
 use Rattle.model.specs.Step.{stepAt}
 use Rattle.crash.specs.Claims.{AreaKept, KeptBegins, LedgerKept, LargestKept, ReadingsKept, Start, Stated, startLedger, startService, startWorld}
 use Rattle.crash.specs.Spans.{SpansKeep}
+use Rattle.crash.specs.ReportLimit.{WritesLimited}
 use Rattle.crash.specs.Book.{Book}
 use Rattle.cells.specs.Cells.{storesIn, Exact, worldIn}
 use Rattle.reading.specs.Part.{partOf}
@@ -50,8 +51,8 @@ partIn b w = let p = partOf b w in record { number = p .number; slice = p .slice
 
 -- The demands, of the run of a tape from a world that is one of the starts: a blank card over slices of their lengths, or a card
 -- that is down over a disk as FORMAT leaves it, or left it before request (d). Kept is the largest such set of every book, and at every
--- point a beginning of each core's run. And a cut brings back the same home area before, within and after a span of CHECKPOINTs and
--- RETIREs.
+-- point a beginning of each core's run. A cut brings back the same home area before, within and after a span of CHECKPOINTs and RETIREs.
+-- And a WRITE of the report task leaves the blocks of its transaction as they were, or at most three.
 pub record DemandsMet (t : Bytes) (w : World) : Type 0 where
   pub claim : (s : Start) → Stated s → w ≡ startWorld s → AreaKept (startService in-sequence s) (run stepAt t w)
   pub demands : (s : Start) → Stated s → w ≡ startWorld s → LedgerKept (startLedger in-sequence s) w (run stepAt t w)
@@ -59,6 +60,7 @@ pub record DemandsMet (t : Bytes) (w : World) : Type 0 where
   pub largest : (k : Book) → LargestKept k
   pub begins : (s : Start) → KeptBegins (startService in-sequence s) (run stepAt t w)
   pub spans : (s : Start) → Stated s → w ≡ startWorld s → SpansKeep w (run stepAt t w)
+  pub limited : (s : Start) → Stated s → w ≡ startWorld s → WritesLimited (startLedger in-sequence s) (run stepAt t w)
 
 -- The command at an offset of a tape t, over the cells v, the disk d and memory m, left u, e and k: what it performs, its byte, and
 -- the offset of the next one.

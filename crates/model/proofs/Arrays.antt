@@ -167,7 +167,7 @@ module _ (o : Order) where
   pub done-arrays : (k : Command) (w : World) → Arrays (w .card) → Arrays ((doneBy o k w) .world .card)
   unfolding doneBy formatted written closed stored recovered recoveredBy downCard
   done-arrays (FORMAT c b j) w f = fresh-arrays Up (newShape c b j) (replicate 8 (newTail 1 0)) (length-replicate 8 (newTail 1 0))
-  done-arrays (WRITE c b i v) w f = written-arrays (w .card) f c b
+  done-arrays (WRITE task c b i v) w f = written-arrays (w .card) f c b
   done-arrays (CLOSE c) w f = closed-arrays (w .card) f c
   done-arrays (STORE c) w f = core-kept (w .card) f c (coreStored (coreOf (w .card) c)) (stored-fits (coreOf (w .card) c) (core-fits (w .card) f c))
   done-arrays (CHECKPOINT c) w f = checkpointed-arrays c w f

@@ -125,10 +125,10 @@ module _ {A : Type 0} (P : A → Type 0) where
   of-cond false p q = q
 
 -- ---- the card's commands
--- the paper's numbers, in the paper's order: 1, then 20 to 23, then 4 to 8, then 25 to 35
+-- the paper's numbers, in the paper's order: 1, then 20 to 23, then 4 to 8, then 25, 36 and 26 to 35
 unfoldable pub refusalNumbers : Command → List ℕ
 refusalNumbers (FORMAT c b j) = 1 ∷ 21 ∷ 4 ∷ []
-refusalNumbers (WRITE c b o v) = 1 ∷ 20 ∷ 22 ∷ 5 ∷ 6 ∷ 7 ∷ 25 ∷ 26 ∷ 27 ∷ []
+refusalNumbers (WRITE task c b o v) = 1 ∷ 20 ∷ 22 ∷ 5 ∷ 6 ∷ 7 ∷ 25 ∷ 36 ∷ 26 ∷ 27 ∷ []
 refusalNumbers (CLOSE c) = 1 ∷ 20 ∷ 22 ∷ 5 ∷ 28 ∷ 29 ∷ []
 refusalNumbers (STORE c) = 1 ∷ 20 ∷ 22 ∷ 5 ∷ 30 ∷ []
 refusalNumbers (CHECKPOINT c) = 1 ∷ 20 ∷ 22 ∷ 5 ∷ 31 ∷ 32 ∷ 33 ∷ 35 ∷ []
@@ -145,7 +145,7 @@ readNumbers early = 1 ∷ 3 ∷ []
 numbers-positive : (r : Read) → all (ltb 0) (readNumbers r) ≡ true
 unfolding readNumbers refusalNumbers all
 numbers-positive (whole (FORMAT c b j)) = refl
-numbers-positive (whole (WRITE c b o v)) = refl
+numbers-positive (whole (WRITE task c b o v)) = refl
 numbers-positive (whole (CLOSE c)) = refl
 numbers-positive (whole (STORE c)) = refl
 numbers-positive (whole (CHECKPOINT c)) = refl
@@ -164,7 +164,7 @@ module _ (o : Order) where
   pub conditions-numbers : (k : Command) (w : World) → map (λ (t : Bool × ℕ). t .1) (conditionsOf o k w) ≡ refusalNumbers k
   unfolding conditionsOf refusalNumbers formatConditions writeConditions closeConditions storeConditions checkpointConditions retireConditions cutConditions recoverConditionsBy committedConditions foundConditions
   conditions-numbers (FORMAT c b j) w = refl
-  conditions-numbers (WRITE c b i v) w = refl
+  conditions-numbers (WRITE task c b i v) w = refl
   conditions-numbers (CLOSE c) w = refl
   conditions-numbers (STORE c) w = refl
   conditions-numbers (CHECKPOINT c) w = refl
@@ -184,7 +184,7 @@ module _ (o : Order) where
   pub done-answer : (k : Command) (w : World) → (doneBy o k w) .answer ≡ 0
   unfolding doneBy formatted written closed stored checkpointed storedHome retiredOldest storedMaster recovered recoveredBy
   done-answer (FORMAT c b j) w = refl
-  done-answer (WRITE c b i v) w = refl
+  done-answer (WRITE task c b i v) w = refl
   done-answer (CLOSE c) w = refl
   done-answer (STORE c) w = refl
   done-answer (CHECKPOINT c) w = refl
@@ -233,7 +233,7 @@ module _ (o : Order) where
   length-first : (k : Command) (w : World) → (ts : List (Bool × ℕ)) × (conditionsOf o k w ≡ (wrongLength w, 1) ∷ ts)
   unfolding conditionsOf formatConditions writeConditions closeConditions storeConditions checkpointConditions retireConditions cutConditions recoverConditionsBy committedConditions foundConditions
   length-first (FORMAT c b j) w = (_, refl)
-  length-first (WRITE c b i v) w = (_, refl)
+  length-first (WRITE task c b i v) w = (_, refl)
   length-first (CLOSE c) w = (_, refl)
   length-first (STORE c) w = (_, refl)
   length-first (CHECKPOINT c) w = (_, refl)

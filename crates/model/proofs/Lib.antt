@@ -27,6 +27,7 @@ pub mod Command
 pub mod NoRefusal24
 pub mod Tape
 pub mod Encoded
+pub mod BlockLimit
 pub mod Arrays
 pub mod Records
 pub mod Alike

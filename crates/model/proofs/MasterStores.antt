@@ -121,7 +121,7 @@ module _ (o : Order) where
   done-master : (k : Command) (w : World) → Clear (conditionsOf o k w) → KeptOrNew w ((doneBy o k w) .world)
   unfolding conditionsOf doneBy written closed
   done-master (FORMAT c b j) w cl = inr ((formatted-new (newShape c b j) (format-limits c b j w cl)) .holds-1)
-  done-master (WRITE c b i v) w cl = inl refl
+  done-master (WRITE task c b i v) w cl = inl refl
   done-master (CLOSE c) w cl = inl refl
   done-master (STORE c) w cl = inl (store-kept c w cl)
   done-master (CHECKPOINT c) w cl = inl (checkpointed-kept o c w cl)

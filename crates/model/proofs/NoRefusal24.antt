@@ -29,7 +29,7 @@ use Rattle.model.proofs.Command.{first-number, refusalNumbers, readNumb
 other-numbers : (r : Read) → all (λ (n : ℕ). not (eqb n 24)) (readNumbers r) ≡ true
 unfolding readNumbers refusalNumbers all
 other-numbers (whole (FORMAT c b j)) = refl
-other-numbers (whole (WRITE c b o v)) = refl
+other-numbers (whole (WRITE task c b o v)) = refl
 other-numbers (whole (CLOSE c)) = refl
 other-numbers (whole (STORE c)) = refl
 other-numbers (whole (CHECKPOINT c)) = refl

@@ -194,7 +194,7 @@ module _ (o : Order) (y z : CommitLayout) (w : World) where
 -- ---- every command but FORMAT
 abbrev pub isFormat : Command → Bool
 isFormat (FORMAT c b j) = true
-isFormat (WRITE c b o v) = false
+isFormat (WRITE task c b o v) = false
 isFormat (CLOSE c) = false
 isFormat (STORE c) = false
 isFormat (CHECKPOINT c) = false
@@ -205,7 +205,7 @@ isFormat (RETIRE c) = false
 -- the shape that a command stores by: that of the card, and for RECOVER that of the disk's master
 unfoldable pub storedShape : Command → World → Shape
 storedShape (FORMAT c b j) w = shapeOf (w .card)
-storedShape (WRITE c b o v) w = shapeOf (w .card)
+storedShape (WRITE task c b o v) w = shapeOf (w .card)
 storedShape (CLOSE c) w = shapeOf (w .card)
 storedShape (STORE c) w = shapeOf (w .card)
 storedShape (CHECKPOINT c) w = shapeOf (w .card)
@@ -227,7 +227,7 @@ module _ (o : Order) where
   pub done-makes : (k : Command) (w : World) → Makes (nextStore o k w) w (doneBy o k w)
   unfolding nextStore doneBy formatted written closed stored checkpointed storedHome retiredOldest storedMaster recovered recoveredBy
   done-makes (FORMAT c b j) w = record { disk = refl; stores = refl }
-  done-makes (WRITE c b i v) w = record { disk = refl; stores = refl }
+  done-makes (WRITE task c b i v) w = record { disk = refl; stores = refl }
   done-makes (CLOSE c) w = record { disk = refl; stores = refl }
   done-makes (STORE c) w = record { disk = refl; stores = refl }
   done-makes (CHECKPOINT c) w = record { disk = refl; stores = refl }
@@ -239,7 +239,7 @@ module _ (o : Order) where
   pub next-fits : (k : Command) (w : World) → Arrays (w .card) → isFormat k ≡ false → Clear (conditionsOf o k w) → StoreFits (storedShape k w) (nextStore o k w)
   unfolding conditionsOf nextStore storedShape
   next-fits (FORMAT c b j) w f h cl = absurd (true≢false h)
-  next-fits (WRITE c b i v) w f h cl = none-stored
+  next-fits (WRITE task c b i v) w f h cl = none-stored
   next-fits (CLOSE c) w f h cl = none-stored
   next-fits (STORE c) w f h cl = record-fits c w f cl
   next-fits (CHECKPOINT c) w f h cl = home-fits c w o cl
@@ -253,7 +253,7 @@ module _ (o : Order) where
   pub stored-limits : (k : Command) (w : World) → Clear (conditionsOf o k w) → InRange (storedShape k w)
   unfolding conditionsOf storedShape
   stored-limits (FORMAT c b j) w cl = shape-limits (w .card)
-  stored-limits (WRITE c b i v) w cl = shape-limits (w .card)
+  stored-limits (WRITE task c b i v) w cl = shape-limits (w .card)
   stored-limits (CLOSE c) w cl = shape-limits (w .card)
   stored-limits (STORE c) w cl = shape-limits (w .card)
   stored-limits (CHECKPOINT c) w cl = shape-limits (w .card)

@@ -18,7 +18,7 @@ use Rattle.model.specs.Write.{writeConditions, loadsImage, ruleFor, writ
 use Rattle.model.specs.Commit.{copyBlock, copied, closeConditions, closed, stored}
 use Rattle.model.specs.Checkpoint.{storedHome, storedMaster, checkpointed, retiredOldest}
 use Rattle.model.specs.Recovery.{layoutOn, blocksLeft, recoverStep, recoveredBy, recovered}
-use Rattle.model.specs.Tape.{Point, CHECKPOINT, CLOSE, CUT, Command, FORMAT, RECOVER, RETIRE, Read, STORE, WRITE, early, readAt, unknown, whole}
+use Rattle.model.specs.Tape.{blockLimit, Point, CHECKPOINT, CLOSE, CUT, Command, FORMAT, RECOVER, RETIRE, Read, STORE, WRITE, early, readAt, unknown, whole}
 use Rattle.model.proofs.Limits.{InRange}
 use Rattle.model.specs.Lists.{Each}
 use Rattle.model.proofs.Store.{length-replaced, length-store, length-blockAt}
@@ -66,9 +66,9 @@ length-closed c w f cl =
     let t = (coreOf (w .card) c) .running in
     length-copied c 0 (taken t) (w .memory) (omega arith) (omega (arith, few-taken t ((core-fits (w .card) f c) .running))) (right-lengths w (cl .0) .1)
 
-length-written : (c b o : ℕ) (v : Bytes) (w : World) → length v ≡ 4 → Clear (writeConditions c b o w) → length ((written c b o v w) .world .memory) ≡ 16384
+length-written : (limit c b o : ℕ) (v : Bytes) (w : World) → length v ≡ 4 → Clear (writeConditions limit c b o w) → length ((written c b o v w) .world .memory) ≡ 16384
 unfolding writeConditions written writtenMemory noBlock
-length-written c b o v w z cl =
+length-written limit c b o v w z cl =
     let h : b < (shapeOf (w .card)) .blocks = leb-false _ b (cl .1 .1 .1 .1 .0) in
     let i : o ≤ 124 = ltb-false 124 o (cl .1 .1 .1 .1 .1 .0) in
     let l = shape-limits (w .card) in
@@ -106,7 +106,7 @@ module _ (o : Order) where
   done-memory : (k : Command) (w : World) → OfData (λ (v : Bytes). length v ≡ 4) k → SizedWorld w → Clear (conditionsOf o k w) → length ((doneBy o k w) .world .memory) ≡ 16384
   unfolding conditionsOf doneBy formatted stored recovered recoveredBy
   done-memory (FORMAT c b j) w four z cl = length-zeroMemory
-  done-memory (WRITE c b i v) w four z cl = length-written c b i v w four cl
+  done-memory (WRITE task c b i v) w four z cl = length-written (blockLimit task) c b i v w four cl
   done-memory (CLOSE c) w four z cl = length-closed c w (z .arrays) cl
   done-memory (STORE c) w four z cl = z .memory
   done-memory (CHECKPOINT c) w four z cl = rw (checkpointed-memory c w) (z .memory)
@@ -119,7 +119,7 @@ module _ (o : Order) where
 
   done-disk : (k : Command) (w : World) → SizedWorld w → Clear (conditionsOf o k w) → length ((doneBy o k w) .world .disk) ≡ 32896
   done-disk (FORMAT c b j) w z cl = unfold doneBy in formatted-disk (newShape c b j) (format-limits c b j w (unfold conditionsOf in cl))
-  done-disk (WRITE c b i v) w z cl = stored-disk (WRITE c b i v) w z refl cl
+  done-disk (WRITE task c b i v) w z cl = stored-disk (WRITE task c b i v) w z refl cl
   done-disk (CLOSE c) w z cl = stored-disk (CLOSE c) w z refl cl
   done-disk (STORE c) w z cl = stored-disk (STORE c) w z refl cl
   done-disk (CHECKPOINT c) w z cl = stored-disk (CHECKPOINT c) w z refl cl

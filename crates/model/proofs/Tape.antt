@@ -27,7 +27,7 @@ abbrev pub isCommand : Option Command → Bool
 isCommand none = false
 isCommand (some k) = true
 
-decoded-past : (k : ℕ) (a : Bytes) → 9 ≤ k → decoded k a ≡ none
+pub decoded-past : (k : ℕ) (a : Bytes) → 10 ≤ k → decoded k a ≡ none
 unfolding decoded
 decoded-past k a h =
     rw (
@@ -39,10 +39,11 @@ decoded-past k a h =
       ne-eqb k 6 (λ e. omega arith),
       ne-eqb k 7 (λ e. omega arith),
       ne-eqb k 8 (λ e. omega arith),
+      ne-eqb k 9 (λ e. omega arith),
     ) refl
 
--- a fact of every byte: of 0 to 8 each, and of those past them
-by-byte : (P : ℕ → Type 0) → Each P (0 ∷ 1 ∷ 2 ∷ 3 ∷ 4 ∷ 5 ∷ 6 ∷ 7 ∷ 8 ∷ []) → ((k : ℕ) → 9 ≤ k → P k) → (k : ℕ) → P k
+-- a fact of every byte: of 0 to 9 each, and of those past them
+pub by-byte : (P : ℕ → Type 0) → Each P (0 ∷ 1 ∷ 2 ∷ 3 ∷ 4 ∷ 5 ∷ 6 ∷ 7 ∷ 8 ∷ 9 ∷ []) → ((k : ℕ) → 10 ≤ k → P k) → (k : ℕ) → P k
 by-byte P p past zero = p .0
 by-byte P p past (suc zero) = p .1 .0
 by-byte P p past (suc (suc zero)) = p .1 .1 .0
@@ -52,26 +53,27 @@ by-byte P p past (suc (suc (suc (suc (suc zero))))) = p .1 .1 .1 .1 .1 .0
 by-byte P p past (suc (suc (suc (suc (suc (suc zero)))))) = p .1 .1 .1 .1 .1 .1 .0
 by-byte P p past (suc (suc (suc (suc (suc (suc (suc zero))))))) = p .1 .1 .1 .1 .1 .1 .1 .0
 by-byte P p past (suc (suc (suc (suc (suc (suc (suc (suc zero)))))))) = p .1 .1 .1 .1 .1 .1 .1 .1 .0
-by-byte P p past (suc (suc (suc (suc (suc (suc (suc (suc (suc k))))))))) = past (suc (suc (suc (suc (suc (suc (suc (suc (suc k))))))))) (omega arith)
+by-byte P p past (suc (suc (suc (suc (suc (suc (suc (suc (suc zero))))))))) = p .1 .1 .1 .1 .1 .1 .1 .1 .1 .0
+by-byte P p past (suc (suc (suc (suc (suc (suc (suc (suc (suc (suc k)))))))))) = past (suc (suc (suc (suc (suc (suc (suc (suc (suc (suc k)))))))))) (omega arith)
 
--- bytes 1 to 8 are the commands'
-pub decoded-known : (k : ℕ) (a : Bytes) → isCommand (decoded k a) ≡ between 1 k 8
+-- bytes 1 to 9 are the commands'
+pub decoded-known : (k : ℕ) (a : Bytes) → isCommand (decoded k a) ≡ between 1 k 9
 unfolding decoded between
 decoded-known k a =
-    by-byte (λ (k : ℕ). isCommand (decoded k a) ≡ between 1 k 8) (refl, (refl, (refl, (refl, (refl, (refl, (refl, (refl, (refl, tt)))))))))
-    (λ k h. rw (decoded-past k a h, le-leb 1 k (omega arith), lt-leb k 8 (omega arith)) refl) k
+    by-byte (λ (k : ℕ). isCommand (decoded k a) ≡ between 1 k 9) (refl, (refl, (refl, (refl, (refl, (refl, (refl, (refl, (refl, (refl, tt))))))))))
+    (λ k h. rw (decoded-past k a h, le-leb 1 k (omega arith), lt-leb k 9 (omega arith)) refl) k
 
-unknown-none : (k : ℕ) → between 1 k 8 ≡ false → operandLength k ≡ 0
+unknown-none : (k : ℕ) → between 1 k 9 ≡ false → operandLength k ≡ 0
 unfolding operandLength operandLengths between
 unknown-none k =
-    by-byte (λ (k : ℕ). between 1 k 8 ≡ false → operandLength k ≡ 0)
-    (λ h. refl, (λ h. absurd (true≢false h), (λ h. absurd (true≢false h), (λ h. absurd (true≢false h), (λ h. absurd (true≢false h), (λ h. absurd (true≢false h), (λ h. refl, (λ h. refl, (λ h. absurd (true≢false h), tt)))))))))
+    by-byte (λ (k : ℕ). between 1 k 9 ≡ false → operandLength k ≡ 0)
+    (λ h. refl, (λ h. absurd (true≢false h), (λ h. absurd (true≢false h), (λ h. absurd (true≢false h), (λ h. absurd (true≢false h), (λ h. absurd (true≢false h), (λ h. refl, (λ h. refl, (λ h. absurd (true≢false h), (λ h. absurd (true≢false h), tt))))))))))
     (λ k h z. List·getD-eq-default operandLengths 0 h) k
 
 -- a fact of the data that a WRITE has
 abbrev pub OfData : (Bytes → Type 0) → Command → Type 0
 OfData P (FORMAT c b j) = Unit {0}
-OfData P (WRITE c b o v) = P v
+OfData P (WRITE task c b o v) = P v
 OfData P (CLOSE c) = Unit {0}
 OfData P (STORE c) = Unit {0}
 OfData P (CHECKPOINT c) = Unit {0}
@@ -83,11 +85,11 @@ OfDataIn : (Bytes → Type 0) → Option Command → Type 0
 OfDataIn P none = Unit {0}
 OfDataIn P (some k) = OfData P k
 
-decoded-data : (P : Bytes → Type 0) (k : ℕ) (a : Bytes) → (k ≡ 2 → P (part 4 4 a)) → OfDataIn P (decoded k a)
-unfolding decoded OfDataIn
+decoded-data : (P : Bytes → Type 0) (k : ℕ) (a : Bytes) → (operandLength k ≡ 8 → P (part 4 4 a)) → OfDataIn P (decoded k a)
+unfolding decoded OfDataIn operandLength operandLengths
 decoded-data P k a =
-    by-byte (λ (k : ℕ). (k ≡ 2 → P (part 4 4 a)) → OfDataIn P (decoded k a))
-    (λ h. tt, (λ h. tt, (λ h. h refl, (λ h. tt, (λ h. tt, (λ h. tt, (λ h. tt, (λ h. tt, (λ h. tt, tt)))))))))
+    by-byte (λ (k : ℕ). (operandLength k ≡ 8 → P (part 4 4 a)) → OfDataIn P (decoded k a))
+    (λ h. tt, (λ h. tt, (λ h. h refl, (λ h. tt, (λ h. tt, (λ h. tt, (λ h. tt, (λ h. tt, (λ h. tt, (λ h. h refl, tt))))))))))
     (λ k h p. rw (decoded-past k a h) tt) k
 
 -- ---- what is read at an offset
@@ -131,7 +133,7 @@ module _ (t : Bytes) (at : ℕ) where
   read-on h = rw (lt-leb (length t) at h)
 
   -- '2 unknown command byte'
-  pub unknown-is : isUnknown (readAt t at) ≡ ltb at (length t) && not (between 1 (commandByte t at) 8)
+  pub unknown-is : isUnknown (readAt t at) ≡ ltb at (length t) && not (between 1 (commandByte t at) 9)
   unknown-is =
       cases (ltb at (length t))
       (λ h. rw (h, read-on (ltb-true at (length t) h), ← decoded-known (commandByte t at) (operandsAt t at)) (unknown-of short (decoded (commandByte t at) (operandsAt t at))))
@@ -172,14 +174,14 @@ module _ (t : Bytes) (at : ℕ) where
   length-operands h = simp (length-take, length-drop) (omega arith)
 
   -- the data of a WRITE is what stands last among its operands
-  pub whole-data : (P : Bytes → Type 0) (k : Command) → readAt t at ≡ whole k → (commandByte t at ≡ 2 → P (part 4 4 (operandsAt t at))) → OfData P k
+  pub whole-data : (P : Bytes → Type 0) (k : Command) → readAt t at ≡ whole k → (operandLength (commandByte t at) ≡ 8 → P (part 4 4 (operandsAt t at))) → OfData P k
   unfolding OfDataIn
   whole-data P k e p = subst (OfDataIn P) (whole-at k e .decodes) (decoded-data P (commandByte t at) (operandsAt t at) p)
 
-  pub length-data : (k : Command) → readAt t at ≡ whole k → commandByte t at ≡ 2 → length (part 4 4 (operandsAt t at)) ≡ 4
+  pub length-data : (k : Command) → readAt t at ≡ whole k → operandLength (commandByte t at) ≡ 8 → length (part 4 4 (operandsAt t at)) ≡ 4
   unfolding part operandLength operandLengths
-  length-data k e two =
-      let l : length (operandsAt t at) ≡ 8 = length-operands (whole-at k e .within) ∙ rw two in
+  length-data k e eight =
+      let l : length (operandsAt t at) ≡ 8 = length-operands (whole-at k e .within) ∙ eight in
       simp (length-take, length-drop) (omega arith)
 
 -- ---- where the next command stands
@@ -294,7 +296,7 @@ neither n h (inr e) = eqb-false n 3 (not-true (eqb n 3) (and-right (not (eqb n 2
 numbers-own : (k : Command) → all (λ (n : ℕ). not (eqb n 2) && not (eqb n 3)) (refusalNumbers k) ≡ true
 unfolding refusalNumbers all
 numbers-own (FORMAT c b j) = refl
-numbers-own (WRITE c b o v) = refl
+numbers-own (WRITE task c b o v) = refl
 numbers-own (CLOSE c) = refl
 numbers-own (STORE c) = refl
 numbers-own (CHECKPOINT c) = refl

@@ -33,7 +33,7 @@ module _ (o : Order) (w : World) (down : isDown (w .card .phase) ≡ true) (P : 
   done-down : (k : Command) → Clear (conditionsOf o k w) → P (doneBy o k w)
   unfolding conditionsOf doneBy formatConditions writeConditions closeConditions storeConditions checkpointConditions retireConditions committedConditions foundConditions
   done-down (FORMAT c b j) cl = absurd (true≢false (ap not (sym (down-not-blank (w .card .phase) down)) ∙ cl .1 .0))
-  done-down (WRITE c b i v) cl = absurd (true≢false (sym down ∙ cl .1 .1 .0))
+  done-down (WRITE task c b i v) cl = absurd (true≢false (sym down ∙ cl .1 .1 .0))
   done-down (CLOSE c) cl = absurd (true≢false (sym down ∙ cl .1 .1 .0))
   done-down (STORE c) cl = absurd (true≢false (sym down ∙ cl .1 .1 .0))
   done-down (CHECKPOINT c) cl = absurd (true≢false (sym down ∙ cl .1 .1 .0))

@@ -32,6 +32,10 @@ maxNames = 12
 abbrev pub maxTaken : ℕ
 maxTaken = 8
 
+-- paper 02, (h): the report task 'may never take a block where the running transaction already has three'
+abbrev pub maxReportTaken : ℕ
+maxReportTaken = 3
+
 -- 'the expected number, at most 4,000,000,000': the highest number of a transaction
 abbrev pub maxNumber : ℕ
 maxNumber = 4000000000

@@ -6,7 +6,7 @@ use Rattle.model.specs.Bytes.{Bytes, zeroMemory}
 use Rattle.model.specs.Shape.{newShape}
 use Rattle.model.specs.Card.{downCard}
 use Rattle.model.specs.Command.{Outcome, refusedWith, unless, Decided, World, DiskStore, no-store, one-store, whole-disk, unstored, wrongLength}
-use Rattle.model.specs.Tape.{Command, FORMAT, WRITE, CLOSE, STORE, CHECKPOINT, CUT, RECOVER, RETIRE, Read, whole, unknown, early, readAt, Step, TapeStep, commandAt}
+use Rattle.model.specs.Tape.{blockLimit, Command, FORMAT, WRITE, CLOSE, STORE, CHECKPOINT, CUT, RECOVER, RETIRE, Read, whole, unknown, early, readAt, Step, TapeStep, commandAt}
 use Rattle.model.specs.Valid.{Order, in-sequence}
 use Rattle.model.specs.Format.{formatConditions, formattedDisk, formatted}
 use Rattle.model.specs.Write.{writeConditions, written}
@@ -17,7 +17,7 @@ use Rattle.model.specs.Recovery.{layoutOn, cutConditions, recoverConditi
 
 unfoldable pub conditionsOf : Order → Command → World → List (Bool × ℕ)
 conditionsOf o (FORMAT c b j) w = formatConditions c b j w
-conditionsOf o (WRITE c b i v) w = writeConditions c b i w
+conditionsOf o (WRITE task c b i v) w = writeConditions (blockLimit task) c b i w
 conditionsOf o (CLOSE c) w = closeConditions c w
 conditionsOf o (STORE c) w = storeConditions c w
 conditionsOf o (CHECKPOINT c) w = checkpointConditions o c w
@@ -27,7 +27,7 @@ conditionsOf o (RETIRE c) w = retireConditions o c w
 
 unfoldable pub doneBy : Order → Command → World → Outcome World
 doneBy o (FORMAT c b j) w = formatted (newShape c b j)
-doneBy o (WRITE c b i v) w = written c b i v w
+doneBy o (WRITE task c b i v) w = written c b i v w
 doneBy o (CLOSE c) w = closed c w
 doneBy o (STORE c) w = stored c w
 doneBy o (CHECKPOINT c) w = checkpointed c w
@@ -38,7 +38,7 @@ doneBy o (RETIRE c) w = retiredOldest c w
 -- what a command carried out stores next
 unfoldable pub nextStore : Order → Command → World → DiskStore
 nextStore o (FORMAT c b j) w = whole-disk (formattedDisk Numbers (newShape c b j))
-nextStore o (WRITE c b i v) w = no-store
+nextStore o (WRITE task c b i v) w = no-store
 nextStore o (CLOSE c) w = no-store
 nextStore o (STORE c) w = one-store (recordStore c w)
 nextStore o (CHECKPOINT c) w = one-store (homeStore c (oldest (committedOf w c)) w)

@@ -5,14 +5,26 @@ use mathlib.Core.Option.{Option, none, some}
 use mathlib.Core.Bool.{Bool, true, false, cond}
 use lib.ListN.{length, getD}
 use lib.Dec.{ltb, leb, eqb}
+use Rattle.model.specs.Limits.{maxTaken, maxReportTaken}
 use Rattle.model.specs.Bytes.{Bytes, number, part}
 use Rattle.model.specs.Command.{Outcome, refusedWith, unless}
 
--- ---- the commands, each with its operands: FORMAT has C, B, J; WRITE has core, block, offset, data; CLOSE, STORE, CHECKPOINT and,
--- since paper 02's (g), RETIRE have a core
+-- ---- paper 02, (h): of the summary task, which is the report task, 'It gets a WRITE of its own, byte 9': whose WRITE it is, that of the
+-- lamp reports or the report task's
+pub data Task : Type 0 where
+  lampTask : Task
+  reportTask : Task
+
+-- 'a transaction at most 8 blocks', 'the report task's block limit': with so many blocks or more a WRITE of this task takes none
+abbrev pub blockLimit : Task → ℕ
+blockLimit lampTask = maxTaken
+blockLimit reportTask = maxReportTaken
+
+-- ---- the commands, each with its operands: FORMAT has C, B, J; WRITE, beside its task, has core, block, offset, data; CLOSE, STORE,
+-- CHECKPOINT and, since paper 02's (g), RETIRE have a core
 pub data Command : Type 0 where
   FORMAT : ℕ → ℕ → ℕ → Command
-  WRITE : ℕ → ℕ → ℕ → Bytes → Command
+  WRITE : Task → ℕ → ℕ → ℕ → Bytes → Command
   CLOSE : ℕ → Command
   STORE : ℕ → Command
   CHECKPOINT : ℕ → Command
@@ -20,25 +32,30 @@ pub data Command : Type 0 where
   RECOVER : Command
   RETIRE : ℕ → Command
 
--- 'One byte, then operands of fixed widths': the bytes of the operands of commands 1 to 8
+-- 'One byte, then operands of fixed widths': the bytes of the operands of commands 1 to 9
 unfoldable pub operandLengths : List ℕ
-operandLengths = 0 ∷ 3 ∷ 8 ∷ 1 ∷ 1 ∷ 1 ∷ 0 ∷ 0 ∷ 1 ∷ []
+operandLengths = 0 ∷ 3 ∷ 8 ∷ 1 ∷ 1 ∷ 1 ∷ 0 ∷ 0 ∷ 1 ∷ 8 ∷ []
 
 unfoldable pub operandLength : ℕ → ℕ
 operandLength k = getD operandLengths k 0
+
+-- 'with the operands of command 2'
+abbrev pub writeOf : Task → Bytes → Command
+writeOf task a = WRITE task (getD a 0 0) (number 0 (part 1 2 a)) (getD a 3 0) (part 4 4 a)
 
 -- the command of a byte and its operands; none for an unknown byte
 unfoldable pub decoded : ℕ → Bytes → Option Command
 decoded k a =
     let c = getD a 0 0 in
     cond (eqb k 1) (some (FORMAT c (getD a 1 0) (getD a 2 0)))
-    (cond (eqb k 2) (some (WRITE c (number 0 (part 1 2 a)) (getD a 3 0) (part 4 4 a)))
+    (cond (eqb k 2) (some (writeOf lampTask a))
     (cond (eqb k 3) (some (CLOSE c))
     (cond (eqb k 4) (some (STORE c))
     (cond (eqb k 5) (some (CHECKPOINT c))
     (cond (eqb k 6) (some CUT)
     (cond (eqb k 7) (some RECOVER)
-    (cond (eqb k 8) (some (RETIRE c)) none)))))))
+    (cond (eqb k 8) (some (RETIRE c))
+    (cond (eqb k 9) (some (writeOf reportTask a)) none))))))))
 
 -- ---- what stands at an offset of a tape: a whole command, '2 unknown command byte' or '3 operands end early'
 pub data Read : Type 0 where

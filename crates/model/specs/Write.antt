@@ -77,15 +77,22 @@ closedBlocks k = k .used + cond (k .closed .live) (recordSize (k .closed)) 0
 unfoldable pub journalFull : Card → ℕ → ℕ → Bool
 journalFull x c b = ltb ((shapeOf x) .journal) (closedBlocks (coreOf x c) + recordSize (writerAfter x c b))
 
--- paper 02, (d): 'Refusal 24 can no longer occur'
-unfoldable pub writeConditions : ℕ → ℕ → ℕ → World → List (Bool × ℕ)
-writeConditions c b o w =
+-- '25 a ninth block'; paper 02, (h): 'take a block where the running transaction already has three': by its rule T would take the block,
+-- and has the limit's number of blocks or more
+abbrev pub takesPast : ℕ → Rule → Transaction → Bool
+takesPast limit r t = takesBlock r && leb limit (t .count)
+
+-- paper 02, (d): 'Refusal 24 can no longer occur'; (h): '36, the report task's block limit, comes directly after 25', with the task's
+-- limit. Of command 2 the condition of 36 is that of 25, so command 2 never answers 36
+unfoldable pub writeConditions : ℕ → ℕ → ℕ → ℕ → World → List (Bool × ℕ)
+writeConditions limit c b o w =
     let x = w .card in
     notUp w
     ((noCore w c, 5)
     ∷ (noBlock w b, 6)
     ∷ (ltb maxOffset o, 7)
-    ∷ (takesBlock (ruleFor x c b) && leb maxTaken ((writer x c) .count), 25)
+    ∷ (takesPast maxTaken (ruleFor x c b) (writer x c), 25)
+    ∷ (takesPast limit (ruleFor x c b) (writer x c), 36)
     ∷ (journalFull x c b, 26)
     ∷ (not ((coreOf x c) .running .live) && ltb maxNumber ((coreOf x c) .next), 27)
     ∷ [])
@@ -108,5 +115,5 @@ writtenMemory w c b o v =
 unfoldable pub written : ℕ → ℕ → ℕ → Bytes → World → Outcome World
 written c b o v w = unstored w (writtenCard (w .card) c b) (writtenMemory w c b o v)
 
-unfoldable pub write : ℕ → ℕ → ℕ → Bytes → World → Outcome World
-write c b o v w = unless (writeConditions c b o w) w (written c b o v w)
+unfoldable pub write : ℕ → ℕ → ℕ → ℕ → Bytes → World → Outcome World
+write limit c b o v w = unless (writeConditions limit c b o w) w (written c b o v w)

@@ -135,8 +135,10 @@ impl Shape {
 
     pub const BLOCK_SIZE: usize = 128;
 
-    // The blocks that a transaction takes, and the names in the list of an older commit, at most.
+    // At most: the blocks that a transaction takes, those that it has after the report task took one, the names in an older commit's list.
     pub const MAX_TAKEN: usize = 8;
+
+    pub const MAX_REPORT_TAKEN: usize = 3;
 
     pub const MAX_NAMES: usize = 12;
 

@@ -20,11 +20,11 @@ pub byte-past : (s : Bytes) (i : ℕ) → length s ≤ i → 0 ≡ getD s i 0
 byte-past s i h = sym (List·getD-eq-default s 0 h)
 
 -- ---- the table of operand lengths
-pub length-past : (k : ℕ) → 9 ≤ k → 0 ≡ operandLength k
+pub length-past : (k : ℕ) → 10 ≤ k → 0 ≡ operandLength k
 unfolding operandLength operandLengths
 length-past k h = sym (List·getD-eq-default operandLengths 0 h)
 
-pub length-few : (k : ℕ) → k < 9 → operandLength k ≤ 8
+pub length-few : (k : ℕ) → k < 10 → operandLength k ≤ 8
 unfolding operandLength operandLengths all
 length-few k h = leb-true _ 8 (all-mem (λ (x : ℕ). leb x 8) operandLengths refl (getD-mem operandLengths k 0 h))
 
@@ -37,7 +37,7 @@ module _ (t : Bytes) (at : ℕ) where
   early-past h = sym (ap isEarly (read-past t at h))
 
   module _ (h : at < length t) (k : ℕ) (e : k ≡ getD t at 0) where
-    byte-known : isUnknown (readAt t at) ≡ not (between 1 k 8)
+    byte-known : isUnknown (readAt t at) ≡ not (between 1 k 9)
     unfolding commandByte
     byte-known = unknown-is t at ∙ rw (lt-ltb at (length t) h, ← e) refl
 
@@ -45,12 +45,12 @@ module _ (t : Bytes) (at : ℕ) where
     unfolding between
     unknown-zero l = sym (byte-known ∙ simp (lt-leb 1 k l))
 
-    pub unknown-rest : 1 ≤ k → ltb 8 k ≡ isUnknown (readAt t at)
+    pub unknown-rest : 1 ≤ k → ltb 9 k ≡ isUnknown (readAt t at)
     unfolding between
     unknown-rest l =
-        cases (ltb 8 k)
-        (λ q. rw q (sym (byte-known ∙ simp (le-leb 1 k l, lt-leb k 8 (ltb-true 8 k q)))))
-        (λ q. rw q (sym (byte-known ∙ simp (le-leb 1 k l, le-leb k 8 (ltb-false 8 k q)))))
+        cases (ltb 9 k)
+        (λ q. rw q (sym (byte-known ∙ simp (le-leb 1 k l, lt-leb k 9 (ltb-true 9 k q)))))
+        (λ q. rw q (sym (byte-known ∙ simp (le-leb 1 k l, le-leb k 9 (ltb-false 9 k q)))))
 
     pub early-rest : (n : ℕ) → n ≡ operandLength k → leb (length t - at) n ≡ isEarly (readAt t at)
     unfolding commandByte

@@ -5,8 +5,8 @@ ghost use Prim.Native.Nat.{_≤_};
 ghost use lib.ListN.{getD};
 ghost use Rattle.model.specs.Tape.{operandLength, isUnknown, isEarly, readAt, nextOffset};
 
-// The bytes of the operands of commands 1 to 8; there is no command 0.
-const OPERAND_LENGTHS: [u8; 9] = [0, 3, 8, 1, 1, 1, 0, 0, 1];
+// The bytes of the operands of commands 1 to 9; there is no command 0.
+const OPERAND_LENGTHS: [u8; 10] = [0, 3, 8, 1, 1, 1, 0, 0, 1, 8];
 
 // The byte at an offset, 0 past the end.
 pub fn byte_at(s: &[u8], i: usize) -> u8
@@ -23,7 +23,7 @@ pub fn operand_length(k: u8) -> usize
     ensures { λ r. ⌜ (r ≡ operandLength k) × (r ≤ 8) ⌝ }
 {
     let i = k as usize;
-    if 9 <= i {
+    if 10 <= i {
         return 0;
     }
     let n = OPERAND_LENGTHS[i];
@@ -41,7 +41,7 @@ pub fn is_unknown(tape: &[u8], at: usize) -> bool
     if k < 1 {
         return true;
     }
-    8 < k
+    9 < k
 }
 
 // Refusal 3, operands that end early.

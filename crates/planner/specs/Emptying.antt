@@ -86,7 +86,7 @@ storesDone ts = total (λ (t : RunCommand). t .outcome .stores) ts
 -- changed
 unfoldable pub retiredBy : Command → World → World → List Committed
 retiredBy (FORMAT c b j) w v = []
-retiredBy (WRITE c b i x) w v = []
+retiredBy (WRITE task c b i x) w v = []
 retiredBy (CLOSE c) w v = []
 retiredBy (STORE c) w v = []
 retiredBy (CHECKPOINT c) w v = []
@@ -115,7 +115,7 @@ isEmptied w = onlyRunning w && all (λ (c : ℕ). not (runsOn w c)) (coresOf w)
 -- ---- any other run of those commands
 abbrev pub isEmptying : Command → Bool
 isEmptying (FORMAT c b j) = false
-isEmptying (WRITE c b i x) = false
+isEmptying (WRITE task c b i x) = false
 isEmptying (CLOSE c) = true
 isEmptying (STORE c) = true
 isEmptying (CHECKPOINT c) = true

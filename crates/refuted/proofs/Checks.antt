@@ -1,20 +1,22 @@
 -- Tests that a run can be put to by computing. Each is met wherever its demand is, so a run that fails one refutes the demand.
 -- Nothing here is to be believed: a test that asked too much could not be proved to follow from the demand.
-use Prim.Native.Nat.{ℕ, zero, suc, _+_, _*_}
+use Prim.Native.Nat.{ℕ, zero, suc, _+_, _*_, _<_, _≤_}
 use native.Mathlib.Omega.{arith}
 use mathlib.Core.Path.{_≡_, refl, sym, ap, _∙_, subst}
 use mathlib.Core.Bool.{Bool, true, false, cond, not, _&&_}
 use mathlib.Core.List.{List, [], _∷_}
-use lib.ListN.{length-replicate, take}
+use mathlib.Core.Logic.{_⊎_, ⊎-elim}
+use lib.ListN.{length, length-replicate, take}
 use lib.Dec.{eqb, ltb}
-use borrow.Author.Tests.{eqb-true, eqb-false, eq-eqb, not-true}
+use borrow.Author.Tests.{ltb-true, eqb-true, eqb-false, eq-eqb, not-true}
 use Rattle.model.specs.Lists.{all, below}
+use Rattle.model.specs.Limits.{maxReportTaken}
 use Rattle.model.specs.Bytes.{Bytes, zeroDisk, zeroMemory}
 use Rattle.model.specs.Card.{isBlank}
 use Rattle.model.specs.Valid.{Order, in-sequence}
 use Rattle.model.specs.Command.{Outcome, countOf, refusal, Decided, refused, carried-out, World}
 use Rattle.model.specs.Reading.{readNumber, Reader, blockReader}
-use Rattle.model.specs.Tape.{Command, FORMAT, WRITE, CLOSE, STORE, CHECKPOINT, CUT, RECOVER, RETIRE, Read, whole, unknown, early, readAt, TapeStep, Point, run, worldAfter}
+use Rattle.model.specs.Tape.{lampTask, reportTask, Command, FORMAT, WRITE, CLOSE, STORE, CHECKPOINT, CUT, RECOVER, RETIRE, Read, whole, unknown, early, readAt, TapeStep, Point, run, worldAfter}
 use Rattle.model.specs.Step.{stepAt, stepAtBy, worldBy, conditionsOn, doneOn, DecidesEach}
 use Rattle.model.specs.Printing.{blankWorld}
 use Rattle.model.specs.declared.Shape.{Shape}
@@ -70,7 +72,8 @@ isRecover early = false
 
 recover-byte : (k : Command) → eqb (byteOf k) 7 ≡ true → k ≡ RECOVER
 recover-byte (FORMAT c b j) h = impossible h
-recover-byte (WRITE c b o v) h = impossible h
+recover-byte (WRITE lampTask c b o v) h = impossible h
+recover-byte (WRITE reportTask c b o v) h = impossible h
 recover-byte (CLOSE c) h = impossible h
 recover-byte (STORE c) h = impossible h
 recover-byte (CHECKPOINT c) h = impossible h
@@ -256,6 +259,15 @@ end-keeps : (w : World) (ps : List (Point World)) → SpansKeep w ps → SpanKee
 unfolding worldAfter
 end-keeps w [] k = k
 end-keeps w (p ∷ ps) k = end-keeps (p .outcome .world) ps (k .1)
+
+-- ---- paper 02, (h): the report task's limit
+-- blocks before and after that are not as `FewTaken` has them: there are more, and over three
+pub few-passed : (before after : List ℕ) → (ltb (length before) (length after) && ltb maxReportTaken (length after)) ≡ true
+    → (after ≡ before) ⊎ (length after ≤ maxReportTaken) → ⊥
+few-passed before after h few =
+    let more : length before < length after = ltb-true _ _ (and-left (ltb (length before) (length after)) _ h) in
+    let past : maxReportTaken < length after = ltb-true _ _ (and-right (ltb (length before) (length after)) _ h) in
+    ⊎-elim (λ e. omega (arith, more, ap length e)) (λ m. omega (arith, past, m)) few
 
 -- ---- demand 1 for one command
 unfoldable pub decidesTest : Order → TapeStep World → Bytes → World → Bool

@@ -14,3 +14,4 @@ pub mod PlanChecks
 pub mod Planners
 pub mod PlanExamples
 pub mod RetireCards
+pub mod ReportCards

@@ -10,16 +10,16 @@ use Rattle.model.specs.Command.{World, Outcome, unless}
 use Rattle.model.specs.Commit.{nextStored, nextPosition, stored}
 use Rattle.model.specs.Valid.{Order, in-sequence, validSet}
 use Rattle.model.specs.Format.{formatted}
-use Rattle.model.specs.Write.{writerAfter, writtenCard, written}
+use Rattle.model.specs.Write.{writerAfter, takesBlock, writeConditions, writtenCard, written}
 use Rattle.model.specs.Checkpoint.{validNow, checkpointConditions, retireConditions, storedMaster, retiredOldest, foundConditions, committedConditions}
 use Rattle.model.specs.Recovery.{validOn, validOnBy, layoutOn, recoverConditions, blocksLeft, newestImage, emptiedTail, broughtUp, recoverStep, recoveredBy, recovered}
-use Rattle.model.specs.Tape.{Command, FORMAT, WRITE, CLOSE, STORE, CHECKPOINT, CUT, RECOVER, RETIRE, Step, readAt}
+use Rattle.model.specs.Tape.{Task, lampTask, reportTask, Command, FORMAT, WRITE, CLOSE, STORE, CHECKPOINT, CUT, RECOVER, RETIRE, Step, readAt}
 use Rattle.model.specs.Step.{conditionsOf, doneBy, step, stepBy, stepAt, stepAtBy, conditionsOn, doneOn}
-use Rattle.model.specs.Limits.{maxNumber}
+use Rattle.model.specs.Limits.{maxNumber, maxReportTaken}
 use Rattle.model.specs.declared.Card.{Card}
 use Rattle.model.specs.declared.CommitLayout.the-variants.{Numbers}
 use Rattle.model.proofs.Command.{command-unless}
-use Rattle.refuted.specs.Parts.{onTape, otherFormat, otherWrite, otherStore, otherCheckpoint, otherRetire, otherRecover, storeBy, recoverStepBy, recoverBy, ownLeft, ownImage, ownTail, recoverSet, recoverTail, byOrders, validBy, formatAs, retireAs, recoverAs, alwaysNumbers, writeNaming}
+use Rattle.refuted.specs.Parts.{onTape, otherFormat, otherWrite, otherStore, otherCheckpoint, otherRetire, otherRecover, storeBy, recoverStepBy, recoverBy, ownLeft, ownImage, ownTail, recoverSet, recoverTail, byOrders, validBy, formatAs, retireAs, recoverAs, alwaysNumbers, writeNaming, otherReport, limitAsking}
 
 -- a card that does as the model's in a world, and in every world
 abbrev pub SameIn : World → Step World → Type 0
@@ -37,7 +37,7 @@ tape-model o = refl
 module _ (w : World) where
   other-format : (g : ℕ → ℕ → ℕ → World → Outcome World) → ((c b j : ℕ) → g c b j w ≡ step (FORMAT c b j) w) → SameIn w (otherFormat step g)
   other-format g h (FORMAT c b j) = h c b j
-  other-format g h (WRITE c b o v) = refl
+  other-format g h (WRITE task c b o v) = refl
   other-format g h (CLOSE c) = refl
   other-format g h (STORE c) = refl
   other-format g h (CHECKPOINT c) = refl
@@ -45,9 +45,10 @@ module _ (w : World) where
   other-format g h RECOVER = refl
   other-format g h (RETIRE c) = refl
 
-  other-write : (g : ℕ → ℕ → ℕ → Bytes → World → Outcome World) → ((c b o : ℕ) (v : Bytes) → g c b o v w ≡ step (WRITE c b o v) w) → SameIn w (otherWrite step g)
+  other-write : (g : Task → ℕ → ℕ → ℕ → Bytes → World → Outcome World)
+      → ((task : Task) (c b o : ℕ) (v : Bytes) → g task c b o v w ≡ step (WRITE task c b o v) w) → SameIn w (otherWrite step g)
   other-write g h (FORMAT c b j) = refl
-  other-write g h (WRITE c b o v) = h c b o v
+  other-write g h (WRITE task c b o v) = h task c b o v
   other-write g h (CLOSE c) = refl
   other-write g h (STORE c) = refl
   other-write g h (CHECKPOINT c) = refl
@@ -57,7 +58,7 @@ module _ (w : World) where
 
   other-store : (g : ℕ → World → Outcome World) → ((c : ℕ) → g c w ≡ step (STORE c) w) → SameIn w (otherStore step g)
   other-store g h (FORMAT c b j) = refl
-  other-store g h (WRITE c b o v) = refl
+  other-store g h (WRITE task c b o v) = refl
   other-store g h (CLOSE c) = refl
   other-store g h (STORE c) = h c
   other-store g h (CHECKPOINT c) = refl
@@ -67,7 +68,7 @@ module _ (w : World) where
 
   pub other-checkpoint : (f : Step World) → SameIn w f → (g : ℕ → World → Outcome World) → ((c : ℕ) → g c w ≡ step (CHECKPOINT c) w) → SameIn w (otherCheckpoint f g)
   other-checkpoint f same g h (FORMAT c b j) = same (FORMAT c b j)
-  other-checkpoint f same g h (WRITE c b o v) = same (WRITE c b o v)
+  other-checkpoint f same g h (WRITE task c b o v) = same (WRITE task c b o v)
   other-checkpoint f same g h (CLOSE c) = same (CLOSE c)
   other-checkpoint f same g h (STORE c) = same (STORE c)
   other-checkpoint f same g h (CHECKPOINT c) = h c
@@ -77,7 +78,7 @@ module _ (w : World) where
 
   pub other-retire : (f : Step World) → SameIn w f → (g : ℕ → World → Outcome World) → ((c : ℕ) → g c w ≡ step (RETIRE c) w) → SameIn w (otherRetire f g)
   other-retire f same g h (FORMAT c b j) = same (FORMAT c b j)
-  other-retire f same g h (WRITE c b o v) = same (WRITE c b o v)
+  other-retire f same g h (WRITE task c b o v) = same (WRITE task c b o v)
   other-retire f same g h (CLOSE c) = same (CLOSE c)
   other-retire f same g h (STORE c) = same (STORE c)
   other-retire f same g h (CHECKPOINT c) = same (CHECKPOINT c)
@@ -87,7 +88,7 @@ module _ (w : World) where
 
   other-recover : (g : World → Outcome World) → g w ≡ step RECOVER w → SameIn w (otherRecover step g)
   other-recover g h (FORMAT c b j) = refl
-  other-recover g h (WRITE c b o v) = refl
+  other-recover g h (WRITE task c b o v) = refl
   other-recover g h (CLOSE c) = refl
   other-recover g h (STORE c) = refl
   other-recover g h (CHECKPOINT c) = refl
@@ -129,7 +130,7 @@ recover-tail = recover-by
 -- one rule in both is the card of the rule
 pub by-orders : (o : Order) (k : Command) (w : World) → byOrders o o k w ≡ stepBy o k w
 by-orders o (FORMAT c b j) w = refl
-by-orders o (WRITE c b i v) w = refl
+by-orders o (WRITE task c b i v) w = refl
 by-orders o (CLOSE c) w = refl
 by-orders o (STORE c) w = refl
 by-orders o (CHECKPOINT c) w = refl
@@ -157,4 +158,14 @@ recover-as w = other-recover w _ refl
 
 pub write-naming : IsModel (writeNaming withName)
 unfolding stepBy conditionsOf doneBy written writtenCard writerAfter
-write-naming w = other-write w _ (λ c b o v. refl)
+write-naming w = other-write w _ (λ task c b o v. refl)
+
+-- paper 02, (h): byte 9, with 36 asked where it takes a block and its transaction has three
+report-same : (w : World) (task : Task) (c b o : ℕ) (v : Bytes)
+    → otherReport (limitAsking takesBlock maxReportTaken) (WRITE task c b o v) w ≡ step (WRITE task c b o v) w
+unfolding stepBy conditionsOf doneBy writeConditions
+report-same w lampTask c b o v = refl
+report-same w reportTask c b o v = refl
+
+pub limit-asking : IsModel (otherReport (limitAsking takesBlock maxReportTaken))
+limit-asking w = other-write w _ (report-same w)

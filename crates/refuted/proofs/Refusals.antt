@@ -21,7 +21,7 @@ use Rattle.crash.specs.Claims.{Demands}
 use Rattle.crash.proofs.Books.Tests.{clash}
 use Rattle.refuted.specs.Parts.{onTape, ignoring, ignoringAt, refusing}
 use Rattle.refuted.proofs.Checks.{answerTest, answerCheck, holds, decidesTest, decides, areBytes, refutes-demands}
-use Rattle.refuted.proofs.Tapes.{tests, format, write, close, stores, checkpoints, retires, cut, recovers}
+use Rattle.refuted.proofs.Tapes.{tests, format, write, report, close, stores, checkpoints, retires, cut, recovers, fourReports}
 
 unfoldable failsAnswers : Step World → Bytes → Bool
 failsAnswers f t = areBytes t && not (holds answerTest (blankLedger in-sequence) blankWorld (run (onTape f) t blankWorld))
@@ -47,6 +47,7 @@ conditionTapes =
     ∷ (33, format 2 1 4 ++ write 1 0 0 1 ++ close 1 ++ stores 1 3 ++ write 0 0 4 2 ++ close 0 ++ stores 0 3 ++ checkpoints 0 1)
     ∷ (34, format 1 1 10 ++ write 0 0 0 1 ++ close 0 ++ stores 0 3 ++ retires 0)
     ∷ (35, format 1 1 10 ++ write 0 0 0 1 ++ close 0 ++ stores 0 3 ++ checkpoints 0 2)
+    ∷ (36, fourReports)
     ∷ []
 
 conditions-fail : all (λ (e : ℕ × Bytes). failsAnswers (ignoring (e .0)) (e .1)) conditionTapes ≡ true
@@ -81,11 +82,11 @@ each-decided e m h = clash (decides in-sequence (ignoringAt (e .0)) h (e .1) (e 
 
 -- ---- under no other: 'that shuts out a card that refuses every WRITE'. Each command with a number that it may answer.
 abbrev pub alwaysRefused : List (ℕ × ℕ)
-alwaysRefused = (1, 4) ∷ (2, 26) ∷ (3, 28) ∷ (4, 30) ∷ (5, 32) ∷ (5, 35) ∷ (6, 20) ∷ (7, 8) ∷ (8, 34) ∷ []
+alwaysRefused = (1, 4) ∷ (2, 26) ∷ (3, 28) ∷ (4, 30) ∷ (5, 32) ∷ (5, 35) ∷ (6, 20) ∷ (7, 8) ∷ (8, 34) ∷ (9, 36) ∷ []
 
--- all eight commands are done
+-- all nine commands are done
 abbrev pub allDone : Bytes
-allDone = format 1 1 4 ++ write 0 0 0 1 ++ close 0 ++ stores 0 3 ++ checkpoints 0 1 ++ retires 0 ++ cut ++ recovers 1
+allDone = format 1 1 10 ++ write 0 0 0 1 ++ report 0 0 4 2 ++ close 0 ++ stores 0 3 ++ checkpoints 0 1 ++ retires 0 ++ cut ++ recovers 1
 
 always-fail : all (λ (e : ℕ × ℕ). failsAnswers (refusing (e .0) (e .1)) allDone) alwaysRefused ≡ true
 unfolding tests failsAnswers

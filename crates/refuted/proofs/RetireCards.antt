@@ -1,19 +1,15 @@
 -- Paper 02, (g): wrong cards, each refuted by a tape that is computed; and which of two refusals is answered where both conditions hold.
-use Prim.Native.Nat.{ℕ}
 use mathlib.Core.Path.{_≡_, refl}
-use mathlib.Core.List.{List, [], _∷_, _++_, map}
-use Rattle.model.specs.Lists.{select}
+use mathlib.Core.List.{[], _∷_, _++_}
 use Rattle.model.specs.Bytes.{Bytes}
 use Rattle.model.specs.Valid.{in-sequence}
-use Rattle.model.specs.Command.{World}
-use Rattle.model.specs.Tape.{Command, CHECKPOINT, RETIRE}
-use Rattle.model.specs.Step.{conditionsOf, step}
+use Rattle.model.specs.Tape.{CHECKPOINT, RETIRE}
 use Rattle.crash.specs.Claims.{Claim, Demands}
 use Rattle.crash.specs.Spans.{Spans}
 use Rattle.refuted.specs.Parts.{onTape, ignoring}
 use Rattle.refuted.specs.WrongRetire.{retireIgnoring, checkpointRetires, retiresWithLast, countsHomeAlone}
 use Rattle.refuted.proofs.Checks.{refutes-claim, refutes-demands, refutes-spans, answerCheck, countCheck, bytesCheck}
-use Rattle.refuted.proofs.Tapes.{tests, endOf, format, write, close, stores, checkpoints, retires, cut, recovers}
+use Rattle.refuted.proofs.Tapes.{tests, endOf, numbersAndAnswer, format, write, close, stores, checkpoints, retires, cut, recovers}
 
 -- ---- RETIRE
 -- It is retired before its image is at home.
@@ -71,9 +67,6 @@ unfolding tests
 counts-home-alone-store = refutes-demands in-sequence (onTape countsHomeAlone) bytesCheck homeCounted refl
 
 -- ---- 'RETIRE .. tests 31, 32, 33, then 34 ..; CHECKPOINT tests 31, 32, 33, then 35': the numbers whose conditions hold, and the answer
-abbrev numbersAndAnswer : Command → World → List ℕ × ℕ
-numbersAndAnswer k w = (map (λ t. t .1) (select (λ t. t .0) (conditionsOf in-sequence k w)), (step k w) .answer)
-
 -- core 0's transaction is tied to core 1's, which runs
 abbrev tiedWithBlock : Bytes
 tiedWithBlock = format 2 1 10 ++ write 0 0 0 1 ++ write 1 0 4 2 ++ close 0 ++ stores 0 3

@@ -1,39 +1,55 @@
 -- Tapes by their commands, and every definition that a test of a run computes with, on one `unfolding` line.
 use Prim.Native.Nat.{ℕ}
-use mathlib.Core.List.{[], _∷_, _++_, flatMap}
+use mathlib.Core.List.{List, [], _∷_, _++_, map, flatMap}
 use lib.ListN.{replicate}
-use Rattle.model.specs.Lists.{below}
+use Rattle.model.specs.Lists.{below, select}
 use Rattle.model.specs.Bytes.{Bytes, bytes}
 use Rattle.model.specs.Command.{World}
 use Rattle.model.specs.Recovery.{homeArea}
-use Rattle.model.specs.Tape.{run, worldAfter}
-use Rattle.model.specs.Step.{stepAt, worldBy}
+use Rattle.model.specs.Tape.{Command, run, worldAfter}
+use Rattle.model.specs.Valid.{in-sequence}
+use Rattle.model.specs.Step.{conditionsOf, step, stepAt, worldBy}
 use Rattle.model.specs.Printing.{blankWorld}
 use Rattle.crash.specs.Claims.{startWorld, startService, startLedger, fedPoint, enteredPoint}
 use Rattle.crash.specs.Service.{bookArea}
-use Rattle.crash.specs.Ledger.{blankLedger, freshLedger, imageNow, closeLedger, unretired, metIn, validIn, blocksIn, cutLedger, recoverLedger, carriedOut, entered, storedOf, storedSince, recordTags, recordOf, recordBlocks, recordStoreIn, tailsPast, homeStoreIn, masterStoreIn, recoverStoreIn, diskAfter, copiesStored, memoryAfter, formatRefusals, blocksAfter, journalPasses, numberPasses, writeRefusals, closeRefusals, storeRefusals, sharesLowerIn, checkpointRefusals, retireRefusals, refusalsOf, answerOf, readNow, readRefusals}
+use Rattle.crash.specs.Ledger.{blankLedger, freshLedger, imageNow, closeLedger, unretired, metIn, validIn, blocksIn, cutLedger, recoverLedger, carriedOut, entered, storedOf, storedSince, recordTags, recordOf, recordBlocks, recordStoreIn, tailsPast, homeStoreIn, masterStoreIn, recoverStoreIn, diskAfter, copiesStored, memoryAfter, formatRefusals, writerBlocks, limitPasses, journalPasses, numberPasses, writeRefusals, closeRefusals, storeRefusals, sharesLowerIn, checkpointRefusals, retireRefusals, refusalsOf, answerOf, readNow, readRefusals}
 use Rattle.crash.proofs.Books.BookExamples.{books}
 use Rattle.refuted.proofs.Checks.{sameList, isRecover, comesUp, areaHolds, answerTest, usedBytes, imageBytes, sameWorld, refusedTest, ofDone, countTest, bytesTest, memoryTest, holds, readsTest, readsHold, spanTest, decidesTest, leavesTest}
 
 unfoldable pub tests : Unit {0}
-unfolding books readRefusals readNow homeArea startWorld startService startLedger fedPoint enteredPoint bookArea blankLedger freshLedger imageNow closeLedger unretired metIn validIn blocksIn cutLedger recoverLedger carriedOut entered storedOf storedSince recordTags recordOf recordBlocks recordStoreIn tailsPast homeStoreIn masterStoreIn recoverStoreIn diskAfter copiesStored memoryAfter formatRefusals blocksAfter journalPasses numberPasses writeRefusals closeRefusals storeRefusals sharesLowerIn checkpointRefusals retireRefusals refusalsOf answerOf sameList isRecover comesUp areaHolds answerTest usedBytes imageBytes sameWorld refusedTest ofDone countTest bytesTest memoryTest holds readsTest readsHold worldBy spanTest decidesTest leavesTest
+unfolding books readRefusals readNow homeArea startWorld startService startLedger fedPoint enteredPoint bookArea blankLedger freshLedger imageNow closeLedger unretired metIn validIn blocksIn cutLedger recoverLedger carriedOut entered storedOf storedSince recordTags recordOf recordBlocks recordStoreIn tailsPast homeStoreIn masterStoreIn recoverStoreIn diskAfter copiesStored memoryAfter formatRefusals writerBlocks limitPasses journalPasses numberPasses writeRefusals closeRefusals storeRefusals sharesLowerIn checkpointRefusals retireRefusals refusalsOf answerOf sameList isRecover comesUp areaHolds answerTest usedBytes imageBytes sameWorld refusedTest ofDone countTest bytesTest memoryTest holds readsTest readsHold worldBy spanTest decidesTest leavesTest
 tests = tt
 
 -- the world at the end of a run of the model's card
 abbrev pub endOf : Bytes → World
 endOf t = worldAfter blankWorld (run stepAt t blankWorld)
 
+-- of a command the numbers whose conditions hold, and its answer
+abbrev pub numbersAndAnswer : Command → World → List ℕ × ℕ
+numbersAndAnswer k w = (map (λ t. t .1) (select (λ t. t .0) (conditionsOf in-sequence k w)), (step k w) .answer)
+
 -- ---- commands of a tape
 abbrev pub format : ℕ → ℕ → ℕ → Bytes
 format c b j = 1 ∷ c ∷ b ∷ j ∷ []
 
--- four bytes x
+-- a WRITE, of byte k
+abbrev writeAs : ℕ → ℕ → ℕ → ℕ → Bytes → Bytes
+writeAs k c b o v = k ∷ c ∷ 0 ∷ b ∷ o ∷ v
+
+-- four bytes x, by command 2 and by the report task
 abbrev pub write : ℕ → ℕ → ℕ → ℕ → Bytes
-write c b o x = 2 ∷ c ∷ 0 ∷ b ∷ o ∷ x ∷ x ∷ x ∷ x ∷ []
+write c b o x = writeAs 2 c b o (replicate 4 x)
+
+abbrev pub report : ℕ → ℕ → ℕ → ℕ → Bytes
+report c b o x = writeAs 9 c b o (replicate 4 x)
+
+-- .. into core 0's blocks below n
+abbrev pub reports : ℕ → Bytes
+reports n = flatMap (λ (b : ℕ). report 0 b 0 1) (below n)
 
 -- the four bytes of n
 abbrev pub writeWord : ℕ → ℕ → ℕ → ℕ → Bytes
-writeWord c b o n = 2 ∷ c ∷ 0 ∷ b ∷ o ∷ bytes 4 n
+writeWord c b o n = writeAs 2 c b o (bytes 4 n)
 
 abbrev pub close : ℕ → Bytes
 close c = 3 ∷ c ∷ []
@@ -67,3 +83,7 @@ linked =
 -- one transaction is committed and kept
 abbrev pub oneKept : Bytes
 oneKept = format 1 1 4 ++ write 0 0 0 1 ++ close 0 ++ stores 0 3 ++ cut ++ recovers 2
+
+-- the report task writes into one block more than its limit
+abbrev pub fourReports : Bytes
+fourReports = format 1 4 10 ++ reports 4

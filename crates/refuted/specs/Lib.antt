@@ -5,3 +5,4 @@ pub mod WrongOrder
 pub mod WrongNumbers
 pub mod WrongPlanners
 pub mod WrongRetire
+pub mod WrongReport

@@ -2,7 +2,7 @@
 -- (`proofs/Parts.antt`).
 use Prim.Native.Nat.{ℕ, _+_}
 use mathlib.Core.List.{List, [], _∷_, map}
-use mathlib.Core.Bool.{Bool, false, cond, not}
+use mathlib.Core.Bool.{Bool, false, cond, not, _&&_}
 use lib.ListN.{length}
 use lib.Dec.{eqb, ltb, leb}
 use Rattle.model.specs.Lists.{below, select}
@@ -18,7 +18,7 @@ use Rattle.model.specs.Write.{writer, writerName, ruleFor, takesBlock, namesHol
 use Rattle.model.specs.Commit.{coreStored, storeConditions}
 use Rattle.model.specs.Checkpoint.{committedNow, committedOf, oldest, retireConditions, retiredCard}
 use Rattle.model.specs.Recovery.{shapeOn, tailOn, layoutOn, committedOn, recoverConditionsBy, recoverConditions, blocksLeft, imageFound, newestImage, recoveredTo, emptiedTail, recoveredBy}
-use Rattle.model.specs.Tape.{Command, FORMAT, WRITE, CLOSE, STORE, CHECKPOINT, CUT, RECOVER, RETIRE, Step, TapeStep, readAt, commandAt}
+use Rattle.model.specs.Tape.{Task, lampTask, reportTask, blockLimit, Command, FORMAT, WRITE, CLOSE, STORE, CHECKPOINT, CUT, RECOVER, RETIRE, Step, TapeStep, readAt, commandAt}
 use Rattle.model.specs.Step.{conditionsOf, doneBy, step, stepBy, conditionsOn, doneOn}
 use Rattle.model.specs.declared.Phase.the-variants.{Up}
 use Rattle.model.specs.declared.Found.the-variants.{Miss}
@@ -31,6 +31,7 @@ use Rattle.model.specs.declared.Card.{Card}
 use Rattle.model.specs.declared.CommitLayout.{CommitLayout}
 use Rattle.model.specs.declared.CommitLayout.the-variants.{Lists, Numbers}
 use Rattle.model.specs.declared.Committed.{Committed}
+use Rattle.model.specs.declared.Rule.{Rule}
 
 -- a card as a tape meets it: 1, 2 and 3 are asked as in the model
 abbrev pub onTape : Step World → TapeStep World
@@ -39,7 +40,7 @@ onTape f = commandAt wrongLength f
 -- ---- the card f with another command: a FORMAT, a WRITE and so on
 abbrev pub otherFormat : Step World → (ℕ → ℕ → ℕ → World → Outcome World) → Step World
 otherFormat f g (FORMAT c b j) w = g c b j w
-otherFormat f g (WRITE c b o v) w = f (WRITE c b o v) w
+otherFormat f g (WRITE task c b o v) w = f (WRITE task c b o v) w
 otherFormat f g (CLOSE c) w = f (CLOSE c) w
 otherFormat f g (STORE c) w = f (STORE c) w
 otherFormat f g (CHECKPOINT c) w = f (CHECKPOINT c) w
@@ -47,9 +48,9 @@ otherFormat f g CUT w = f CUT w
 otherFormat f g RECOVER w = f RECOVER w
 otherFormat f g (RETIRE c) w = f (RETIRE c) w
 
-abbrev pub otherWrite : Step World → (ℕ → ℕ → ℕ → Bytes → World → Outcome World) → Step World
+abbrev pub otherWrite : Step World → (Task → ℕ → ℕ → ℕ → Bytes → World → Outcome World) → Step World
 otherWrite f g (FORMAT c b j) w = f (FORMAT c b j) w
-otherWrite f g (WRITE c b o v) w = g c b o v w
+otherWrite f g (WRITE task c b o v) w = g task c b o v w
 otherWrite f g (CLOSE c) w = f (CLOSE c) w
 otherWrite f g (STORE c) w = f (STORE c) w
 otherWrite f g (CHECKPOINT c) w = f (CHECKPOINT c) w
@@ -59,7 +60,7 @@ otherWrite f g (RETIRE c) w = f (RETIRE c) w
 
 abbrev pub otherClose : Step World → (ℕ → World → Outcome World) → Step World
 otherClose f g (FORMAT c b j) w = f (FORMAT c b j) w
-otherClose f g (WRITE c b o v) w = f (WRITE c b o v) w
+otherClose f g (WRITE task c b o v) w = f (WRITE task c b o v) w
 otherClose f g (CLOSE c) w = g c w
 otherClose f g (STORE c) w = f (STORE c) w
 otherClose f g (CHECKPOINT c) w = f (CHECKPOINT c) w
@@ -69,7 +70,7 @@ otherClose f g (RETIRE c) w = f (RETIRE c) w
 
 abbrev pub otherStore : Step World → (ℕ → World → Outcome World) → Step World
 otherStore f g (FORMAT c b j) w = f (FORMAT c b j) w
-otherStore f g (WRITE c b o v) w = f (WRITE c b o v) w
+otherStore f g (WRITE task c b o v) w = f (WRITE task c b o v) w
 otherStore f g (CLOSE c) w = f (CLOSE c) w
 otherStore f g (STORE c) w = g c w
 otherStore f g (CHECKPOINT c) w = f (CHECKPOINT c) w
@@ -79,7 +80,7 @@ otherStore f g (RETIRE c) w = f (RETIRE c) w
 
 abbrev pub otherCheckpoint : Step World → (ℕ → World → Outcome World) → Step World
 otherCheckpoint f g (FORMAT c b j) w = f (FORMAT c b j) w
-otherCheckpoint f g (WRITE c b o v) w = f (WRITE c b o v) w
+otherCheckpoint f g (WRITE task c b o v) w = f (WRITE task c b o v) w
 otherCheckpoint f g (CLOSE c) w = f (CLOSE c) w
 otherCheckpoint f g (STORE c) w = f (STORE c) w
 otherCheckpoint f g (CHECKPOINT c) w = g c w
@@ -89,7 +90,7 @@ otherCheckpoint f g (RETIRE c) w = f (RETIRE c) w
 
 abbrev pub otherRetire : Step World → (ℕ → World → Outcome World) → Step World
 otherRetire f g (FORMAT c b j) w = f (FORMAT c b j) w
-otherRetire f g (WRITE c b o v) w = f (WRITE c b o v) w
+otherRetire f g (WRITE task c b o v) w = f (WRITE task c b o v) w
 otherRetire f g (CLOSE c) w = f (CLOSE c) w
 otherRetire f g (STORE c) w = f (STORE c) w
 otherRetire f g (CHECKPOINT c) w = f (CHECKPOINT c) w
@@ -99,7 +100,7 @@ otherRetire f g (RETIRE c) w = g c w
 
 abbrev pub otherCut : Step World → (World → Outcome World) → Step World
 otherCut f g (FORMAT c b j) w = f (FORMAT c b j) w
-otherCut f g (WRITE c b o v) w = f (WRITE c b o v) w
+otherCut f g (WRITE task c b o v) w = f (WRITE task c b o v) w
 otherCut f g (CLOSE c) w = f (CLOSE c) w
 otherCut f g (STORE c) w = f (STORE c) w
 otherCut f g (CHECKPOINT c) w = f (CHECKPOINT c) w
@@ -109,7 +110,7 @@ otherCut f g (RETIRE c) w = f (RETIRE c) w
 
 abbrev pub otherRecover : Step World → (World → Outcome World) → Step World
 otherRecover f g (FORMAT c b j) w = f (FORMAT c b j) w
-otherRecover f g (WRITE c b o v) w = f (WRITE c b o v) w
+otherRecover f g (WRITE task c b o v) w = f (WRITE task c b o v) w
 otherRecover f g (CLOSE c) w = f (CLOSE c) w
 otherRecover f g (STORE c) w = f (STORE c) w
 otherRecover f g (CHECKPOINT c) w = f (CHECKPOINT c) w
@@ -121,7 +122,8 @@ otherRecover f g (RETIRE c) w = f (RETIRE c) w
 -- the byte of a command
 abbrev pub byteOf : Command → ℕ
 byteOf (FORMAT c b j) = 1
-byteOf (WRITE c b o v) = 2
+byteOf (WRITE lampTask c b o v) = 2
+byteOf (WRITE reportTask c b o v) = 9
 byteOf (CLOSE c) = 3
 byteOf (STORE c) = 4
 byteOf (CHECKPOINT c) = 5
@@ -141,8 +143,8 @@ withCondition n test ts = map (λ (t : Bool × ℕ). cond (eqb (t .1) n) (test, 
 abbrev pub asking : ℕ → Bool → Step World
 asking n test k w = unless (withCondition n test (conditionsOf in-sequence k w)) w (doneBy in-sequence k w)
 
-abbrev pub writeAsking : ℕ → (ℕ → ℕ → World → Bool) → Step World
-writeAsking n test = otherWrite step (λ c b o v w. asking n (test c b w) (WRITE c b o v) w)
+abbrev pub writeAsking : ℕ → (Task → ℕ → ℕ → World → Bool) → Step World
+writeAsking n test = otherWrite step (λ task c b o v w. asking n (test task c b w) (WRITE task c b o v) w)
 
 -- .. in CHECKPOINT and RETIRE, of the card f
 abbrev pub oldestAsking : Step World → ℕ → (ℕ → World → Bool) → Step World
@@ -280,4 +282,17 @@ cardNaming name x c b =
 
 abbrev pub writeNaming : (Transaction → Name → Transaction) → Step World
 writeNaming name =
-    otherWrite step (λ c b o v w. unless (writeConditions c b o w) w (unstored w (cardNaming name (w .card) c b) (writtenMemory w c b o v)))
+    otherWrite step (λ task c b o v w.
+    unless (writeConditions (blockLimit task) c b o w) w (unstored w (cardNaming name (w .card) c b) (writtenMemory w c b o v)))
+
+-- ---- paper 02, (h): the report task's WRITE, byte 9, is that of the card g
+abbrev byTask : Step World → Task → Step World
+byTask g lampTask k w = step k w
+byTask g reportTask k w = g k w
+
+abbrev pub otherReport : Step World → Step World
+otherReport g = otherWrite step (λ task c b o v w. byTask g task (WRITE task c b o v) w)
+
+-- 36 by the rules under which it is asked, and the number of blocks from which on
+abbrev pub limitAsking : (Rule → Bool) → ℕ → Step World
+limitAsking rule n = writeAsking 36 (λ task c b w. rule (ruleFor (w .card) c b) && leb n ((writer (w .card) c) .count))

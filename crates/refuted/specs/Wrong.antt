@@ -35,21 +35,25 @@ use Rattle.model.specs.declared.Committed.{Committed}
 use Rattle.refuted.specs.Parts.{otherWrite, otherClose, otherStore, otherCheckpoint, otherRetire, otherCut, otherRecover, refusing, writeAsking, oldestAsking, patched, withMemory, withCard, putCloses, onRunning, onClosed, storeBy, recoverBy, ownLeft, ownImage, ownTail, recoverSet, recoverTail}
 
 -- ---- 'Where a card goes astray'
--- 'No name for a holder already committed': what the writer names stays as it was
+-- 'No name for a holder already committed': what the writer names stays as it was, of card, core and block where a test holds
 abbrev withNamesOf : Transaction → Transaction → Transaction
 withNamesOf t u = record { live = u .live; stamp = u .stamp; count = u .count; blocks = u .blocks; highest = t .highest }
 
 abbrev isClosedNow : Card → Name → Bool
 isClosedNow x n = let k = coreOf x (n .core) in k .closed .live && eqb (closedNumber k) (n .number)
 
+abbrev pub unnamedWhere : (Card → ℕ → ℕ → Bool) → Step World
+unnamedWhere test =
+    otherWrite step (λ task c b o v w.
+    let x = w .card in
+    let done = step (WRITE task c b o v) w in
+    cond (test x c b) (patched (onRunning c (withNamesOf (writer x c))) done) done)
+
 abbrev pub noNameForCommitted : Step World
 noNameForCommitted =
-    otherWrite step (λ c b o v w.
-    let x = w .card in
+    unnamedWhere (λ x c b.
     let r = ruleFor x c b in
-    let isCommitted = takesBlock r && namesHolder r && not (isClosedNow x ((holderOf x b) .name)) in
-    let done = step (WRITE c b o v) w in
-    cond isCommitted (patched (onRunning c (withNamesOf (writer x c))) done) done)
+    takesBlock r && namesHolder r && not (isClosedNow x ((holderOf x b) .name)))
 
 -- 'Trusting that a block cannot be in both of two tied transactions .. The stamp decides.': the last in order of core
 -- and number decides
@@ -105,7 +109,7 @@ counting n w = record { answer = 0; world = w; stores = n }
 
 abbrev pub nothingChanges : Step World
 nothingChanges (FORMAT c b j) w = step (FORMAT c b j) w
-nothingChanges (WRITE c b o v) w = counting 0 w
+nothingChanges (WRITE task c b o v) w = counting 0 w
 nothingChanges (CLOSE c) w = counting 0 w
 nothingChanges (STORE c) w = counting 1 w
 nothingChanges (CHECKPOINT c) w = counting 1 w
@@ -183,8 +187,8 @@ cutKeepsMemory = otherCut step (λ w. withMemory (w .memory) (step CUT w))
 -- 'U keeps it': T takes a running holder's block too
 abbrev pub writerTakesRunning : Step World
 writerTakesRunning =
-    otherWrite step (λ c b o v w.
-    let done = step (WRITE c b o v) w in
+    otherWrite step (λ task c b o v w.
+    let done = step (WRITE task c b o v) w in
     cond (isNamedBack (ruleFor (w .card) c b))
     (patched (λ x. withHolder (onRunning c (λ t. withBlock t b) x) b (newHolder (writerName x c))) done)
     done)
@@ -192,34 +196,30 @@ writerTakesRunning =
 -- 'T's list names U and U's list names T': only T's, only U's
 abbrev pub onlyWriterNames : Step World
 onlyWriterNames =
-    otherWrite step (λ c b o v w.
+    otherWrite step (λ task c b o v w.
     let x = w .card in
     let u = ((holderOf x b) .name) .core in
-    let done = step (WRITE c b o v) w in
+    let done = step (WRITE task c b o v) w in
     cond (isNamedBack (ruleFor x c b)) (patched (onRunning u (withNamesOf ((coreOf x u) .running))) done) done)
 
 abbrev pub onlyHolderNames : Step World
-onlyHolderNames =
-    otherWrite step (λ c b o v w.
-    let x = w .card in
-    let done = step (WRITE c b o v) w in
-    cond (isNamedBack (ruleFor x c b)) (patched (onRunning c (withNamesOf (writer x c))) done) done)
+onlyHolderNames = unnamedWhere (λ x c b. isNamedBack (ruleFor x c b))
 
 -- 'loaded from home when taken without a holder': memory is taken as it stands
 abbrev pub notLoaded : Step World
 notLoaded =
-    otherWrite step (λ c b o v w.
-    let done = step (WRITE c b o v) w in
+    otherWrite step (λ task c b o v w.
+    let done = step (WRITE task c b o v) w in
     cond (eqb (done .answer) 0) (withMemory (replaced (128 * b + o) 4 (w .memory) v) done) done)
 
 -- 26 is not asked of a WRITE that opens a transaction and takes no block
 abbrev pub no26OnOpen : Step World
-no26OnOpen = writeAsking 26 (λ c b w. takesBlock (ruleFor (w .card) c b) && journalFull (w .card) c b)
+no26OnOpen = writeAsking 26 (λ task c b w. takesBlock (ruleFor (w .card) c b) && journalFull (w .card) c b)
 
 -- 26 'stored yet or not': a closed one counts from its first store on
 abbrev pub only26Stored : Step World
 only26Stored =
-    writeAsking 26 (λ c b w.
+    writeAsking 26 (λ task c b w.
     let x = w .card in
     let k = coreOf x c in
     let closedOne = cond (k .closed .live && ltb 0 (k .stored)) (recordSize (k .closed)) 0 in
@@ -233,9 +233,9 @@ stampAtOpen =
     (otherClose step (λ c w.
     let t = (coreOf (w .card) c) .running in
     patched (λ x. putCloses (w .card .closes) (onClosed c (λ u. stamped u (t .stamp)) x)) (step (CLOSE c) w)))
-    (λ c b o v w.
+    (λ task c b o v w.
     let n = w .card .closes in
-    let done = step (WRITE c b o v) w in
+    let done = step (WRITE task c b o v) w in
     cond ((coreOf (w .card) c) .running .live) done (patched (λ x. putCloses (n + 1) (onRunning c (λ t. stamped t (n + 1)) x)) done))
 
 -- .. or when its commit is stored

@@ -1,12 +1,12 @@
--- WRITE answers 25 to 27 exactly under their conditions: a ninth block, a record that the journal has no room for, a number too high.
--- Each is asked of what the WRITE would leave.
+-- WRITE answers 25, 36, 26 and 27 exactly under their conditions: a block taken where there are eight, or as many as the task's limit; a
+-- record that the journal has no room for; a number too high.
 use Rattle.model.proofs.Base.{ℕ, _+_, _<_, min, arith, _≡_, refl, sym, ap, _∙_, Bool, true, false, cond, not, _&&_, List}
 use Rattle.model.proofs.Base.{length, take, set, length-set, length-take, ltb, leb, le-leb, lt-leb, leb-true, leb-false, not-true}
 use Rattle.model.proofs.Base.{not-false}
 use Rattle.model.specs.Card.{opened, taken, withName, recordSize, shapeOf, coreOf}
 use Rattle.model.specs.Command.{refusal}
-use Rattle.model.specs.Limits.{maxNumber}
-use Rattle.model.specs.Write.{writer, takesBlock, namesHolder, closedBlocks}
+use Rattle.model.specs.Limits.{maxTaken, maxNumber}
+use Rattle.model.specs.Write.{writer, takesBlock, takesPast, namesHolder, closedBlocks}
 use Rattle.model.specs.declared.Shape.{Shape}
 use Rattle.model.specs.declared.Name.{Name}
 use Rattle.model.specs.declared.Transaction.{Transaction}
@@ -17,7 +17,7 @@ use Rattle.cells.specs.Cells.{byteIn, transactionIn, cardIn, corePlace, running
 use Rattle.cells.specs.Changes.{openedOr}
 use Rattle.cells.proofs.ReadLaws.{used-there, running-read, running-there, closed-there, closed-live, blocks-long}
 use Rattle.cells.proofs.TransactionLaws.{open-live}
-use Rattle.rules.specs.Conditions.{ninth, sizeAfter, namedBy, takenBy, afterBy, roomConditions}
+use Rattle.rules.specs.Conditions.{sizeAfter, namedBy, takenBy, afterBy, roomConditions}
 use Rattle.rules.specs.declared.RuleMet.{RuleMet}
 use Rattle.rules.proofs.RuleLaws.{cond-not, cond-done}
 
@@ -84,9 +84,19 @@ module _ (r : Rule) (t : Transaction) (l : length (t .blocks) ≡ 8) (k : ℕ) (
       (λ h. le-leb 8 k (omega (arith, taken-count, leb-true 8 (t .count) h)) ∙ sym h)
       (λ h. lt-leb 8 k (omega (arith, taken-count, leb-false 8 (t .count) h)) ∙ sym h)
 
-  pub ninth-is : (g : Bool) → g ≡ (takesBlock r && leb 8 k) → g ≡ ninth r t
-  unfolding ninth
+  pub ninth-is : (g : Bool) → g ≡ (takesBlock r && leb 8 k) → g ≡ takesPast maxTaken r t
   ninth-is g q = q ∙ rw ninth-count
+
+  -- 36, any limit: where no ninth block is taken, the blocks are as many as are counted
+  pub limit-is : (limit : ℕ) (s : Bool) → s ≡ (takesBlock r && leb limit k) → (g : Bool) → g ≡ (takesBlock r && leb 8 k) → g ≡ false → s ≡ takesPast limit r t
+  limit-is limit s p g q z =
+      p
+      ∙ cases (takesBlock r)
+      (λ h.
+      let y : leb 8 k ≡ false = rw h at (sym q ∙ z) in
+      let u : k ≡ t .count = omega (arith, taken-count, leb-false 8 k y) in
+      rw (h, u) refl)
+      (λ h. rw h refl)
 
   pub size-is : (n : Name) (b : ℕ) → (g : Bool) → g ≡ (takesBlock r && leb 8 k) → g ≡ false → sizeAfter r k ≡ recordSize (takenBy r (namedBy r t n) b)
   unfolding sizeAfter recordSize takenBy taken
@@ -104,32 +114,40 @@ pub number-opens : (l p : Bool) → l ≡ false → p ≡ (not l && p)
 number-opens l p h = rw h
 
 -- ---- the refusals in turn
-module _ (w : List ℕ) (f : RuleMet) (core : f .core < 8) (k : ℕ) (count : k ≡ length (taken (writer (cardIn w) (f .core)))) (r : Bool) (more : r ≡ (takesBlock (f .rule) && leb 8 k)) where
-  ninth-met : r ≡ ninth (f .rule) (writer (cardIn w) (f .core))
+module _ (w : List ℕ) (limit : ℕ) (f : RuleMet) (core : f .core < 8) (k : ℕ) (count : k ≡ length (taken (writer (cardIn w) (f .core)))) (r : Bool) (more : r ≡ (takesBlock (f .rule) && leb 8 k)) where
+  ninth-met : r ≡ takesPast maxTaken (f .rule) (writer (cardIn w) (f .core))
   ninth-met = ninth-is (f .rule) (writer (cardIn w) (f .core)) (writer-long w (f .core) core) k count r more
 
-  pub refused-ninth : r ≡ true → 25 ≡ refusal (roomConditions (cardIn w) f)
+  pub refused-ninth : r ≡ true → 25 ≡ refusal (roomConditions (cardIn w) limit f)
   unfolding refusal
   refused-ninth h = rw (← ninth-met, h)
 
-  module _ (r' : r ≡ false) (s : Shape) (shape : s ≡ shapeOf (cardIn w)) (t : Bool) (full : t ≡ ltb (s .journal) (closedBlocks (coreOf (cardIn w) (f .core)) + sizeAfter (f .rule) k)) where
-    journal-met : t ≡ ltb ((shapeOf (cardIn w)) .journal) (closedBlocks (coreOf (cardIn w) (f .core)) + recordSize (afterBy (cardIn w) f))
-    journal-met = full ∙ rw (shape, size-is (f .rule) (writer (cardIn w) (f .core)) (writer-long w (f .core) core) k count (f .holder) (f .block) r more r')
+  module _ (r' : r ≡ false) (p : Bool) (past : p ≡ (takesBlock (f .rule) && leb limit k)) where
+    limit-met : p ≡ takesPast limit (f .rule) (writer (cardIn w) (f .core))
+    limit-met = limit-is (f .rule) (writer (cardIn w) (f .core)) (writer-long w (f .core) core) k count limit p past r more r'
 
-    pub refused-journal : t ≡ true → 26 ≡ refusal (roomConditions (cardIn w) f)
+    pub refused-limit : p ≡ true → 36 ≡ refusal (roomConditions (cardIn w) limit f)
     unfolding refusal
-    refused-journal h = rw (← ninth-met, r', ← journal-met, h)
+    refused-limit h = rw (← ninth-met, r', ← limit-met, h)
 
-    module _ (t' : t ≡ false) (l : Bool) (live : l ≡ (coreOf (cardIn w) (f .core)) .running .live) (u : Bool) (last : u ≡ (not l && ltb maxNumber (f .own .number))) where
-      numbers-met : u ≡ (not ((coreOf (cardIn w) (f .core)) .running .live) && ltb maxNumber (f .own .number))
-      numbers-met = last ∙ rw live
+    module _ (p' : p ≡ false) (s : Shape) (shape : s ≡ shapeOf (cardIn w)) (t : Bool) (full : t ≡ ltb (s .journal) (closedBlocks (coreOf (cardIn w) (f .core)) + sizeAfter (f .rule) k)) where
+      journal-met : t ≡ ltb ((shapeOf (cardIn w)) .journal) (closedBlocks (coreOf (cardIn w) (f .core)) + recordSize (afterBy (cardIn w) f))
+      journal-met = full ∙ rw (shape, size-is (f .rule) (writer (cardIn w) (f .core)) (writer-long w (f .core) core) k count (f .holder) (f .block) r more r')
 
-      refused-last : refusal (roomConditions (cardIn w) f) ≡ cond u 27 0
+      pub refused-journal : t ≡ true → 26 ≡ refusal (roomConditions (cardIn w) limit f)
       unfolding refusal
-      refused-last = rw (← ninth-met, r', ← journal-met, t', ← numbers-met)
+      refused-journal h = rw (← ninth-met, r', ← limit-met, p', ← journal-met, h)
 
-      pub refused-numbers : u ≡ true → 27 ≡ refusal (roomConditions (cardIn w) f)
-      refused-numbers h = rw (refused-last, h)
+      module _ (t' : t ≡ false) (l : Bool) (live : l ≡ (coreOf (cardIn w) (f .core)) .running .live) (u : Bool) (last : u ≡ (not l && ltb maxNumber (f .own .number))) where
+        numbers-met : u ≡ (not ((coreOf (cardIn w) (f .core)) .running .live) && ltb maxNumber (f .own .number))
+        numbers-met = last ∙ rw live
 
-      pub refused-not : u ≡ false → 0 ≡ refusal (roomConditions (cardIn w) f)
-      refused-not h = rw (refused-last, h)
+        refused-last : refusal (roomConditions (cardIn w) limit f) ≡ cond u 27 0
+        unfolding refusal
+        refused-last = rw (← ninth-met, r', ← limit-met, p', ← journal-met, t', ← numbers-met)
+
+        pub refused-numbers : u ≡ true → 27 ≡ refusal (roomConditions (cardIn w) limit f)
+        refused-numbers h = rw (refused-last, h)
+
+        pub refused-not : u ≡ false → 0 ≡ refusal (roomConditions (cardIn w) limit f)
+        refused-not h = rw (refused-last, h)

@@ -1,11 +1,11 @@
--- What a WRITE finds at a block, what its rule makes of the writer, and the conditions 25 to 27 over both.
+-- What a WRITE finds at a block, what its rule makes of the writer, and the conditions 25, 36, 26 and 27 over both.
 use Prim.Native.Nat.{ℕ, _+_, _<_}
 use mathlib.Core.Bool.{Bool, cond, not, _&&_}
 use mathlib.Core.List.{List, [], _∷_}
-use lib.Dec.{ltb, leb}
+use lib.Dec.{ltb}
 use Rattle.model.specs.Card.{recordSize, shapeOf, coreOf, holderOf, withBlock, withName}
-use Rattle.model.specs.Write.{writer, writerName, ruleFor, takesBlock, namesHolder, closedBlocks}
-use Rattle.model.specs.Limits.{maxNumber}
+use Rattle.model.specs.Write.{writer, writerName, ruleFor, takesBlock, takesPast, namesHolder, closedBlocks}
+use Rattle.model.specs.Limits.{maxTaken, maxNumber}
 use Rattle.model.specs.declared.Name.{Name}
 use Rattle.model.specs.declared.Transaction.{Transaction}
 use Rattle.model.specs.declared.Card.{Card}
@@ -36,18 +36,15 @@ abbrev pub afterBy : Card → RuleMet → Transaction
 afterBy x f = takenBy (f .rule) (namedBy (f .rule) (writer x (f .core)) (f .holder)) (f .block)
 
 -- ---- room
--- '25 a ninth block'
-unfoldable pub ninth : Rule → Transaction → Bool
-ninth r t = takesBlock r && leb 8 (t .count)
-
 -- the blocks of the record of a writer that had n blocks
 unfoldable pub sizeAfter : Rule → ℕ → ℕ
 sizeAfter r n = cond (takesBlock r) (n + 3) (n + 2)
 
--- 25 to 27
-abbrev pub roomConditions : Card → RuleMet → List (Bool × ℕ)
-roomConditions x f =
-    (ninth (f .rule) (writer x (f .core)), 25)
+-- 25, 36, 26 and 27, for a WRITE with this limit
+abbrev pub roomConditions : Card → ℕ → RuleMet → List (Bool × ℕ)
+roomConditions x limit f =
+    (takesPast maxTaken (f .rule) (writer x (f .core)), 25)
+    ∷ (takesPast limit (f .rule) (writer x (f .core)), 36)
     ∷ (ltb ((shapeOf x) .journal) (closedBlocks (coreOf x (f .core)) + recordSize (afterBy x f)), 26)
     ∷ (not ((coreOf x (f .core)) .running .live) && ltb maxNumber (f .own .number), 27)
     ∷ []

@@ -1,4 +1,4 @@
-// Whether there is room for a WRITE: the refusals 25 to 27.
+// Whether there is room for a WRITE: the refusals 25, 36, 26 and 27.
 ghost use mathlib.Core.Path.{_≡_};
 ghost use mathlib.Core.Bool.{not, _&&_};
 ghost use Prim.Native.Nat.{_+_, _<_, _≤_};
@@ -34,15 +34,15 @@ fn writer_count(w: &[u64], c: u8, live: bool) -> usize
     block_count(w, running_place(c))
 }
 
-// Refusal 25, for a writer that has so many blocks.
-fn ninth_block(f: RuleMet, count: usize) -> bool
-    ensures { λ r. ⌜ r ≡ (takesBlock (f .rule) && leb maxTaken count) ⌝ }
+// Refusals 25 and 36: a block would be taken by a writer that has the limit's number of blocks or more.
+fn takes_past(f: RuleMet, limit: usize, count: usize) -> bool
+    ensures { λ r. ⌜ r ≡ (takesBlock (f .rule) && leb limit count) ⌝ }
 {
     let rule = f.rule;
     if !takes_block(rule) {
         return false;
     }
-    Shape::MAX_TAKEN <= count
+    limit <= count
 }
 
 // The blocks of the records of a core's closed unretired transactions, stored yet or not.
@@ -91,15 +91,18 @@ fn numbers_end(own: Name, live: bool) -> bool
     Shape::MAX_NUMBER < own.number
 }
 
-// The number of the refusal, 0 for none.
-pub fn room_refusal(w: &[u64], s: Shape, f: RuleMet) -> u8
+// The number of the refusal, 0 for none. limit: with so many blocks the task of this WRITE takes no further one.
+pub fn room_refusal(w: &[u64], s: Shape, limit: usize, f: RuleMet) -> u8
     requires { ⌜ (length (now w) ≡ 423) × (s ≡ shapeOf (cardIn (now w))) × Bounded f ⌝ }
-    ensures { λ r. ⌜ r ≡ refusal (roomConditions (cardIn (now (w .entry))) f) ⌝ }
+    ensures { λ r. ⌜ r ≡ refusal (roomConditions (cardIn (now (w .entry))) limit f) ⌝ }
 {
     let live = has_running(w, f.core);
     let count = writer_count(w, f.core, live);
-    if ninth_block(f, count) {
+    if takes_past(f, Shape::MAX_TAKEN, count) {
         return 25;
+    }
+    if takes_past(f, limit, count) {
+        return 36;
     }
     if journal_full(w, s, f, count) {
         return 26;

@@ -7,8 +7,9 @@ use native.Mathlib.Numerals.{add-two, add-three}
 use Rattle.model.specs.Bytes.{part, blockAt, store, replaced}
 use Rattle.model.specs.Shape.{homeBlock}
 use Rattle.model.specs.Card.{shapeOf}
+use Rattle.model.specs.Limits.{maxTaken}
 use Rattle.model.specs.Command.{World, refusal, noCore, noBlock, Clear}
-use Rattle.model.specs.Write.{writer, writerName, loadsImage, journalFull, writeConditions, writerAfter, writtenCard, writtenMemory, written, write}
+use Rattle.model.specs.Write.{writer, takesPast, writerName, loadsImage, journalFull, writeConditions, writerAfter, writtenCard, writtenMemory, written, write}
 use Rattle.model.specs.declared.Card.{Card}
 use Rattle.model.specs.declared.Rule.{Rule}
 use Rattle.model.proofs.Command.{Numbered, refusal-clear}
@@ -20,7 +21,7 @@ use Rattle.cells.specs.Changes.{Frame}
 use Rattle.cells.proofs.RefusalLaws.{first-hit, first-pass, refusal-joined, refusal-next, refusal-one}
 use Rattle.cells.proofs.EntryLaws.{entry, entry-hit, entry-pass}
 use Rattle.cells.proofs.MeetLaws.{meets-refused, meets-done}
-use Rattle.rules.specs.Conditions.{ruleMet, ninth, namedBy, takenBy, roomConditions}
+use Rattle.rules.specs.Conditions.{ruleMet, namedBy, takenBy, roomConditions}
 use Rattle.rules.specs.declared.RuleMet.{RuleMet}
 use Rattle.rules.proofs.RuleLaws.{cond-done}
 use Rattle.transaction.specs.Writing.{firstConditions, Unrefused, loadedBy}
@@ -96,31 +97,31 @@ found-own x c b f e = e ∙ ap (λ (a : RuleMet). ruleMet x (a .core) (a .block)
 
 -- ---- the command
 -- room: no ninth block
-pub no-ninth : (x : Card) (f : RuleMet) (k : ℕ) → k ≡ refusal (roomConditions x f) → k ≡ 0 → ninth (f .rule) (writer x (f .core)) ≡ false
-no-ninth x f k e h = (refusal-clear (roomConditions x f) (omega arith, (omega arith, (omega arith, tt))) (sym e ∙ h)) .0
+pub no-ninth : (x : Card) (limit : ℕ) (f : RuleMet) (k : ℕ) → k ≡ refusal (roomConditions x limit f) → k ≡ 0 → takesPast maxTaken (f .rule) (writer x (f .core)) ≡ false
+no-ninth x limit f k e h = (refusal-clear (roomConditions x limit f) (omega arith, (omega arith, (omega arith, (omega arith, tt)))) (sym e ∙ h)) .0
 
-joined : (x : Card) (c b o : ℕ) (d m : Bytes)
-    → refusal (writeConditions c b o (world x d m)) ≡ firstOf (refusal (firstConditions c b o (world x d m))) (refusal (roomConditions x (ruleMet x c b)))
-unfolding writeConditions journalFull writerAfter writerName ninth namedBy takenBy
-joined x c b o d m = refusal-joined (firstConditions c b o (world x d m)) _ (first-numbered c b o (world x d m))
+joined : (x : Card) (limit c b o : ℕ) (d m : Bytes)
+    → refusal (writeConditions limit c b o (world x d m)) ≡ firstOf (refusal (firstConditions c b o (world x d m))) (refusal (roomConditions x limit (ruleMet x c b)))
+unfolding writeConditions journalFull writerAfter writerName namedBy takenBy
+joined x limit c b o d m = refusal-joined (firstConditions c b o (world x d m)) _ (first-numbered c b o (world x d m))
 
-pub first-refused : (v : List ℕ) (c b o : ℕ) (bytes d m : Bytes) (n : ℕ) → length v ≡ 423 → n ≡ refusal (firstConditions c b o (worldIn v d m)) → (n ≡ 0 → ⊥)
-    → Meets (write c b o bytes (worldIn v d m)) v v d m (newAnswer n 0)
+pub first-refused : (v : List ℕ) (limit c b o : ℕ) (bytes d m : Bytes) (n : ℕ) → length v ≡ 423 → n ≡ refusal (firstConditions c b o (worldIn v d m)) → (n ≡ 0 → ⊥)
+    → Meets (write limit c b o bytes (worldIn v d m)) v v d m (newAnswer n 0)
 unfolding write
-first-refused v c b o bytes d m n l e h = meets-refused _ v d m _ l n (first-hit n _ _ e h ∙ sym (joined (cardIn v) c b o d m)) h
+first-refused v limit c b o bytes d m n l e h = meets-refused _ v d m _ l n (first-hit n _ _ e h ∙ sym (joined (cardIn v) limit c b o d m)) h
 
-module _ (v : List ℕ) (c b o : ℕ) (bytes d m : Bytes) (l : length v ≡ 423) (p : Unrefused (cardIn v) c b o d m) (f : RuleMet) (e : f ≡ ruleMet (cardIn v) c b) (k : ℕ) (r : k ≡ refusal (roomConditions (cardIn v) f)) where
-  number : k ≡ refusal (writeConditions c b o (worldIn v d m))
+module _ (v : List ℕ) (limit c b o : ℕ) (bytes d m : Bytes) (l : length v ≡ 423) (p : Unrefused (cardIn v) c b o d m) (f : RuleMet) (e : f ≡ ruleMet (cardIn v) c b) (k : ℕ) (r : k ≡ refusal (roomConditions (cardIn v) limit f)) where
+  number : k ≡ refusal (writeConditions limit c b o (worldIn v d m))
   number =
-      first-pass 0 k _ _ (sym (p .none)) refl (r ∙ ap (λ (a : RuleMet). refusal (roomConditions (cardIn v) a)) e)
-      ∙ sym (joined (cardIn v) c b o d m)
+      first-pass 0 k _ _ (sym (p .none)) refl (r ∙ ap (λ (a : RuleMet). refusal (roomConditions (cardIn v) limit a)) e)
+      ∙ sym (joined (cardIn v) limit c b o d m)
 
-  pub ruled-refused : (k ≡ 0 → ⊥) → Meets (write c b o bytes (worldIn v d m)) v v d m (newAnswer k 0)
+  pub ruled-refused : (k ≡ 0 → ⊥) → Meets (write limit c b o bytes (worldIn v d m)) v v d m (newAnswer k 0)
   unfolding write
   ruled-refused h = meets-refused _ v d m _ l k number h
 
   pub ruled-done : k ≡ 0 → (w : List ℕ) (t : Bytes) → t ≡ replaced (128 * b + o) 4 (loadedBy (f .rule) d m b) bytes → cardIn w ≡ writtenCard (cardIn v) (f .core) (f .block) → Frame v w 0 423
-      → Meets (write c b o bytes (worldIn v d m)) v w d t (newAnswer 0 0)
+      → Meets (write limit c b o bytes (worldIn v d m)) v w d t (newAnswer 0 0)
   unfolding write written writtenMemory loadedBy
   ruled-done h w t q i j =
       let y : cardIn w ≡ writtenCard (cardIn v) c b = i ∙ ap (λ (a : RuleMet). writtenCard (cardIn v) (a .core) (a .block)) e in

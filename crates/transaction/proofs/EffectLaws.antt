@@ -3,7 +3,8 @@
 use Rattle.model.proofs.Base.{ℕ, _-_, _%_, _<_, arith, _≡_, refl, sym, ap, _∙_, Bool, true, false, not, false≢true, List}
 use Rattle.model.proofs.Base.{getD-set-other, eqb, eq-eqb, eqb-true, leb-false, not-false}
 use Rattle.model.specs.Card.{newName, sameName, freshCore, withName, withRunning, withCore, coreOf, holderOf}
-use Rattle.model.specs.Write.{writer, writerName, isRunningIn, ruleFor, takesBlock, isNamedBack, writerAfter, writtenCard}
+use Rattle.model.specs.Write.{writer, writerName, isRunningIn, ruleFor, takesBlock, takesPast, isNamedBack, writerAfter, writtenCard}
+use Rattle.model.specs.Limits.{maxTaken}
 use Rattle.model.specs.declared.Name.{Name}
 use Rattle.model.specs.declared.Transaction.{Transaction}
 use Rattle.model.specs.declared.Card.{Card}
@@ -13,7 +14,7 @@ use Rattle.cells.specs.Cells.{transactionIn, cardIn, holderPlace, runningPlace}
 use Rattle.cells.specs.Changes.{openedOr, Frame}
 use Rattle.cells.proofs.CellLaws.{running-put}
 use Rattle.cells.proofs.FitsLaws.{frame-then, frame-wider}
-use Rattle.rules.specs.Conditions.{ruleMet, ninth, namedBy, takenBy, afterBy}
+use Rattle.rules.specs.Conditions.{ruleMet, namedBy, takenBy, afterBy}
 use Rattle.rules.specs.declared.RuleMet.{RuleMet}
 use Rattle.cells.proofs.ReadLaws.{running-there}
 use Rattle.rules.proofs.RuleLaws.{cond-done}
@@ -43,8 +44,7 @@ module _ (v : List ℕ) (n own : Name) (h : n .core < 8) (p : ℕ) (e : p ≡ ru
       (running-after (n .core) h p e v w b _ (s ∙ ap (λ (t : Transaction). withName t own) (running-there v (n .core) h p e))) z
 
 -- ---- the writer
-pub block-room : (r : Rule) (t : Transaction) (g : Bool) → g ≡ takesBlock r → ninth r t ≡ false → not g ≡ false → t .count < 8
-unfolding ninth
+pub block-room : (r : Rule) (t : Transaction) (g : Bool) → g ≡ takesBlock r → takesPast maxTaken r t ≡ false → not g ≡ false → t .count < 8
 block-room r t g q m z = leb-false 8 (t .count) (rw (← q, not-false g z) at m)
 
 module _ (v : List ℕ) (f : RuleMet) (h : f .core < 8) (p : ℕ) (e : p ≡ runningPlace (f .core)) (u : List ℕ) (i : transactionIn u p ≡ openedOr (transactionIn v p)) where
@@ -53,8 +53,7 @@ module _ (v : List ℕ) (f : RuleMet) (h : f .core < 8) (p : ℕ) (e : p ≡ run
   writer-open = i ∙ rw (running-there v (f .core) h p e)
 
   module _ (w : List ℕ) (j : transactionIn w p ≡ namedBy (f .rule) (transactionIn u p) (f .holder)) where
-    pub count-room : ninth (f .rule) (writer (cardIn v) (f .core)) ≡ false → ninth (f .rule) (transactionIn w p) ≡ false
-    unfolding ninth
+    pub count-room : takesPast maxTaken (f .rule) (writer (cardIn v) (f .core)) ≡ false → takesPast maxTaken (f .rule) (transactionIn w p) ≡ false
     count-room m =
         let k : (transactionIn w p) .count ≡ (writer (cardIn v) (f .core)) .count =
         ap (λ (t : Transaction). t .count) j ∙ named-count (f .rule) (transactionIn u p) (f .holder) ∙ ap (λ (t : Transaction). t .count) writer-open in
@@ -119,7 +118,7 @@ module _ (x : Card) (f : RuleMet) (e : f ≡ ruleMet x (f .core) (f .block)) whe
     unfolding writer
     same-writer = rw same-core
 
-    pub block-fits : ninth (f .rule) (writer x (f .core)) ≡ false → ninth (f .rule) (writer y (f .core)) ≡ false
+    pub block-fits : takesPast maxTaken (f .rule) (writer x (f .core)) ≡ false → takesPast maxTaken (f .rule) (writer y (f .core)) ≡ false
     block-fits m = rw same-writer m
 
     writer-made : afterBy y f ≡ writerAfter x (f .core) (f .block)

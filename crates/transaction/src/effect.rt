@@ -4,12 +4,13 @@ ghost use mathlib.Core.Bool.{false};
 ghost use Prim.Native.Nat.{_<_};
 ghost use lib.ListN.{length};
 ghost use Rattle.model.specs.Card.{withRunning, withCore, coreOf};
-ghost use Rattle.model.specs.Write.{writer, writtenCard};
+ghost use Rattle.model.specs.Limits.{maxTaken};
+ghost use Rattle.model.specs.Write.{writer, takesPast, writtenCard};
 ghost use Rattle.model.specs.declared.Card.{Card};
 ghost use Rattle.model.specs.declared.Transaction.{Transaction};
 ghost use Rattle.cells.specs.Cells.{transactionIn, cardIn};
 ghost use Rattle.cells.specs.Changes.{IsPlace, Changed, ChangedAt};
-ghost use Rattle.rules.specs.Conditions.{ruleMet, Bounded, ninth, namedBy, takenBy, afterBy};
+ghost use Rattle.rules.specs.Conditions.{ruleMet, Bounded, namedBy, takenBy, afterBy};
 ghost use Rattle.transaction.specs.Writing.{namedBack, heldBy};
 use cells::hold;
 use cells::running_place;
@@ -51,7 +52,7 @@ fn name_own(w: &mut [u64], at: usize, rule: Rule, n: Name)
 
 // Its blocks, the block taken where the rule asks for it.
 fn block_own(w: &mut [u64], at: usize, rule: Rule, b: u8)
-    requires { ⌜ (length (now w) ≡ 423) × IsPlace at × (ninth rule (transactionIn (now w) at) ≡ false) ⌝ }
+    requires { ⌜ (length (now w) ≡ 423) × IsPlace at × (takesPast maxTaken rule (transactionIn (now w) at) ≡ false) ⌝ }
     ensures { λ _. ⌜ ChangedAt at (λ (t : Transaction). takenBy rule t b) (now (w .entry)) (now (w .exit)) ⌝ }
 {
     if !takes_block(rule) {
@@ -62,7 +63,7 @@ fn block_own(w: &mut [u64], at: usize, rule: Rule, b: u8)
 
 // The writer, opened if its core has none: what it names and its blocks.
 fn write_own(w: &mut [u64], f: RuleMet)
-    requires { ⌜ (length (now w) ≡ 423) × Bounded f × (ninth (f .rule) (writer (cardIn (now w)) (f .core)) ≡ false) ⌝ }
+    requires { ⌜ (length (now w) ≡ 423) × Bounded f × (takesPast maxTaken (f .rule) (writer (cardIn (now w)) (f .core)) ≡ false) ⌝ }
     ensures { λ _. ⌜
         Changed (λ (x : Card). withCore x (f .core) (withRunning (coreOf x (f .core)) (afterBy x f)))
         (now (w .entry)) (now (w .exit)) 0 423
@@ -92,7 +93,7 @@ fn take_hold(w: &mut [u64], f: RuleMet)
 // What a WRITE that meets no ninth block makes of the cells: what the holder names, the writer, the block's holder.
 pub fn write_state(w: &mut [u64], f: RuleMet)
     requires { ⌜ (length (now w) ≡ 423) × Bounded f × (f ≡ ruleMet (cardIn (now w)) (f .core) (f .block))
-        × (ninth (f .rule) (writer (cardIn (now w)) (f .core)) ≡ false) ⌝ }
+        × (takesPast maxTaken (f .rule) (writer (cardIn (now w)) (f .core)) ≡ false) ⌝ }
     ensures { λ _. ⌜
         Changed (λ (x : Card). writtenCard x (f .core) (f .block)) (now (w .entry)) (now (w .exit)) 0 423
         ⌝ }

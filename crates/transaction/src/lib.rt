@@ -42,6 +42,7 @@ fn first_refusal(w: &[u64], c: u8, b: u16, o: u8, disk: &[u8], memory: &[u8]) ->
 // A WRITE that has passed them: refused for want of room, or done.
 fn write_ruled(
     w: &mut [u64],
+    limit: usize,
     c: u8,
     b: u8,
     o: u8,
@@ -51,12 +52,12 @@ fn write_ruled(
 ) -> Answer
     requires { ⌜ (length (now w) ≡ 423) × Unrefused (cardIn (now w)) c b o (now disk) (now memory) ⌝ }
     ensures { λ r. ⌜
-        Meets (write c b o bytes (worldIn (now (w .entry)) (now (disk .entry)) (now (memory .entry))))
+        Meets (write limit c b o bytes (worldIn (now (w .entry)) (now (disk .entry)) (now (memory .entry))))
         (now (w .entry)) (now (w .exit)) (now (disk .entry)) (now (memory .exit)) r ⌝ }
 {
     let s = shape_of(w);
     let f = find(w, c, b);
-    let n = room_refusal(w, s, f);
+    let n = room_refusal(w, s, limit, f);
     if n != 0 {
         return Answer {
             number: n,
@@ -72,9 +73,10 @@ fn write_ruled(
     }
 }
 
-// WRITE.
+// WRITE of a task with this limit.
 pub fn write(
     w: &mut [u64],
+    limit: usize,
     core: u8,
     block: u16,
     offset: u8,
@@ -84,7 +86,7 @@ pub fn write(
 ) -> Answer
     requires { ⌜ length (now w) ≡ 423 ⌝ }
     ensures { λ r. ⌜
-        Meets (write core block offset bytes (worldIn (now (w .entry)) (now (disk .entry)) (now (memory .entry))))
+        Meets (write limit core block offset bytes (worldIn (now (w .entry)) (now (disk .entry)) (now (memory .entry))))
         (now (w .entry)) (now (w .exit)) (now (disk .entry)) (now (memory .exit)) r ⌝ }
 {
     let n = first_refusal(w, core, block, offset, disk, memory);
@@ -94,5 +96,5 @@ pub fn write(
             stores: 0,
         };
     }
-    write_ruled(w, core, block as u8, offset, bytes, disk, memory)
+    write_ruled(w, limit, core, block as u8, offset, bytes, disk, memory)
 }

@@ -4,7 +4,7 @@
 use crate::records::{Record, Records};
 use card_library::session::Done;
 use card_library::stage::Implementation;
-use card_tests::command::{self, Command};
+use card_tests::command::{self, Command, Task, Write, REPORT_LIMIT};
 use card_tests::few::Few;
 use card_tests::layout::{
     begins_with_mark, block_at, descriptor, escaped, master, number_commit, read_master, Block, Layout, Master, Name,
@@ -83,7 +83,7 @@ impl Plain {
             (Phase::Up, Command::Recover) => Err(23),
             (Phase::Down, Command::Recover) => self.recover(disk),
             (Phase::Down, _) => Err(22),
-            (_, Command::Write { core, block, offset, data }) => self.write(core, block, offset, data, disk, memory),
+            (_, Command::Write(write)) => self.write(write, disk, memory),
             (_, Command::Close { core }) => self.close(core, memory),
             (_, Command::Store { core }) => self.store(core, disk, memory),
             (_, Command::Checkpoint { core }) => self.checkpoint(core, disk),
@@ -122,7 +122,8 @@ impl Plain {
         self.cores[name.core as usize].running.is_some_and(|running| running.number == name.number)
     }
 
-    fn write(&mut self, core: u8, block: u16, offset: u8, data: [u8; 4], disk: &[u8], memory: &mut [u8]) -> Answer {
+    fn write(&mut self, write: Write, disk: &[u8], memory: &mut [u8]) -> Answer {
+        let Write { task, core, block, offset, data } = write;
         let (c, b) = (self.core(core)?, block as usize);
         if b >= self.shape.blocks as usize {
             return Err(6);
@@ -135,7 +136,7 @@ impl Plain {
         let other = self.holders[b].filter(|holder| *holder != writer);
         let tied = other.filter(|holder| self.is_running(*holder));
         let takes = self.holders[b].is_none() || other.is_some() && tied.is_none();
-        self.refuse_write(writer, takes)?;
+        self.refuse_write(task, writer, takes)?;
         if self.holders[b].is_none() {
             memory[b * BLOCK..(b + 1) * BLOCK].copy_from_slice(block_at(disk, 1 + b));
         }
@@ -144,12 +145,15 @@ impl Plain {
         Ok(0)
     }
 
-    /// Refusals 25 to 27.
-    fn refuse_write(&self, writer: Name, takes: bool) -> Result<(), u8> {
+    /// Refusals 25, 36, 26 and 27.
+    fn refuse_write(&self, task: Task, writer: Name, takes: bool) -> Result<(), u8> {
         let core = &self.cores[writer.core as usize];
         let taken = core.running.map_or(0, |running| running.blocks.len()) + takes as usize;
         if taken > TAKEN {
             return Err(25);
+        }
+        if task == Task::Report && takes && taken > REPORT_LIMIT {
+            return Err(36);
         }
         let closed = core.used as usize + core.closed.map_or(0, |closed| closed.length());
         if closed + 2 + taken > self.shape.journal as usize {

@@ -5,7 +5,7 @@ use crate::report::grouped;
 use card_library::session::Session;
 use card_library::stage::{Implementation, Stage};
 use card_tests::card::{Card, Phase};
-use card_tests::command::{from_hex, hex, Command};
+use card_tests::command::{from_hex, hex, Command, Task, Write};
 use card_tests::directed;
 use card_tests::layout::{Layout, Shape, DISK, MEMORY};
 use card_tests::shrink::tape_of;
@@ -95,8 +95,8 @@ impl Script {
 
     fn write(&mut self, core: u8, block: usize) {
         let count = self.commands.len();
-        let data = (count as u32).to_be_bytes();
-        self.carry_out(Command::Write { core, block: block as u16, offset: 4 * (count % 32) as u8, data });
+        let (offset, data) = (4 * (count % 32) as u8, (count as u32).to_be_bytes());
+        self.carry_out(Command::Write(Write { task: Task::Lamp, core, block: block as u16, offset, data }));
     }
 
     fn commit(&mut self, core: u8) {
@@ -253,7 +253,7 @@ fn after(make_ready: impl FnOnce(&mut Script), name: String, issue: impl FnOnce(
     script.split_off(start, name)
 }
 
-const WRITE: Command = Command::Write { core: 0, block: 0, offset: 0, data: [1, 2, 3, 4] };
+const WRITE: Command = Command::Write(Write { task: Task::Lamp, core: 0, block: 0, offset: 0, data: [1, 2, 3, 4] });
 
 /// WRITE under each of the four rules.
 pub fn writes() -> Vec<Workload> {

@@ -7,7 +7,7 @@ use crate::planner::{check_plan, plan};
 use crate::session::{Done, Part, Session, Stop};
 use crate::stage::Stage;
 use card_tests::checks::{Seen, Watcher};
-use card_tests::command::{self, Command};
+use card_tests::command::{self, Command, Task, Write};
 use card_tests::foreign;
 use card_tests::layout::{BLOCK, DISK, LAST_NUMBER, MEMORY};
 use card_tests::random::Random;
@@ -20,7 +20,8 @@ const ENDS: [u64; 10] = [0, 2, 8, 24, 64, 256, LAST_NUMBER as u64, 1 << 32, 1 <<
 fn answers(command: Command) -> &'static [u8] {
     match command {
         Command::Format { .. } => &[0, 21, 4],
-        Command::Write { .. } => &[0, 20, 22, 5, 6, 7, 25, 26, 27],
+        Command::Write(Write { task: Task::Lamp, .. }) => &[0, 20, 22, 5, 6, 7, 25, 26, 27],
+        Command::Write(_) => &[0, 20, 22, 5, 6, 7, 25, 36, 26, 27],
         Command::Close { .. } => &[0, 20, 22, 5, 28, 29],
         Command::Store { .. } => &[0, 20, 22, 5, 30],
         Command::Checkpoint { .. } => &[0, 20, 22, 5, 31, 32, 33, 35],
@@ -35,12 +36,12 @@ pub struct MadeUp {
     run: Stage<Session>,
     random: Random,
     /// How often each number was answered.
-    pub answers: [u64; 36],
+    pub answers: [u64; 37],
 }
 
 impl MadeUp {
     pub fn new(seed: u64) -> MadeUp {
-        MadeUp { run: Stage::default(), random: Random::new(seed), answers: [0; 36] }
+        MadeUp { run: Stage::default(), random: Random::new(seed), answers: [0; 37] }
     }
 
     fn any_cells(&mut self) -> Cells {
@@ -96,7 +97,7 @@ impl MadeUp {
     fn any_tape(&mut self) -> Vec<u8> {
         let random = &mut self.random;
         if random.chance(50) {
-            return (0..random.below(12)).map(|_| random.below(10) as u8).collect();
+            return (0..random.below(12)).map(|_| random.below(11) as u8).collect();
         }
         let commands: Vec<Command> = (0..random.between(1, 3)).map(|_| any_command(random)).collect();
         let mut tape = tape_of(&commands);
@@ -123,7 +124,7 @@ impl MadeUp {
         let at = self.any_offset(&tape);
         let mut after = before.clone();
         let done = after.command(&tape, at);
-        self.answers[(done.number as usize).min(35)] += 1;
+        self.answers[(done.number as usize).min(36)] += 1;
         check_answer(&before, &tape, at, done)?;
         check_change(&before, &after, &tape, at, done)?;
         let mut plain = Stage { card: Session::of_cells(meaning(&cells)), ..before.clone() };
@@ -139,6 +140,7 @@ impl MadeUp {
         }
         if self.random.chance(250) {
             check_opposites(&before, any_operand(&mut self.random, 8))?;
+            check_tasks(&before, any_write(&mut self.random))?;
             check_tape(before, &tape)?;
         }
         Ok(())
@@ -177,15 +179,21 @@ fn any_operand(random: &mut Random, limit: usize) -> u8 {
     }
 }
 
-fn any_command(random: &mut Random) -> Command {
+fn any_write(random: &mut Random) -> Write {
     let [core, block, offset] = [8, 64, 125].map(|limit| any_operand(random, limit));
     let high = if random.chance(20) { random.byte() } else { 0 };
+    let (task, block) = (random.pick(&[Task::Lamp, Task::Report]), u16::from_be_bytes([high, block]));
+    Write { task, core, block, offset, data: [1, 2, 3, 4] }
+}
+
+fn any_command(random: &mut Random) -> Command {
+    let core = any_operand(random, 8);
     match random.below(10) {
         0 => {
             let [cores, blocks, journal] = [9, 65, 25].map(|limit| any_operand(random, limit));
             Command::Format { cores, blocks, journal: journal.max(4) }
         }
-        1..=3 => Command::Write { core, block: u16::from_be_bytes([high, block]), offset, data: [1, 2, 3, 4] },
+        1..=3 => Command::Write(any_write(random)),
         4 => Command::Close { core },
         5 => Command::Store { core },
         6 => Command::Checkpoint { core },
@@ -241,6 +249,20 @@ fn check_opposites(before: &Stage<Session>, core: u8) -> Result<(), String> {
         (0, 34) | (35, 0) => Ok(()),
         (one, other) if one == other && one != 0 => Ok(()),
         both => Err(format!("CHECKPOINT and RETIRE of core {core} answer {both:?}")),
+    }
+}
+
+/// Byte 9 does what command 2 does, or is refused with 36; command 2 is then done, or refused with a number that comes after it.
+fn check_tasks(before: &Stage<Session>, write: Write) -> Result<(), String> {
+    let [lamp, report] = [Task::Lamp, Task::Report].map(|task| {
+        let mut after = before.clone();
+        let number = after.command(&tape_of(&[Command::Write(Write { task, ..write })]), 0).number;
+        (number, after)
+    });
+    match (lamp.0, report.0) {
+        (0 | 26 | 27, 36) => Ok(()),
+        (_, number) if number != 36 && lamp == report => Ok(()),
+        both => Err(format!("{write:?} is answered {both:?} by the two tasks, or not done alike")),
     }
 }
 

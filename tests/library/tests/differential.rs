@@ -7,6 +7,7 @@ use card_library::watcher::Library;
 use card_tests::card::Kind;
 use card_tests::checks::{Bench, Checks, Failure, Shares};
 use card_tests::command::from_hex;
+use card_tests::directed::REPORTS;
 use card_tests::endings;
 use card_tests::layout::{BLOCK, DISK, MEMORY};
 use card_tests::older;
@@ -71,6 +72,16 @@ fn the_library_keeps_a_beginning_of_each_journal_as_the_model_does() {
     assert!(in_sequence(Wrong::NoSequence).is_err(), "the old rule is not told apart");
 }
 
+/// The tapes on which the report task meets its limit; whole soaks have byte 9 among their commands too.
+#[test]
+fn the_library_keeps_the_report_tasks_limit_as_the_model_does() {
+    let mut library = Library::default();
+    let mut bench = Bench::new(Wrong::No, Checks::ALL, Some(&mut library));
+    for (tape, _) in REPORTS {
+        bench.run_tape(&from_hex(tape)).expect("the same");
+    }
+}
+
 /// One service book goes from the card of request (c) on to the library, which has the model's disk after every command: after coming
 /// up the home area is the book's.
 #[test]
@@ -119,7 +130,7 @@ fn slices_of_a_wrong_length_are_refused() {
     for _ in 0..2000 {
         let (mut disk, mut memory) = (vec![1; random.below(2 * DISK)], vec![2; random.below(2 * MEMORY)]);
         let (disk_before, memory_before) = (disk.clone(), memory.clone());
-        let tape: Vec<u8> = (0..random.below(12)).map(|_| random.below(10) as u8).collect();
+        let tape: Vec<u8> = (0..random.below(12)).map(|_| random.below(11) as u8).collect();
         let mut session = if random.chance(500) { Session::blank() } else { Session::down() };
         let done = session.command(&tape, random.below(14), &mut disk, &mut memory);
         let is_wrong = disk_before.len() != DISK || memory_before.len() != MEMORY;

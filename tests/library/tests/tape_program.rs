@@ -29,7 +29,7 @@ fn random_bytes_print_what_the_model_prints() {
     let mut random = Random::new(3);
     for _ in 0..50 {
         let mut tape = vec![1, 2, 4, 12];
-        tape.extend((0..random.below(3000)).map(|_| random.below(9) as u8));
+        tape.extend((0..random.below(3000)).map(|_| random.below(10) as u8));
         assert_eq!(printed(begin("tape"), &tape), print_tape(&tape));
         let any: Vec<u8> = (0..random.below(40)).map(|_| random.byte()).collect();
         assert_eq!(printed(begin("tape"), &any), print_tape(&any));
@@ -57,7 +57,7 @@ fn a_tape_on_which_the_rule_makes_a_difference_prints_32_and_no_block() {
 
 /// How often each answer and a block line was printed.
 struct Tally {
-    answers: [usize; 36],
+    answers: [usize; 37],
     blocks: usize,
     high_blocks: usize,
 }
@@ -79,7 +79,7 @@ impl Tally {
 #[test]
 fn generated_tapes_print_what_the_model_prints() {
     let tapes = tapes();
-    let mut tally = Tally { answers: [0; 36], blocks: 0, high_blocks: 0 };
+    let mut tally = Tally { answers: [0; 37], blocks: 0, high_blocks: 0 };
     let mut told = vec![0; FLAWS.len()];
     for tape in &tapes {
         let right = print_tape(tape);
@@ -90,7 +90,7 @@ fn generated_tapes_print_what_the_model_prints() {
         }
     }
     // 1, 8 and 27 need other slices or another disk; 24 is gone
-    let numbers = [0, 2, 3, 4, 5, 6, 7].into_iter().chain(20..=23).chain(25..=26).chain(28..=35);
+    let numbers = [0, 2, 3, 4, 5, 6, 7].into_iter().chain(20..=23).chain(25..=26).chain(28..=36);
     let few: Vec<usize> = numbers.filter(|number| tally.answers[*number] < 5).collect();
     assert_eq!(few, [], "{:?}", tally.answers);
     assert_eq!(tally.answers[24], 0);

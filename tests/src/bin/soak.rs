@@ -32,7 +32,7 @@ fn report(tally: &Tally, seconds: f64) {
         older.iter().sum::<u64>(),
         older[24]
     );
-    println!("{:?}", tally.retiring);
+    println!("{:?}\n{:?}", tally.retiring, tally.reporting);
     println!("longest list {}, most records at once {}", tally.longest_list, tally.most_records);
     for (end, count) in tally.ends.iter().enumerate().filter(|(_, count)| **count > 0) {
         println!("end {end} on runs from FORMAT: {count}");

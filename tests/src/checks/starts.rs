@@ -9,7 +9,7 @@ use crate::generator::Generator;
 use crate::ledger::{Ledger, Rules};
 use crate::order::Order;
 use crate::random::Random;
-use crate::wrong::Wrong;
+use crate::wrong::{Wrong, WrongBook};
 
 /// How many of a thousand starts are over a foreign disk, and how many over one that an older card left; the others are blank.
 #[derive(Clone, Copy, Debug)]
@@ -26,6 +26,11 @@ impl Shares {
 impl Bench<'_> {
     pub fn set_shares(&mut self, shares: Shares) {
         self.shares = shares;
+    }
+
+    /// The book of every start will be wrong in a rule.
+    pub fn set_book(&mut self, wrong: WrongBook) {
+        self.wrong_book = wrong;
     }
 
     /// Every start will be down over a disk made by this, whatever the shares.
@@ -68,7 +73,7 @@ impl Bench<'_> {
         self.random.fill(&mut self.disk);
         self.random.fill(&mut self.memory);
         self.card = Card::with(Phase::Blank, kind);
-        self.book = Book::under(order);
+        self.book = Book::with(order, self.wrong_book);
         self.ledger = Ledger::blank(&self.memory, Rules { order, layout: kind.layout });
         self.is_foreign = false;
         self.is_other = false;

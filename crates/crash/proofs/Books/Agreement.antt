@@ -29,7 +29,7 @@ pub data Agrees (v : Service) (l : Ledger) : Type 0 where
 -- the phase in which a command is carried out, as far as the books need it
 abbrev pub PhaseFor : Command → Phase → Type 0
 PhaseFor (FORMAT c b j) p = Unit {0}
-PhaseFor (WRITE c b o v) p = isDown p ≡ false
+PhaseFor (WRITE task c b o v) p = isDown p ≡ false
 PhaseFor (CLOSE c) p = isDown p ≡ false
 PhaseFor (STORE c) p = isDown p ≡ false
 PhaseFor (CHECKPOINT c) p = isDown p ≡ false
@@ -94,7 +94,7 @@ module _ (v : Service) (l : Ledger) where
   served-agrees : (k : Command) → PhaseFor k (l .phase) → Agrees v l → Agrees (served k v) (carriedOut k l)
   unfolding served carriedOut
   served-agrees (FORMAT c b j) h g = format-agrees g b (newShape c b j)
-  served-agrees (WRITE c b o d) h g = noted-agrees (WRITE c b o d) h g
+  served-agrees (WRITE task c b o d) h g = noted-agrees (WRITE task c b o d) h g
   served-agrees (CLOSE c) h g = close-agrees c h g
   served-agrees (STORE c) h g = noted-agrees (STORE c) h g
   served-agrees (CHECKPOINT c) h g = noted-agrees (CHECKPOINT c) h g

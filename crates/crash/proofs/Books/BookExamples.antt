@@ -9,13 +9,13 @@ use Rattle.model.specs.Valid.{Order, unordered, in-sequence}
 use Rattle.model.proofs.Computes.{computes}
 use Rattle.crash.specs.Book.{Write, emptyBook, change, raise, begin, bookHolder, meets, ruled, holderAfter, note, writeBook, closeBook, storeBook, checkpointBook, retireBook, requiredIn, committedIn, requiredWithin, kept, keptWrites, image, blank}
 use Rattle.crash.specs.Service.{Service, emptyService, noted, cutService, fed, served}
-use Rattle.model.specs.Tape.{CHECKPOINT, CLOSE, CUT, Command, STORE, WRITE, RETIRE}
+use Rattle.model.specs.Tape.{lampTask, CHECKPOINT, CLOSE, CUT, Command, STORE, WRITE, RETIRE}
 use Rattle.model.specs.declared.Name.{Name}
 
 -- ---- commands that were carried out
 -- four bytes x into block 0
 abbrev pub write : ℕ → ℕ → ℕ → Command
-write c o x = WRITE c 0 o (x ∷ x ∷ x ∷ x ∷ [])
+write c o x = WRITE lampTask c 0 o (x ∷ x ∷ x ∷ x ∷ [])
 
 -- CLOSE and the three STOREs that commit a transaction of one block
 abbrev pub commits : ℕ → List Command
@@ -51,7 +51,7 @@ both-kept = refl
 -- Core 0's first transaction depends on one that is lost, its second lists none. Where no order is implied, the later one is kept
 -- without the earlier; in sequence neither is.
 abbrev secondAlone : List Command
-secondAlone = write 0 0 1 ∷ write 1 4 2 ∷ commits 0 ++ WRITE 0 1 0 (3 ∷ 3 ∷ 3 ∷ 3 ∷ []) ∷ commits 0 ++ CUT ∷ []
+secondAlone = write 0 0 1 ∷ write 1 4 2 ∷ commits 0 ++ WRITE lampTask 0 1 0 (3 ∷ 3 ∷ 3 ∷ 3 ∷ []) ∷ commits 0 ++ CUT ∷ []
 
 pub later-kept-alone : (keptBy unordered secondAlone ≡ newName 0 2 ∷ []) × (keptBy in-sequence secondAlone ≡ [])
 unfolding books

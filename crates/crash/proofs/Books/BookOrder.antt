@@ -21,7 +21,7 @@ write-begun c b o v k = of-cond (λ (x : Book). x .begun ≡ k .begun) (hasRunni
 pub noted-begun : (k : Command) (b : Book) → (noted k b) .begun ≡ b .begun
 unfolding noted closeBook storeBook checkpointBook retireBook
 noted-begun (FORMAT c n j) b = refl
-noted-begun (WRITE c n o v) b = write-begun c n o v b
+noted-begun (WRITE task c n o v) b = write-begun c n o v b
 noted-begun (CLOSE c) b = of-cond (λ (x : Book). x .begun ≡ b .begun) (hasRunning b c) refl refl
 noted-begun (STORE c) b = of-cond (λ (x : Book). x .begun ≡ b .begun) (hasClosed b c) refl refl
 noted-begun (CHECKPOINT c) b = of-cond (λ (x : Book). x .begun ≡ b .begun) (hasCommitted b c) refl refl

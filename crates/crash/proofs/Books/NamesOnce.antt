@@ -115,7 +115,7 @@ empty-once o first t = refl
 noted-once : (k : Command) (b : Book) → NamesOnce b → NamesOnce (noted k b)
 unfolding noted
 noted-once (FORMAT c n j) b h = h
-noted-once (WRITE c n o v) b h = write-once c b h n o v
+noted-once (WRITE task c n o v) b h = write-once c b h n o v
 noted-once (CLOSE c) b h = of-cond NamesOnce (hasRunning b c) (close-once c b h) h
 noted-once (STORE c) b h = of-cond NamesOnce (hasClosed b c) (store-once c b h) h
 noted-once (CHECKPOINT c) b h = of-cond NamesOnce (hasCommitted b c) (checkpoint-once c b h) h
@@ -126,7 +126,7 @@ noted-once (RETIRE c) b h = of-cond NamesOnce (hasCommitted b c) (retire-once c 
 served-once : (k : Command) (v : Service) → NamesOnce (v .book) → NamesOnce ((served k v) .book)
 unfolding served emptyService cutService
 served-once (FORMAT c b j) v h = empty-once _ _
-served-once (WRITE c b o d) v h = noted-once (WRITE c b o d) (v .book) h
+served-once (WRITE task c b o d) v h = noted-once (WRITE task c b o d) (v .book) h
 served-once (CLOSE c) v h = noted-once (CLOSE c) (v .book) h
 served-once (STORE c) v h = noted-once (STORE c) (v .book) h
 served-once (CHECKPOINT c) v h = noted-once (CHECKPOINT c) (v .book) h
@@ -142,7 +142,7 @@ recover-once (b ∷ bs) l h = h
 carried-once : (k : Command) (l : Ledger) → NamesOnce (l .book) → NamesOnce ((carriedOut k l) .book)
 unfolding carriedOut freshLedger closeLedger cutLedger
 carried-once (FORMAT c b j) l h = empty-once _ _
-carried-once (WRITE c b o v) l h = noted-once (WRITE c b o v) (l .book) h
+carried-once (WRITE task c b o v) l h = noted-once (WRITE task c b o v) (l .book) h
 carried-once (CLOSE c) l h = of-cond (λ (l : Ledger). NamesOnce (l .book)) (hasRunning (l .book) c) (close-once c (l .book) h) h
 carried-once (STORE c) l h = noted-once (STORE c) (l .book) h
 carried-once (CHECKPOINT c) l h = noted-once (CHECKPOINT c) (l .book) h

@@ -263,7 +263,7 @@ module _ {shift : ℕ → ℕ} {k k′ : Book} (r : Renamed shift k k′) where
   pub noted-renamed : (n : Command) → Renamed shift (noted n k) (noted n k′)
   unfolding noted
   noted-renamed (FORMAT c b j) = r
-  noted-renamed (WRITE c b o v) = write-renamed c b o v
+  noted-renamed (WRITE task c b o v) = write-renamed c b o v
   noted-renamed (CLOSE c) = guard-renamed (running-renamed c) (close-renamed c)
   noted-renamed (STORE c) = guard-renamed (less-renamed (shift c) _ _ _ _ (r .uncommitted c) (r .next c)) (store-renamed c)
   noted-renamed (CHECKPOINT c) = guard-renamed (less-renamed (shift c) _ _ _ _ (r .oldest c) (r .uncommitted c)) (checkpoint-renamed c)

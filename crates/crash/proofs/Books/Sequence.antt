@@ -74,7 +74,7 @@ anew-one v h = ap (λ (x : Beginning). record { order = x .order; first = λ (c 
 served-one : (k : Command) (v : Service) → FromOne v → FromOne (served k v)
 unfolding served emptyService cutService
 served-one (FORMAT c b j) v h = anew-one v h
-served-one (WRITE c b o d) v h = noted-one (WRITE c b o d) v h
+served-one (WRITE task c b o d) v h = noted-one (WRITE task c b o d) v h
 served-one (CLOSE c) v h = noted-one (CLOSE c) v h
 served-one (STORE c) v h = noted-one (STORE c) v h
 served-one (CHECKPOINT c) v h = noted-one (CHECKPOINT c) v h

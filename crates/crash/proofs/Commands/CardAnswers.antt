@@ -6,7 +6,7 @@ use native.Mathlib.Omega.{arith}
 use native.Mathlib.Decide.{decLt}
 use mathlib.Core.Path.{_≡_, refl, ap, ap₂, _∙_, sym}
 use mathlib.Core.Logic.{_⊎_, inl, inr, _≢_}
-use mathlib.Core.Bool.{Bool, false, cond, not, _&&_}
+use mathlib.Core.Bool.{Bool, true, false, cond, not, _&&_}
 use mathlib.Core.List.{List, [], _∷_}
 use mathlib.Core.Option.{some}
 use lib.ListN.{length, length-append}
@@ -23,7 +23,7 @@ use Rattle.model.specs.Valid.{in-sequence}
 use Rattle.model.proofs.Lists.{cases}
 use Rattle.model.proofs.OneStore.{lengths-right}
 use Rattle.crash.specs.Book.{absent, running, isRunning, Entry, Book, begin, staged, taking, bookHolder, writeBook}
-use Rattle.crash.specs.Ledger.{Ledger, recordBlocks, notUpFor, writeRefusals, closeRefusals, storeRefusals, checkpointRefusals, retireRefusals, blocksAfter, journalPasses, numberPasses, oldestRefusals}
+use Rattle.crash.specs.Ledger.{Ledger, recordBlocks, notUpFor, writeRefusals, closeRefusals, storeRefusals, checkpointRefusals, retireRefusals, writerBlocks, limitPasses, journalPasses, numberPasses, oldestRefusals}
 use Rattle.crash.proofs.Commands.CardCheckpoint.{images-left}
 use Rattle.crash.proofs.Books.BookEntries.{change-at, records-snoc, nextName}
 use Rattle.crash.proofs.Books.BookSteps.{begun}
@@ -111,12 +111,18 @@ module _ {l : Ledger} {w : World} (u : CardUp l w) where
   retire-answers c = oldest-answers c _ _ (λ h some. then (images-left u c h some) (λ _. none-left))
 
 -- ---- blocks counted
+and-implied : (p q : Bool) → (q ≡ true → p ≡ true) → (p && q) ≡ q
+and-implied true q h = refl
+and-implied false true h = h refl
+and-implied false false h = refl
+
 -- one more than so many
 more-test : (n m : ℕ) → ltb n (m + 1) ≡ leb n m
 more-test n m = elim (decLt m n) [ yes lt ↦ le-ltb n (m + 1) (omega arith) ∙ sym (lt-leb n m lt) | no ge ↦ lt-ltb n (m + 1) (omega arith) ∙ sym (le-leb n m (omega arith)) ]
 
-blocks-pass : {t : Transaction} {e : Entry} → Matches t e → (b : ℕ) → leb 8 (t .count) ≡ ltb 8 (length ((taking b e) .blocks))
-blocks-pass {t} {e} m b = rw (m .count, length-append (e .blocks) (b ∷ [])) (sym (more-test 8 (length (e .blocks))))
+limit-pass : {t : Transaction} {e : Entry} → Matches t e → (b n : ℕ) → leb n (t .count) ≡ (ltb (length (e .blocks)) (length ((taking b e) .blocks)) && ltb n (length ((taking b e) .blocks)))
+limit-pass {t} {e} m b n =
+    rw (m .count, length-append (e .blocks) (b ∷ []), lt-ltb (length (e .blocks)) (length (e .blocks) + 1) (omega arith), more-test n (length (e .blocks))) refl
 
 -- ---- WRITE
 module _ {l : Ledger} {w : World} (u : CardUp l w) (c : ℕ) (in-range : c < l .shape .cores) (b : ℕ) (low : b < l .shape .blocks)
@@ -147,16 +153,33 @@ module _ {l : Ledger} {w : World} (u : CardUp l w) (c : ℕ) (in-range : c < l .
             rw q (z .few))
       ]
 
+  before-same : length ((l .book .entry t) .blocks) ≡ length (e₁ .blocks)
+  unfolding begin
+  before-same =
+      elim current [
+        | inl e ↦ sym (ap (λ (x : Entry). length (x .blocks))
+            (ap (λ (p : Bool). (cond p (l .book) (begin t (l .book))) .entry t) (ap isRunning e) ∙ change-at t (staged running) (l .book .entry)))
+        | inr e ↦ sym (ap (λ (p : Bool). length (((cond p (l .book) (begin t (l .book))) .entry t) .blocks)) (ap isRunning e))
+      ]
+
+  -- 36: it takes the block, and has so many
+  limit-answer : (limit : ℕ) → (takesBlock (ruleFor (w .card) c b) && leb limit ((writer (w .card) c) .count))
+      ≡ (ltb (length ((l .book .entry t) .blocks)) (length ((k₂ .entry t) .blocks)) && ltb limit (length ((k₂ .entry t) .blocks)))
+  limit-answer limit =
+      let m = writer-matches u c in-range in
+      let none : ltb (length (e₁ .blocks)) (length (e₁ .blocks)) ≡ false = le-ltb (length (e₁ .blocks)) (length (e₁ .blocks)) (omega arith) in
+      elim (rule-met u c in-range b low opens) [
+        | met-none _ e r ↦ rw (r, entry-free (l .book) c current b o v e, before-same) (limit-pass m b limit)
+        | met-own _ _ e r ↦ rw (r, entry-own (l .book) c current b o v e, before-same, none) refl
+        | met-running n h _ _ _ e r ↦ rw (r, entry-running (l .book) c current b o v n (h .other) e, before-same, none) refl
+        | met-closed n h _ e r ↦ rw (r, entry-closed (l .book) c current b o v n (h .other) e, before-same) (limit-pass m b limit)
+      ]
+
+  -- 25: with at most eight before, more than eight are more than before
   blocks-answer : (takesBlock (ruleFor (w .card) c b) && leb 8 ((writer (w .card) c) .count)) ≡ ltb 8 (length ((k₂ .entry t) .blocks))
   blocks-answer =
-      let m = writer-matches u c in-range in
-      let few = le-ltb 8 (length (e₁ .blocks)) few-before in
-      elim (rule-met u c in-range b low opens) [
-        | met-none _ e r ↦ rw (r, entry-free (l .book) c current b o v e) (blocks-pass m b)
-        | met-own _ _ e r ↦ rw (r, entry-own (l .book) c current b o v e) (sym few)
-        | met-running n h _ _ _ e r ↦ rw (r, entry-running (l .book) c current b o v n (h .other) e) (sym few)
-        | met-closed n h _ e r ↦ rw (r, entry-closed (l .book) c current b o v n (h .other) e) (blocks-pass m b)
-      ]
+      let few : length ((l .book .entry t) .blocks) ≤ 8 = rw before-same few-before in
+      limit-answer 8 ∙ and-implied _ _ (λ e. lt-ltb (length ((l .book .entry t) .blocks)) (length ((k₂ .entry t) .blocks)) (omega (arith, few, ltb-true 8 (length ((k₂ .entry t) .blocks)) e)))
 
   journal-answer : length ((k₂ .entry t) .blocks) ≤ 8
       → journalFull (w .card) c b
@@ -169,11 +192,11 @@ module _ {l : Ledger} {w : World} (u : CardUp l w) (c : ℕ) (in-range : c < l .
       let e : total + (n + 2) ≡ total + 2 + n = omega arith in
       rw (shape-up u, closed-total u c in-range, m .blocks, e) refl
 
-pub write-answers : {l : Ledger} {w : World} → CardUp l w → (c b o : ℕ) (v : Bytes)
+pub write-answers : {l : Ledger} {w : World} → CardUp l w → (limit c b o : ℕ) (v : Bytes)
     → (b < l .shape .blocks → (n : Name) → bookHolder (l .book) b (l .book .writes) ≡ some n → (l .book .entry n) .stage ≢ absent)
-    → refusal (writeConditions c b o w) ≡ refusal (writeRefusals c b o v l)
-unfolding writeConditions writeRefusals noBlock blocksAfter journalPasses numberPasses
-write-answers {l} {w} u c b o v opens =
+    → refusal (writeConditions limit c b o w) ≡ refusal (writeRefusals limit c b o v l)
+unfolding writeConditions writeRefusals noBlock writerBlocks limitPasses journalPasses numberPasses
+write-answers {l} {w} u limit c b o v opens =
     let k₂ = writeBook c b o v (l .book) in
     let t = nextName c (l .book) in
     up-refusal u c _ _
@@ -185,6 +208,8 @@ write-answers {l} {w} u c b o v opens =
     (λ _.
     then (blocks-answer u c h b low (opens low) o v)
     (λ blocks.
+    then (limit-answer u c h b low (opens low) o v limit)
+    (λ _.
     then (journal-answer u c h b low (opens low) o v (ltb-false 8 (length ((k₂ .entry t) .blocks)) blocks))
     (λ _.
-    then (ap₂ (λ (p : Bool) (n : ℕ). not p && ltb maxNumber n) (live-runs u c h) (u .cores c h .next)) (λ _. none-left))))))
+    then (ap₂ (λ (p : Bool) (n : ℕ). not p && ltb maxNumber n) (live-runs u c h) (u .cores c h .next)) (λ _. none-left)))))))

@@ -23,7 +23,7 @@ use Rattle.crash.specs.Ledger.{Ledger, blankLedger, notUpFor, formatRefu
 use Rattle.crash.proofs.Books.Tests.{clash}
 use Rattle.crash.proofs.Disk.Relation.{CardUp, CardDown}
 use Rattle.crash.proofs.Disk.ReadMaster.{master-stands}
-use Rattle.model.specs.Tape.{CHECKPOINT, CLOSE, CUT, Command, FORMAT, RECOVER, RETIRE, STORE, WRITE}
+use Rattle.model.specs.Tape.{blockLimit, CHECKPOINT, CLOSE, CUT, Command, FORMAT, RECOVER, RETIRE, STORE, WRITE}
 use Rattle.crash.specs.Book.{emptyBook, absent, bookHolder}
 use Rattle.crash.proofs.Commands.CardAnswers.{checkpoint-answers, retire-answers, close-answers, store-answers, write-answers}
 use Rattle.model.specs.Step.{conditionsOf}
@@ -62,7 +62,7 @@ module _ (l : Ledger) (w : World) (sizes : wrongLength w ≡ false) where
       → (k : Command) → refusal (conditionsOf in-sequence k w) ≡ refusal (refusalsOf k l)
   unfolding conditionsOf refusalsOf writeConditions writeRefusals closeConditions closeRefusals storeConditions storeRefusals checkpointConditions retireConditions checkpointRefusals retireRefusals committedConditions foundConditions
   phase-answers p h m i j (FORMAT c b f) = format-answer c b f (i ∙ sym j)
-  phase-answers p h m i j (WRITE c b o v) = not-up-answer p h i j c _ _
+  phase-answers p h m i j (WRITE task c b o v) = not-up-answer p h i j c _ _
   phase-answers p h m i j (CLOSE c) = not-up-answer p h i j c _ _
   phase-answers p h m i j (STORE c) = not-up-answer p h i j c _ _
   phase-answers p h m i j (CHECKPOINT c) = not-up-answer p h i j c _ _
@@ -89,7 +89,7 @@ module _ {l : Ledger} {w : World} (u : CardUp l w) (opens : (b : ℕ) (n : Name)
   pub up-answers : (k : Command) → refusal (conditionsOf in-sequence k w) ≡ refusal (refusalsOf k l)
   unfolding conditionsOf refusalsOf
   up-answers (FORMAT c b j) = format-answer l w sizes c b j (u .phase ∙ sym (u .ledger))
-  up-answers (WRITE c b o v) = write-answers u c b o v (λ _. opens b)
+  up-answers (WRITE task c b o v) = write-answers u (blockLimit task) c b o v (λ _. opens b)
   up-answers (CLOSE c) = close-answers u c
   up-answers (STORE c) = store-answers u c
   up-answers (CHECKPOINT c) = checkpoint-answers u c

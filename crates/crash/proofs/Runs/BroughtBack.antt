@@ -181,7 +181,7 @@ retire-onward c (stands-down d) h = clash (ap isDown (d .ledger)) (refusal-passe
 
 step-onward : {l : Ledger} {w : World} (k : Command) → inSpan k ≡ true → Stands l w → refusal (refusalsOf k l) ≡ 0 → Onward l ((doneBy in-sequence k w) .world)
 step-onward (FORMAT c b j) h s z = absurd (true≢false (sym h))
-step-onward (WRITE c b o v) h s z = absurd (true≢false (sym h))
+step-onward (WRITE task c b o v) h s z = absurd (true≢false (sym h))
 step-onward (CLOSE c) h s z = absurd (true≢false (sym h))
 step-onward (STORE c) h s z = absurd (true≢false (sym h))
 step-onward (CHECKPOINT c) h s z = checkpoint-onward c s z

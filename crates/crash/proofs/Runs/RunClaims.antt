@@ -41,7 +41,7 @@ whole-bytes : (t : Bytes) → IsBytes t → (at : ℕ) (k : Command) → readAt 
 unfolding operandsAt part
 whole-bytes t b at k e =
     whole-data t at (λ (v : Bytes). (length v ≡ 4) × IsBytes v) k e
-    (λ two. (length-data t at k e two, bytes-take 4 _ (bytes-drop 4 _ (bytes-take (operandLength (commandByte t at)) _ (bytes-drop (at + 1) t b)))))
+    (λ eight. (length-data t at k e eight, bytes-take 4 _ (bytes-drop 4 _ (bytes-take (operandLength (commandByte t at)) _ (bytes-drop (at + 1) t b)))))
 
 -- ---- what each command keeps of a relation of ledger and world
 -- the last RECOVER leaves the home area that the kept writes give
@@ -174,7 +174,7 @@ module _ (l : Ledger) where
   answered-phase : (k : Command) → refusal (refusalsOf k l) ≡ 0 → PhaseFor k (l .phase)
   unfolding refusalsOf writeRefusals closeRefusals storeRefusals checkpointRefusals retireRefusals
   answered-phase (FORMAT c b j) z = tt
-  answered-phase (WRITE c b o v) z = up-phase _ z
+  answered-phase (WRITE task c b o v) z = up-phase _ z
   answered-phase (CLOSE c) z = up-phase _ z
   answered-phase (STORE c) z = up-phase _ z
   answered-phase (CHECKPOINT c) z = up-phase _ z
@@ -193,7 +193,7 @@ module _ (v : Service) (l : Ledger) (same : v .blocks ≡ l .shape .blocks) wher
   served-blocks : (k : Command) → (served k v) .blocks ≡ (carriedOut k l) .shape .blocks
   unfolding served carriedOut emptyService cutService freshLedger cutLedger closeLedger
   served-blocks (FORMAT c b j) = refl
-  served-blocks (WRITE c b o d) = same
+  served-blocks (WRITE task c b o d) = same
   served-blocks (CLOSE c) = cases (hasRunning (l .book) c) (λ e. rw e same) (λ e. rw e same)
   served-blocks (STORE c) = same
   served-blocks (CHECKPOINT c) = same

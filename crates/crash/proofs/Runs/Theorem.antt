@@ -38,7 +38,7 @@ use Rattle.crash.proofs.Disk.Relation.{CardUp, CardDown, target}
 use Rattle.crash.proofs.Commands.CardCut.{cut-down}
 use Rattle.crash.proofs.Commands.CardStore.{stored-bytes}
 use Rattle.crash.proofs.Commands.CardCheckpoint.{checkpointed-bytes, retired-bytes}
-use Rattle.model.specs.Tape.{CHECKPOINT, CLOSE, CUT, Command, FORMAT, RECOVER, RETIRE, STORE, TapeStep, WRITE}
+use Rattle.model.specs.Tape.{Task, blockLimit, CHECKPOINT, CLOSE, CUT, Command, FORMAT, RECOVER, RETIRE, STORE, TapeStep, WRITE}
 use Rattle.crash.proofs.Runs.Unrefused.{in-range-of, may-close, may-store, may-checkpoint, may-retire}
 use Rattle.crash.proofs.Runs.UpSteps.{RelatedUp, less-home, all-home, retire-at, checkpoint-at, close-at, close-memory, cut-at, fresh-at, holder-open, store-at, up-reads, write-at, write-memory}
 use Rattle.model.proofs.Sizes.{checkpointed-memory, retired-memory, recoverStep-memory}
@@ -68,7 +68,7 @@ plain n h d = record { next = h; done = d; home = λ e. absurd (n e) }
 
 isRecover : Command → Bool
 isRecover (FORMAT c b j) = false
-isRecover (WRITE c b o v) = false
+isRecover (WRITE task c b o v) = false
 isRecover (CLOSE c) = false
 isRecover (STORE c) = false
 isRecover (CHECKPOINT c) = false
@@ -106,7 +106,7 @@ module _ {l : Ledger} {w : World} (b : RelatedBlank l w) where
   blank-carries : (k : Command) → refusal (refusalsOf k l) ≡ 0 → Carried Related l w k
   unfolding refusalsOf writeRefusals closeRefusals storeRefusals checkpointRefusals retireRefusals
   blank-carries (FORMAT c n j) h = format-carried c n j h
-  blank-carries (WRITE c n o v) h = not-done _ h
+  blank-carries (WRITE task c n o v) h = not-done _ h
   blank-carries (CLOSE c) h = not-done _ h
   blank-carries (STORE c) h = not-done _ h
   blank-carries (CHECKPOINT c) h = not-done _ h
@@ -143,7 +143,7 @@ module _ {l : Ledger} {w : World} (d : CardDown l w) where
   down-carries : (k : Command) → refusal (refusalsOf k l) ≡ 0 → Carried Related l w k
   unfolding refusalsOf formatRefusals writeRefusals closeRefusals storeRefusals checkpointRefusals retireRefusals doneBy carriedOut diskAfter memoryAfter isRecover
   down-carries (FORMAT c n j) h = refused-21 _ h
-  down-carries (WRITE c n o v) h = refused-22 _ h
+  down-carries (WRITE task c n o v) h = refused-22 _ h
   down-carries (CLOSE c) h = refused-22 _ h
   down-carries (STORE c) h = refused-22 _ h
   down-carries (CHECKPOINT c) h = refused-22 _ h
@@ -153,16 +153,16 @@ module _ {l : Ledger} {w : World} (d : CardDown l w) where
 
 -- ---- up
 module _ {l : Ledger} {w : World} (u : RelatedUp l w) where
-  write-carried : (c b o : ℕ) (v : Bytes) → HasData (WRITE c b o v) → refusal (writeRefusals c b o v l) ≡ 0 → Carried Related l w (WRITE c b o v)
+  write-carried : (task : Task) (c b o : ℕ) (v : Bytes) → HasData (WRITE task c b o v) → refusal (writeRefusals (blockLimit task) c b o v l) ≡ 0 → Carried Related l w (WRITE task c b o v)
   unfolding writeRefusals doneBy carriedOut noted diskAfter memoryAfter written isRecover
-  write-carried c b o v fits h =
-      let z = in-range-of u c _ (omega arith, (omega arith, (omega arith, (omega arith, (omega arith, tt))))) h in
+  write-carried task c b o v fits h =
+      let z = in-range-of u c _ (omega arith, (omega arith, (omega arith, (omega arith, (omega arith, (omega arith, tt)))))) h in
       let y = z .1 in
       let low : b < l .shape .blocks = leb-false (l .shape .blocks) b (y .0) in
       let inside : o ≤ 124 = ltb-false 124 o (y .1 .0) in
       plain (other refl)
-      (related-up (write-at u c (z .0) b low o inside v fits (y .1 .1 .0) (y .1 .1 .1 .0) (y .1 .1 .1 .1 .0)))
-      (record { disk = refl; memory = write-memory u c (z .0) b low o inside v fits (y .1 .1 .0) (y .1 .1 .1 .0) (y .1 .1 .1 .1 .0); stores = refl })
+      (related-up (write-at u c (z .0) b low o inside v fits (y .1 .1 .0) (y .1 .1 .1 .1 .0) (y .1 .1 .1 .1 .1 .0)))
+      (record { disk = refl; memory = write-memory u c (z .0) b low o inside v fits (y .1 .1 .0) (y .1 .1 .1 .1 .0) (y .1 .1 .1 .1 .1 .0); stores = refl })
 
   close-carried : (c : ℕ) → refusal (closeRefusals c l) ≡ 0 → Carried Related l w (CLOSE c)
   unfolding doneBy carriedOut diskAfter memoryAfter closed isRecover
@@ -206,7 +206,7 @@ module _ {l : Ledger} {w : World} (u : RelatedUp l w) where
   up-carries : (k : Command) → HasData k → refusal (refusalsOf k l) ≡ 0 → Carried Related l w k
   unfolding refusalsOf formatRefusals doneBy carriedOut diskAfter memoryAfter isRecover
   up-carries (FORMAT c n j) fits h = up-21 _ h
-  up-carries (WRITE c n o v) fits h = write-carried c n o v fits h
+  up-carries (WRITE task c n o v) fits h = write-carried task c n o v fits h
   up-carries (CLOSE c) fits h = close-carried c h
   up-carries (STORE c) fits h = store-carried c h
   up-carries (CHECKPOINT c) fits h = checkpoint-carried c h

@@ -23,7 +23,7 @@ use Rattle.model.specs.Checkpoint.{checkpointed, retiredOldest}
 use Rattle.model.proofs.Lists.{cases, and-left, getD-mem}
 use Rattle.model.proofs.OneStore.{lengths-right}
 use Rattle.crash.specs.Book.{Book, Write, absent, running, committed, requiredIn, kept, image, blank, isClosed, isCommitted, isRetired, bookHolder, storeBook, checkpointBook, retireBook, writeBook}
-use Rattle.crash.specs.Ledger.{Ledger, freshLedger, cutLedger, withBook, closeLedger, validIn, sharesLowerIn, blocksAfter, copiesStored, imageNow, journalPasses, numberPasses, homeLeft}
+use Rattle.crash.specs.Ledger.{Ledger, freshLedger, cutLedger, withBook, closeLedger, validIn, sharesLowerIn, writerBlocks, copiesStored, imageNow, journalPasses, numberPasses, homeLeft}
 use Rattle.crash.proofs.Commands.CardWrite.{write-up, memory-written}
 use Rattle.crash.proofs.Disk.LedgerWrite.{well-formed-write}
 use Rattle.crash.proofs.Books.Tests.{clash, any-in, in-any, nameEquality, blockEquality}
@@ -42,8 +42,7 @@ use Rattle.crash.proofs.Commands.CardStore.{store-up, store-homes}
 use Rattle.crash.proofs.Commands.CardClose.{close-up, memory-closed}
 use Rattle.crash.proofs.Commands.CardCheckpoint.{checkpoint-up, retire-up, homed-now, home-stored, home-others, homes-stay}
 use Rattle.crash.proofs.Disk.LedgerStages.{below-oldest, closed-present, stored-unretired, committed-rank}
-use Rattle.crash.proofs.Runs.RunClaims.{HasData}
-use Rattle.model.specs.Tape.{WRITE}
+use Rattle.crash.specs.Claims.{IsBytes}
 use Rattle.model.specs.Reading.{readBlock, readConditions, readNumber}
 use Rattle.crash.proofs.Disk.ReadMaster.{shape-up}
 use Rattle.model.specs.declared.Name.{Name}
@@ -115,22 +114,22 @@ module _ {l : Ledger} {w : World} (u : RelatedUp l w) where
       from-home (some n) e h = clash (ap (λ (y : Holder). y .held) (u .up .holders b low ∙ ap holderAs e)) h
 
   -- WRITE
-  module _ (c : ℕ) (in-range : c < l .shape .cores) (b : ℕ) (low : b < l .shape .blocks) (o : ℕ) (inside : o ≤ 124) (v : Bytes) (fits : HasData (WRITE c b o v))
-      (no-25 : ltb 8 (blocksAfter c k (writeBook c b o v k)) ≡ false)
+  module _ (c : ℕ) (in-range : c < l .shape .cores) (b : ℕ) (low : b < l .shape .blocks) (o : ℕ) (inside : o ≤ 124) (v : Bytes) (fits : (length v ≡ 4) × IsBytes v)
+      (no-25 : ltb 8 (length (writerBlocks c k (writeBook c b o v k))) ≡ false)
       (no-26 : journalPasses c (l .shape) k (writeBook c b o v k) ≡ false) (no-27 : numberPasses c k ≡ false) where
     home-image : bookHolder k b (k .writes) ≡ none → blockAt (w .disk) (homeBlock b) ≡ imageNow l b
     home-image h = u .homes b low ∙ home-current (u .inv) b h
 
     well-formed-after : WellFormed (withBook l (writeBook c b o v k))
-    unfolding blocksAfter numberPasses
+    unfolding writerBlocks numberPasses
     well-formed-after = well-formed-write l (u .up .well-formed) c in-range b o v low inside (fits .0) (fits .1) running-holds (λ n x h. holder-open x n h) no-25 no-27
 
     pub write-memory : writtenMemory w c b o v ≡ store (w .memory) b (replaced o 4 (imageNow l b) v)
-    unfolding journalPasses blocksAfter
+    unfolding journalPasses writerBlocks
     write-memory = memory-written (u .up) c in-range b low o inside v (fits .0) (fits .1) (holder-open b) home-image (ltb-false _ _ no-26) well-formed-after
 
     pub write-at : RelatedUp (withBook l (writeBook c b o v k)) ((written c b o v w) .world)
-    unfolding written journalPasses blocksAfter
+    unfolding written journalPasses writerBlocks
     write-at =
         let current = u .up .well-formed .ranks c in-range .current in
         record {

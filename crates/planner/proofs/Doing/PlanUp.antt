@@ -46,7 +46,7 @@ module _ {l : Ledger} {w : World} (u : RelatedUp l w) where
   lowers : (k : Command) → isEmptying k ≡ true → (step k w) .answer ≡ 0 → LoweredTo l (step k w)
   unfolding refusalsOf
   lowers (FORMAT c b j) e h = impossible e
-  lowers (WRITE c b i v) e h = impossible e
+  lowers (WRITE task c b i v) e h = impossible e
   lowers (CLOSE c) e h = close-lowered u c (may-close u c (unrefused u (CLOSE c) h)) h
   lowers (STORE c) e h = store-chosen u c (may-store u c (unrefused u (STORE c) h)) h .to
   lowers (CHECKPOINT c) e h = let x = may-checkpoint u c (unrefused u (CHECKPOINT c) h) in checkpoint-lowers u c (x .0) (x .1) h

@@ -11,7 +11,8 @@ write-state-requires : tie.Need-write-state-requires
 write-state-requires c κs =
     let roomy = c .before .before .before .before .before in
     let refusal = roomy .before .room-refusal in
-    (search needs, search needs, found-own _ _ _ _ (roomy .before .before .before .find .ensures .0), no-ninth _ (roomy .before .before .before .find .result) _ (refusal .ensures) (roomy .if1 .left))
+    let start = roomy .before .before .before .before .before .before .before .before .before .before in
+    (start .pre .0, search needs, found-own _ _ _ _ (roomy .before .before .before .find .ensures .0), no-ninth _ _ (roomy .before .before .before .find .result) _ (refusal .ensures) (roomy .if1 .left))
 
 returns-2 : tie.Need-returns-2
 returns-2 c = search (needs, ruled-done)

@@ -46,7 +46,7 @@ fn used(call: impl FnOnce()) -> usize {
 struct Gauge {
     stage: Stage<Session>,
     /// The most that each command used, by its byte.
-    most: [usize; 9],
+    most: [usize; 10],
     /// The same of reading a block, and of running one command as a tape.
     reading: usize,
     tape: usize,
@@ -61,7 +61,7 @@ impl Gauge {
         self.run_as_tape(&tape[offset..]);
         let mut next = offset;
         let bytes = used(|| next = self.stage.command(tape, offset).next);
-        let most = &mut self.most[(tape[offset] as usize).min(8)];
+        let most = &mut self.most[(tape[offset] as usize).min(9)];
         *most = bytes.max(*most);
         let (Stage { card, disk, memory }, mut block) = (&self.stage, [0; 128]);
         let readings = [
@@ -176,7 +176,7 @@ fn planned_fullest() -> Gauge {
 fn main() {
     let commands = std::env::args().nth(1).map_or(50_000, |arg| arg.parse().expect("a number"));
     println!("bytes of stack below the call of an entry");
-    let commands_by_byte = ["FORMAT", "WRITE", "CLOSE", "STORE", "CHECKPOINT", "CUT", "RECOVER", "RETIRE"];
+    let commands_by_byte = ["FORMAT", "WRITE", "CLOSE", "STORE", "CHECKPOINT", "CUT", "RECOVER", "RETIRE", "WRITE (9)"];
     let names = commands_by_byte.iter().chain(&["tape", "reading", "page", "plan"]);
     println!("{:<34} {}", "", names.map(|name| format!("{name:>10}")).collect::<Vec<_>>().join(" "));
     let (chain, links) = directed::chain_tape();

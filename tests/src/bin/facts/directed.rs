@@ -1,8 +1,8 @@
 // directed.rs: directed tapes: what random ones seldom meet.
 
 use super::{Facts, Start};
-use card_tests::command::{from_hex, Command};
-use card_tests::directed::{disk_with, put_record, retire_of};
+use card_tests::command::{from_hex, Command, Task, Write};
+use card_tests::directed::{disk_with, put_record, retire_of, REPORTS};
 use card_tests::foreign;
 use card_tests::layout::{put_word, Layout, Name, Shape, Tail, DISK, LAST_TAIL, LAYOUTS, MEMORY};
 use card_tests::random::Random;
@@ -12,11 +12,12 @@ use card_tests::shrink::tape_of;
 pub fn run(facts: &mut Facts) {
     let mut random = Random::new(0);
     let written =
-        [SHORT, LIMITS, FULL, "0101010402000000004142", "0101040409", RETIRED_LATER, WITHOUT_BLOCKS].map(from_hex);
+        [SHORT, LIMITS, FULL, "0101010402000000004142", "0101040A0A", RETIRED_LATER, WITHOUT_BLOCKS].map(from_hex);
     let in_sequence = [CHANGED_AT_THE_CUT, LATER_ALONE, NAMES_A_LATER_ONE, FIRST_NOT_HELD].map(from_hex);
     let named = [HIGHEST_FIRST, HIGHEST_LAST].map(from_hex);
     let made = [crowded_list(), nine_blocks(), passed_on()];
-    for tape in written.into_iter().chain(in_sequence).chain(named).chain(made) {
+    let reports = REPORTS.map(|(tape, _)| from_hex(tape));
+    for tape in written.into_iter().chain(in_sequence).chain(named).chain(made).chain(reports) {
         facts.tape(&Start::blank(), &tape, &mut random);
     }
     for (at, word) in MASTERS.into_iter().chain([(8, 0)]).chain(foreign::SPOILS) {
@@ -97,7 +98,7 @@ const AFTER_FORMAT: &str =
     06 07 06 07 07 07 020000000409090909 0300";
 
 fn write(core: u8, block: u16) -> Command {
-    Command::Write { core, block, offset: core, data: [65 + core, block as u8, 0xC0, 0x3B] }
+    Command::Write(Write { task: Task::Lamp, core, block, offset: core, data: [65 + core, block as u8, 0xC0, 0x3B] })
 }
 
 /// Core 0 runs on while core 1 is named twelve times; one more name fits in the holder's list and in the writer's. Then it commits.
@@ -157,7 +158,7 @@ fn wrong_lengths(facts: &mut Facts) {
         for (disk, memory) in sizes {
             ["0400", "0800"].iter().for_each(|tape| facts.at(&before, &from_hex(tape), 0, disk, memory));
         }
-        for (tape, at) in [("0400", 1), ("0400", 2), ("0400", 5), ("0201", 0), ("", 0), ("0603", 1)] {
+        for (tape, at) in [("0400", 1), ("0400", 2), ("0400", 5), ("0201", 0), ("0901", 0), ("", 0), ("0603", 1)] {
             facts.at(&before, &from_hex(tape), at, DISK - 1, MEMORY);
             facts.at(&before, &from_hex(tape), at, DISK, MEMORY);
         }

@@ -71,7 +71,7 @@ struct Facts {
     areas: usize,
     tapes: [usize; 2],
     commands: [usize; 2],
-    answers: [usize; 36],
+    answers: [usize; 37],
 }
 
 fn main() -> std::io::Result<()> {
@@ -276,7 +276,7 @@ fn differing(from: &[u8], to: &[u8]) -> Vec<(usize, Vec<u8>)> {
 
 impl Facts {
     fn new(folder: PathBuf) -> Facts {
-        let (tapes, commands, answers) = ([0; 2], [0; 2], [0; 36]);
+        let (tapes, commands, answers) = ([0; 2], [0; 2], [0; 37]);
         Facts {
             folder,
             text: HEAD.into(),
@@ -428,7 +428,7 @@ impl Facts {
         let met = self.answers.iter().enumerate().filter(|(_, count)| **count > 0);
         let met: Vec<String> = met.map(|(answer, count)| format!("{answer}: {count}")).collect();
         println!("answers met: {}", met.join(", "));
-        let listed = (1..=8).chain(20..=23).chain(25..=35);
+        let listed = (1..=8).chain(20..=23).chain(25..=36);
         let unmet: Vec<String> = listed.filter(|i| self.answers[*i] == 0).map(|i| i.to_string()).collect();
         println!("answers not met: {}", if unmet.is_empty() { "none".into() } else { unmet.join(", ") });
     }
@@ -525,7 +525,7 @@ fn checksum(from: u8, bytes: &[u8]) -> u64 {
 /// The bytes of memory that WRITE and CLOSE write.
 fn touched(command: Command, memory: &[u8]) -> &[u8] {
     let (from, count) = match command {
-        Command::Write { block, .. } => (block as usize, 1),
+        Command::Write(write) => (write.block as usize, 1),
         Command::Close { core } => (64 + TAKEN * core as usize, TAKEN),
         _ => (0, 0),
     };
