@@ -19,7 +19,7 @@ use Rattle.model.specs.Commit.{close, storeNext}
 use Rattle.model.specs.Valid.{in-sequence}
 use Rattle.model.specs.Checkpoint.{checkpoint, retire}
 use Rattle.model.specs.Recovery.{cut, recover}
-use Rattle.model.specs.Tape.{Task, blockLimit, lampTask, reportTask, writeOf, operandLengths, operandLength, commandByte, operandsAt, isUnknown, nextOffset, CHECKPOINT, CLOSE, CUT, Command, FORMAT, RECOVER, RETIRE, Read, STORE, WRITE, decoded, isEarly, obeyed, readAt, whole}
+use Rattle.model.specs.Tape.{Task, blockLimit, lampTask, reportTask, writeOf, operandLengths, operandLength, commandByte, operandsAt, isUnknown, nextOffset, CHECKPOINT, CLOSE, CUT, Command, FORMAT, RECOVER, RETIRE, Read, STORE, decoded, isEarly, obeyed, readAt, whole}
 use Rattle.model.specs.Step.{stepBy, step, conditionsOf, doneBy, stepAt}
 use Rattle.model.proofs.Command.{tapeConditions, refusal-clear, unless-done, tape-unless}
 use Rattle.cells.specs.Answer.{newAnswer, Meets}

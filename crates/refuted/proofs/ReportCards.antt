@@ -17,11 +17,7 @@ use Rattle.refuted.proofs.Checks.{blankStart, blank-fits, few-passed, r
 use Rattle.refuted.proofs.Tapes.{tests, endOf, numbersAndAnswer, format, write, report, reports, close, stores, cut, recovers, fourReports}
 
 -- ---- how many
-pub no-36 : Demands in-sequence (onTape (ignoring 36)) → ⊥
-unfolding tests
-no-36 = refutes-demands in-sequence (onTape (ignoring 36)) answerCheck fourReports refl
-
--- At the fifth command the transaction gets its fourth block.
+-- At the fifth command the transaction gets its fourth block. (That the card also answers otherwise: `Refusals` `each-condition`.)
 pub no-36-limit : ReportLimit in-sequence (onTape (ignoring 36)) → ⊥
 unfolding tests
 no-36-limit k =

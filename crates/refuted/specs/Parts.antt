@@ -143,8 +143,8 @@ withCondition n test ts = map (λ (t : Bool × ℕ). cond (eqb (t .1) n) (test, 
 abbrev pub asking : ℕ → Bool → Step World
 asking n test k w = unless (withCondition n test (conditionsOf in-sequence k w)) w (doneBy in-sequence k w)
 
-abbrev pub writeAsking : ℕ → (Task → ℕ → ℕ → World → Bool) → Step World
-writeAsking n test = otherWrite step (λ task c b o v w. asking n (test task c b w) (WRITE task c b o v) w)
+abbrev pub writeAsking : ℕ → (ℕ → ℕ → World → Bool) → Step World
+writeAsking n test = otherWrite step (λ task c b o v w. asking n (test c b w) (WRITE task c b o v) w)
 
 -- .. in CHECKPOINT and RETIRE, of the card f
 abbrev pub oldestAsking : Step World → ℕ → (ℕ → World → Bool) → Step World
@@ -295,4 +295,4 @@ otherReport g = otherWrite step (λ task c b o v w. byTask g task (WRITE task c 
 
 -- 36 by the rules under which it is asked, and the number of blocks from which on
 abbrev pub limitAsking : (Rule → Bool) → ℕ → Step World
-limitAsking rule n = writeAsking 36 (λ task c b w. rule (ruleFor (w .card) c b) && leb n ((writer (w .card) c) .count))
+limitAsking rule n = writeAsking 36 (λ c b w. rule (ruleFor (w .card) c b) && leb n ((writer (w .card) c) .count))

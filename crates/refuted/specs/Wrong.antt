@@ -214,12 +214,12 @@ notLoaded =
 
 -- 26 is not asked of a WRITE that opens a transaction and takes no block
 abbrev pub no26OnOpen : Step World
-no26OnOpen = writeAsking 26 (λ task c b w. takesBlock (ruleFor (w .card) c b) && journalFull (w .card) c b)
+no26OnOpen = writeAsking 26 (λ c b w. takesBlock (ruleFor (w .card) c b) && journalFull (w .card) c b)
 
 -- 26 'stored yet or not': a closed one counts from its first store on
 abbrev pub only26Stored : Step World
 only26Stored =
-    writeAsking 26 (λ task c b w.
+    writeAsking 26 (λ c b w.
     let x = w .card in
     let k = coreOf x c in
     let closedOne = cond (k .closed .live && ltb 0 (k .stored)) (recordSize (k .closed)) 0 in

@@ -6,7 +6,7 @@ use native.Mathlib.Omega.{arith}
 use native.Mathlib.Decide.{decLt}
 use mathlib.Core.Path.{_≡_, refl, ap, ap₂, _∙_, sym}
 use mathlib.Core.Logic.{_⊎_, inl, inr, _≢_}
-use mathlib.Core.Bool.{Bool, true, false, cond, not, _&&_}
+use mathlib.Core.Bool.{Bool, true, false, not, _&&_}
 use mathlib.Core.List.{List, [], _∷_}
 use mathlib.Core.Option.{some}
 use lib.ListN.{length, length-append}
@@ -22,11 +22,11 @@ use Rattle.model.specs.Limits.{maxNumber}
 use Rattle.model.specs.Valid.{in-sequence}
 use Rattle.model.proofs.Lists.{cases}
 use Rattle.model.proofs.OneStore.{lengths-right}
-use Rattle.crash.specs.Book.{absent, running, isRunning, Entry, Book, begin, staged, taking, bookHolder, writeBook}
+use Rattle.crash.specs.Book.{absent, running, Entry, Book, taking, bookHolder, writeBook}
 use Rattle.crash.specs.Ledger.{Ledger, recordBlocks, notUpFor, writeRefusals, closeRefusals, storeRefusals, checkpointRefusals, retireRefusals, writerBlocks, limitPasses, journalPasses, numberPasses, oldestRefusals}
 use Rattle.crash.proofs.Commands.CardCheckpoint.{images-left}
-use Rattle.crash.proofs.Books.BookEntries.{change-at, records-snoc, nextName}
-use Rattle.crash.proofs.Books.BookSteps.{begun}
+use Rattle.crash.proofs.Books.BookEntries.{records-snoc, nextName}
+use Rattle.crash.proofs.Books.BookSteps.{begun, begun-same}
 use Rattle.crash.proofs.Disk.Relation.{Matches, CardUp}
 use Rattle.crash.proofs.Disk.LedgerStages.{running-present}
 use Rattle.crash.proofs.Disk.ReadMaster.{shape-up}
@@ -140,27 +140,11 @@ module _ {l : Ledger} {w : World} (u : CardUp l w) (c : ℕ) (in-range : c < l .
   current = u .well-formed .ranks c in-range .current
 
   -- the writer's blocks before
-  few-before : length (e₁ .blocks) ≤ 8
-  unfolding begin
-  few-before =
-      elim current [
-        | inl e ↦ (let z = u .well-formed .unopened t e in
-            let q : e₁ ≡ staged running (l .book .entry t) =
-            ap (λ (p : Bool). (cond p (l .book) (begin t (l .book))) .entry t) (ap isRunning e) ∙ change-at t (staged running) (l .book .entry) in
-            rw (q, z .0) (omega arith))
-        | inr e ↦ (let z = u .well-formed .limits t (running-present _ e) in
-            let q : e₁ ≡ l .book .entry t = ap (λ (p : Bool). (cond p (l .book) (begin t (l .book))) .entry t) (ap isRunning e) in
-            rw q (z .few))
-      ]
+  few-before : length ((l .book .entry t) .blocks) ≤ 8
+  few-before = elim current [ inl e ↦ rw (u .well-formed .unopened t e .0) (omega arith) | inr e ↦ u .well-formed .limits t (running-present _ e) .few ]
 
   before-same : length ((l .book .entry t) .blocks) ≡ length (e₁ .blocks)
-  unfolding begin
-  before-same =
-      elim current [
-        | inl e ↦ sym (ap (λ (x : Entry). length (x .blocks))
-            (ap (λ (p : Bool). (cond p (l .book) (begin t (l .book))) .entry t) (ap isRunning e) ∙ change-at t (staged running) (l .book .entry)))
-        | inr e ↦ sym (ap (λ (p : Bool). length (((cond p (l .book) (begin t (l .book))) .entry t) .blocks)) (ap isRunning e))
-      ]
+  before-same = sym (begun-same (l .book) c current (λ (x : Entry). length (x .blocks)) (λ _. refl) t)
 
   -- 36: it takes the block, and has so many
   limit-answer : (limit : ℕ) → (takesBlock (ruleFor (w .card) c b) && leb limit ((writer (w .card) c) .count))
@@ -178,8 +162,7 @@ module _ {l : Ledger} {w : World} (u : CardUp l w) (c : ℕ) (in-range : c < l .
   -- 25: with at most eight before, more than eight are more than before
   blocks-answer : (takesBlock (ruleFor (w .card) c b) && leb 8 ((writer (w .card) c) .count)) ≡ ltb 8 (length ((k₂ .entry t) .blocks))
   blocks-answer =
-      let few : length ((l .book .entry t) .blocks) ≤ 8 = rw before-same few-before in
-      limit-answer 8 ∙ and-implied _ _ (λ e. lt-ltb (length ((l .book .entry t) .blocks)) (length ((k₂ .entry t) .blocks)) (omega (arith, few, ltb-true 8 (length ((k₂ .entry t) .blocks)) e)))
+      limit-answer 8 ∙ and-implied _ _ (λ e. lt-ltb (length ((l .book .entry t) .blocks)) (length ((k₂ .entry t) .blocks)) (omega (arith, few-before, ltb-true 8 (length ((k₂ .entry t) .blocks)) e)))
 
   journal-answer : length ((k₂ .entry t) .blocks) ≤ 8
       → journalFull (w .card) c b
