@@ -1,6 +1,8 @@
 // The card's state in 423 cells of eight bytes that the caller lends: fields read and put, the tails, transactions in place, the
 // blocks' holders, the refusals that come first. No function here is a public entry of the library: each says in a `requires` what its
 // callers ensure.
+#![tactic(auto)]
+
 mod fields; // the header, and where each part stands
 mod cores; // a core's numbers
 mod transactions; // a transaction at its place

@@ -1,4 +1,6 @@
 // CHECKPOINT over the card in its cells: a core's oldest committed transaction is stored home, one block with each call.
+#![tactic(auto)]
+
 mod stores; // a home store
 
 ghost use Rattle.std.specs.Prelude.{◌≡◌, length};

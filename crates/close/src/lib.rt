@@ -1,4 +1,6 @@
 // CLOSE: a running transaction is frozen, with copies of its images.
+#![tactic(auto)]
+
 mod copies; // the closed copies in memory
 mod frozen_core; // what it makes of a core's cells
 

@@ -1,4 +1,6 @@
 // One command at an offset of a tape: the refusals 1, 2 and 3, which command it is, and its stores counted.
+#![tactic(auto)]
+
 ghost use Rattle.std.specs.Prelude.{◌≡◌, cond, [], ◌∷◌, eqb, length, get_or};
 ghost use Rattle.std.proofs.Math.Option.{some};
 ghost use Rattle.model.specs.Limits.{max_taken, max_report_taken};

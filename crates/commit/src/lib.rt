@@ -1,4 +1,6 @@
 // STORE: a closed transaction is stored block by block until it is committed.
+#![tactic(auto)]
+
 mod core_state; // what it makes of a core's cells
 mod next_block; // what is stored next
 

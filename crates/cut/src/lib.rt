@@ -1,4 +1,6 @@
 // CUT: memory is lost and the card is down. What was stored stands on the disk.
+#![tactic(auto)]
+
 ghost use Rattle.std.specs.Prelude.{◌≡◌, length};
 ghost use Rattle.model.specs.Command.{refusal};
 ghost use Rattle.model.specs.Recovery.{cut_conditions, cut};

@@ -1,4 +1,6 @@
 // FORMAT: both slices zeroed, the master written, the card up with empty journals.
+#![tactic(auto)]
+
 ghost use Rattle.std.specs.Prelude.{◌≡◌, not, [], ◌∷◌, length};
 ghost use Rattle.model.specs.Shape.{clamped};
 ghost use Rattle.model.specs.Card.{is_blank};

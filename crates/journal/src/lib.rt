@@ -1,5 +1,7 @@
 // The journals read: one record, all journals as records by core, the end of one.
 // No function here is a public entry of the library: each says in a `requires` what its callers ensure.
+#![tactic(auto)]
+
 mod extents; // what is kept of a record
 mod journals; // all journals
 mod record; // one record

@@ -1,4 +1,6 @@
 // The journal page of a disk: each of its lines laid into a lent buffer, column by column. Paper 02, requests (a) and (b).
+#![tactic(auto)]
+
 mod disk_lines; // the page of a disk: how many lines, and each of them
 mod fields; // the fields of the head, of a transaction, of a journal's end and of a refusal
 mod line; // any line: the byte at each column

@@ -1,6 +1,8 @@
 // The bytes of the blocks of a journal, written and read: descriptor, commit, data; and the numbers that every block is made
 // of. A block is a part of 128 bytes that the caller lends; a home store lends it of the whole disk. No function here is a public
 // entry of the library: each says in a `requires` what its callers ensure.
+#![tactic(auto)]
+
 mod commit_block;
 mod data;
 mod descriptor_block;

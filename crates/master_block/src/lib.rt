@@ -1,5 +1,7 @@
 // The master block: the layout of the commits, the disk's shape and the tail of each core's journal, written and read, and a master
 // store. No function here is a public entry of the library: each says in a `requires` what its callers ensure.
+#![tactic(auto)]
+
 ghost use Rattle.std.specs.Prelude.{◌≡◌, true, map, ℕ, ◌≤◌, ◌<◌, length, get_or};
 ghost use Rattle.model.specs.Bytes.{be4, store};
 ghost use Rattle.model.specs.Lists.{below};

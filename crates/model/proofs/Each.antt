@@ -1,14 +1,16 @@
 -- A fact of each element of a list, and a relation between each and all that follow: under `++`, `map` and `select`, and from other ones.
 use mathlib.Core.Path.{◌≡◌, refl, sym, subst}
 use mathlib.Core.Bool.{Bool, true}
+use mathlib.Core.List.Memᴰ
 use mathlib.Core.List.{List, [], ◌∷◌, ◌++◌, map, Memᴰ}
 use Rattle.model.specs.Lists.{select, Each, Pairs}
 use Rattle.model.proofs.Lists.{cases, mem_each, each_append}
 
 module _ {A : Type 0} where
   pub each_mem : (P : A → Type 0) {xs : List A} → Each P xs → {x : A} → Memᴰ x xs → P x
-  each_mem P a (Memᴰ.head e) = subst P (sym e) a.0
-  each_mem P a (Memᴰ.tail m) = each_mem P a.1 m
+  each_mem P {xs = []} a m = absurd (Memᴰ.not-nil m)
+  each_mem P {xs = y ∷ ys} a (Memᴰ.head e) = subst P (sym e) a.0
+  each_mem P {xs = y ∷ ys} a (Memᴰ.tail m) = each_mem P {xs = ys} a.1 m
 
   pub each_so : (P Q : A → Type 0) (xs : List A) → ((x : A) → P x → Q x) → Each P xs → Each Q xs
   each_so P Q [] h a = tt

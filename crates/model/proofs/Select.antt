@@ -28,6 +28,7 @@ module _ {A : Type 0} (p : A → Bool) where
       (λ h. rw (select_no y ys h) (omega (arith, select_length ys)))
 
   pub mem_select : (xs : List A) (x : A) → Memᴰ x xs → p x ≡ true → Memᴰ x (select p xs)
+  mem_select [] x m h = absurd (Memᴰ.not-nil m)
   mem_select (y ∷ ys) x (Memᴰ.head e) h = rw (select_yes y ys (ap p (sym e) ∙ h)) (Memᴰ.head e)
   mem_select (y ∷ ys) x (Memᴰ.tail m) h =
       cases (p y)

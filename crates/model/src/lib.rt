@@ -1,5 +1,7 @@
 // The types of the revision D card: the disk's shape, tails, names, holders, the layouts of a commit and records, shared by definitions and
 // code; transactions, cores and the card itself, of the definitions alone.
+#![tactic(auto)]
+
 ghost use Rattle.std.specs.Prelude.{◌%◌, ◌≡◌};
 ghost use Rattle.model.specs.Shape.{checked, nearest, clamped, home_block, journal_block};
 

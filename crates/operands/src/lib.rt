@@ -1,5 +1,7 @@
 // A tape's commands by their offsets: a command's byte, how many bytes of operands it has, the refusals 2 and 3, and where the next one
 // stands. Offsets are compared by subtraction: past the tape's end a sum could pass the largest offset.
+#![tactic(auto)]
+
 ghost use Rattle.std.specs.Prelude.{◌≡◌, ◌≤◌, get_or};
 ghost use Rattle.model.specs.Tape.{operand_length, is_unknown, is_early, read_at, next_offset};
 

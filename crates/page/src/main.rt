@@ -1,6 +1,8 @@
 // The page program. A disk is read from standard input, and its journal page is printed, every byte of it as the library laid it. One
 // byte more than a disk has is enough to refuse the input, so no more are read. Where a read or the write fails, the program says so
 // on standard error; after a failed read nothing is printed.
+#![tactic(auto)]
+
 ghost use Rattle.std.specs.Prelude.{◌*◌, ◌≤◌, length};
 ghost use Rattle.model.specs.JournalPage.{line_size};
 ghost use Rattle.journal_page.specs.Fields.{max_lines};

@@ -1,4 +1,6 @@
 // Paper 02, (e): how much work until the journals are empty. Nothing is done here: state and slices are only read.
+#![tactic(auto)]
+
 mod works; // the work left of each transaction
 mod order; // those found are counted, and put in order
 mod planning; // the plan

@@ -1,4 +1,6 @@
 // Reading a block of a card that is up, without copying: where its bytes stand, and the part of the slice itself.
+#![tactic(auto)]
+
 ghost use Rattle.std.specs.Prelude.{◌≡◌, length};
 ghost use Rattle.model.specs.Reading.{read_number, read_block};
 ghost use Rattle.cells.specs.Cells.{world_in};

@@ -1,4 +1,6 @@
 // RETIRE over the card in its cells: the master is stored with the tail moved past a core's oldest transaction, which retires it.
+#![tactic(auto)]
+
 mod retired; // the cells after a transaction is retired
 
 ghost use Rattle.std.specs.Prelude.{◌≡◌, ◌≤◌, ◌<◌, length};

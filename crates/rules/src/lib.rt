@@ -1,5 +1,7 @@
 // Which of the four rules a WRITE meets at a block, what each rule asks for, and whether there is room for it. No function here is a
 // public entry of the library.
+#![tactic(auto)]
+
 mod room; // whether there is room
 
 ghost use Rattle.std.specs.Prelude.{◌≡◌, ℕ, ◌<◌, length};

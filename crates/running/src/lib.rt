@@ -1,5 +1,7 @@
 // The running transaction at its place in the cells: opened, a number raised, a block taken. No function here is a public entry of the
 // library.
+#![tactic(auto)]
+
 ghost use Rattle.std.specs.Prelude.{◌≡◌, ◌<◌, length};
 ghost use Rattle.model.specs.Card.{with_name, with_block};
 ghost use Rattle.model.specs.declared.Transaction.{Transaction};

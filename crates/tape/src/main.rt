@@ -2,6 +2,8 @@
 // byte, the number answered and the stores so far. Then come the home blocks that are not all zero. What is printed waits in a
 // buffer, which is written when it is full, before the program waits for more input, and at the end. Where a read or a write
 // fails, the program stops and says so on standard error.
+#![tactic(auto)]
+
 ghost use Rattle.std.specs.Prelude.{◌≤◌, ◌≡◌, length};
 ghost use Rattle.model.specs.Limits.{disk_size};
 

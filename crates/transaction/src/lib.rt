@@ -1,5 +1,7 @@
 // WRITE: four bytes replaced in a block's memory image, which is loaded from home where the block had no holder. What it meets
 // is found once and handed on.
+#![tactic(auto)]
+
 mod effect; // the cells afterwards
 mod image; // memory afterwards
 
