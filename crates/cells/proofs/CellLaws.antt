@@ -1,7 +1,7 @@
 -- The card where the cells of one part changed: the frame of a core, of its running transaction or of a holder gives a card
 -- in which that part alone is another.
 use Rattle.model.proofs.Base.{ℕ, ◌+◌, ◌-◌, ◌%◌, ◌≤◌, ◌<◌, arith, ◌≡◌, refl, sym, ap, ◌∙◌, List, map, length, get_or, set}
-use Rattle.model.proofs.Base.{get_or_set_same, get_or-set_other, ltb, ne_eqb, ltb-true, ltb-false, below}
+use Rattle.model.proofs.Base.{get_or-set_same, get_or-set_other, ltb, ne_eqb, ltb-true, ltb-false, below}
 use Rattle.model.specs.Card.{new_tail, no_holder, new_holder, with_running, core_of, fresh_core, with_core, with_holder}
 use Rattle.model.specs.declared.Phase.{Phase}
 use Rattle.model.specs.declared.Shape.{Shape}
@@ -108,7 +108,7 @@ holder_put v b x l h n e =
     (map_below _ _ 8 (λ d p. tail_from_same v _ (tail_place d) (λ i q r. other i (omega arith))))
     (map_below _ _ 8 (λ d p. core_in_same v (set v (holder_place b) (x + 1)) (core_place d) (λ i q r. other i (omega arith))))
     (tabled_set (λ (d : ℕ). holder_in (get_or v (holder_place d) 0)) (λ (d : ℕ). holder_in (get_or (set v (holder_place b) (x + 1)) (holder_place d) 0)) 64 b no_holder h (λ d p q. ap holder_in (other (holder_place d) (omega arith)))
-    ∙ ap (λ (k : Holder). set (map (λ (d : ℕ). holder_in (get_or v (holder_place d) 0)) (below 64)) b k) (ap holder_in (get_or_set_same v (holder_place b) (x + 1) 0 (omega arith)) ∙ holder_cell_lem x n e))
+    ∙ ap (λ (k : Holder). set (map (λ (d : ℕ). holder_in (get_or v (holder_place d) 0)) (below 64)) b k) (ap holder_in (get_or-set_same v (holder_place b) (x + 1) 0 (omega arith)) ∙ holder_cell_lem x n e))
   where
     other : (m : ℕ) → (m ≡ holder_place b → ⊥) → get_or (set v (holder_place b) (x + 1)) m 0 ≡ get_or v m 0
     other m f = get_or-set_other v (holder_place b) m (x + 1) 0 f

@@ -1,6 +1,6 @@
 -- The card where the cells of one part changed: a core's numbers or its closed transaction, a field of the header, the holders.
 use Rattle.model.proofs.Base.{ℕ, ◌+◌, ◌%◌, ◌≤◌, ◌<◌, arith, ◌≡◌, refl, sym, ap, ◌∙◌, List, map, length, get_or, set, length-set}
-use Rattle.model.proofs.Base.{get_or_set_same, get_or-set_other, below}
+use Rattle.model.proofs.Base.{get_or-set_same, get_or-set_other, below}
 use lib.Seq.{set-set}
 use Rattle.model.specs.Card.{fresh_core, core_of, with_core, with_arrays}
 use Rattle.model.specs.Recovery.{recovered_to}
@@ -20,7 +20,7 @@ module _ (v : List ℕ) (c : ℕ) (h : c < 8) (k : Core) where
   unfolding core_of card_in
   core_of_with =
       let l : length (map (λ (d : ℕ). core_in v (core_place d)) (below 8)) ≡ 8 = length_tabled _ 8 in
-      get_or_set_same (map (λ (d : ℕ). core_in v (core_place d)) (below 8)) c k (fresh_core 0) (omega arith)
+      get_or-set_same (map (λ (d : ℕ). core_in v (core_place d)) (below 8)) c k (fresh_core 0) (omega arith)
 
 pub with_core_twice : (x : Card) (c : ℕ) (k l : Core) → with_core (with_core x c k) c l ≡ with_core x c l
 with_core_twice x c k l = ap (λ (ks : List Core). with_arrays x x.tails ks x.holders) (set-set x.cores c k l)
@@ -72,22 +72,22 @@ module _ (v : List ℕ) (c : ℕ) (h : c < 8) (size : length v ≡ 423) (next us
       get_or-set_other w₃ (core_place c + 3) (core_place c) homed 0 (omega arith)
       ∙ get_or-set_other w₂ (core_place c + 2) (core_place c) stored 0 (omega arith)
       ∙ get_or-set_other w₁ (core_place c + 1) (core_place c) used 0 (omega arith)
-      ∙ get_or_set_same v (core_place c) next 0 (omega arith)
+      ∙ get_or-set_same v (core_place c) next 0 (omega arith)
 
   second : get_or w₄ (core_place c + 1) 0 ≡ used
   second =
       get_or-set_other w₃ (core_place c + 3) (core_place c + 1) homed 0 (omega arith)
       ∙ get_or-set_other w₂ (core_place c + 2) (core_place c + 1) stored 0 (omega arith)
-      ∙ get_or_set_same w₁ (core_place c + 1) used 0 (rw (length-set v (core_place c) next) (omega arith))
+      ∙ get_or-set_same w₁ (core_place c + 1) used 0 (rw (length-set v (core_place c) next) (omega arith))
 
   third : get_or w₄ (core_place c + 2) 0 ≡ stored
   third =
       get_or-set_other w₃ (core_place c + 3) (core_place c + 2) homed 0 (omega arith)
-      ∙ get_or_set_same w₂ (core_place c + 2) stored 0 (rw (length-set w₁ (core_place c + 1) used, length-set v (core_place c) next) (omega arith))
+      ∙ get_or-set_same w₂ (core_place c + 2) stored 0 (rw (length-set w₁ (core_place c + 1) used, length-set v (core_place c) next) (omega arith))
 
   fourth : get_or w₄ (core_place c + 3) 0 ≡ homed
   fourth =
-      get_or_set_same w₃ (core_place c + 3) homed 0
+      get_or-set_same w₃ (core_place c + 3) homed 0
       (rw (length-set w₂ (core_place c + 2) stored, length-set w₁ (core_place c + 1) used, length-set v (core_place c) next) (omega arith))
 
   numbers_inside : core_in w₄ (core_place c) ≡ with_numbers (core_in v (core_place c)) next used stored homed

@@ -1,7 +1,7 @@
 -- Which values fit a cell, by the place of the cell. A frame (only cells a to a + n changed, and what is put fits) may be
 -- widened and composed, holds of no change and of one cell put.
 use Rattle.model.proofs.Base.{ℕ, ◌+◌, ◌-◌, ◌*◌, ◌%◌, ◌≤◌, ◌<◌, arith, ◌≡◌, refl, sym, ap, ◌∙◌, Bool, true, false, cond, List}
-use Rattle.model.proofs.Base.{length, get_or, set, length-set, get_or_set_same, get_or-set_other, eqb, ltb, leb, eq-eqb, ne_eqb}
+use Rattle.model.proofs.Base.{length, get_or, set, length-set, get_or-set_same, get_or-set_other, eqb, ltb, leb, eq-eqb, ne_eqb}
 use Rattle.model.proofs.Base.{eqb-true, eqb-false, lt-ltb, le-ltb, ltb-true, ltb-false, le-leb}
 use lib.Seq.{set_out}
 use Rattle.model.proofs.Lists.{cases}
@@ -133,7 +133,7 @@ fits_set v j x e f i h =
     cases (eqb i j)
     (λ t. let z : i ≡ j = eqb-true i j t in
     cases (ltb j (length v))
-    (λ l. ap (fits_at i) (ap (λ (k : ℕ). get_or (set v j x) k 0) z ∙ get_or_set_same v j x 0 (ltb-true j (length v) l)) ∙ ap (λ (k : ℕ). fits_at k x) z ∙ e)
+    (λ l. ap (fits_at i) (ap (λ (k : ℕ). get_or (set v j x) k 0) z ∙ get_or-set_same v j x 0 (ltb-true j (length v) l)) ∙ ap (λ (k : ℕ). fits_at k x) z ∙ e)
     (λ l. ap (λ (u : List ℕ). fits_at i (get_or u i 0)) (set_out v j x (ltb-false j (length v) l)) ∙ f i h))
     (λ t. ap (fits_at i) (get_or-set_other v j i x 0 (eqb-false i j t)) ∙ f i h)
 

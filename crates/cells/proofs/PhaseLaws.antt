@@ -1,7 +1,7 @@
 -- Cells zeroed are the blank card; with the phase put they are the card that is down; with shape and tails put, core by
 -- core, the card that has come up. Each is framed.
 use Rattle.model.proofs.Base.{ℕ, zero, suc, ◌+◌, ◌%◌, ◌≤◌, ◌<◌, arith, ◌≡◌, refl, sym, ap, subst, ◌∙◌, List, [], ◌∷◌, map, length}
-use Rattle.model.proofs.Base.{get_or, set, replicate, length-set, length-replicate, get_or-replicate, get_or_set_same, get_or-set_other}
+use Rattle.model.proofs.Base.{get_or, set, replicate, length-set, length-replicate, get_or-replicate, get_or-set_same, get_or-set_other}
 use mathlib.Core.List.{map-id}
 use lib.ListN.{get_or-eq_default}
 use Rattle.model.specs.Card.{fresh_core, fresh_card, empty_card, blank_card, down_card, core_of, with_arrays, with_core}
@@ -85,16 +85,16 @@ module _ (v : List ℕ) (size : length v ≡ 423) (a b j : ℕ) (p : a < 256) (q
 
   phase_put : get_or w₄ 0 0 ≡ 1
   phase_put =
-      get_or-set_other w₃ 3 0 j 0 (omega arith) ∙ get_or-set_other w₂ 2 0 b 0 (omega arith) ∙ get_or-set_other w₁ 1 0 a 0 (omega arith) ∙ get_or_set_same v 0 1 0 (omega arith)
+      get_or-set_other w₃ 3 0 j 0 (omega arith) ∙ get_or-set_other w₂ 2 0 b 0 (omega arith) ∙ get_or-set_other w₁ 1 0 a 0 (omega arith) ∙ get_or-set_same v 0 1 0 (omega arith)
 
   cores_put : get_or w₄ 1 0 ≡ a
-  cores_put = get_or-set_other w₃ 3 1 j 0 (omega arith) ∙ get_or-set_other w₂ 2 1 b 0 (omega arith) ∙ get_or_set_same w₁ 1 a 0 (rw (length-set v 0 1) (omega arith))
+  cores_put = get_or-set_other w₃ 3 1 j 0 (omega arith) ∙ get_or-set_other w₂ 2 1 b 0 (omega arith) ∙ get_or-set_same w₁ 1 a 0 (rw (length-set v 0 1) (omega arith))
 
   blocks_put : get_or w₄ 2 0 ≡ b
-  blocks_put = get_or-set_other w₃ 3 2 j 0 (omega arith) ∙ get_or_set_same w₂ 2 b 0 (rw (length-set w₁ 1 a, length-set v 0 1) (omega arith))
+  blocks_put = get_or-set_other w₃ 3 2 j 0 (omega arith) ∙ get_or-set_same w₂ 2 b 0 (rw (length-set w₁ 1 a, length-set v 0 1) (omega arith))
 
   journal_put : get_or w₄ 3 0 ≡ j
-  journal_put = get_or_set_same w₃ 3 j 0 (rw (length-set w₂ 2 b, length-set w₁ 1 a, length-set v 0 1) (omega arith))
+  journal_put = get_or-set_same w₃ 3 j 0 (rw (length-set w₂ 2 b, length-set w₁ 1 a, length-set v 0 1) (omega arith))
 
   pub shape_put : card_in w₄ ≡ up_with (card_in v) (record { cores = a; blocks = b; journal = j })
   unfolding card_in phase_in

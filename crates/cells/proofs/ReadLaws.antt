@@ -1,7 +1,7 @@
 -- What the cells say: header, a transaction, names and holders are read as the code reads them, and each field of a core
 -- at its cell. `X-there` reads a core of the card at the place that the code computed.
 use Rattle.model.proofs.Base.{ℕ, ◌+◌, ◌-◌, ◌*◌, ◌/◌, ◌%◌, ◌≤◌, ◌<◌, arith, ◌≡◌, refl, sym, ap, ◌∙◌, Bool, not, List, map, length}
-use Rattle.model.proofs.Base.{get_or, set, length-set, length-map, get_or_set_same, get_or-set_other, ext_get_or, eqb, ne_eqb, eqb-true}
+use Rattle.model.proofs.Base.{get_or, set, length-set, length-map, get_or-set_same, get_or-set_other, ext_get_or, eqb, ne_eqb, eqb-true}
 use Rattle.model.proofs.Base.{eqb-false, below}
 use Rattle.model.specs.Shape.{clamped}
 use Rattle.model.specs.Card.{new_tail, new_name, no_holder, new_holder, shape_of, tail_of, taken, highest_of, core_of, holder_of, fresh_core}
@@ -29,7 +29,7 @@ module _ {A : Type 0} where
       get_or_map_below g n i d l
       ∙ cases (eqb i k)
       (λ t. let z : i ≡ k = eqb-true i k t in
-      rw z (sym (get_or_set_same (map f (below n)) k (g k) d (rw (length_tabled f n) h))))
+      rw z (sym (get_or-set_same (map f (below n)) k (g k) d (rw (length_tabled f n) h))))
       (λ t. e i l (eqb-false i k t) ∙ sym (get_or-set_other (map f (below n)) k i (g k) d (eqb-false i k t) ∙ get_or_map_below f n i d l)))
 
 -- ---- fields read

@@ -1,7 +1,7 @@
 -- A tail is read at its two cells, eight in turn are the card's tails; two cells put are the card with that tail replaced,
 -- framed.
 use Rattle.model.proofs.Base.{ℕ, ◌+◌, ◌%◌, ◌≤◌, ◌<◌, arith, ◌≡◌, sym, ap, ◌∙◌, List, map, length, get_or, set, length-set}
-use Rattle.model.proofs.Base.{get_or_set_same, get_or-set_other, below}
+use Rattle.model.proofs.Base.{get_or-set_same, get_or-set_other, below}
 use Rattle.model.specs.Card.{new_tail, tail_of}
 use Rattle.model.specs.declared.Tail.{Tail}
 use Rattle.model.proofs.Lists.{map_below}
@@ -52,8 +52,8 @@ module _ (v : List ℕ) (c : ℕ) (size : length v ≡ 423) (h : c < 8) (n : ℕ
     unfolding tail_from
     new_tail_lem =
         tail_cong _ _ _ _
-        (ap (λ (x : ℕ). x % 4294967296) (get_or-set_other (set v (tail_place c) n) (tail_place c + 1) (tail_place c) p 0 (omega arith) ∙ get_or_set_same v (tail_place c) n 0 (omega arith)) ∙ low_number)
-        (ap (λ (x : ℕ). x % 256) (get_or_set_same (set v (tail_place c) n) (tail_place c + 1) p 0 position_in) ∙ low_position)
+        (ap (λ (x : ℕ). x % 4294967296) (get_or-set_other (set v (tail_place c) n) (tail_place c + 1) (tail_place c) p 0 (omega arith) ∙ get_or-set_same v (tail_place c) n 0 (omega arith)) ∙ low_number)
+        (ap (λ (x : ℕ). x % 256) (get_or-set_same (set v (tail_place c) n) (tail_place c + 1) p 0 position_in) ∙ low_position)
 
     pub tail_put : card_in put ≡ with_tail (card_in v) c (new_tail n p)
     unfolding card_in

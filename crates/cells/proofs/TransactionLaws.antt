@@ -1,6 +1,6 @@
 -- A transaction at its place: the same cells give the same one; the place cleared, with its frame; one that is live stays open.
 use Rattle.model.proofs.Base.{ℕ, zero, ◌+◌, ◌%◌, ◌≤◌, ◌<◌, arith, ◌≡◌, ap, ◌∙◌, Bool, true, not, List, length, get_or, set}
-use Rattle.model.proofs.Base.{get_or_set_same, get_or-set_other, eqb, eqb-true, eqb-false, below}
+use Rattle.model.proofs.Base.{get_or-set_same, get_or-set_other, eqb, eqb-true, eqb-false, below}
 use Rattle.model.specs.Card.{no_transaction}
 use Rattle.model.specs.declared.Transaction.{Transaction}
 use Rattle.model.proofs.Lists.{cases, map_below}
@@ -47,7 +47,7 @@ module _ (v : List ℕ) (a : ℕ) where
           most = omega arith;
           rest = frame_then w (set w (a + i) 0) v a 19 c.rest (frame_set w a 19 (a + i) 0 (omega arith) (omega arith) (fits_zero (a + i)));
           zero = λ k p q. cases (eqb k (a + i))
-              (λ t. let z : k ≡ a + i = eqb-true k (a + i) t in rw z (get_or_set_same w (a + i) 0 0 (omega (arith, c.rest.size))))
+              (λ t. let z : k ≡ a + i = eqb-true k (a + i) t in rw z (get_or-set_same w (a + i) 0 0 (omega (arith, c.rest.size))))
               (λ t. let z : k ≡ a + i → ⊥ = eqb-false k (a + i) t in get_or-set_other w (a + i) k 0 0 z ∙ c.zero k p (omega arith));
         }
 

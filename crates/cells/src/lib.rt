@@ -28,7 +28,7 @@ pub use tails::{put_tail, tail_at, tails_of};
 pub use transactions::{block_count, clear, is_live};
 
 // What a command answers: the number of its refusal, 0 if it is done, and the stores that it did.
-#[derive(Drop)]
+#[derive(Clone, Copy)]
 pub struct Answer {
     pub number: u8,
     pub stores: u8,

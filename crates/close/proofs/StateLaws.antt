@@ -1,7 +1,7 @@
 -- The cells of the running transaction copied, stamped and cleared are the core with it frozen; with its number and the
 -- stamp count raised they are the card after CLOSE, framed.
 use Rattle.model.proofs.Base.{ℕ, ◌+◌, ◌%◌, ◌^◌, ◌≤◌, ◌<◌, arith, ◌≡◌, refl, sym, ap, ◌∙◌, true, not, List, length, get_or, set}
-use Rattle.model.proofs.Base.{length-set, get_or_set_same, get_or-set_other, eqb, eqb-true, eqb-false}
+use Rattle.model.proofs.Base.{length-set, get_or-set_same, get_or-set_other, eqb, eqb-true, eqb-false}
 use Rattle.model.specs.Card.{no_transaction, stamped, core_of, with_core}
 use Rattle.model.specs.Commit.{closed_card}
 use Rattle.model.specs.declared.Transaction.{Transaction}
@@ -75,7 +75,7 @@ module _ (v : List ℕ) (c : ℕ) (w : List ℕ) (i : ℕ) (m : Moved v c w i) (
     same_next k z =
         cases (eqb k i)
         (λ t. let y : k ≡ i = eqb-true k i t in
-        rw y (get_or_set_same w (closed_place c + i) _ 0 (omega (arith, m.rest.size)) ∙ cell_read))
+        rw y (get_or-set_same w (closed_place c + i) _ 0 (omega (arith, m.rest.size)) ∙ cell_read))
         (λ t. let y : k ≡ i → ⊥ = eqb-false k i t in
         get_or-set_other w (closed_place c + i) (closed_place c + k) _ 0 (omega arith) ∙ m.same k (omega arith))
 
@@ -91,7 +91,7 @@ unfolding transaction_in
 stamp_put w a s f =
     transaction_cong _ _ _ _ _ _ _ _ _ _
     (ap (λ (n : ℕ). not (eqb n 0)) (other a (omega arith)))
-    (get_or_set_same w (a + 1) s 0 (omega arith))
+    (get_or-set_same w (a + 1) s 0 (omega arith))
     (ap (λ (n : ℕ). n % 256) (other (a + 2) (omega arith)))
     (map_below _ _ 8 (λ i h. ap (λ (n : ℕ). n % 256) (other (a + 3 + i) (omega arith))))
     (map_below _ _ 8 (λ i h. ap (λ (n : ℕ). n % 4294967296) (other (a + 11 + i) (omega arith))))
@@ -179,6 +179,6 @@ module _ (v u t : List ℕ) (c : ℕ) (size : length v ≡ 423) (h : c < 8) (g :
           let k = frozen (core_of (card_in v) c) s in
           let x : card_in t ≡ with_core (card_in v) c (counted_close k) =
           i ∙ rw (f, core_of_with v c h k) (with_core_twice (card_in v) c k (counted_close k)) in
-          let y : get_or (set t 4 s) 4 0 ≡ s = get_or_set_same t 4 s 0 closes_in in
+          let y : get_or (set t 4 s) 4 0 ≡ s = get_or-set_same t 4 s 0 closes_in in
           let z : s ≡ ((card_in v).closes + 1) % 2 ^ 64 = e ∙ ap (λ (n : ℕ). (n + 1) % 2 ^ 64) (closes_read v) in
           closes_put t (set t 4 s) closes_frame ∙ rw (x, y, z)

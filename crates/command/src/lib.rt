@@ -27,7 +27,7 @@ use retire::retire;
 use transaction::write;
 
 // What came of the command at an offset: its answer, its byte, and the offset of the next one.
-#[derive(Drop)]
+#[derive(Clone, Copy)]
 pub struct Performed {
     pub answer: Answer,
     pub byte: u8,

@@ -11,7 +11,7 @@ use model::Shape;
 
 // What came of one command: the offset of the next one, the number answered (0 if done) and the command's byte.
 #[repr(C)]
-#[derive(Drop)]
+#[derive(Clone, Copy)]
 pub struct Reply {
     pub next: u64,
     pub number: u32,
@@ -20,7 +20,7 @@ pub struct Reply {
 
 // Where a tape stopped: the offset of its last command, the number answered and the command's byte; 0 of each for an empty tape.
 #[repr(C)]
-#[derive(Drop)]
+#[derive(Clone, Copy)]
 pub struct Stop {
     pub at: u64,
     pub number: u32,
@@ -30,7 +30,7 @@ pub struct Stop {
 // Where the bytes of a block stand: in no slice (0), the disk (1) or memory (2), from where, and how many. A refused reading has
 // its number and 0 of each.
 #[repr(C)]
-#[derive(Drop)]
+#[derive(Clone, Copy)]
 pub struct Part {
     pub number: u32,
     pub slice: u32,

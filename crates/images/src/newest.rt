@@ -18,7 +18,7 @@ use journal::{
 use model::{Committed, Shape};
 
 // Where an image stands: its disk block and its flag, with the stamp of the transaction that has it.
-#[derive(Drop)]
+#[derive(Clone, Copy)]
 pub struct Image {
     pub stamp: u64,
     pub block: usize,

@@ -1,7 +1,7 @@
 -- How the journals are read. Of one journal, what was put in and what the walk has yet to read are its records; core by core they stand one
 -- behind the other, and all of them have passed the range test.
 use Rattle.model.proofs.Base.{ℕ, suc, ◌+◌, ◌-◌, ◌*◌, ◌/◌, ◌%◌, ◌≤◌, ◌<◌, arith, dec_lt, add-one, ◌≡◌, refl, sym, ap, ap₂, ◌∙◌, List, []}
-use Rattle.model.proofs.Base.{◌∷◌, ◌++◌, map-append, append_assoc, append-nil, length, length-map, get_or, set, length-set, get_or_set_same, get_or-set_other, below, Bytes}
+use Rattle.model.proofs.Base.{◌∷◌, ◌++◌, map-append, append_assoc, append-nil, length, length-map, get_or, set, length-set, get_or-set_same, get_or-set_other, below, Bytes}
 use Rattle.model.specs.Lists.{total}
 use Rattle.model.specs.Limits.{max_number}
 use Rattle.model.specs.Journal.{records_from, journal, journals}
@@ -132,8 +132,8 @@ module _ (y : CommitLayout) (s : Shape) (d : Bytes) (c a : ℕ) (xs zs : List �
         let k = hit_known y s d c w.number w.at w.left r e x z in
         let ys' = set ys (a + n) q in
         let us' = set us (a + n) x.stamp in
-        let at-ys : get_or ys' (a + n) 0 ≡ q = get_or_set_same ys (a + n) q 0 (omega (arith, b.long_extents, read_room)) in
-        let at-us : get_or us' (a + n) 0 ≡ x.stamp = get_or_set_same us (a + n) x.stamp 0 (omega (arith, b.long_stamps, read_room)) in
+        let at-ys : get_or ys' (a + n) 0 ≡ q = get_or-set_same ys (a + n) q 0 (omega (arith, b.long_extents, read_room)) in
+        let at-us : get_or us' (a + n) 0 ≡ x.stamp = get_or-set_same us (a + n) x.stamp 0 (omega (arith, b.long_stamps, read_room)) in
         let this : record_in ys' us' c (v.number + n) (a + n) ≡ x = rw (at-ys, at-us, p, f, ← b.number, ← k.0.number, ← k.0.core) in
         let before : run_in ys' us' c v.number a n ≡ run_in ys us c v.number a n =
         run_same ys us ys' us' (a + n) (set_same ys (a + n) q (a + n) (omega arith)) (set_same us (a + n) x.stamp (a + n) (omega arith)) c v.number a n (omega arith) in
@@ -245,8 +245,8 @@ module _ (y : CommitLayout) (s : Shape) (d : Bytes) (ts : List Tail) (most : Lis
       all_more =
           let in_start : c < length start = omega (arith, v.starts, l.few_cores) in
           let in_count : c < length count = omega (arith, v.counts, l.few_cores) in
-          let at-start : get_or (set start c n) c 0 ≡ n = get_or_set_same start c n 0 in_start in
-          let at_count : get_or (set count c m) c 0 ≡ m = get_or_set_same count c m 0 in_count in
+          let at-start : get_or (set start c n) c 0 ≡ n = get_or-set_same start c n 0 in_start in
+          let at_count : get_or (set count c m) c 0 ≡ m = get_or-set_same count c m 0 in_count in
           let other-start : (b : ℕ) → b < c → get_or (set start c n) b 0 ≡ get_or start b 0 = λ b g. get_or-set_other start c b n 0 (omega arith) in
           let other-count : (b : ℕ) → b < c → get_or (set count c m) b 0 ≡ get_or count b 0 = λ b g. get_or-set_other count c b m 0 (omega arith) in
           record {

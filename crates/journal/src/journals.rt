@@ -11,7 +11,7 @@ use crate::walk::{advance, walk_from};
 use model::{CommitLayout, RecordRead, Shape, Tail};
 
 // Of each core where its records begin among those read, and how many of them count.
-#[derive(Drop)]
+#[derive(Clone, Copy)]
 pub struct Runs {
     pub start: [u8; 8],
     pub count: [u8; 8],

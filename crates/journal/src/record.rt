@@ -10,14 +10,14 @@ ghost use Rattle.journal.specs.Record.{descriptor_of, commit_of};
 use model::{CommitLayout, Committed, RecordRead, Shape, around};
 
 // The fields of a descriptor read: how many blocks its transaction took.
-#[derive(Drop)]
+#[derive(Clone, Copy)]
 pub enum DescriptorRead {
     Blocks(u8),
     BadField,
 }
 
 // A block read as a commit: its stamp.
-#[derive(Drop)]
+#[derive(Clone, Copy)]
 pub enum CommitRead {
     Stamped(u64),
     Unfit,

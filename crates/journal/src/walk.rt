@@ -10,7 +10,7 @@ use model::{CommitLayout, Committed, RecordRead, Shape, Tail};
 
 // Where the reading of a journal stands: the number of the next record and its position, the blocks left of the journal,
 // and how many more records count.
-#[derive(Drop)]
+#[derive(Clone, Copy)]
 pub struct Walk {
     pub number: u32,
     pub at: u8,

@@ -5,7 +5,7 @@ ghost use Rattle.journal_page.specs.Fields.{field_in, fields_in, field_byte};
 
 // A field of a line: its first column, counted from 1, how many it has, and what stands there: a number set right, or a word whose
 // letters are the bytes of the value. A field of no columns is none.
-#[derive(Drop)]
+#[derive(Clone, Copy)]
 pub struct Field {
     pub first: u8,
     pub width: u8,

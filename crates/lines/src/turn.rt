@@ -7,7 +7,7 @@ ghost use Rattle.lines.specs.Lines.{is_whole, advanced, Turned};
 
 // The four numbers of a command's line; the offset of the next command, how many of the bytes read this one took, and whether the
 // tape goes on.
-#[derive(Drop)]
+#[derive(Clone, Copy)]
 pub struct Turn {
     pub offset: u64,
     pub byte: u32,

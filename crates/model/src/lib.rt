@@ -6,7 +6,7 @@ ghost use Rattle.std.specs.Prelude.{◌%◌, ◌≡◌};
 ghost use Rattle.model.specs.Shape.{checked, nearest, clamped, home_block, journal_block};
 
 // Blank until FORMAT; up while it takes writes; down from a cut until recovery is done.
-#[derive(Drop)]
+#[derive(Clone, Copy)]
 pub enum Phase {
     Blank,
     Up,
@@ -14,7 +14,7 @@ pub enum Phase {
 }
 
 // The disk's shape: C cores, B home blocks, J journal blocks for each core.
-#[derive(Drop)]
+#[derive(Clone, Copy)]
 pub struct Shape {
     pub cores: u8,
     pub blocks: u8,
@@ -22,21 +22,21 @@ pub struct Shape {
 }
 
 // What the constructor of a shape answers.
-#[derive(Drop)]
+#[derive(Clone, Copy)]
 pub enum Checked {
     Fits(Shape),
     OutOfRange,
 }
 
 // Where a core's journal begins: the number and the position of its oldest unretired record, or of the next one.
-#[derive(Drop)]
+#[derive(Clone, Copy)]
 pub struct Tail {
     pub number: u32,
     pub position: u8,
 }
 
 // The name of a transaction: a core and a number.
-#[derive(Drop)]
+#[derive(Clone, Copy)]
 pub struct Name {
     pub core: u8,
     pub number: u32,
@@ -73,7 +73,7 @@ pub struct Holder {
 }
 
 // Which of the four rules a WRITE meets at a block: no holder, its own transaction, another running one, a closed one.
-#[derive(Drop)]
+#[derive(Clone, Copy)]
 pub enum Rule {
     Free,
     Own,
@@ -95,7 +95,7 @@ pub struct Card {
 }
 
 // How the commits of a disk name transactions: by a list of names, as before request (d), or by one number for each core.
-#[derive(Drop)]
+#[derive(Clone, Copy)]
 pub enum CommitLayout {
     Lists,
     Numbers,
@@ -103,7 +103,7 @@ pub enum CommitLayout {
 
 // A committed transaction as its record gives it: its name, where its descriptor stands, how many blocks it took, and its
 // stamp.
-#[derive(Drop)]
+#[derive(Clone, Copy)]
 pub struct Committed {
     pub core: u8,
     pub number: u32,
@@ -113,7 +113,7 @@ pub struct Committed {
 }
 
 // What reading one record finds.
-#[derive(Drop)]
+#[derive(Clone, Copy)]
 pub enum Found {
     Whole(Committed),
     Miss,
@@ -121,7 +121,7 @@ pub enum Found {
 
 // What the reader of one record answers: the record, or the first of paper 02's four ends that fits: no descriptor of the expected
 // number, a field of it out of range or a block twice, too few blocks left for data and commit, no commit.
-#[derive(Drop)]
+#[derive(Clone, Copy)]
 pub enum RecordRead {
     Read(Committed),
     NoDescriptor,

@@ -15,7 +15,7 @@ use cells::{HOMED, byte_in, core_place, entry_refusal};
 use model::{Committed, Found};
 
 // The number that refuses both commands, or 0 and the core's oldest transaction.
-#[derive(Drop)]
+#[derive(Clone, Copy)]
 pub struct Asked {
     pub number: u8,
     pub oldest: Committed,

@@ -11,7 +11,7 @@ use journal_page::{LINE_SIZE, MAX_LINES};
 use model::Shape;
 
 // How many bytes were read, and whether a read failed.
-#[derive(Drop)]
+#[derive(Clone, Copy)]
 struct Got {
     size: usize,
     failed: bool,

@@ -10,7 +10,7 @@ pub use buffer::lay_plan;
 pub use planning::plan;
 
 // What is left of one transaction, if there is one: whether it runs, its name (8 * number + core), its stamp, and the stores to do.
-#[derive(Drop)]
+#[derive(Clone, Copy)]
 pub struct Work {
     pub live: bool,
     pub runs: bool,
@@ -20,7 +20,7 @@ pub struct Work {
 }
 
 // What was counted of those found: commands and stores left, how many have a stamp, how many there are.
-#[derive(Drop)]
+#[derive(Clone, Copy)]
 pub struct Tally {
     pub commands: usize,
     pub stores: usize,

@@ -11,7 +11,7 @@ use model::Shape;
 
 // Where the bytes of a block stand: in no slice (0), the disk (1) or memory (2), from where on, and how many. A refused reading has
 // its number and 0 of each.
-#[derive(Drop)]
+#[derive(Clone, Copy)]
 pub struct BlockPart {
     pub number: u8,
     pub slice: u8,

@@ -1,7 +1,7 @@
 -- RECOVER stores the newest image of the lowest block left and counts on, or, with none left, stores the master with all
 -- journals emptied and comes up. Refused, or carried out, it meets its contract.
 use Rattle.model.proofs.Base.{ℕ, ◌+◌, ◌%◌, ◌≤◌, ◌<◌, arith, ◌≡◌, refl, sym, ap, ◌∙◌, true, List, [], ◌∷◌, map, List-as-Memᴰ}
-use Rattle.model.proofs.Base.{List·Memᴰ·head, length, get_or, set, get_or_set_same, not-false, below, Bytes}
+use Rattle.model.proofs.Base.{List·Memᴰ·head, length, get_or, set, get_or-set_same, not-false, below, Bytes}
 use Rattle.model.specs.Bytes.{block_at, store}
 use Rattle.model.specs.Shape.{home_block, clamped}
 use Rattle.model.specs.Card.{new_tail, fresh_card}
@@ -88,7 +88,7 @@ module _ (v : List ℕ) (long : length v ≡ 423) (b : ℕ) (few : b < 64) where
   passed_frame = frame_set v 5 1 5 (b + 1) (omega arith) (omega arith) (fits_field 5 (b + 1) (omega arith) (omega arith) (omega arith))
 
   passed_byte : byte_in (set v 5 (b + 1)) 5 ≡ b + 1
-  passed_byte = ap (λ (n : ℕ). n % 256) (get_or_set_same v 5 (b + 1) 0 (omega arith)) ∙ omega arith
+  passed_byte = ap (λ (n : ℕ). n % 256) (get_or-set_same v 5 (b + 1) 0 (omega arith)) ∙ omega arith
 
   passed_card : card_in (set v 5 (b + 1)) ≡ recovered_to (card_in v) (b + 1)
   passed_card = recovered_put v (set v 5 (b + 1)) passed_frame ∙ ap (recovered_to (card_in v)) passed_byte

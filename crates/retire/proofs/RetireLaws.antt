@@ -1,7 +1,7 @@
 -- Each holder's cell freed where it bears the name gives the card with the transaction released; its core with its numbers
 -- lowered is the retired one; with the tail moved they are the card after a transaction is retired, framed.
 use Rattle.model.proofs.Base.{ℕ, ◌+◌, ◌-◌, ◌≤◌, ◌<◌, arith, ◌≡◌, refl, sym, ap, ◌∙◌, Bool, true, false, List, length, get_or, set}
-use Rattle.model.proofs.Base.{length-set, get_or_set_same, get_or-set_other, eqb, ne_eqb, eqb-true, eqb-false, below}
+use Rattle.model.proofs.Base.{length-set, get_or-set_same, get_or-set_other, eqb, ne_eqb, eqb-true, eqb-false, below}
 use mathlib.Core.List.{map-map}
 use Rattle.model.specs.Card.{new_name, same_name, new_holder, shape_of, core_of, with_arrays, with_core}
 use Rattle.model.specs.Checkpoint.{freed, released, moved_tail, retired_core, retired_card}
@@ -85,7 +85,7 @@ module _ (n : Name) (v : List ℕ) where
                 (frame_kept w first_holder 64 (holder_place i) r (omega arith) (omega arith) (omega arith) (f.fits (holder_place i)));
             made = λ b l. cases (eqb b i)
                 (λ t. let z : b ≡ i = eqb-true b i t in
-                rw z (ap holder_in (get_or_set_same w (holder_place i) r 0 release_in) ∙ f.holder ∙ ap (λ (k : ℕ). freed n (holder_in k)) (s.left i (omega arith))))
+                rw z (ap holder_in (get_or-set_same w (holder_place i) r 0 release_in) ∙ f.holder ∙ ap (λ (k : ℕ). freed n (holder_in k)) (s.left i (omega arith))))
                 (λ t. let z : b ≡ i → ⊥ = eqb-false b i t in
                 ap holder_in (get_or-set_other w (holder_place i) (holder_place b) r 0 (omega arith)) ∙ s.made b (omega arith));
             left = λ b l. get_or-set_other w (holder_place i) (holder_place b) r 0 (omega arith) ∙ s.left b (omega arith);

@@ -15,7 +15,7 @@ use model::{Holder, Name, Rule};
 pub use room::room_refusal;
 
 // A WRITE as its core, its block and what it meets there: the rule, the name of the block's holder, the writer's own name.
-#[derive(Drop)]
+#[derive(Clone, Copy)]
 pub struct RuleMet {
     pub core: u8,
     pub block: u8,

@@ -1,7 +1,7 @@
 -- The running transaction in its cells: a cell that is not 0 opens one where there was none, one cell raises a number, two take a
 -- block. Each is framed.
 use Rattle.model.proofs.Base.{ℕ, ◌+◌, ◌-◌, ◌%◌, ◌≤◌, ◌<◌, arith, ◌≡◌, sym, ap, ◌∙◌, Bool, true, false, not, List, map, length}
-use Rattle.model.proofs.Base.{get_or, set, length-set, get_or_set_same, get_or-set_other, eqb, ltb, ltb-true, below}
+use Rattle.model.proofs.Base.{get_or, set, length-set, get_or-set_same, get_or-set_other, eqb, ltb, ltb-true, below}
 use Prim.Native.Nat.{max}
 use lib.Seq.{set-get_or}
 use Rattle.model.specs.Card.{no_transaction, opened, highest_of, with_name, with_block}
@@ -19,7 +19,7 @@ opened_here : (w : List ℕ) (a x : ℕ) → length w ≡ 423 → a + 19 ≤ 423
 unfolding transaction_in
 opened_here w a x n f l e =
     transaction_cong _ _ _ _ _ _ _ _ _ _
-    (ap (λ (k : ℕ). not (eqb k 0)) (get_or_set_same w a x 0 (omega arith)) ∙ ap not l)
+    (ap (λ (k : ℕ). not (eqb k 0)) (get_or-set_same w a x 0 (omega arith)) ∙ ap not l)
     (get_or-set_other w a (a + 1) x 0 (omega arith))
     (ap (λ (k : ℕ). k % 256) (get_or-set_other w a (a + 2) x 0 (omega arith)))
     (map_below _ _ 8 (λ k p. ap (λ (k : ℕ). k % 256) (get_or-set_other w a (a + 3 + k) x 0 (omega arith))))
@@ -80,7 +80,7 @@ module _ (w : List ℕ) (a : ℕ) (size : length w ≡ 423) (from : 87 ≤ a) (f
       (ap (λ (i : ℕ). i % 256) (other (a + 2) (omega arith)))
       (map_below _ _ 8 (λ i p. ap (λ (i : ℕ). i % 256) (other (a + 3 + i) (omega arith))))
       (tabled_set (λ (c : ℕ). number_in w (a + 11 + c)) (λ (c : ℕ). number_in raised (a + 11 + c)) 8 n.core 0 few (λ c p q. ap (λ (i : ℕ). i % 4294967296) (other (a + 11 + c) (omega arith)))
-      ∙ ap (set (map (λ (c : ℕ). number_in w (a + 11 + c)) (below 8)) n.core) (ap (λ (i : ℕ). i % 4294967296) (get_or_set_same w (a + 11 + n.core) n.number 0 (omega arith)) ∙ low_number n.number narrow ∙ sym (higher (highest_of (transaction_in w a) n.core) n.number (omega (arith, number_there w a n few k e)))))
+      ∙ ap (set (map (λ (c : ℕ). number_in w (a + 11 + c)) (below 8)) n.core) (ap (λ (i : ℕ). i % 4294967296) (get_or-set_same w (a + 11 + n.core) n.number 0 (omega arith)) ∙ low_number n.number narrow ∙ sym (higher (highest_of (transaction_in w a) n.core) n.number (omega (arith, number_there w a n few k e)))))
 
   pub number_frame : Frame w raised a 19
   number_frame =
@@ -114,10 +114,10 @@ module _ (w : List ℕ) (a i : ℕ) (size : length w ≡ 423) (from : 87 ≤ a) 
       beside m f g = get_or-set_other (set w (a + 3 + i) x) (a + 2) m (i + 1) 0 g ∙ get_or-set_other w (a + 3 + i) m x 0 f
 
       first : get_or put (a + 3 + i) 0 ≡ x
-      first = get_or-set_other (set w (a + 3 + i) x) (a + 2) (a + 3 + i) (i + 1) 0 (omega arith) ∙ get_or_set_same w (a + 3 + i) x 0 block_in
+      first = get_or-set_other (set w (a + 3 + i) x) (a + 2) (a + 3 + i) (i + 1) 0 (omega arith) ∙ get_or-set_same w (a + 3 + i) x 0 block_in
 
       second : get_or put (a + 2) 0 ≡ i + 1
-      second = get_or_set_same (set w (a + 3 + i) x) (a + 2) (i + 1) 0 (count_in (a + 3 + i) x)
+      second = get_or-set_same (set w (a + 3 + i) x) (a + 2) (i + 1) 0 (count_in (a + 3 + i) x)
 
       pub block_put : transaction_in put a ≡ with_block (transaction_in w a) x
       unfolding transaction_in

@@ -4,7 +4,7 @@ ghost use Rattle.std.specs.Prelude.{◌+◌, ◌≤◌, ◌<◌, ◌≡◌, leng
 use lines::turn::Turn;
 
 // How much text waits, and whether a write failed.
-#[derive(Drop)]
+#[derive(Clone, Copy)]
 pub struct Waiting {
     pub used: usize,
     pub failed: bool,

@@ -1,6 +1,6 @@
 -- What the loops of a round find: one core's count lowered, those of all cores, how many count in all; and the tail numbers.
 use Rattle.model.proofs.Base.{ℕ, ◌+◌, ◌*◌, ◌≤◌, ◌<◌, arith, dec_lt, add-one, ◌≡◌, refl, sym, ap, ◌∙◌, Bool, true, not, List, length, get_or, set, length-set}
-use Rattle.model.proofs.Base.{get_or_set_same, get_or-set_other, not-true, below, Bytes}
+use Rattle.model.proofs.Base.{get_or-set_same, get_or-set_other, not-true, below, Bytes}
 use borrow.Author.Rules.{rules}
 use Rattle.model.specs.Lists.{total}
 use Rattle.model.specs.declared.Shape.{Shape}
@@ -45,7 +45,7 @@ module _ (y : CommitLayout) (s : Shape) (d : Bytes) (ks xs start count : List �
         size = length-set next c m ∙ w.size;
         done = λ i g. elim (dec_lt i c) [
           | yes b ↦ rw (get_or-set_other next c i m 0 (omega arith)) (w.done i b)
-          | no b ↦ (let z : i ≡ c = omega arith in rw (z, get_or_set_same next c m 0 (omega (arith, w.size, l.few_cores))) e)
+          | no b ↦ (let z : i ≡ c = omega arith in rw (z, get_or-set_same next c m 0 (omega (arith, w.size, l.few_cores))) e)
         ];
       }
 

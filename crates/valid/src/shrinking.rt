@@ -15,7 +15,7 @@ use model::{CommitLayout, Shape, Tail};
 
 // How the commits of a disk name transactions, and its shape: one value for the recursion, so that a level of it takes no more of the
 // stack than the shape alone would.
-#[derive(Drop)]
+#[derive(Clone, Copy)]
 struct LayoutAndShape {
     layout: CommitLayout,
     shape: Shape,

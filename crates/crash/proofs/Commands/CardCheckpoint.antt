@@ -3,7 +3,7 @@
 -- record, so the journal holds the same without that record, and its blocks have no holder any more.
 use Rattle.model.proofs.Base.{ℕ, suc, ◌+◌, ◌-◌, ◌≤◌, ◌<◌, arith, ℕ_discrete, ◌≡◌, refl, sym, ap, subst, ◌∙◌, ◌≢◌}
 use Rattle.model.proofs.Base.{true, [], length, get_or, length-set, length-map}
-use Rattle.model.proofs.Base.{list_get_or_map, get_or_set_same, get_or-set_other, eq-eqb, ne_eqb}
+use Rattle.model.proofs.Base.{list_get_or_map, get_or-set_same, get_or-set_other, eq-eqb, ne_eqb}
 use Rattle.model.proofs.Base.{Bytes}
 use Rattle.model.specs.Bytes.{store, block_at}
 use Rattle.model.specs.Shape.{home_block}
@@ -154,7 +154,7 @@ module _ {l : Ledger} {w : World} (u : CardUp l w) (c : ℕ) (in_range_lem : c <
 
     pub own_tail : tail_of card₂ c ≡ tail
     unfolding tail_of retired_card
-    own_tail = get_or_set_same w.card.tails c _ (new_tail 0 0) tail_room ∙ rw (shape_up u) refl
+    own_tail = get_or-set_same w.card.tails c _ (new_tail 0 0) tail_room ∙ rw (shape_up u) refl
 
     pub other_tail : (a : ℕ) → a ≢ c → tail_of card₂ a ≡ tail_of w.card a
     unfolding tail_of retired_card
@@ -162,7 +162,7 @@ module _ {l : Ledger} {w : World} (u : CardUp l w) (c : ℕ) (in_range_lem : c <
 
     own_core : core_of card₂ c ≡ retired_core x e
     unfolding core_of retired_card
-    own_core = get_or_set_same w.card.cores c _ (fresh_core 0) core_room
+    own_core = get_or-set_same w.card.cores c _ (fresh_core 0) core_room
 
     other_cores : (a : ℕ) → a ≢ c → core_of card₂ a ≡ core_of w.card a
     unfolding core_of retired_card

@@ -2,7 +2,7 @@
 -- images are the current ones, and these are copied. The first copies of its core change, and no other block of memory.
 -- Its number and its stamp are far from the width of their fields.
 use Rattle.model.proofs.Base.{ℕ, zero, suc, ◌+◌, ◌-◌, ◌*◌, ◌%◌, ◌^◌, ◌≤◌, ◌<◌, arith, ℕ_discrete, add-zero, ◌≡◌, refl, sym, ap}
-use Rattle.model.proofs.Base.{subst, ◌∙◌, ◌≢◌, true, some, List, [], ◌∷◌, List-as-Memᴰ, length, get_or, length-set, get_or_set_same}
+use Rattle.model.proofs.Base.{subst, ◌∙◌, ◌≢◌, true, some, List, [], ◌∷◌, List-as-Memᴰ, length, get_or, length-set, get_or-set_same}
 use Rattle.model.proofs.Base.{get_or-set_other, Bytes, map, List·Memᴰ·head, List·Memᴰ·tail}
 use native.Mathlib.Nat.{zero-add}
 use Rattle.model.specs.Bytes.{block_at, store}
@@ -245,7 +245,7 @@ module _ {l : Ledger} {w : World} (u : CardUp l w) (c : ℕ) (in_range_lem : c <
 
   closed_core_lem : core_of (closed_card w.card c) c ≡ x₂
   unfolding closed_card core_of
-  closed_core_lem = get_or_set_same w.card.cores c x₂ (fresh_core 0) (omega (arith, u.eight_cores, eight))
+  closed_core_lem = get_or-set_same w.card.cores c x₂ (fresh_core 0) (omega (arith, u.eight_cores, eight))
 
   other_cores : (a : ℕ) → a ≢ c → core_of (closed_card w.card c) a ≡ core_of w.card a
   unfolding closed_card core_of

@@ -2,7 +2,7 @@
 -- are read through the core's own entries, numbers, stamps and images alone, and nothing of the running one is stored.
 -- A store of the master or of a home block leaves every journal; a card with one core replaced stays in agreement.
 use Rattle.model.proofs.Base.{ℕ, ◌+◌, ◌-◌, ◌*◌, ◌≤◌, ◌<◌, arith, ℕ_discrete, ◌≡◌, refl, sym, ap, ◌∙◌, ◌≢◌, ◌⊎◌, inl, inr, true}
-use Rattle.model.proofs.Base.{false, List, ◌++◌, length, take, length-set, get_or_set_same, get_or-set_other, Bytes}
+use Rattle.model.proofs.Base.{false, List, ◌++◌, length, take, length-set, get_or-set_same, get_or-set_other, Bytes}
 use Rattle.model.specs.Bytes.{block_at, store}
 use Rattle.model.specs.Shape.{home_block, journal_block}
 use Rattle.model.specs.Card.{new_name, fresh_core, core_of, with_core, with_running, tail_of, holder_of}
@@ -31,7 +31,7 @@ use Rattle.crash.proofs.Disk.BlockBytes.{bytes_store}
 -- ---- one core of the card replaced
 pub core_set : (x : Card) (c : ℕ) (k : Core) → c < length x.cores → core_of (with_core x c k) c ≡ k
 unfolding core_of
-core_set x c k h = get_or_set_same x.cores c k (fresh_core 0) h
+core_set x c k h = get_or-set_same x.cores c k (fresh_core 0) h
 
 pub core_other : (x : Card) (c : ℕ) (k : Core) (a : ℕ) → a ≢ c → core_of (with_core x c k) a ≡ core_of x a
 unfolding core_of

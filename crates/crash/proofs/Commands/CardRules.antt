@@ -3,7 +3,7 @@
 -- What the rules do to a transaction of the card they do to its entry in the ledger.
 use Rattle.model.proofs.Base.{ℕ, ◌≤◌, ◌<◌, arith, ℕ_discrete, add-one, ◌≡◌, refl, sym, ap, ap₂, ◌∙◌, ◌≢◌, ◌⊎◌, inl, inr, true}
 use Rattle.model.proofs.Base.{Option, none, some, List, [], ◌∷◌, ◌++◌, length, length-set, length-append, eq-eqb, ne_eqb}
-use Rattle.model.proofs.Base.{any, set, subst, cond, eqb, get_or, get_or_set_same, get_or-set_other, get_or-replicate, Bytes}
+use Rattle.model.proofs.Base.{any, set, subst, cond, eqb, get_or, get_or-set_same, get_or-set_other, get_or-replicate, Bytes}
 use Prim.Native.Nat.{max}
 use native.Mathlib.Omega.{max_cases}
 use Rattle.model.specs.Layout.{highest_in}
@@ -59,7 +59,7 @@ raised_at hs n c k size was b =
     elim (ℕ_discrete c n.core) [
       | yes q ↦ rw (eq-eqb c n.core q)
           (subst (λ (i : ℕ). get_or (set hs i (max (get_or hs i 0) n.number)) c 0 ≡ max k n.number) q
-          (get_or_set_same hs c _ 0 (omega arith) ∙ ap (λ (k : ℕ). max k n.number) was))
+          (get_or-set_same hs c _ 0 (omega arith) ∙ ap (λ (k : ℕ). max k n.number) was))
       | no ne ↦ rw (ne_eqb c n.core ne) (get_or-set_other hs n.core c _ 0 ne ∙ was ∙ sym (max_zero k))
     ]
 

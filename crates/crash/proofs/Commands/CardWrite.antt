@@ -2,7 +2,7 @@
 -- their entries do, and so does the block's holder. The image written is the current one: a held block has it in memory,
 -- a free one is loaded from home. Closed transactions and the disk stay.
 use Rattle.model.proofs.Base.{ℕ, ◌+◌, ◌-◌, ◌*◌, ◌≤◌, ◌<◌, arith, ℕ_discrete, ◌≡◌, refl, sym, ap, subst, ◌∙◌, ◌≢◌, ◌⊎◌, Bool, true}
-use Rattle.model.proofs.Base.{false, cond, none, some, length, length-set, get_or_set_same, get_or-set_other, Bytes}
+use Rattle.model.proofs.Base.{false, cond, none, some, length, length-set, get_or-set_same, get_or-set_other, Bytes}
 use Rattle.model.specs.Bytes.{replaced, block_at, store}
 use Rattle.model.specs.Shape.{home_block}
 use Rattle.model.specs.Card.{new_name, no_holder, new_holder, with_name, with_running, tail_of, core_of, holder_of, with_core, with_holder}
@@ -85,7 +85,7 @@ module _ (x : Card) where
         (λ h. cases (is_named_back (rule_for x c b)) (λ e. rw (h, e) refl) (λ e. rw (h, e) refl))
 
     written_taken : takes_block (rule_for x c b) ≡ true → b < length x.holders → holder_of (written_card x c b) b ≡ new_holder (writer_name x c)
-    written_taken h n = written_holders b ∙ rw h (unfold holder_of in get_or_set_same x.holders b _ no_holder n)
+    written_taken h n = written_holders b ∙ rw h (unfold holder_of in get_or-set_same x.holders b _ no_holder n)
 
     written_other : (j : ℕ) → j ≢ b → holder_of (written_card x c b) j ≡ holder_of x j
     written_other j ne =
