@@ -101,7 +101,7 @@ module _ {l : Ledger} {w : World} (b : RelatedBlank l w) where
       cases (in_range c n j) (λ e. e)
       (λ e. absurd (let p : is_blank l.phase ≡ true = rw b.ledger refl in let z : 4 ≡ 0 = rw (p, e) at h in omega arith)) in
       let r = range_test s ok in
-      plain (other refl) (related_up (at_format s r)) (record { disk = refl; memory = refl; stores = refl })
+      plain {l = l} {w = w} {k = FORMAT c n j} (other {k = FORMAT c n j} refl) (related_up (at_format s r)) (record { disk = refl; memory = refl; stores = refl })
 
   blank_carries : (k : Command) → refusal (refusals_of k l) ≡ 0 → Carried Related l w k
   unfolding refusals_of write_refusals close_refusals store_refusals checkpoint_refusals retire_refusals
@@ -147,7 +147,7 @@ module _ {l : Ledger} {w : World} (d : CardDown l w) where
   down_carries (CLOSE c) h = refused_22 _ h
   down_carries (STORE c) h = refused_22 _ h
   down_carries (CHECKPOINT c) h = refused_22 _ h
-  down_carries CUT h = plain (other refl) (related_down (cut_down d)) (record { disk = refl; memory = refl; stores = refl })
+  down_carries CUT h = plain {l = l} {w = w} {k = CUT} (other {k = CUT} refl) (related_down (cut_down d)) (record { disk = refl; memory = refl; stores = refl })
   down_carries RECOVER h = recover_carried
   down_carries (RETIRE c) h = refused_22 _ h
 
