@@ -210,7 +210,7 @@ module _ {l : Ledger} {w : World} (u : RelatedUp l w) where
   up_carries (CLOSE c) fits h = close_carried c h
   up_carries (STORE c) fits h = store_carried c h
   up_carries (CHECKPOINT c) fits h = checkpoint_carried c h
-  up_carries CUT fits h = plain (other refl) (related_down (cut_at u)) (record { disk = refl; memory = refl; stores = refl })
+  up_carries CUT fits h = plain {l = l} {w = w} {k = CUT} (other {k = CUT} refl) (related_down (cut_at u)) (record { disk = refl; memory = refl; stores = refl })
   up_carries RECOVER fits h = up_23 h
   up_carries (RETIRE c) fits h = retire_carried c h
 
