@@ -11,7 +11,7 @@ use lib.Dec.{leb}
 use borrow.Author.Tests.{ne_eqb, ltb-false, leb-false, lt-ltb}
 use Rattle.model.specs.Lists.{below}
 use Rattle.model.specs.Bytes.{Bytes}
-use Rattle.model.specs.Shape.{between, in_range, new_shape}
+use Rattle.model.specs.Shape.{in_range, new_shape}
 use Rattle.model.specs.Card.{blank_card, is_blank, is_up, is_down, empty_card, fresh_card, shape_of}
 use Rattle.model.specs.Command.{World, refusal, wrong_length, no_block}
 use Rattle.model.specs.Valid.{Order, in_sequence}
