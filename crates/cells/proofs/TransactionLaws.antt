@@ -1,5 +1,5 @@
 -- A transaction at its place: the same cells give the same one; the place cleared, with its frame; one that is live stays open.
-use Rattle.model.proofs.Base.{ℕ, zero, ◌+◌, ◌%◌, ◌≤◌, ◌<◌, arith, ◌≡◌, ap, ◌∙◌, Bool, true, not, List, length, get_or, set}
+use Rattle.model.proofs.Base.{ℕ, ◌+◌, ◌%◌, ◌≤◌, ◌<◌, arith, ◌≡◌, ap, ◌∙◌, Bool, true, not, List, length, get_or, set}
 use Rattle.model.proofs.Base.{get_or-set_same, get_or-set_other, eqb, eqb-true, eqb-false, below}
 use Rattle.model.specs.Card.{no_transaction}
 use Rattle.model.specs.declared.Transaction.{Transaction}

@@ -66,7 +66,7 @@ start_ledger o (from_down y s m) = cut_ledger (fresh_ledger o s [] (λ (c : ℕ)
 -- ---- demand 3
 -- 'every RECOVER that is carried out and leaves the card up (reading met 22 before it and no longer does)'
 pub record ComesUp (p : Point World) : Type 0 where
-  pub is_recover_lem : p.read ≡ whole RECOVER
+  pub is_recover : p.read ≡ whole RECOVER
   pub is_done : p.outcome.answer ≡ 0
   pub was_down : read_number 0 p.before ≡ 22
   pub is_up : read_number 0 p.outcome.world ≢ 22

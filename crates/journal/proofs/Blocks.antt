@@ -1,5 +1,5 @@
 -- Where a block stands among those that a transaction took, and whether it took it.
-use Rattle.model.proofs.Base.{ℕ, zero, suc, ◌+◌, ◌/◌, ◌%◌, ◌≤◌, ◌<◌, arith, dec_lt, ◌≡◌, refl, sym, ap, ◌∙◌, Bool, true, false, List, [], ◌∷◌, map, length}
+use Rattle.model.proofs.Base.{ℕ, zero, suc, ◌+◌, ◌≤◌, ◌<◌, arith, dec_lt, ◌≡◌, refl, sym, ap, ◌∙◌, Bool, true, false, List, [], ◌∷◌, map, length}
 use Rattle.model.proofs.Base.{get_or, length-map, list_get_or_map, eqb, ltb, eq-eqb, ne_eqb, lt-ltb, le-ltb, below, any, Bytes}
 use Rattle.model.specs.Layout.{Tag, new_tag, pair_at, pairs_in, tags_in}
 use Rattle.model.specs.Journal.{journal_at, tags_of, blocks_of, took}

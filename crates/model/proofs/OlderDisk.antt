@@ -16,7 +16,7 @@ use Rattle.model.specs.Card.{is_up, fresh_card}
 use Rattle.model.specs.Layout.{master_words, master_block, layout_in, has_master_fields, is_master}
 use Rattle.model.specs.Valid.{Order}
 use Rattle.model.specs.Command.{World, Outcome, refusal, Clear, refused_with, unless, Decided, refused, carried_out}
-use Rattle.model.specs.Recovery.{shape_on, layout_on, recover_conditions, recover_conditions_by, blocks_left, brought_up, emptied_tail, recover_step, recovered_by, recovered, recover, recover_by_lists, cut}
+use Rattle.model.specs.Recovery.{shape_on, layout_on, recover_conditions, recover_conditions_by, blocks_left, brought_up, emptied_tail, recover_step, recovered_by, recovered, recover, recover_by_lists}
 use Rattle.model.specs.declared.Shape.{Shape}
 use Rattle.model.specs.declared.Tail.{Tail}
 use Rattle.model.specs.declared.CommitLayout.{CommitLayout}

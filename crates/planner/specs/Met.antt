@@ -18,7 +18,7 @@ Planner = World → Planned
 -- ---- of any card value, disk and memory
 pub record PlanAnswers (planner : Planner) (w : World) : Type 0 where
   -- 'Order: 1, 2, 3, then 20 to 23'; 'A card that is blank or down gets 20 or 22.'
-  pub wrong_length_lem : wrong_length w ≡ true → planner w ≡ no_plan 1
+  pub other_length : wrong_length w ≡ true → planner w ≡ no_plan 1
   pub blank : wrong_length w ≡ false → is_blank w.card.phase ≡ true → planner w ≡ no_plan 20
   pub down : wrong_length w ≡ false → is_down w.card.phase ≡ true → planner w ≡ no_plan 22
   -- and no other is refused

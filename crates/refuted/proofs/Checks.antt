@@ -101,7 +101,7 @@ comes_up_lem : (p : Point World) → comes_up p ≡ true → ComesUp p
 unfolding comes_up
 comes_up_lem p h =
     let k = four (is_recover p.read) (eqb p.outcome.answer 0) (eqb (read_number 0 p.before) 22) (not (eqb (read_number 0 p.outcome.world) 22)) h in
-    record { is_recover_lem = is_recover_lem _ k.0; is_done = eqb-true _ _ k.1; was_down = eqb-true _ _ k.2; is_up = eqb-false _ _ (not-true _ k.3) }
+    record { is_recover = is_recover_lem _ k.0; is_done = eqb-true _ _ k.1; was_down = eqb-true _ _ k.2; is_up = eqb-false _ _ (not-true _ k.3) }
 
 -- wherever the card comes up, the home area is the book's
 unfoldable pub area_holds : Service → List (Point World) → Bool

@@ -33,7 +33,7 @@ refuses_none_down = refutes_plans refuses_none number_check (format 1 1 4 ++ cut
 -- a disk slice that is one byte short gets no 1; what is said of any card value, disk and memory is false then
 pub refuses_none_short : ((w : World) → PlanAnswers refuses_none w) → ⊥
 unfolding computes_plans
-refuses_none_short h = let e : ◌≡◌ {A = ℕ} 0 1 = ap (λ (p : Planned). p.number) ((h (one_byte_short blank_world)).wrong_length_lem refl) in omega arith
+refuses_none_short h = let e : ◌≡◌ {A = ℕ} 0 1 = ap (λ (p : Planned). p.number) ((h (one_byte_short blank_world)).other_length refl) in omega arith
 
 -- ---- the order
 -- (1,1) closes before (0,1), which takes its block; both are committed

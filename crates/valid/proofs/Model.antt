@@ -1,9 +1,9 @@
 -- The valid set and the journals hang on the tails of the cores that the disk has, and on no others.
 use Rattle.model.proofs.Base.{ℕ, zero, suc, ◌+◌, ◌<◌, ◌≡◌, refl, sym, ap, ◌∙◌, Bool, true, ◌&&◌, List}
 use Rattle.model.proofs.Base.{[], ◌∷◌, List-as-Memᴰ, List·Memᴰ·head, List·Memᴰ·tail, length, eqb, ltb, leb}
-use Rattle.model.proofs.Base.{ltb-true, all, select, Bytes}
+use Rattle.model.proofs.Base.{ltb-true, all, Bytes}
 use Rattle.model.specs.Layout.{has_head, stamp_in, names_in, few_names, is_listable, is_commit}
-use Rattle.model.specs.Journal.{name_of, journal_at, journal, journals, names_of, blocks_of}
+use Rattle.model.specs.Journal.{name_of, journal_at, journal, journals, names_of}
 use Rattle.model.specs.Shrink.{strike, shrink_in, shrink}
 use Rattle.model.specs.Valid.{Order, required_of, is_met, names_met, valid_set}
 use Rattle.model.specs.declared.Shape.{Shape}

@@ -221,10 +221,10 @@ module _ (Related : Ledger → World → Type 0) (r : Simulation Related) where
         heard_agrees v l x o.answer
         (λ k e z. answered_phase l k (sym (subst (λ (y : Read). o.answer ≡ answer_of y l) e g.answer) ∙ z)) agrees
 
-    module _ (is_recover_lem : x ≡ whole RECOVER) (is_done : o.answer ≡ 0) (is_up : read_number 0 o.world ≢ 22) where
+    module _ (is_recover : x ≡ whole RECOVER) (is_done : o.answer ≡ 0) (is_up : read_number 0 o.world ≢ 22) where
       after_is : heard entered x o.answer l ≡ recover_ledger l.left l
       unfolding heard entered carried_out
-      after_is = rw (is_recover_lem, is_done) refl
+      after_is = rw (is_recover, is_done) refl
 
       next_after : Related (recover_ledger l.left l) o.world
       next_after = subst (λ (l : Ledger). Related l o.world) after_is g.next
@@ -248,7 +248,7 @@ module _ (Related : Ledger → World → Type 0) (r : Simulation Related) where
           ap (λ (n : ℕ). part 128 (128 * n) o.world.disk) same
           ∙ area_blocks o.world.disk l.shape.blocks
           ∙ flat_map_below (λ (b : ℕ). block_at o.world.disk (home_block b)) (image blank v₂.saved) l.shape.blocks
-          (λ b h. g.home is_recover_lem is_done e b h ∙ sym (area_same v₂ (recover_ledger [] l) refl a b))
+          (λ b h. g.home is_recover is_done e b h ∙ sym (area_same v₂ (recover_ledger [] l) refl a b))
           ∙ ap (λ (n : ℕ). flat_map (image blank v₂.saved) (below n)) (sym after)
 
   -- At every point of a run where the card comes up, the home area is the book's area.
@@ -258,7 +258,7 @@ module _ (Related : Ledger → World → Type 0) (r : Simulation Related) where
   area_kept f go t b here agrees same (at_end h) = tt
   area_kept f go t b {at} {n} {v} {l} {w} here agrees same (one_more {p = p} h e rest) =
       let g : PointKeeps Related l w p.read p.outcome = subst (λ (p : Point World). PointKeeps Related l w p.read p.outcome) (sym e) (go t b at l w here) in (
-        λ c. area_at v l w p.read p.outcome g agrees c.is_recover_lem c.is_done c.is_up same,
+        λ c. area_at v l w p.read p.outcome g agrees c.is_recover c.is_done c.is_up same,
         area_kept f go t b g.next (agrees_after v l w p.read p.outcome g agrees) (heard_blocks v l same p.read p.outcome.answer) rest,
       )
 

@@ -66,7 +66,7 @@ pub plan_answers : (w : World) → PlanAnswers plan w
 unfolding plan_for
 plan_answers w =
     record {
-      wrong_length_lem = wrong_plan w;
+      other_length = wrong_plan w;
       blank = λ e p. blank_plan w e (phase_blank w.card.phase p);
       down = λ e p. down_plan w e (phase_down w.card.phase p);
       up = λ e p. ap (λ (q : Planned). q.number) (up_plan w e (phase_up w.card.phase p));

@@ -7,9 +7,8 @@ pub returns-then-left-read : goal.returns-then-left-read
 returns-then-left-read c = (search (rules, valid_settled), search rules, search rules)
 
 pub returns : goal.returns
-returns c =
-    (
-      valid_again _ _ _ _ _ _ _ _ _ c.tail_numbers_of-oldest.ensures c.strike_round.ensures.0 _ c.shrink_set.ensures.0 c.requires.0,
-      search rules,
-      search rules,
-    )
+returns c = (
+  valid_again _ _ _ _ _ _ _ _ _ c.tail_numbers_of-oldest.ensures c.strike_round.ensures.0 _ c.shrink_set.ensures.0 c.requires.0,
+  search rules,
+  search rules,
+)
