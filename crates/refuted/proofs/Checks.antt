@@ -222,7 +222,7 @@ holds test l w (p ∷ ps) = test l w p && holds test (entered_point p l) p.outco
 kept_holds : (c : Check) (l : Ledger) (w : World) (ps : List (Point World)) → LedgerKept l w ps → holds c.test l w ps ≡ true
 unfolding holds
 kept_holds c l w [] h = refl
-kept_holds c l w (p ∷ ps) h = and_both (c.follows l w p h.0) (kept_holds c _ _ ps h.1)
+kept_holds c l w (p ∷ ps) h = and_both (c.follows l w p h.0) (kept_holds c (entered_point p l) p.outcome.world ps h.1)
 
 -- ---- reading
 -- of the blocks below B, and of the first that is not
@@ -241,7 +241,7 @@ reads_hold read l w (p ∷ ps) = reads_test read l w && reads_hold read (entered
 reads_hold_lem : (read : Reader) (l : Ledger) (w : World) (ps : List (Point World)) → ReadingsKept read l w ps → reads_hold read l w ps ≡ true
 unfolding reads_hold
 reads_hold_lem read l w [] h = reads_follow read l w h
-reads_hold_lem read l w (p ∷ ps) h = and_both (reads_follow read l w h.0) (reads_hold_lem read _ _ ps h.1)
+reads_hold_lem read l w (p ∷ ps) h = and_both (reads_follow read l w h.0) (reads_hold_lem read (entered_point p l) p.outcome.world ps h.1)
 
 -- ---- paper 02, (g): what a cut brings back
 -- after these commands recovery gives what it gave before

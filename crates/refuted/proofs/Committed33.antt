@@ -43,7 +43,7 @@ use Rattle.crash.proofs.Runs.UpSteps.{RelatedUp, retired_below}
 use Rattle.crash.proofs.Runs.Theorem.{blank_phase, Related, related_blank, related_up, related_down, related_simulation, claim, demands, readings, starts}
 use Rattle.crash.proofs.Disk.Relation.{first_waiting}
 use Rattle.refuted.specs.Wrong.{shares_committed, only_committed33}
-use Rattle.refuted.specs.Parts.{on_tape, with_condition, asking}
+use Rattle.refuted.specs.Parts.{on_tape, with_condition, asking, other_checkpoint}
 use Rattle.refuted.proofs.Parts.{other_checkpoint_lem, other_retire_lem}
 
 -- ---- one block's history
@@ -169,10 +169,11 @@ module _ {l : Ledger} {w : World} (here : Related l w) (c : ℕ) where
 pub same_step : (l : Ledger) (w : World) → Related l w → (k : Command) → only_committed33 k w ≡ step k w
 unfolding conditions_of checkpoint_conditions retire_conditions
 same_step l w here =
-    other_retire_lem w _
+    let checkpoint : ℕ → World → Outcome World = λ c. only_committed33 (CHECKPOINT c) in
+    other_retire_lem w (other_checkpoint step checkpoint)
     (other_checkpoint_lem w step (λ k. refl)
-    _ (λ c. same_asking here c (CHECKPOINT c) (same_conditions here c (not (images_left c w)) 35 refl)))
-    _ (λ c. same_asking here c (RETIRE c) (same_conditions here c (images_left c w) 34 refl))
+    checkpoint (λ c. same_asking here c (CHECKPOINT c) (same_conditions here c (not (images_left c w)) 35 refl)))
+    (λ c. only_committed33 (RETIRE c)) (λ c. same_asking here c (RETIRE c) (same_conditions here c (images_left c w) 34 refl))
 
 -- ---- along a tape
 -- a card that does as the model's in every world of a run

@@ -141,7 +141,12 @@ by_orders_lem o (RETIRE c) w = refl
 -- the valid set of CHECKPOINT, RETIRE and RECOVER
 pub valid_by_lem : IsModel (valid_by (valid_set in_sequence))
 unfolding step_by conditions_of done_by checkpoint_conditions retire_conditions valid_now valid_on_by committed_conditions found_conditions
-valid_by_lem w = other_retire_lem w _ (other_checkpoint_lem w _ (recover_set_lem w) _ (λ c. refl)) _ (λ c. refl)
+valid_by_lem w =
+    let card : Step World = valid_by (valid_set in_sequence) in
+    let checkpoint : ℕ → World → Outcome World = λ c. card (CHECKPOINT c) in
+    other_retire_lem w (other_checkpoint (recover_set valid_on) checkpoint)
+    (other_checkpoint_lem w (recover_set valid_on) (recover_set_lem w) checkpoint (λ c. refl))
+    (λ c. card (RETIRE c)) (λ c. refl)
 
 -- paper 02, (d): the masters, the layout read, and what comes of a name
 pub format_as_lem : IsModel (format_as Numbers)
@@ -150,7 +155,7 @@ format_as_lem w = other_format_lem w _ (λ c b j. refl)
 
 pub retire_as_lem : IsModel (retire_as Numbers)
 unfolding step_by conditions_of done_by retired_oldest stored_master
-retire_as_lem w = other_retire_lem w _ (λ k. refl) _ (λ c. refl)
+retire_as_lem w = other_retire_lem w step (λ k. refl) (λ c. retire_as Numbers (RETIRE c)) (λ c. refl)
 
 pub recover_as_lem : IsModel (recover_as is_master layout_on always_numbers)
 unfolding step_by conditions_of done_by recovered

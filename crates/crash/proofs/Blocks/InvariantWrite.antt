@@ -1,7 +1,7 @@
 -- WRITE keeps the invariant, by each of the four rules.
 -- The block's holder after the write has not closed. It is the holder before it, and it and the writer name each other;
 -- or it is the writer, and the holder before it is retired, or closed and then named by the writer.
-use Rattle.model.proofs.Base.{ℕ, ◌≡◌, refl, sym, ap, ◌∙◌, ◌≢◌, ◌⊎◌, inl, inr, ⊎_elim, ⊎_map, Bool, false, cond, ◌||◌, So, Option}
+use Rattle.model.proofs.Base.{ℕ, ◌≡◌, refl, sym, ap, ◌∙◌, subst, ◌≢◌, ◌⊎◌, inl, inr, ⊎_elim, ⊎_map, Bool, false, cond, ◌||◌, So, Option}
 use Rattle.model.proofs.Base.{none, some, List, [], ◌∷◌, ◌++◌, eqb, eqb-true, any, Bytes}
 use mathlib.Core.Bool.{or-false}
 use Rattle.model.specs.Card.{same_name}
@@ -129,11 +129,12 @@ module _ {home : ℕ → Bytes} {l : Ledger} (v : Inv home l) (w : Write) (entry
         record {
           block_inv =
               λ b. cases (eqb b w.block)
-              (λ h. rw (eqb-true b w.block h, block_equality.is_refl w.block)
+              (λ h. subst (λ (x : ℕ). BlockInv (status noted) (homed noted x) (area_before l x) (home x) (history_of noted x)) (sym (eqb-true b w.block h))
+              (rw (block_equality.is_refl w.block)
               (block_inv_write (status noted) (sound_of noted noted_known noted_retired) (homed noted w.block) (area_before l w.block) (home w.block)
               (event_of w) (history_of l w.block) open_after
               (record { writer_holder = writer_holder; stored = λ r. clash (retired_closed (entry w.holder).stage r) open_after })
-              next (noted_block_inv w.block)))
+              next (noted_block_inv w.block))))
               (λ h. rw h (noted_block_inv b));
           took = λ b u m. noted_took b u (more b u m);
           taken =

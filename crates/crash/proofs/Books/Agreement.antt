@@ -15,7 +15,7 @@ use Rattle.crash.specs.Service.{Service, empty_service, noted, cut_service, fed,
 use Rattle.crash.specs.Ledger.{Ledger, fresh_ledger, blank_ledger, with_book, close_ledger, cut_ledger, first_number, recover_ledger, entered, carried_out}
 use Rattle.crash.proofs.Books.Rename.{Renamed, SameWrites, empty_renamed, close_renamed, noted_renamed, same_image, kept_saved, running_renamed}
 use Rattle.crash.proofs.Books.Tests.{clash}
-use Rattle.model.specs.Tape.{CHECKPOINT, CLOSE, CUT, Command, FORMAT, RECOVER, RETIRE, Read, STORE, WRITE, early, heard, unknown, whole}
+use Rattle.model.specs.Tape.{CHECKPOINT, CLOSE, CUT, Command, FORMAT, RECOVER, RETIRE, Read, STORE, WRITE, early, heard, unknown, whole, lamp_task, report_task}
 use Rattle.crash.specs.Claims.{Start, from_blank, from_down, start_ledger, start_service}
 use Rattle.model.specs.Shape.{new_shape}
 use Rattle.model.specs.declared.Phase.{Phase}
@@ -94,7 +94,9 @@ module _ (v : Service) (l : Ledger) where
   served_agrees : (k : Command) → PhaseFor k l.phase → Agrees v l → Agrees (served k v) (carried_out k l)
   unfolding served carried_out
   served_agrees (FORMAT c b j) h g = format_agrees g b (new_shape c b j)
-  served_agrees (WRITE task c b o d) h g = noted_agrees (WRITE task c b o d) h g
+  -- a service book that notes the writes of one task alone fails here
+  served_agrees (WRITE lamp_task c b o d) h g = noted_agrees (WRITE lamp_task c b o d) h g
+  served_agrees (WRITE report_task c b o d) h g = noted_agrees (WRITE report_task c b o d) h g
   served_agrees (CLOSE c) h g = close_agrees c h g
   served_agrees (STORE c) h g = noted_agrees (STORE c) h g
   served_agrees (CHECKPOINT c) h g = noted_agrees (CHECKPOINT c) h g

@@ -5,7 +5,7 @@ use Rattle.model.proofs.Base.{ℕ, suc, ◌+◌, ◌-◌, ◌*◌, ◌≤◌, �
 use Rattle.model.proofs.Base.{true, List, [], ◌∷◌, ◌++◌, flat_map, append_assoc, append-nil, length, take, get_or, length-append}
 use Rattle.model.proofs.Base.{list_get_or_append, take_all, take-suc, get_or_at, leb, eq-eqb, ne_eqb, le-leb, lt-leb, below, Bytes}
 use lib.Seq.{length-take-le}
-use Rattle.model.specs.Bytes.{store, block_at, part, number}
+use Rattle.model.specs.Bytes.{store, block_at}
 use Rattle.model.specs.Shape.{home_block, journal_block}
 use Rattle.model.specs.Card.{new_name, highest_of, record_size, tail_of, core_of, with_core}
 use Rattle.model.specs.Layout.{has_head, new_tag, highest_in, flag_of}

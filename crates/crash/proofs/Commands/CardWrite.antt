@@ -22,7 +22,6 @@ use Rattle.crash.proofs.Disk.Relation.{WellFormed, Limits, JournalStands, Matche
 use Rattle.crash.proofs.Disk.LedgerStages.{running_present, present_open, running_next}
 use Rattle.crash.proofs.Commands.CardFrames.{SameClosed, core_set, core_other, none_stored, journal_stays, core_stays}
 use Rattle.crash.proofs.Commands.CardRules.{writer_name_lem, Met, met_none, met_own, met_running, met_closed, rule_met, writer_after_lem, holder_after_lem}
-use Rattle.model.specs.Tape.{run}
 use Rattle.model.specs.declared.Name.{Name}
 use Rattle.model.specs.declared.Transaction.{Transaction}
 use Rattle.model.specs.declared.Core.{Core}

@@ -6,7 +6,6 @@ use Rattle.model.proofs.Base.{ap, subst, ◌∙◌, inl, inr, true, false, List,
 use Rattle.model.proofs.Base.{List·Memᴰ·head, List·Memᴰ·tail, List·Memᴰ·not-nil, List·Memᴰ·cases-cons, length, get_or, length-map}
 use Rattle.model.proofs.Base.{length-append, list_get_or_map, list_get_or_append, ext_get_or, below, Bytes}
 use lib.Seq.{get_or-append-add}
-use Rattle.model.specs.Bytes.{number}
 use Rattle.model.specs.Card.{new_name}
 use Rattle.model.specs.Layout.{Tag, new_tag, has_head, highest_in, names_from}
 use Rattle.model.specs.Journal.{journal_at, record_at, records_from, journal, name_of, tags_of, blocks_of, names_of, image_of}

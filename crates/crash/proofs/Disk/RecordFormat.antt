@@ -6,7 +6,6 @@ use Rattle.model.proofs.Base.{inl, inr, lt-ltb, ltb-true, le-leb, below, Bytes}
 use Rattle.model.specs.Bytes.{be4, part, number}
 use Rattle.model.specs.Card.{new_name}
 use Rattle.model.specs.Layout.{Tag, new_tag, distinct, is_tag, flag_of, mark, has_head, escaped, descriptor_block, commit_block, highest_in}
-use Rattle.model.specs.Journal.{journal}
 use Rattle.model.specs.declared.Shape.{Shape}
 use Rattle.model.specs.declared.Tail.{Tail}
 use Rattle.model.specs.declared.Name.{Name}

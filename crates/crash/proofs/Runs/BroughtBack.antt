@@ -212,7 +212,7 @@ unfolding world_by all
 span_onward [] w h s = onward_here s
 span_onward {l} (k ∷ ks) w h s =
     let a = command_onward k (and_left (in_span k) _ h) s in
-    let r = span_onward ks (step k w).world (and_right (in_span k) _ h) a.stands in
+    let r = span_onward {l = a.ledger} ks (step k w).world (and_right (in_span k) _ h) a.stands in
     record { ledger = r.ledger; stands = r.stands; shape = r.shape ∙ a.shape; target_same = λ b. r.target_same b ∙ a.target_same b }
 
 span_keeps : (l : Ledger) (w : World) → Related l w → SpanKeeps w

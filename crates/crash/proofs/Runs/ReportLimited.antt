@@ -65,7 +65,7 @@ point_limited {l} {w} {p} h c b o v e z =
 
 pub writes_limited : (l : Ledger) (w : World) (ps : List (Point World)) → LedgerKept l w ps → WritesLimited l ps
 writes_limited l w [] h = tt
-writes_limited l w (p ∷ ps) h = (point_limited h.0, writes_limited _ _ ps h.1)
+writes_limited l w (p ∷ ps) h = (point_limited h.0, writes_limited (entered_point p l) p.outcome.world ps h.1)
 
 pub report_limit : ReportLimit in_sequence step_at
 report_limit tape is-bytes s fits = writes_limited (start_ledger in_sequence s) (start_world s) (run step_at tape (start_world s)) (demands tape is-bytes s fits)

@@ -11,7 +11,7 @@ use lib.Dec.{leb}
 use borrow.Author.Tests.{ne_eqb, ltb-false, leb-false, lt-ltb}
 use Rattle.model.specs.Lists.{below}
 use Rattle.model.specs.Bytes.{Bytes}
-use Rattle.model.specs.Shape.{between, in_range, new_shape}
+use Rattle.model.specs.Shape.{in_range, new_shape}
 use Rattle.model.specs.Card.{blank_card, is_blank, is_up, is_down, empty_card, fresh_card, shape_of}
 use Rattle.model.specs.Command.{World, refusal, wrong_length, no_block}
 use Rattle.model.specs.Valid.{Order, in_sequence}
@@ -101,7 +101,7 @@ module _ {l : Ledger} {w : World} (b : RelatedBlank l w) where
       cases (in_range c n j) (λ e. e)
       (λ e. absurd (let p : is_blank l.phase ≡ true = rw b.ledger refl in let z : 4 ≡ 0 = rw (p, e) at h in omega arith)) in
       let r = range_test s ok in
-      plain (other refl) (related_up (at_format s r)) (record { disk = refl; memory = refl; stores = refl })
+      plain {l = l} {w = w} {k = FORMAT c n j} (other {k = FORMAT c n j} refl) (related_up (at_format s r)) (record { disk = refl; memory = refl; stores = refl })
 
   blank_carries : (k : Command) → refusal (refusals_of k l) ≡ 0 → Carried Related l w k
   unfolding refusals_of write_refusals close_refusals store_refusals checkpoint_refusals retire_refusals
@@ -147,7 +147,7 @@ module _ {l : Ledger} {w : World} (d : CardDown l w) where
   down_carries (CLOSE c) h = refused_22 _ h
   down_carries (STORE c) h = refused_22 _ h
   down_carries (CHECKPOINT c) h = refused_22 _ h
-  down_carries CUT h = plain (other refl) (related_down (cut_down d)) (record { disk = refl; memory = refl; stores = refl })
+  down_carries CUT h = plain {l = l} {w = w} {k = CUT} (other {k = CUT} refl) (related_down (cut_down d)) (record { disk = refl; memory = refl; stores = refl })
   down_carries RECOVER h = recover_carried
   down_carries (RETIRE c) h = refused_22 _ h
 
@@ -210,7 +210,7 @@ module _ {l : Ledger} {w : World} (u : RelatedUp l w) where
   up_carries (CLOSE c) fits h = close_carried c h
   up_carries (STORE c) fits h = store_carried c h
   up_carries (CHECKPOINT c) fits h = checkpoint_carried c h
-  up_carries CUT fits h = plain (other refl) (related_down (cut_at u)) (record { disk = refl; memory = refl; stores = refl })
+  up_carries CUT fits h = plain {l = l} {w = w} {k = CUT} (other {k = CUT} refl) (related_down (cut_at u)) (record { disk = refl; memory = refl; stores = refl })
   up_carries RECOVER fits h = up_23 h
   up_carries (RETIRE c) fits h = retire_carried c h
 

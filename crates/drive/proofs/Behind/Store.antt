@@ -39,7 +39,7 @@ use Rattle.crash.proofs.Commands.CardFrames.{SameClosed, record_same, contents_s
 use Rattle.drive.specs.LostCommits.{stage_without, entry_without, book_without, ledger_without}
 use Rattle.drive.proofs.Lost.Without.{Last, well_formed_without, without_running}
 use Rattle.drive.proofs.Lost.Mixed.{CommittedKnown, known_formed, last_name, commit_place, Single, whole, uncommitted_part, contents_is, contents_lost}
-use Rattle.crash.proofs.Commands.CardStore.{t, x, at, b, stage_now, within, size, closed_now, more_store, last_store, fits, is_block, elsewhere}
+use Rattle.crash.proofs.Commands.CardStore.{t, x, at, b, stage_now, within, closed_now, more_store, last_store, fits, is_block, elsewhere}
 use Rattle.crash.proofs.Disk.RecordFormat.{record_size, record_each}
 use Rattle.drive.proofs.Behind.Cached.{Cached}
 

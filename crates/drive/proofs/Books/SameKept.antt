@@ -1,6 +1,6 @@
 -- What a cut by any marks keeps. A master store, and WRITE and CLOSE after it, change nothing of what is kept without lost commits: so a
 -- lost one is not seen in the book.
-use Prim.Native.Nat.{ℕ, ◌-◌, ◌<◌}
+use Prim.Native.Nat.{ℕ, ◌<◌}
 use mathlib.Core.Path.{◌≡◌, refl, sym, ap, ◌∙◌}
 use mathlib.Core.Logic.{◌⊎◌, inl, inr}
 use mathlib.Core.Bool.{Bool, true, false, ◌||◌}
@@ -24,7 +24,6 @@ use Rattle.crash.specs.Ledger.{Ledger, with_book, carried_out, close_ledger, cut
 use Rattle.crash.proofs.Books.Tests.{clash}
 use Rattle.crash.proofs.Books.BookSteps.{write_writes}
 use Rattle.crash.proofs.Books.BookEntries.{next_name, oldest_name}
-use Rattle.crash.proofs.Books.Agreement.{down}
 use Rattle.crash.proofs.Books.Largest.{stage_of}
 use Rattle.crash.proofs.Runs.RunClaims.{HasData}
 use Rattle.crash.proofs.Runs.UpSteps.{RelatedUp, close_at}

@@ -15,7 +15,7 @@ use Rattle.model.specs.declared.Name.{Name}
 use Rattle.model.specs.declared.Phase.TheVariants.{Down}
 use Rattle.model.proofs.Lists.{cases, or_none}
 use Rattle.model.specs.Step.{next_store}
-use Rattle.crash.specs.Book.{Book, is_running, empty_book, kept_writes, blank, has_running, close_book}
+use Rattle.crash.specs.Book.{Book, is_running, empty_book, kept_writes, has_running, close_book}
 use Rattle.crash.specs.Service.{empty_service, noted, with_noted, served}
 use Rattle.crash.specs.Ledger.{Ledger, blank_ledger, carried_out, close_ledger, recover_ledger, fresh_ledger, first_number, refusals_of, format_refusals, write_refusals, close_refusals, store_refusals, checkpoint_refusals, retire_refusals}
 use Rattle.crash.proofs.Books.Tests.{clash}

@@ -96,6 +96,7 @@ made_done {behind} {bs} {w} l k other arrays clear size few =
     go : (s : DiskStore) → next_store in_sequence k w.world ≡ s → length w.since + count_of s ≤ 64 → StoreFits (stored_shape k w.world) s → MadeOf behind (bs ++ stores_of s) (drive_after k w)
     go no_store e n none_stored = rw (append-nil bs) (made_other l k e)
     go (one_store b) e n (one_stored p h) = made_store l k b e (store_place_low (stored_limits in_sequence k w.world clear) p) h size (omega arith)
+    go (whole_disk d) e n f = elim f [ ]
 
 -- A cut leaves the disk behind the barrier with the stores made, in their order, that are not marked.
 pub made_cut : {behind : Bytes} {bs : List BlockStore} {w : Drive} → MadeOf behind bs w → (marked : ℕ → Bool) → (drive_cut marked w).world.disk ≡ made_but marked 0 bs behind

@@ -14,7 +14,7 @@ use Rattle.model.specs.Bytes.{Bytes}
 use Rattle.model.specs.Card.{new_name}
 use Rattle.model.specs.declared.Name.{Name}
 use Rattle.model.proofs.Lists.{cases}
-use Rattle.crash.specs.Book.{Stage, absent, closed, committed, retired, is_running, is_closed, is_committed, is_retired, Book, kept}
+use Rattle.crash.specs.Book.{Stage, absent, committed, is_running, is_closed, is_committed, is_retired, Book, kept}
 use Rattle.crash.specs.Ledger.{record_blocks, Ledger}
 use Rattle.crash.proofs.Books.Tests.{clash}
 use Rattle.crash.proofs.Books.BookEntries.{records_same, by_stage}

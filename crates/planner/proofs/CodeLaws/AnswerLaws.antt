@@ -52,7 +52,7 @@ module _ (us : List Unretired) where
   commands_works = total_map work_of commands_left work_commands (λ u. ap (λ (n : ℕ). n + stores_left u) (closes_runs u.stage)) us
     where
       closes_runs : (g : Stage) → cond (is_running g) 1 0 ≡ closes_for g
-      closes_runs g = unfold closes_for in elim g [ absent ↦ refl | running ↦ refl | closed k ↦ refl | committed h ↦ refl | retired ↦ refl ]
+      closes_runs g = unfold closes_for in elim g as (λ (k : Stage). cond (is_running k) 1 0 ≡ closes_for k) [ absent ↦ refl | running ↦ refl | closed k ↦ refl | committed h ↦ refl | retired ↦ refl ]
 
   order_names : List Name
   order_names = map (λ (u : Unretired). u.name) (in_order us)

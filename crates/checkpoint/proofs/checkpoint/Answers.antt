@@ -1,0 +1,20 @@
+-- `checkpoint::checkpoint` meets its contract: refused as RETIRE is, with 35, or a home store.
+use Rattle.oldest.proofs.AskedLaws.{found_core, found_read}
+use Rattle.checkpoint.proofs.CommandLaws.{checkpoint_refused, all_home, home_done}
+use borrow.Author.Rules.{rules}
+use Rattle.checkpoint.proofs.checkpoint.Goals as goal
+
+pub returns-then-asked-ne0 : goal.returns-then-asked-ne0
+returns-then-asked-ne0 c = search (rules, checkpoint_refused)
+
+pub homed-done-requires : goal.homed-done-requires
+homed-done-requires c = search (rules, found_core)
+
+pub returns-then-e-done : goal.returns-then-e-done
+returns-then-e-done c = search (rules, all_home)
+
+pub stored_home-requires : goal.stored_home-requires
+stored_home-requires c = (search rules, search (rules, found_core), search (rules, found_read), search rules, search rules)
+
+pub returns : goal.returns
+returns c = search (rules, home_done)

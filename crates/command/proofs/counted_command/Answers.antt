@@ -1,0 +1,7 @@
+-- `command::counted_command` meets its contract: the count is read before, and put after.
+use Rattle.command.proofs.CountLaws.{performs}
+use borrow.Author.Rules.{rules}
+use Rattle.command.proofs.counted_command.Goals as goal
+
+pub returns : goal.returns
+returns c = (search (rules, performs), search rules, search rules)

@@ -1,0 +1,7 @@
+-- `format::set_up` meets its contract: both slices zeroed, the master in block 0, the card up.
+use Rattle.format.proofs.FormatLaws.{format_left}
+use borrow.Author.Rules.{rules}
+use Rattle.format.proofs.set_up.Goals as goal
+
+pub returns : goal.returns
+returns c = (search (rules, format_left), search rules)

@@ -1,0 +1,7 @@
+-- `images::image_at` meets its contract: block and flag as `imageAt` has them.
+use borrow.Author.Rules.{rules}
+use Rattle.images.proofs.Images.{image_is}
+use Rattle.images.proofs.newest.image_at.Goals as goal
+
+pub returns : goal.returns
+returns c = (search (rules, image_is), search rules)

@@ -1,0 +1,8 @@
+-- `layout::name_core` meets its contract: the first word of the pair.
+use borrow.Author.Rules.{rules}
+use Rattle.model.specs.Layout.{pair_at}
+use Rattle.layout.proofs.commit_block.name_core.Goals as goal
+
+pub returns : goal.returns
+unfolding pair_at
+returns c = search rules

@@ -1,0 +1,16 @@
+-- `operands::next_offset` meets its contract: behind the command, or the tape's end.
+use Rattle.operands.proofs.OffsetLaws.{next_past, next_unknown, next_early, next_whole}
+use borrow.Author.Rules.{rules}
+use Rattle.operands.proofs.next_offset.Goals as goal
+
+pub returns-then-tape-at : goal.returns-then-tape-at
+returns-then-tape-at c = search (rules, next_past)
+
+pub returns-then-is_unknown : goal.returns-then-is_unknown
+returns-then-is_unknown c = search (rules, next_unknown)
+
+pub returns-then-ends_early : goal.returns-then-ends_early
+returns-then-ends_early c = search (rules, next_early)
+
+pub returns : goal.returns
+returns c = search (rules, next_whole)

@@ -1,0 +1,13 @@
+-- `recovery::restoring::recover` meets its contract: refused, or the next store of recovery.
+use borrow.Author.Rules.{rules}
+use Rattle.recovery.proofs.RecoverLaws.{disk_long, first_master, recover_refused, recover_done}
+use Rattle.recovery.proofs.restoring.recover.Goals as goal
+
+pub returns-then-n-ne0 : goal.returns-then-n-ne0
+returns-then-n-ne0 c = search (rules, recover_refused)
+
+pub recovered-requires : goal.recovered-requires
+recovered-requires c = search (rules, disk_long, first_master)
+
+pub returns : goal.returns
+returns c = search (rules, recover_done)
