@@ -28,11 +28,16 @@ take_arguments() {
 build() {
   here=$(cd "$(dirname "$0")/.." && pwd)
   program=$here/target/bin/$name
-  if [ ! -x "$program" ]; then
+  # the kit leaves it there when it has run it, as its gate does; what it prints on an empty input is not wanted
+  local built=$here/crates/$name/out/$name
+  [ ! -x "$program" ] || return 0
+  if [ ! -x "$built" ]; then
     command -v rt >/dev/null || fail 'the program is not built, and rt, which builds it, is not there'
     echo "$name: the program is not built yet: every crate below it is proved first, about $1 minutes on two processors" >&2
-    (cd "$here" && rt check "$name" >&2) || fail 'the program could not be built'
+    (cd "$here/crates/$name" && rt run </dev/null >/dev/null) || fail 'the program could not be built'
   fi
+  mkdir -p "${program%/*}"
+  cp "$built" "$program"
 }
 
 # Runs the program from 4 to 3. It has no status: what it says on standard error is that it failed.
