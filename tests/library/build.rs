@@ -1,4 +1,4 @@
-// build.rs: links the static library that `rt staticlib firmware` writes. In `stack` every call of an entry goes through a
+// build.rs: links the static library that `bin/library` writes. In `stack` every call of an entry goes through a
 // jump of its own, which notes the stack pointer.
 
 macro_rules! entries {
