@@ -24,14 +24,14 @@ take_arguments() {
   { exec 4<&0; } 2>/dev/null || { [ $# = 1 ] && exec 4</dev/null; } || fail 'standard input is closed'
 }
 
-# Builds the program where it is not there, which takes the time given.
+# Builds the program where it is not there. rt also runs what it built, here on no input.
 build() {
   here=$(cd "$(dirname "$0")/.." && pwd)
-  program=$here/target/bin/$name
+  program=$here/crates/$name/out/$name
   if [ ! -x "$program" ]; then
     command -v rt >/dev/null || fail 'the program is not built, and rt, which builds it, is not there'
-    echo "$name: the program is not built yet: every crate below it is proved first, about $1 minutes on two processors" >&2
-    (cd "$here" && rt check "$name" >&2) || fail 'the program could not be built'
+    echo "$name: the program is not built yet: every crate below it is proved first, which takes some minutes" >&2
+    (cd "$here/crates/$name" && rt run </dev/null >/dev/null) || fail 'the program could not be built'
   fi
 }
 

@@ -318,7 +318,7 @@ def of_clause(item, references, bound, own):
 
 
 def of_items(definition, references, bound):
-    own = {definition.name, *definition.name.split("_")}
+    own = {definition.name, *definition.name.split("◌")}
     for number, item in enumerate(definition.items):
         nodes = without_marks(tree(item))
         if definition.kind == "contract":

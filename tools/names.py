@@ -10,8 +10,8 @@ import antt
 # kind: "definition", "contract", "type" (declared in src/), "kit" (a module of the kit) or "proof" (nothing may reach one)
 Node = collections.namedtuple("Node", "kind module name")
 PRELUDE = set("⊥ ¬ absurd Unit tt Dec yes no ⊔".split())  # open in every file
+KIT = set("std core".split())  # the kit's crates that a path Rattle.CRATE.. may name; any other crate must be one of the repository
 EXPORTED = re.compile(r'^pub extern "C" fn (\w+)', re.M)
-OF_CONTRACTS = set("now ⌜ ⌝".split())
 
 
 def title(node):
@@ -34,7 +34,7 @@ class Module:
         self.globs = [i for i in imports if i.name == "*"]
         self.operators = {}
         for name in [*self.definitions, *self.constructors, *self.names]:
-            for part in name.split("_") if "_" in name and not name.startswith("«") else ():
+            for part in name.split("◌") if "◌" in name and not name.startswith("«") else ():
                 self.operators.setdefault(part, name)
 
     def __str__(self):
@@ -105,20 +105,20 @@ class Sources:
     def absolute(self, module, path):
         """A module's path from its library on: behind a name of this file, or below this module."""
         if path[0] == "":
-            return (f"Rattle·{module.place[0]}", "specs", *module.place[1:], *path[1:])
+            return ("Rattle", module.place[0], "specs", *module.place[1:], *path[1:])
         if path[0] in module.modules and module.modules[path[0]].path != path:
             return self.absolute(module, (*module.modules[path[0]].path, *path[1:]))
         return path
 
     def lookup(self, path, name):
         """What a name of the module at an absolute path means."""
-        if not path[0].startswith("Rattle·"):
+        if path[0] != "Rattle" or path[1] in KIT:
             return Node("kit", ".".join(path), name)
-        crate, part, below = path[0].split("·")[1], path[1], path[2:]
+        crate, part, below = path[1], path[2], path[3:]
         if part == "proofs":
             return Node("proof", ".".join((crate, "proofs", *below)), name)
         if below[:1] == ("declared",):
-            *file, type_name = (word for word in below[1:] if word != "the-variants")
+            *file, type_name = (word for word in below[1:] if word != "TheVariants")
             return Node("type", ".".join((crate, *file)), type_name)
         found = self.own(self.module((crate, *below)), name, lambda i: i.passed_on)
         if not found:
@@ -134,8 +134,8 @@ class Sources:
             found = module.names[name]
             return self.lookup(self.absolute(module, found.path), found.name)
         for glob in filter(allowed, module.globs):
-            place = self.absolute(module, ("", *glob.path) if not glob.path[0].startswith("Rattle·") else glob.path)
-            found = self.own(self.module((place[0].split("·")[1], *place[2:])), name)
+            place = self.absolute(module, ("", *glob.path) if glob.path[0] != "Rattle" else glob.path)
+            found = self.own(self.module((place[1], *place[3:])), name)
             if found:
                 return found
         return None
@@ -143,13 +143,13 @@ class Sources:
     def meaning(self, module, word):
         """What a word of a module's text means: a name, a path, or a part of an operator; None for what it binds itself."""
         head, *rest = word.split(".")
-        if head.startswith("Rattle·") and len(rest) > 1:
+        if head == "Rattle" and len(rest) > 2:
             return self.lookup((head, *rest[:-1]), rest[-1])
         found = self.own(module, head)
         if rest and rest[-1] and head in module.modules and not self.is_member(found, rest[0]):
             return self.lookup(self.absolute(module, (head, *rest[:-1])), rest[-1])
-        if not found and word.strip("_") in module.operators:
-            found = self.own(module, module.operators[word.strip("_")])
+        if not found and word.strip("_◌") in module.operators:
+            found = self.own(module, module.operators[word.strip("_◌")])
         return found
 
     def is_member(self, node, name):
@@ -187,11 +187,9 @@ class Sources:
             raise Missing(f"{self.relative(module.file)}, {node.name}: {error}") from error
 
     def unbound(self, node, word):
-        """What a word means that the file does not define, import or bind: the prelude's, or a sign of contracts."""
+        """What a word means that the file does not define, import or bind: the prelude's."""
         if word in PRELUDE:
             return Node("kit", "Prim", word)
-        if node.kind == "contract" and word in OF_CONTRACTS:
-            return None
         raise Missing(f"{word} is neither defined nor imported")
 
     def types_in(self, node):
@@ -199,10 +197,9 @@ class Sources:
         _, text, lines = self.type_file(node)
         found = set()
         for name in set(re.findall(r"\b[A-Z]\w*", "\n".join(lines))):
-            used = re.search(rf"^use ((?:\w+::)+){name};", text, re.M)
-            if used:
-                crate, *path = used.group(1).split("::")[:-1]
-                found.add(Node("type", ".".join((node.module.split(".")[0] if crate == "crate" else crate, *path)), name))
+            if name in brought(text):
+                crate, *path, its_name = brought(text)[name]
+                found.add(Node("type", ".".join((node.module.split(".")[0] if crate == "crate" else crate, *path)), its_name))
             elif re.search(rf"^pub (?:struct|enum) {name}\b", text, re.M):
                 found.add(Node("type", node.module, name))
         return found - {node}
@@ -233,14 +230,26 @@ class Sources:
         raise Missing(f"no definition {text}" + (f"; there is {', '.join(there)}" if there else ""))
 
 
+def brought(text):
+    """What the `use` lines of a file of src/ bring there: each name with its path."""
+    found = {}
+    for path, group, one in re.findall(r"^(?:pub )?use ((?:\w+::)+)(?:\{([^}]*)\}|(\w[^;{]*));", text, re.M):
+        for part in filter(None, (part.strip() for part in (group or one).split(","))):
+            name, _, here = part.partition(" as ")
+            words = (path + name).split("::")
+            found[here or words[-1]] = words
+    return found
+
+
 def exported(text):
     """The contracts of the exported functions of a file of src/."""
     starts = list(EXPORTED.finditer(text))
     for start, end in zip(starts, [*(s.start() for s in starts[1:]), len(text)]):
         function = text[start.end() : end]
         parameters = re.findall(r"(\w+)\s*:", balanced(function, function.index("(")))
-        clauses = [balanced(function, m.end() - 1) for m in re.finditer(r"\b(?:requires|ensures)\s*\{", function)]
-        yield antt.Definition(start.group(1), "contract", [clause.strip().split("\n") for clause in clauses], parameters=parameters)
+        clauses = [balanced(function, m.end() - 1) for m in re.finditer(r"\b(?:requires|ensures)(?: \w+)?\s*\{", function)]
+        bound = [*parameters, "result"]
+        yield antt.Definition(start.group(1), "contract", [clause.strip().split("\n") for clause in clauses], parameters=bound)
 
 
 def balanced(text, start):

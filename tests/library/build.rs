@@ -1,5 +1,5 @@
-// build.rs: links the static library that `rt staticlib firmware` writes. In `stack` every call of an entry goes through a
-// jump of its own, which notes the stack pointer.
+// build.rs: links the static library that bin/library leaves. In `stack` every call of an entry goes through a jump of its own, which
+// notes the stack pointer.
 
 macro_rules! entries {
     ($($entry:literal),*) => { const ENTRIES: &[&str] = &[$($entry),*]; };

@@ -1,5 +1,6 @@
-// The exported entries. A foreign caller lends the cells, the tape and both slices; no entry asks for anything. No part of a slice
-// crosses the boundary, so reading without copying answers where the part stands.
+// The entries, which crate firmware_c exports to foreign callers under these names and with these clauses. A caller lends the cells,
+// the tape and both slices; no entry asks for anything. No part of a slice crosses the boundary, so reading without copying answers
+// where the part stands.
 ghost use Rattle.std.specs.Prelude.{◌≡◌, length};
 ghost use Rattle.model.specs.Card.{blank_card, down_card};
 ghost use Rattle.model.specs.Reading.{read_number};
@@ -12,24 +13,21 @@ use crate::session::{Part, Reply, Stop};
 use model::Shape;
 
 // A card before its FORMAT.
-#[unsafe(no_mangle)]
-pub extern "C" fn rev_d_blank(w: &mut [u64; 423])
+pub fn rev_d_blank(w: &mut [u64; 423])
     ensures { w.new ≡ cells_of blank_card 0 }
 {
     crate::session::blank(w);
 }
 
 // A card that is down, over a disk written elsewhere.
-#[unsafe(no_mangle)]
-pub extern "C" fn rev_d_down(w: &mut [u64; 423])
+pub fn rev_d_down(w: &mut [u64; 423])
     ensures { w.new ≡ cells_of down_card 0 }
 {
     crate::session::down(w);
 }
 
 // The command at an offset of a tape.
-#[unsafe(no_mangle)]
-pub extern "C" fn rev_d_command(
+pub fn rev_d_command(
     w: &mut [u64; 423],
     tape: &[u8],
     at: usize,
@@ -43,13 +41,7 @@ pub extern "C" fn rev_d_command(
 }
 
 // Every command of a tape.
-#[unsafe(no_mangle)]
-pub extern "C" fn rev_d_tape(
-    w: &mut [u64; 423],
-    tape: &[u8],
-    disk: &mut [u8],
-    memory: &mut [u8],
-) -> Stop
+pub fn rev_d_tape(w: &mut [u64; 423], tape: &[u8], disk: &mut [u8], memory: &mut [u8]) -> Stop
     ensures { RunsTape tape.now w.old disk.old memory.old
         w.new disk.new memory.new result }
 {
@@ -57,24 +49,21 @@ pub extern "C" fn rev_d_tape(
 }
 
 // The number that reading block b answers, 0 for none.
-#[unsafe(no_mangle)]
-pub extern "C" fn rev_d_read_number(w: &[u64; 423], b: u16, disk: &[u8], memory: &[u8]) -> u8
+pub fn rev_d_read_number(w: &[u64; 423], b: u16, disk: &[u8], memory: &[u8]) -> u8
     ensures { result ≡ read_number b (world_in w.now disk.now memory.now) }
 {
     crate::session::read_number(w, b, disk, memory)
 }
 
 // Where the bytes of block b stand.
-#[unsafe(no_mangle)]
-pub extern "C" fn rev_d_read_part(w: &[u64; 423], b: u16, disk: &[u8], memory: &[u8]) -> Part
+pub fn rev_d_read_part(w: &[u64; 423], b: u16, disk: &[u8], memory: &[u8]) -> Part
     ensures { result ≡ part_in b (world_in w.now disk.now memory.now) }
 {
     crate::session::read_part(w, b, disk, memory)
 }
 
 // Block b copied into a lent buffer; a refusal touches no byte of it.
-#[unsafe(no_mangle)]
-pub extern "C" fn rev_d_read_block<'a>(
+pub fn rev_d_read_block<'a>(
     w: &[u64; 423],
     b: u16,
     disk: &'a [u8],
@@ -89,24 +78,21 @@ pub extern "C" fn rev_d_read_block<'a>(
 
 // How much work it is until the journals are empty: number, commands, stores, count, then the names in order, each 8 * number + core, and
 // zeros.
-#[unsafe(no_mangle)]
-pub extern "C" fn rev_d_plan(w: &[u64; 423], disk: &[u8], memory: &[u8], out: &mut [u64; 116])
+pub fn rev_d_plan(w: &[u64; 423], disk: &[u8], memory: &[u8], out: &mut [u64; 116])
     ensures { PlansCard w.now disk.now memory.now out.new }
 {
     crate::session::lay_plan(w, disk, memory, out);
 }
 
 // How many lines the journal page of a disk has.
-#[unsafe(no_mangle)]
-pub extern "C" fn rev_d_page_lines(disk: &[u8]) -> usize
+pub fn rev_d_page_lines(disk: &[u8]) -> usize
     ensures { result ≡ length (page_of disk.now) }
 {
     journal_page::page_lines(disk)
 }
 
 // Line i of that page, from 0, laid into a lent buffer of 65 bytes; another length is answered with 1, and no byte is touched.
-#[unsafe(no_mangle)]
-pub extern "C" fn rev_d_page_line(disk: &[u8], i: usize, buffer: &mut [u8]) -> u8
+pub fn rev_d_page_line(disk: &[u8], i: usize, buffer: &mut [u8]) -> u8
     ensures { (result ≡ lay_number buffer.old)
         × (buffer.new ≡ laid (line_at disk.now i) buffer.old) }
 {

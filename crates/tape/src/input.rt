@@ -1,6 +1,8 @@
 // Bytes read. A read hands over what is there, so the program waits only where nothing is.
 ghost use Rattle.std.specs.Prelude.{◌+◌, ◌≤◌, ◌≡◌, length};
 
+use std::io::Read;
+
 // How many bytes are there, and whether the read failed.
 #[derive(Clone, Copy)]
 pub struct Got {
@@ -24,22 +26,27 @@ pub fn move_down(bytes: &mut [u8], from: usize, to: usize) -> usize
 }
 
 // What is there read into the slice: how many bytes, 0 at the end of the input.
-fn read_into(bytes: &mut [u8]) -> Got
+fn read_into<R: Read>(input: &mut R, bytes: &mut [u8]) -> Got
     ensures { result.size ≤ length bytes.old }
 {
-    let got = libc::read(0, bytes);
-    Got {
-        size: io::count(got, bytes),
-        failed: got < 0,
+    match input.read(bytes) {
+        Ok(size) => Got {
+            size,
+            failed: false,
+        },
+        Err(_) => Got {
+            size: 0,
+            failed: true,
+        },
     }
 }
 
 // The same behind the first bytes: how many there are then.
-pub fn read_behind(bytes: &mut [u8], size: usize) -> Got
+pub fn read_behind<R: Read>(input: &mut R, bytes: &mut [u8], size: usize) -> Got
     requires { size ≤ length bytes.old }
     ensures { result.size ≤ length bytes.old }
 {
-    let got = read_into(&mut bytes[size..]);
+    let got = read_into(input, &mut bytes[size..]);
     Got {
         size: size + got.size,
         failed: got.failed,

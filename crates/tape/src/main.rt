@@ -8,13 +8,14 @@ ghost use Rattle.std.specs.Prelude.{◌≤◌, ◌≡◌, length};
 ghost use Rattle.model.specs.Limits.{disk_size};
 
 use model::Shape;
+use std::io::{Read, Write};
 
 mod input; // bytes read
 mod output; // text that waits to be written
 
 // Where the program stands: the offset of the next command on the tape; its place in the bytes read, and where these end; how much
 // text waits; whether the input has ended, whether the tape goes on, and what failed.
-#[derive(Drop)]
+#[derive(Clone, Copy)]
 struct Course {
     offset: u64,
     from: usize,
@@ -27,7 +28,8 @@ struct Course {
 }
 
 // One command: run, and its line put behind the text that waits.
-fn step(
+fn step<W: Write>(
+    output: &mut W,
     c: Course,
     bytes: &[u8],
     w: &mut [u64; 423],
@@ -39,7 +41,7 @@ fn step(
     ensures { (result.from ≤ result.size) × (result.size ≡ c.size) × (result.used ≤ 65536) }
 {
     let mut next = c;
-    let p = output::with_room(text, c.used);
+    let p = output::with_room(output, text, c.used);
     if p.failed {
         next.used = 0;
         next.more = false;
@@ -57,7 +59,8 @@ fn step(
 }
 
 // Every command that is whole in what was read.
-fn run_whole(
+fn run_whole<W: Write>(
+    output: &mut W,
     begin: Course,
     bytes: &[u8],
     w: &mut [u64; 423],
@@ -76,7 +79,7 @@ fn run_whole(
         if operands::ends_early(&bytes[from..to], 0) {
             return c;
         }
-        c = step(c, bytes, w, disk, memory, text);
+        c = step(output, c, bytes, w, disk, memory, text);
         let more = c.more;
         if !more {
             return c;
@@ -87,20 +90,26 @@ fn run_whole(
 }
 
 // What is there read behind the bytes that wait. Before that, which may take long, all that is printed is written.
-fn refill(c: Course, bytes: &mut [u8], text: &[u8]) -> Course
+fn refill<R: Read, W: Write>(
+    input: &mut R,
+    output: &mut W,
+    c: Course,
+    bytes: &mut [u8],
+    text: &[u8],
+) -> Course
     requires { (c.size ≤ length bytes.old) × (c.used ≤ length text.now) }
     ensures { (result.from ≡ c.from) × (result.size ≤ length bytes.old) × (result.used ≡ 0) }
 {
     let mut next = c;
     next.used = 0;
     next.more = false;
-    let p = output::flush(text, c.used);
+    let p = output::flush(output, text, c.used);
     next.unwritten = p.failed;
     if p.failed {
         return next;
     }
     let size = c.size;
-    let got = input::read_behind(bytes, size);
+    let got = input::read_behind(input, bytes, size);
     next.size = got.size;
     next.unread = got.failed;
     next.ended = got.size == size;
@@ -109,7 +118,8 @@ fn refill(c: Course, bytes: &mut [u8], text: &[u8]) -> Course
 }
 
 // The end of the input: bytes that are left are a command whose operands end early.
-fn run_last(
+fn run_last<W: Write>(
+    output: &mut W,
     c: Course,
     w: &mut [u64; 423],
     disk: &mut [u8],
@@ -122,7 +132,7 @@ fn run_last(
 {
     let mut last = c;
     if 0 < c.size {
-        last = step(c, bytes, w, disk, memory, text);
+        last = step(output, c, bytes, w, disk, memory, text);
     }
     last.from = 0;
     last.size = 0;
@@ -132,7 +142,8 @@ fn run_last(
 
 // What was read is run: every whole command, and where the input has ended what is left. Bytes of a command that is not whole come to
 // the front.
-fn run_read(
+fn run_read<W: Write>(
+    output: &mut W,
     c: Course,
     w: &mut [u64; 423],
     disk: &mut [u8],
@@ -144,16 +155,18 @@ fn run_read(
     ensures { (result.from ≡ 0) × (result.size ≤ length bytes.old) × (result.used ≤ 65536) }
 {
     if c.ended {
-        return run_last(c, w, disk, memory, bytes, text);
+        return run_last(output, c, w, disk, memory, bytes, text);
     }
-    let mut next = run_whole(c, bytes, w, disk, memory, text);
+    let mut next = run_whole(output, c, bytes, w, disk, memory, text);
     next.size = input::move_down(bytes, next.from, next.size);
     next.from = 0;
     next
 }
 
 // The whole tape. The budget only shows that the loop ends: no input reaches it.
-fn run_tape(
+fn run_tape<R: Read, W: Write>(
+    input: &mut R,
+    output: &mut W,
     w: &mut [u64; 423],
     disk: &mut [u8],
     memory: &mut [u8],
@@ -175,12 +188,12 @@ fn run_tape(
     };
     let mut turns = u64::MAX;
     while 0 < turns {
-        c = refill(c, bytes, text);
+        c = refill(input, output, c, bytes, text);
         let ready = c.more;
         if !ready {
             return c;
         }
-        c = run_read(c, w, disk, memory, bytes, text);
+        c = run_read(output, c, w, disk, memory, bytes, text);
         let more = c.more;
         if !more {
             return c;
@@ -206,37 +219,57 @@ fn put_homes(text: &mut [u8], numbers: &[u8], n: usize, disk: &[u8]) -> usize
 }
 
 // What waits is written, then the home blocks that are not all zero: whether it all was.
-fn print_homes(used: usize, w: &[u64; 423], disk: &[u8], text: &mut [u8]) -> bool
+fn print_homes<W: Write>(
+    output: &mut W,
+    used: usize,
+    w: &[u64; 423],
+    disk: &[u8],
+    text: &mut [u8],
+) -> bool
     requires { (used ≤ 65536) × (length text.old ≡ 65536) × (length disk.now ≡ disk_size) }
 {
-    let p = output::flush(text, used);
+    let p = output::flush(output, text, used);
     if p.failed {
         return false;
     }
     let mut numbers = [0u8; 256];
     let n = lines::homes::home_blocks(w, disk, &mut numbers);
     let more = put_homes(text, &numbers, n, disk);
-    let q = output::flush(text, more);
+    let q = output::flush(output, text, more);
     !q.failed
 }
 
-fn main() {
+// A line on standard error. Where that cannot be written either, nobody is left to tell.
+fn say(rt: &impl Eprint, line: &str) {
+    let _ = rt.eprintln(line);
+}
+
+fn main(rt: HostRuntime) {
     let mut state = [0u64; 423];
     let mut disk = [0u8; Shape::DISK_SIZE];
     let mut memory = [0u8; Shape::MEMORY_SIZE];
     let mut bytes = [0u8; 65536];
     let mut text = [0u8; 65536];
     firmware::session::blank(&mut state);
-    let c = run_tape(&mut state, &mut disk, &mut memory, &mut bytes, &mut text);
+    let mut output = rt.stdout();
+    let c = run_tape(
+        &mut rt.stdin(),
+        &mut output,
+        &mut state,
+        &mut disk,
+        &mut memory,
+        &mut bytes,
+        &mut text,
+    );
     if c.unread {
-        io::write_all(2, b"tape: standard input cannot be read\n");
+        say(&rt, "tape: standard input cannot be read");
         return;
     }
     let mut written = !c.unwritten;
     if written {
-        written = print_homes(c.used, &state, &disk, &mut text);
+        written = print_homes(&mut output, c.used, &state, &disk, &mut text);
     }
     if !written {
-        io::write_all(2, b"tape: standard output cannot be written\n");
+        say(&rt, "tape: standard output cannot be written");
     }
 }

@@ -1,7 +1,9 @@
 // Text that waits in a buffer of 65,536 bytes, and is written in large pieces.
-ghost use Rattle.std.specs.Prelude.{◌+◌, ◌≤◌, ◌<◌, ◌≡◌, length};
+ghost use Rattle.std.specs.Prelude.{◌+◌, ◌≤◌, ◌<◌, ◌≡◌, length, take, decimal};
 
+use itoa::Buffer;
 use lines::turn::Turn;
+use std::io::Write;
 
 // How much text waits, and whether a write failed.
 #[derive(Clone, Copy)]
@@ -11,11 +13,11 @@ pub struct Waiting {
 }
 
 // What waits written.
-pub fn flush(text: &[u8], used: usize) -> Waiting
+pub fn flush<W: Write>(output: &mut W, text: &[u8], used: usize) -> Waiting
     requires { used ≤ length text.now }
     ensures { result.used ≡ 0 }
 {
-    let done = io::write_all(1, &text[..used]);
+    let done = output.write_all(&text[..used]).is_ok();
     Waiting {
         used: 0,
         failed: !done,
@@ -23,7 +25,7 @@ pub fn flush(text: &[u8], used: usize) -> Waiting
 }
 
 // Room for a line: what waits is written where there is none.
-pub fn with_room(text: &[u8], used: usize) -> Waiting
+pub fn with_room<W: Write>(output: &mut W, text: &[u8], used: usize) -> Waiting
     requires { (length text.now ≡ 65536) × (used ≤ 65536) }
     ensures { result.used + 128 ≤ 65536 }
 {
@@ -33,7 +35,7 @@ pub fn with_room(text: &[u8], used: usize) -> Waiting
             failed: false,
         };
     }
-    flush(text, used)
+    flush(output, text, used)
 }
 
 // The first n bytes put behind what waits: how much waits then.
@@ -47,6 +49,18 @@ fn put(text: &mut [u8], used: usize, bytes: &[u8], n: usize) -> usize
         i += 1;
     }
     used + n
+}
+
+// A number's decimal digits at the start of an array, which has room for the longest: how many they are.
+fn lay_digits(n: u64, digits: &mut [u8; 20]) -> usize
+    ensures in_bounds { result ≤ 20 }
+    ensures laid { take result digits.new ≡ decimal n }
+{
+    let mut buffer = Buffer::new();
+    let text = buffer.format(n).as_bytes();
+    let k = text.len();
+    digits[..k].copy_from_slice(text);
+    k
 }
 
 // A number of eight bytes has no more digits.
@@ -69,7 +83,7 @@ fn put_number(text: &mut [u8], used: usize, n: u64, end: u8) -> usize
     ensures { result ≤ used + 21 }
 {
     let mut digits = [0u8; 20];
-    let k = at_most_20(io::decimal(n, &mut digits));
+    let k = at_most_20(lay_digits(n, &mut digits));
     let at = put_digits(text, used, &digits, k);
     text[at] = end;
     at + 1

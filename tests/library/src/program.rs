@@ -8,7 +8,7 @@ pub const ROOT: &str = concat!(env!("CARGO_MANIFEST_DIR"), "/../..");
 
 /// A program by its name, not begun yet.
 pub fn program(name: &str) -> Command {
-    Command::new(format!("{ROOT}/target/bin/{name}"))
+    Command::new(format!("{ROOT}/crates/{name}/out/{name}"))
 }
 
 /// The program, begun; standard input, output and error are those of the child.

@@ -94,7 +94,7 @@ fn deepest(all: &Functions, name: &str) -> (usize, Vec<(String, usize)>) {
 
 fn main() {
     let out = Command::new("objdump").args(["-dr", "--no-show-raw-insn", LIBRARY]).output().expect("objdump runs");
-    assert!(out.status.success(), "no library: run `rt staticlib firmware`");
+    assert!(out.status.success(), "no library: run bin/library");
     let all = functions(&String::from_utf8_lossy(&out.stdout));
     let mut by_frame: Vec<_> = all.iter().collect();
     by_frame.sort_by_key(|(_, function)| std::cmp::Reverse(function.frame));

@@ -23,18 +23,18 @@ const COMMANDS_PER_FILE: usize = 150;
 
 const HEAD: &str = "-- Computed facts: the definitions' runs of tapes end as those of the model card.
 use Prim.Native.Nat.{ℕ}
-use mathlib.Core.Path.{_≡_, refl}
-use mathlib.Core.List.{List, [], _∷_}
+use mathlib.Core.Path.{◌≡◌, refl}
+use mathlib.Core.List.{List, [], ◌∷◌}
 use mathlib.Core.Bool.{Bool, true, false}
-use Rattle·model.specs.Bytes.{Bytes, padded, zeroDisk, zeroMemory}
-use Rattle·model.specs.Shape.{newShape}
-use Rattle·model.specs.Card.{blankCard, downCard}
-use Rattle·model.specs.declared.CommitLayout.the-variants.{Lists, Numbers}
-use Rattle·model.specs.Printing.{Line, blankWorld}
-use Rattle·model.proofs.Computes.{computes}
-use Rattle·seen.specs.Seen.{Seen, Read, Met, noise, laid, resized, endOf, seen, met, line, read, against, changed, sees}
-use Rattle·seen.specs.Told.{told, mark, areaSum, tells}
-use Rattle·crash.specs.Claims.{from-blank, from-down}
+use Rattle.model.specs.Bytes.{Bytes, padded, zero_disk, zero_memory}
+use Rattle.model.specs.Shape.{new_shape}
+use Rattle.model.specs.Card.{blank_card, down_card}
+use Rattle.model.specs.declared.CommitLayout.TheVariants.{Lists, Numbers}
+use Rattle.model.specs.Printing.{Line, blank_world}
+use Rattle.model.proofs.Computes.{computes}
+use Rattle.seen.specs.Seen.{Seen, Read, Met, noise, laid, resized, end_of, seen, met, line, read, against, changed, sees}
+use Rattle.seen.specs.Told.{told, mark, area_sum, tells}
+use Rattle.crash.specs.Claims.{from_blank, from_down}
 ";
 
 /// What is changed in the fact about SHORT, to see that it is then refused.
@@ -160,7 +160,7 @@ fn make_tape(random: &mut Random, start: &Start, shape: Shape, most: usize) -> V
 
 impl Start {
     fn blank() -> Start {
-        Start::new(Card::blank(), vec![0; DISK], "zeroDisk".into(), 0)
+        Start::new(Card::blank(), vec![0; DISK], "zero_disk".into(), 0)
     }
 
     /// Memory is zero for seed 0 and noise for others.
@@ -186,9 +186,9 @@ impl Start {
     fn of_books(&self) -> Option<String> {
         let memory = &self.memory_text;
         match (self.card.phase, self.formatted) {
-            (Phase::Blank, _) => Some(format!("from-blank ({}) ({memory})", self.disk_text)),
+            (Phase::Blank, _) => Some(format!("from_blank ({}) ({memory})", self.disk_text)),
             (_, Some((layout, Shape { cores, blocks, journal }))) => {
-                Some(format!("from-down {layout:?} (newShape {cores} {blocks} {journal}) ({memory})"))
+                Some(format!("from_down {layout:?} (new_shape {cores} {blocks} {journal}) ({memory})"))
             }
             _ => None,
         }
@@ -217,8 +217,8 @@ fn noise(count: usize, seed: u64) -> Vec<u8> {
 
 fn base(count: usize, seed: u64) -> (Vec<u8>, String) {
     match seed {
-        0 if count == DISK => (vec![0; count], "zeroDisk".into()),
-        0 => (vec![0; count], "zeroMemory".into()),
+        0 if count == DISK => (vec![0; count], "zero_disk".into()),
+        0 => (vec![0; count], "zero_memory".into()),
         _ => (noise(count, seed), format!("noise {count} {seed}")),
     }
 }
@@ -317,7 +317,7 @@ impl Facts {
     fn area(&mut self, start: &Start) {
         if let Some(area) = recovered_area(&start.disk).filter(|area| area.len() <= 8 * BLOCK) {
             self.areas += 1;
-            let left = format!("areaSum ({})", start.disk_text);
+            let left = format!("area_sum ({})", start.disk_text);
             self.put("what recovery gives", &left, &checksum(0, &area).to_string());
         }
     }
@@ -336,7 +336,7 @@ impl Facts {
         let outcome = card.command(&mut disk, &mut memory, tape, at);
         self.count(&[outcome.answer], false);
         let left = format!(
-            "met {} {at} (resized {disk_size} {memory_size} (endOf {} blankWorld))",
+            "met {} {at} (resized {disk_size} {memory_size} (end_of {} blank_world))",
             byte_list(tape),
             byte_list(before)
         );
@@ -483,7 +483,7 @@ impl Ran {
     /// Both sides of the equations with what ledger and service book tell; each is computed by itself.
     fn told_facts(&self, start: &Start, tape: &[u8], books: &str) -> [(String, String); 3] {
         let (against, memory) = changes(&start.memory, &self.memory);
-        let told = |field: &str| format!("(told {} ({books}) {against}) .{field}", byte_list(tape));
+        let told = |field: &str| format!("(told {} ({books}) {against}).{field}", byte_list(tape));
         let mark = |(line, mark): (&String, &Mark)| format!("mark ({line}) {} {}", mark.memory, mark.reading);
         let marks = list(self.lines.iter().zip(&self.marks).rev().map(mark).collect());
         [(told("marks"), marks), (told("memory"), memory), (told("area"), self.area.to_string())]
@@ -491,7 +491,7 @@ impl Ran {
 
     /// Both sides of the equation: lines, home blocks, every byte, state and readings of some blocks at the end.
     fn fact(&self, start: &Start, tape: &[u8], blocks: &[usize]) -> (String, String) {
-        let card = if start.card.phase == Phase::Down { "downCard" } else { "blankCard" };
+        let card = if start.card.phase == Phase::Down { "down_card" } else { "blank_card" };
         let (disk_against, disk) = changes(&start.disk, &self.disk);
         let (memory_against, memory) = changes(&start.memory, &self.memory);
         let slices = format!("({}) ({}) {disk_against} {memory_against}", start.disk_text, start.memory_text);
@@ -513,8 +513,8 @@ impl Ran {
 }
 
 fn fact_text(number: usize, title: &str, left: &str, right: &str) -> String {
-    let claim = format!("-- {title}\npub fact-{number} :\n    {left}\n    ≡ {right}");
-    format!("\n{claim}\nunfolding computes sees tells\nfact-{number} = refl\n")
+    let claim = format!("-- {title}\npub fact_{number} :\n    {left}\n    ≡ {right}");
+    format!("\n{claim}\nunfolding computes sees tells\nfact_{number} = refl\n")
 }
 
 /// The number that the definition `checksum` gives.
@@ -550,7 +550,7 @@ fn homes(card: &Card, disk: &[u8]) -> String {
     list(shown.map(|b| format!("({b}, {})", byte_list(&bytes(b)[..8]))).collect())
 }
 
-/// The card's state as numbers, in the order of the definition `stateWords`.
+/// The card's state as numbers, in the order of the definition `state_words`.
 fn state(card: &Card) -> Vec<u64> {
     match card.phase {
         Phase::Blank => return vec![0],
