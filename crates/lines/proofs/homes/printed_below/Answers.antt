@@ -1,5 +1,4 @@
 -- `lines::homes::printed_below` meets its contract. Invariant: those below b are put.
-use Rattle.lines.specs.Lines.{is_printed}
 use Rattle.lines.proofs.PageLaws.{grown_few, printed_none, printed_more, printed_end}
 use borrow.Author.Rules.{rules}
 use Rattle.lines.proofs.homes.printed_below.Goals as goal
