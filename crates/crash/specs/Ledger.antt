@@ -311,8 +311,8 @@ store_refusals c l = not_up_for c l ((not (has_closed l.book c), 30) ∷ [])
 unfoldable pub shares_lower_in : Ledger → Name → Bool
 shares_lower_in l t =
     let k = l.book in
-    let isLower : Name → Bool = λ u. is_closed (k.entry u).stage && not (is_retired (k.entry u).stage) && ltb (l.stamp u) (l.stamp t) in
-    any (λ (u : Name). isLower u && share (k.entry t).blocks (k.entry u).blocks) k.opened
+    let is_lower : Name → Bool = λ u. is_closed (k.entry u).stage && not (is_retired (k.entry u).stage) && ltb (l.stamp u) (l.stamp t) in
+    any (λ (u : Name). is_lower u && share (k.entry t).blocks (k.entry u).blocks) k.opened
 
 -- what CHECKPOINT and RETIRE both ask, then each its own
 abbrev pub oldest_refusals : ℕ → Ledger → List (Bool × ℕ) → List (Bool × ℕ)

@@ -60,10 +60,10 @@ home_since ks t = any (is_home_of t) ks
 
 -- whether the commit of t, which the test tells, is lost with the marked stores, the newest first: 'lowest bit for the first store since
 -- the barrier'; 'bits beyond the last store mean nothing'
-module _ {A : Type 0} (isOfName : Name → A → Bool) (marked : ℕ → Bool) where
+module _ {A : Type 0} (is_of_name : Name → A → Bool) (marked : ℕ → Bool) where
   abbrev pub lost_among : List A → Name → Bool
   lost_among [] t = false
-  lost_among (k ∷ ks) t = cond (isOfName t k) (marked (length ks)) (lost_among ks t)
+  lost_among (k ∷ ks) t = cond (is_of_name t k) (marked (length ks)) (lost_among ks t)
 
 abbrev pub lost_since : (ℕ → Bool) → List StoreKind → Name → Bool
 lost_since marked ks t = lost_among is_commit_of marked ks t

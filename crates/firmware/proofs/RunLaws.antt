@@ -177,14 +177,14 @@ are_bytes s h =
     (λ x m. let g = mem_get_or m 0 in lt-ltb x 256 (subst (λ (y : ℕ). y < 256) g.2 (h g.0)))
 
 -- ---- the demands, of the run over lent slices
-module _ (t : Bytes) (w : World) (tape-bytes : IsBytes t) (disk_bytes : IsBytes w.disk) (memory_bytes : IsBytes w.memory) where
+module _ (t : Bytes) (w : World) (tape_bytes : IsBytes t) (disk_bytes : IsBytes w.disk) (memory_bytes : IsBytes w.memory) where
   -- what is shown of every start holds of a world that is one
   from_start : (Holds : Start → World → List (Point World) → Type 0)
       → ((t : Bytes) → IsBytes t → (s : Start) → StartFits s → Holds s (start_world s) (run step_at t (start_world s)))
       → (s : Start) → Stated s → w ≡ start_world s → Holds s w (run step_at t w)
   from_start Holds shown s h e =
       subst (λ (w : World). Holds s w (run step_at t w)) (sym e)
-      (shown t tape-bytes s
+      (shown t tape_bytes s
       (record { stated = h; disk = subst (λ (w : World). IsBytes w.disk) e disk_bytes; memory = subst (λ (w : World). IsBytes w.memory) e memory_bytes }))
 
   pub demands_met : DemandsMet t w

@@ -132,9 +132,9 @@ module _ (y : CommitLayout) (s : Shape) (d : Bytes) (c a : ℕ) (xs zs : List �
         let k = hit_known y s d c w.number w.at w.left r e x z in
         let ys' = set ys (a + n) q in
         let us' = set us (a + n) x.stamp in
-        let at-ys : get_or ys' (a + n) 0 ≡ q = get_or-set_same ys (a + n) q 0 (omega (arith, b.long_extents, read_room)) in
-        let at-us : get_or us' (a + n) 0 ≡ x.stamp = get_or-set_same us (a + n) x.stamp 0 (omega (arith, b.long_stamps, read_room)) in
-        let this : record_in ys' us' c (v.number + n) (a + n) ≡ x = rw (at-ys, at-us, p, f, ← b.number, ← k.0.number, ← k.0.core) in
+        let at_ys : get_or ys' (a + n) 0 ≡ q = get_or-set_same ys (a + n) q 0 (omega (arith, b.long_extents, read_room)) in
+        let at_us : get_or us' (a + n) 0 ≡ x.stamp = get_or-set_same us (a + n) x.stamp 0 (omega (arith, b.long_stamps, read_room)) in
+        let this : record_in ys' us' c (v.number + n) (a + n) ≡ x = rw (at_ys, at_us, p, f, ← b.number, ← k.0.number, ← k.0.core) in
         let before : run_in ys' us' c v.number a n ≡ run_in ys us c v.number a n =
         run_same ys us ys' us' (a + n) (set_same ys (a + n) q (a + n) (omega arith)) (set_same us (a + n) x.stamp (a + n) (omega arith)) c v.number a n (omega arith) in
         let now : run_in ys' us' c v.number a (n + 1) ≡ run_in ys us c v.number a n ++ (x ∷ []) =
@@ -245,35 +245,35 @@ module _ (y : CommitLayout) (s : Shape) (d : Bytes) (ts : List Tail) (most : Lis
       all_more =
           let in_start : c < length start = omega (arith, v.starts, l.few_cores) in
           let in_count : c < length count = omega (arith, v.counts, l.few_cores) in
-          let at-start : get_or (set start c n) c 0 ≡ n = get_or-set_same start c n 0 in_start in
+          let at_start : get_or (set start c n) c 0 ≡ n = get_or-set_same start c n 0 in_start in
           let at_count : get_or (set count c m) c 0 ≡ m = get_or-set_same count c m 0 in_count in
-          let other-start : (b : ℕ) → b < c → get_or (set start c n) b 0 ≡ get_or start b 0 = λ b g. get_or-set_other start c b n 0 (omega arith) in
-          let other-count : (b : ℕ) → b < c → get_or (set count c m) b 0 ≡ get_or count b 0 = λ b g. get_or-set_other count c b m 0 (omega arith) in
+          let other_start : (b : ℕ) → b < c → get_or (set start c n) b 0 ≡ get_or start b 0 = λ b g. get_or-set_other start c b n 0 (omega arith) in
+          let other_count : (b : ℕ) → b < c → get_or (set count c m) b 0 ≡ get_or count b 0 = λ b g. get_or-set_other count c b m 0 (omega arith) in
           record {
             journals =
                 λ b g.
                 elim (dec_lt b c) [
-                  | yes lt ↦ rw (other-start b lt, other-count b lt)
+                  | yes lt ↦ rw (other_start b lt, other_count b lt)
                       (run_same xs zs ys us n r.extents r.stamps b (tail_for ts b).number (get_or start b 0) (get_or count b 0) (v.within b lt) ∙ v.journals b lt)
-                  | no ge ↦ let z : b ≡ c = omega arith in rw (z, at-start, at_count) (rw e at r.journal)
+                  | no ge ↦ let z : b ≡ c = omega arith in rw (z, at_start, at_count) (rw e at r.journal)
                 ];
             behind =
                 λ b g.
                 elim (dec_lt b c) [
-                  | yes lt ↦ rw (other-start b lt, total_set count c m b (omega arith)) (v.behind b lt)
-                  | no ge ↦ let z : b ≡ c = omega arith in rw (z, at-start, total_set count c m c (omega arith)) v.all
+                  | yes lt ↦ rw (other_start b lt, total_set count c m b (omega arith)) (v.behind b lt)
+                  | no ge ↦ let z : b ≡ c = omega arith in rw (z, at_start, total_set count c m c (omega arith)) v.all
                 ];
             few =
                 λ b g.
                 elim (dec_lt b c) [
-                  | yes lt ↦ rw (other-count b lt) (v.few b lt)
+                  | yes lt ↦ rw (other_count b lt) (v.few b lt)
                   | no ge ↦ let z : b ≡ c = omega arith in rw (z, at_count) r.few
                 ];
             within =
                 λ b g.
                 elim (dec_lt b c) [
-                  | yes lt ↦ rw (other-start b lt, other-count b lt) (omega (arith, v.within b lt))
-                  | no ge ↦ let z : b ≡ c = omega arith in rw (z, at-start, at_count) (omega arith)
+                  | yes lt ↦ rw (other_start b lt, other_count b lt) (omega (arith, v.within b lt))
+                  | no ge ↦ let z : b ≡ c = omega arith in rw (z, at_start, at_count) (omega arith)
                 ];
             all =
                 rw (add-one, below, total_last (λ (i : ℕ). get_or (set count c m) i 0) (below c) c, at_count, total_set count c m c (omega arith))

@@ -21,7 +21,7 @@ use Rattle.model.specs.declared.Tail.{Tail}
 use Rattle.model.specs.declared.CommitLayout.{CommitLayout}
 use Rattle.model.specs.declared.Committed.{Committed}
 use Rattle.model.specs.declared.RecordRead.{RecordRead}
-use Rattle.model.proofs.Lists.{cases, length_below, get_d_map, get_or_map_below, flat_map_append, mem_each}
+use Rattle.model.proofs.Lists.{cases, length_below, get_or_map, get_or_map_below, flat_map_append, mem_each}
 use Rattle.model.proofs.Limits.{InRange}
 use Rattle.model.proofs.Totals.{total_last, total_same}
 use Rattle.journal_page.proofs.PageLaws.{refusal_number, refusal_numbers, refused_page, page_length, page_head, page_behind, line_behind}
@@ -172,7 +172,7 @@ module _ (s : Shape) (xs zs ks start count : List ℕ) where
         → get_or (map f (records_in s xs zs ks start count) ++ more) n z ≡ f (record_in xs zs c (get_or ks c 0 + (n - get_or start c 0)) n)
     nth_mapped f z more =
         let es = records_in s xs zs ks start count in
-        list_get_or_append (map f es) more z n (omega (arith, length-map es f, nth_low)) ∙ get_d_map f es n (record_in xs zs 0 0 0) z nth_low ∙ ap f nth_record
+        list_get_or_append (map f es) more z n (omega (arith, length-map es f, nth_low)) ∙ get_or_map f es n (record_in xs zs 0 0 0) z nth_low ∙ ap f nth_record
 
 -- a record shown: its fields, with its number counted from the tail
 pub record_shown : (y : CommitLayout) (s : Shape) (d : Bytes) (xs zs : List ℕ) (c n : ℕ) (e : Committed) → e ≡ record_in xs zs c 0 n → (named : ℕ) → named ≡ cores_named (names_of y s d e)

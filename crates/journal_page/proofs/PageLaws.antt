@@ -28,7 +28,7 @@ use Rattle.model.proofs.Base.{ℕ, zero, suc, ◌+◌, ◌≤◌, ◌<◌, arith
 use Rattle.model.proofs.Base.{Bool, true, false, true≢false, cond, not, List, [], ◌∷◌, ◌++◌, map, length, get_or, replicate}
 use Rattle.model.proofs.Base.{List-as-Memᴰ, List·Memᴰ·head, List·Memᴰ·tail, Memᴰ·cast, append-nil, flat_map, any, ◌⊎◌, inl, inr, subst}
 use Rattle.model.proofs.Base.{length-map, length-append, list_get_or_append, eqb, eq-eqb, ne_eqb, eqb-true, eqb-false, below, Bytes}
-use Rattle.model.proofs.Lists.{cases, length_below, get_d_map, get_or_map_below, each_append, each_get_or, get_or_each, mem_each, any_mem, mem_any, flat_map_append, mem_flat_map, mem_below}
+use Rattle.model.proofs.Lists.{cases, length_below, get_or_map, get_or_map_below, each_append, each_get_or, get_or_each, mem_each, any_mem, mem_any, flat_map_append, mem_flat_map, mem_below}
 use Rattle.journal_page.proofs.Numerals.{set_right, digit_last}
 use Rattle.model.proofs.Journal.{KnownRecord, records_known}
 use Rattle.model.proofs.Records.{journal_known, journals_distinct}
@@ -175,7 +175,7 @@ line_transaction : (d : Bytes) (i : ℕ) (z : Committed) → i < length (committ
 unfolding body_lines
 line_transaction d i z h =
     list_get_or_append (map (transaction_line d) (committed_on d)) _ [] i (omega (arith, length-map (committed_on d) (transaction_line d)))
-    ∙ get_d_map (transaction_line d) (committed_on d) i z [] h
+    ∙ get_or_map (transaction_line d) (committed_on d) i z [] h
 
 -- past the transactions those of the ends, and no more
 pub line_behind : (d : Bytes) (c : ℕ) → get_or (body_lines d) (length (committed_on d) + c) [] ≡ get_or (map (end_line d) (below (shape_on d).cores)) c []

@@ -59,4 +59,4 @@ module _ (d before : Bytes) (n : ℕ) where
         let z : i ≡ n = omega (arith, w.most) in
         ap (λ (k : ℕ). take (65 * k) text) (sym z) ∙ w.same ∙ ap (flat_map line_bytes) (take_all i (page_of d) (omega arith))
 
-pub ruleset linesLaid = (rules, page_start, page_more, page_end)
+pub ruleset lines_laid = (rules, page_start, page_more, page_end)

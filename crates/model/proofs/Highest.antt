@@ -164,8 +164,8 @@ pub cores_named_lem : (ns : List Name) → ((n : Name) → Memᴰ n ns → 1 ≤
 unfolding cores_named names_from
 cores_named_lem ns some =
     let name : ℕ → Name = λ c. new_name c (highest_in ns c) in
-    let isOne : ℕ → Bool = λ c. any (λ (n : Name). eqb c n.core) ns in
-    sym (ap length (select_map name isOne is_named (core_named ns some) (below max_cores)) ∙ length-map (select isOne (below max_cores)) name)
+    let is_one : ℕ → Bool = λ c. any (λ (n : Name). eqb c n.core) ns in
+    sym (ap length (select_map name is_one is_named (core_named ns some) (below max_cores)) ∙ length-map (select is_one (below max_cores)) name)
 
 -- of a number for each core it is the count of their names
 pub cores_of_numbers : (f : ℕ → ℕ) → cores_named (names_from f) ≡ length (names_from f)

@@ -103,10 +103,10 @@ module _ {A : Type 0} where
   mem_get_or (Memᴰ.tail m) d = let r = mem_get_or m d in (suc r.0, omega (arith, r.1), r.2)
 
 module _ {A B : Type 0} where
-  pub get_d_map : (f : A → B) (xs : List A) (i : ℕ) (a : A) (b : B) → i < length xs → get_or (map f xs) i b ≡ f (get_or xs i a)
-  get_d_map f [] i a b h = absurd (omega arith)
-  get_d_map f (x ∷ xs) zero a b h = refl
-  get_d_map f (x ∷ xs) (suc i) a b h = get_d_map f xs i a b (omega arith)
+  pub get_or_map : (f : A → B) (xs : List A) (i : ℕ) (a : A) (b : B) → i < length xs → get_or (map f xs) i b ≡ f (get_or xs i a)
+  get_or_map f [] i a b h = absurd (omega arith)
+  get_or_map f (x ∷ xs) zero a b h = refl
+  get_or_map f (x ∷ xs) (suc i) a b h = get_or_map f xs i a b (omega arith)
 
   pub map_same : (f g : A → B) (xs : List A) → ((x : A) → Memᴰ x xs → f x ≡ g x) → map f xs ≡ map g xs
   map_same f g [] h = refl

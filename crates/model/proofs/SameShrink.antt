@@ -63,7 +63,7 @@ module _ {A : Type 0} where
 pub shrink_same : {A : Type 0} (f g : List A → A → Bool) → Monotone f → Monotone g → (es : List A)
     → ((ss : List A) → Within ss es → AllStay f ss → AllStay g ss) → ((ss : List A) → Within ss es → AllStay g ss → AllStay f ss)
     → shrink f es ≡ shrink g es
-shrink_same f g mono-f mono-g es to from =
+shrink_same f g mono_f mono_g es to from =
     selected_same es (shrink f es) (shrink g es) (shrink_selected f es) (shrink_selected g es)
-    (shrink_largest g mono-g es (shrink f es) (shrink_within f es) (to (shrink f es) (shrink_within f es) (shrink_closed f es)))
-    (shrink_largest f mono-f es (shrink g es) (shrink_within g es) (from (shrink g es) (shrink_within g es) (shrink_closed g es)))
+    (shrink_largest g mono_g es (shrink f es) (shrink_within f es) (to (shrink f es) (shrink_within f es) (shrink_closed f es)))
+    (shrink_largest f mono_f es (shrink g es) (shrink_within g es) (from (shrink g es) (shrink_within g es) (shrink_closed g es)))

@@ -140,8 +140,8 @@ cap_missing = recover_tail (λ (t n : ℕ). t + (n + 1))
 -- 'stamps start again at 1': they go on
 abbrev pub stamps_go_on : Step World
 stamps_go_on =
-    let goesOn : Command → World → Outcome World = λ k w. patched (put_closes w.card.closes) (step k w) in
-    other_cut (other_recover step (goesOn RECOVER)) (goesOn CUT)
+    let goes_on : Command → World → Outcome World = λ k w. patched (put_closes w.card.closes) (step k w) in
+    other_cut (other_recover step (goes_on RECOVER)) (goes_on CUT)
 
 -- ---- recovery
 -- 'The valid set is the largest set ..': one whose names are all committed counts, whatever these name
@@ -218,8 +218,8 @@ only26_stored =
     write_asking 26 (λ c b w.
     let x = w.card in
     let k = core_of x c in
-    let closedOne = cond (k.closed.live && ltb 0 k.stored) (record_size k.closed) 0 in
-    ltb (shape_of x).journal (k.used + closedOne + record_size (writer_after x c b)))
+    let closed_one = cond (k.closed.live && ltb 0 k.stored) (record_size k.closed) 0 in
+    ltb (shape_of x).journal (k.used + closed_one + record_size (writer_after x c b)))
 
 -- ---- CLOSE
 -- 'CLOSE .. gives it a stamp': the stamp is given when the transaction opens

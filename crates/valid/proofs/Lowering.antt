@@ -25,7 +25,7 @@ module _ (y : CommitLayout) (s : Shape) (d : Bytes) (ks xs count : List ℕ) (c 
   unfolding LoweredTo
   lowered_end w h = let e : j ≡ n = omega (arith, w.most) in record { few = omega arith; met = rw e at w.holds; unmet = λ g. absurd (omega arith) }
 
-pub ruleset one-lowered = (rules, passed_start, passed_more, lowered_out, lowered_end)
+pub ruleset one_lowered = (rules, passed_start, passed_more, lowered_out, lowered_end)
 
 -- ---- all cores: those passed have their counts
 module _ (y : CommitLayout) (s : Shape) (d : Bytes) (ks xs start count : List ℕ) where
@@ -53,7 +53,7 @@ module _ (y : CommitLayout) (s : Shape) (d : Bytes) (ks xs start count : List �
   unfolding Lowered
   lowered_all next c w h i g = w.done i (omega arith)
 
-pub ruleset all-lowered = (rules, lowered_none, lowered_more, lowered_all)
+pub ruleset all_lowered = (rules, lowered_none, lowered_more, lowered_all)
 
 -- ---- how many count in all
 module _ (s : Shape) (count : List ℕ) where
@@ -80,7 +80,7 @@ module _ (s : Shape) (count : List ℕ) where
   unfolding total_count
   total_all n c w h = let e : c ≡ s.cores = omega (arith, w.most) in w.sum ∙ ap (λ (i : ℕ). total (λ (c : ℕ). get_or count c 0) (below i)) e
 
-pub ruleset all-counted = (rules, total_none, total_more, total_all)
+pub ruleset all_counted = (rules, total_none, total_more, total_all)
 
 -- ---- the tail numbers, one after another
 unfoldable pub number_at : List Tail → ℕ → ℕ

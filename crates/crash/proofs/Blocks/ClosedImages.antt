@@ -7,7 +7,7 @@ use Rattle.model.specs.Valid.{Order}
 use Rattle.model.specs.Card.{same_name}
 use Rattle.model.specs.declared.Name.{Name}
 use Rattle.model.specs.declared.Shape.{Shape}
-use Rattle.model.proofs.Lists.{cases, map_same, get_d_map}
+use Rattle.model.proofs.Lists.{cases, map_same, get_or_map}
 use Rattle.model.proofs.Valid.{same_name_true, same_name_refl}
 use Rattle.crash.specs.Book.{Stage, absent, running, closed, committed, is_closed, Entry, Write, empty_book, begin, store_book, checkpoint_book, retire_book, book_holder, Meeting, meets, ruled, holder_after, note, write_book, Book}
 use Rattle.crash.specs.Ledger.{Ledger, fresh_ledger, with_book, image_now, close_ledger}
@@ -26,7 +26,7 @@ Imaged l = (t : Name) → So (is_closed (stage_of l.book t)) → l.images t ≡ 
 -- of the i-th block that a closed transaction took
 pub image_of_closed : (l : Ledger) → Imaged l → (t : Name) → So (is_closed (stage_of l.book t)) → (i : ℕ) → i < length (l.book.entry t).blocks
     → get_or (l.images t) i [] ≡ image_at l t (get_or (l.book.entry t).blocks i 0)
-image_of_closed l imaged t h i less = rw (imaged t h) (get_d_map (image_at l t) (l.book.entry t).blocks i 0 [] less)
+image_of_closed l imaged t h i less = rw (imaged t h) (get_or_map (image_at l t) (l.book.entry t).blocks i 0 [] less)
 
 pub imaged_fresh : (o : Order) (s : Shape) (saved : List Write) (first : ℕ → ℕ) → Imaged (fresh_ledger o s saved first)
 unfolding fresh_ledger empty_book
@@ -78,11 +78,11 @@ module _ {home : ℕ → Bytes} {l : Ledger} (v : Inv home l) (imaged : Imaged l
 
 -- ---- WRITE
 module _ (l : Ledger) (w : Write) (entry : Name → Entry) (edits : (u : Name) → WriteEdits (l.book.entry u) (entry u))
-    (open-holder : is_closed (stage_of l.book w.holder) ≡ false) (imaged : Imaged l) where
+    (open_holder : is_closed (stage_of l.book w.holder) ≡ false) (imaged : Imaged l) where
   -- the write is held by one that has not closed
   written_image : (t : Name) → So (is_closed (stage_of l.book t)) → (b : ℕ) → image_at (with_write l w entry) t b ≡ image_at l t b
   written_image t h b =
-      let other : same_name t w.holder ≡ false = false_of _ (λ e. clash h (rw (same_name_true t w.holder e) open-holder)) in
+      let other : same_name t w.holder ≡ false = false_of _ (λ e. clash h (rw (same_name_true t w.holder e) open_holder)) in
       cases (eqb b w.block) (λ k. rw (k, other) refl) (λ k. rw k refl)
 
   imaged_written : Imaged (with_write l w entry)

@@ -91,16 +91,16 @@ module _ {t : Name} {g : Stage} {l l' : Ledger} (m : Staged t g l l') where
   staged_grows : (u : Name) → Grows l l' u
   staged_grows u =
       same_or_not u t
-      (λ e. let g-is : stage_of l'.book t ≡ g = ap (λ e. e.stage) staged_t in
+      (λ e. let g_is : stage_of l'.book t ≡ g = ap (λ e. e.stage) staged_t in
       rw e
       (record {
-        closed = λ h. rw g-is ((onward m.moves).closed h);
-        committed = λ h. rw g-is ((onward m.moves).committed h);
-        retired = λ h. rw g-is ((onward m.moves).retired h);
+        closed = λ h. rw g_is ((onward m.moves).closed h);
+        committed = λ h. rw g_is ((onward m.moves).committed h);
+        retired = λ h. rw g_is ((onward m.moves).retired h);
         names = λ u h. rw staged_t h;
         required_fixed = λ h. required_same l.book l'.book t m.begun (ap (λ e. e.names) staged_t);
         stamp_fixed = m.stamp t;
-        stamp_new = λ p q. let n : (l'.stamp t ≡ l'.closes) × (l.closes < l'.closes) = m.stamp_new p (rw g-is at q) in omega arith;
+        stamp_new = λ p q. let n : (l'.stamp t ≡ l'.closes) × (l.closes < l'.closes) = m.stamp_new p (rw g_is at q) in omega arith;
       }))
       (λ ne. let same : l'.book.entry u ≡ l.book.entry u = staged_other u ne in
       let stage : stage_of l'.book u ≡ stage_of l.book u = ap (λ e. e.stage) same in
@@ -127,8 +127,8 @@ module _ {t : Name} {g : Stage} {l l' : Ledger} (m : Staged t g l l') where
         → ((u : Name) → Took u (history_of l b) → So (is_retired (stage_of l'.book u)) → So (h u))
         → h t ≡ homed_by b (l.book.entry t).blocks g → ((u : Name) → u ≢ t → h u ≡ homed l b u)
         → BlockInv (status l') (homed l' b) (area_before l b) image (history_of l b)
-    staged_block_inv b image h good stored at-t others =
-        block_inv_grown v l' (staged_known v.known) staged_grows b image h good stored (staged_each (λ u e. h u ≡ homed_by b e.blocks e.stage) at-t others)
+    staged_block_inv b image h good stored at_t others =
+        block_inv_grown v l' (staged_known v.known) staged_grows b image h good stored (staged_each (λ u e. h u ≡ homed_by b e.blocks e.stage) at_t others)
 
     -- whoever retires is kept and has stored its blocks home
     module _ (retiring : So (is_retired g) → So (member_of (kept l.book) t) × ((b : ℕ) → So (took_in l.book b t) → So (homed l b t))) where

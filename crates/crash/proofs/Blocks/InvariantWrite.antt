@@ -108,12 +108,12 @@ module _ {home : ℕ → Bytes} {l : Ledger} (v : Inv home l) (w : Write) (entry
   noted_retired : (u : Name) → So (is_retired (entry u).stage) → So (member_of (kept noted.book) u)
   noted_retired u r = (extends v noted noted_known noted_grows).kept u (v.retired_kept u (rw (edits u).stage at r))
 
-  module _ (open-holder : is_closed (stage_of l.book w.holder) ≡ false)
+  module _ (open_holder : is_closed (stage_of l.book w.holder) ≡ false)
       (more : (b : ℕ) (u : Name) → So (any (eqb b) (entry u).blocks) → So (took_in l.book b u) ⊎ ((b ≡ w.block) × (w.holder ≡ u)))
       (same_blocks : (b : ℕ) (u : Name) → So (took_in l.book b u) → So (any (eqb b) (entry u).blocks))
       (here : So (any (eqb w.block) (entry w.holder).blocks)) where
     open_after : is_closed (entry w.holder).stage ≡ false
-    open_after = rw (edits w.holder).stage open-holder
+    open_after = rw (edits w.holder).stage open_holder
 
     noted_took : (b : ℕ) (u : Name) → So (took_in l.book b u) ⊎ ((b ≡ w.block) × (w.holder ≡ u)) → Took u (history_of noted b)
     noted_took b u (inl m) = cases (eqb b w.block) (λ h. rw h (inr (v.took b u m))) (λ h. rw h (v.took b u m))
@@ -196,7 +196,7 @@ module _ (l : Ledger) (t : Name) (runs : is_closed (stage_of l.book t) ≡ false
   edits_closed b u = edits_both (edits_naming u (l.book.entry t) runs) (edits_taking b (naming u (l.book.entry t)) runs)
 
   -- writer and running holder u name each other
-  module _ (u : Name) (open-holder : is_closed (stage_of l.book u) ≡ false) (other : u ≢ t) where
+  module _ (u : Name) (open_holder : is_closed (stage_of l.book u) ≡ false) (other : u ≢ t) where
     abbrev writer_names : Name → Entry
     writer_names = change t (naming u) l.book.entry
 
@@ -206,7 +206,7 @@ module _ (l : Ledger) (t : Name) (runs : is_closed (stage_of l.book t) ≡ false
     both_edits : (x : Name) → WriteEdits (l.book.entry x) (both_name x)
     both_edits x =
         edits_both (edits_change t (naming u) l.book.entry (edits_naming u (l.book.entry t) runs) x)
-        (edits_change u (naming t) writer_names (edits_naming t (writer_names u) (rw (change_other t (naming u) l.book.entry u other) open-holder)) x)
+        (edits_change u (naming t) writer_names (edits_naming t (writer_names u) (rw (change_other t (naming u) l.book.entry u other) open_holder)) x)
 
     both_blocks : (x : Name) → (both_name x).blocks ≡ (l.book.entry x).blocks
     both_blocks x =
@@ -240,13 +240,13 @@ module _ {home : ℕ → Bytes} {l : Ledger} (v : Inv home l) (t : Name) (runs :
   write_by h = record { writer = t; holder = h; block = b; offset = o; bytes = bytes }
 
   -- the writer takes the block
-  module _ (f : Entry → Entry) (edits-t : WriteEdits (l.book.entry t) (f (l.book.entry t)))
+  module _ (f : Entry → Entry) (edits_t : WriteEdits (l.book.entry t) (f (l.book.entry t)))
       (blocks : (f (l.book.entry t)).blocks ≡ (l.book.entry t).blocks ++ (b ∷ [])) where
     abbrev entry_taken : Name → Entry
     entry_taken = change t f l.book.entry
 
     taken_edits : (u : Name) → WriteEdits (l.book.entry u) (entry_taken u)
-    taken_edits = edits_change t f l.book.entry edits-t
+    taken_edits = edits_change t f l.book.entry edits_t
 
     taken_t : (c : ℕ) → any (eqb c) (f (l.book.entry t)).blocks ≡ (took_in l.book c t || eqb c b)
     unfolding any
@@ -284,8 +284,8 @@ module _ {home : ℕ → Bytes} {l : Ledger} (v : Inv home l) (t : Name) (runs :
   inv_stays : (entry : Name → Entry) (edits : (u : Name) → WriteEdits (l.book.entry u) (entry u)) → ((u : Name) → (entry u).blocks ≡ (l.book.entry u).blocks)
       → (h : Name) → is_closed (stage_of l.book h) ≡ false → last_holder (history_of l b) ≡ some h
       → (t ≡ h) ⊎ (So (member_of (entry t).names h) × So (member_of (entry h).names t)) → Inv home (with_write l (write_by h) entry)
-  inv_stays entry edits blocks h open-holder last writer_holder =
-      inv_noted v (write_by h) entry edits open-holder
+  inv_stays entry edits blocks h open_holder last writer_holder =
+      inv_noted v (write_by h) entry edits open_holder
       (λ c u m. inl (rw (blocks u) at m)) (λ c u m. rw (blocks u) m) (rw (blocks h) (v.taken b h (took_last (history_of l b) h last))) writer_holder
       (next_by (status (with_write l (write_by h) entry)) (homed (with_write l (write_by h) entry) b) h (history_of l b) (λ u q. let same : h ≡ u = cc in inl same))
 

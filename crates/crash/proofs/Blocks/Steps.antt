@@ -54,10 +54,10 @@ module _ {Txn Image : Type 0} (s s' : Status Txn) (x : Extends s s') (homed : Tx
 -- ---- a write of the block: its holder has not closed
 module _ {Txn Image : Type 0} (s : Status Txn) (sound : StatusSound s) (homed : Txn → Bool) (base home : Image) (e : Event Txn Image) (es : List (Event Txn Image)) where
   pub block_inv_write : s.closed e.holder ≡ false → WriterHolds s homed e → LinkNext s homed e.holder es → BlockInv s homed base home es → BlockInv s homed base home (e ∷ es)
-  block_inv_write open-holder o n g =
+  block_inv_write open_holder o n g =
       record {
         chain = (o, n, g.chain);
-        at_home = rw (false_of (homed e.holder) (λ h. clash (sound.kept_closed _ (g.homed_kept _ h)) open-holder)) g.at_home;
+        at_home = rw (false_of (homed e.holder) (λ h. clash (sound.kept_closed _ (g.homed_kept _ h)) open_holder)) g.at_home;
         homed_kept = g.homed_kept;
       }
 

@@ -13,7 +13,7 @@ use Rattle.model.specs.declared.CommitLayout.TheVariants.{Numbers}
 use Rattle.model.specs.declared.Name.{Name}
 use Rattle.model.specs.declared.Core.{Core}
 use Rattle.model.specs.declared.Holder.{Holder}
-use Rattle.model.proofs.Lists.{get_or_mem, get_d_map}
+use Rattle.model.proofs.Lists.{get_or_mem, get_or_map}
 use Rattle.model.proofs.Store.{length_store, length_block_at, block_stored, block_other}
 use Rattle.model.proofs.Sizes.{length_copied}
 use Rattle.crash.specs.Book.{absent, running, closed, is_running, Entry, staged, close_book, book_holder}
@@ -233,7 +233,7 @@ module _ {l : Ledger} {w : World} (u : CardUp l w) (c : ℕ) (in_range_lem : c <
       rw (close_images l c, matches.blocks)
       ((rw zero-add at (copied_in c eight bs 0 w.memory u.memory (omega (arith, few, ap length matches.blocks)) i h))
       ∙ current_image (get_or bs i 0) (get_or_mem bs i 0 h)
-      ∙ sym (get_d_map (image_now l) bs i 0 [] h))
+      ∙ sym (get_or_map (image_now l) bs i 0 [] h))
 
   pub memory_closed : m₂ ≡ copies_stored c 0 (map (image_now l) (l.book.entry t).blocks) w.memory
   memory_closed =

@@ -230,7 +230,7 @@ module _ (l : Ledger) (f : WellFormed l) (c : ℕ) (hc : c < l.shape.cores) wher
         }
 
   -- The holders are as layer A has them: whoever runs and took a block holds it, and a holder is open.
-  module _ (b o : ℕ) (v : Bytes) (hb : b < l.shape.blocks) (ho : o ≤ 124) (size : length v ≡ 4) (is-bytes : IsBytes v)
+  module _ (b o : ℕ) (v : Bytes) (hb : b < l.shape.blocks) (ho : o ≤ 124) (size : length v ≡ 4) (is_bytes : IsBytes v)
       (holds : (u : Name) (x : ℕ) → (k.entry u).stage ≡ running → Memᴰ x (k.entry u).blocks → book_holder k x k.writes ≡ some u)
       (opens : (u : Name) (x : ℕ) → book_holder k x k.writes ≡ some u → (k.entry u).stage ≢ absent) where
     abbrev open_book : Book
@@ -261,10 +261,10 @@ module _ (l : Ledger) (f : WellFormed l) (c : ℕ) (hc : c < l.shape.cores) wher
         → (not (is_running (k.entry w).stage) && ltb max_number (k.next c)) ≡ false
         → WellFormed (with_book l (write_book c b o v k))
     unfolding write_book note
-    well_formed_write no-25 no-27 =
+    well_formed_write no_25 no_27 =
         let current = (f.ranks c hc).current in
         let opened : WellFormed (with_book l open_book)
-        = begun_by k c current (λ x. WellFormed (with_book l x)) (λ e. f) (λ e. well_formed_begin e (ltb-false max_number (k.next c) (rw (ap is_running e) at no-27))) in
+        = begun_by k c current (λ x. WellFormed (with_book l x)) (λ e. f) (λ e. well_formed_begin e (ltb-false max_number (k.next c) (rw (ap is_running e) at no_27))) in
         well_formed_note (with_book l open_book) opened w (ap (λ (n : ℕ → ℕ). n c) (sym (begun_fields k c current).3)) b o v (begun_running k c current)
-        (record { block = hb; offset = ho; size = size; bytes = is-bytes }) (still_holds current) (still_open current)
-        (ltb-false 8 _ no-25)
+        (record { block = hb; offset = ho; size = size; bytes = is_bytes }) (still_holds current) (still_open current)
+        (ltb-false 8 _ no_25)

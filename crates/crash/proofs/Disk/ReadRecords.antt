@@ -112,22 +112,22 @@ module _ (y : CommitLayout) {l : Ledger} (f : WellFormed l) (d : Bytes) (c : ℕ
   records_are : (most i p left n : ℕ) → n ≤ most → (0 < n → y ≡ Numbers) → Standing i p n → record_blocks l.book c i n ≤ left
       → ((q : ℕ) → has_head 2 (i + n) (journal_at l.shape d c q) ≡ false) → records_from most y l.shape d c i p left ≡ read_from l c i p n
   unfolding read_from record_blocks
-  records_are most i p left zero h y-is z r g =
+  records_are most i p left zero h y_is z r g =
       let none : (q : ℕ) → has_head 2 i (journal_at l.shape d c q) ≡ false = λ q. rw add-zero at (g q) in
       records_miss y l.shape d c i p left most (miss_commit y l.shape d c i p left (no_commit y l.shape i _ (none _)))
-  records_are zero i p left (suc n) h y-is z r g = absurd (omega arith)
-  records_are (suc most) i p left (suc n) h y-is z r g =
+  records_are zero i p left (suc n) h y_is z r g = absurd (omega arith)
+  records_are (suc most) i p left (suc n) h y_is z r g =
       let t = new_name c i in
       let x = z.0 i (omega arith) (omega arith) in
       let e = length_record_tags l t in
       let hit : record_at y l.shape d c i p left ≡ Whole (read_record l t p) =
-      subst (λ (y : CommitLayout). record_at y l.shape d c i p left ≡ Whole (read_record l t p)) (sym (y-is (omega arith)))
+      subst (λ (y : CommitLayout). record_at y l.shape d c i p left ≡ Whole (read_record l t p)) (sym (y_is (omega arith)))
       (record_read (record_sound f t x) (first_stands i p n z) left (omega arith) ∙ ap Whole (as_read_lem l t p)) in
       let s : i + suc n ≡ suc i + n = omega arith in
       records_hit y l.shape d c i p left most (read_record l t p) hit
       ∙ rw add-one
       (ap (λ (r : List Committed). read_record l t p ∷ r)
-      (records_are most (suc i) _ (left - (length (l.book.entry t).blocks + 2)) n (omega arith) (λ _. y-is (omega arith)) (rest_stands i p n z) (omega arith) (λ q. rw s at (g q))))
+      (records_are most (suc i) _ (left - (length (l.book.entry t).blocks + 2)) n (omega arith) (λ _. y_is (omega arith)) (rest_stands i p n z) (omega arith) (λ q. rw s at (g q))))
 
 -- ---- one record that is read
 -- what the ledger has for its transaction is what its record gives
@@ -155,7 +155,7 @@ module _ (y : CommitLayout) {l : Ledger} (f : WellFormed l) (d : Bytes) (c : ℕ
   record_is : (i p : ℕ) → y ≡ Numbers → l.book.oldest c ≤ i → i < l.book.uncommitted c
       → Stands l.shape d c p i (record_tags l (new_name c i)) (l.stamp (new_name c i)) (highest_in (l.book.entry (new_name c i)).names) (l.images (new_name c i))
       → ReadAsLedger y l d c (read_record l (new_name c i) p)
-  record_is i p y-is a b st =
+  record_is i p y_is a b st =
       let t = new_name c i in
       let u = stored_unretired (f.ranks c in_range_lem) i a b in
       let x = record_sound f t u.is_closed_lem in
@@ -167,7 +167,7 @@ module _ (y : CommitLayout) {l : Ledger} (f : WellFormed l) (d : Bytes) (c : ℕ
         count = refl;
         stamp = refl;
         blocks = blocks_read l t d (read_record l t p) held;
-        names = ap (λ (y : CommitLayout). names_of y l.shape d (read_record l t p)) y-is ∙ names_is (read_record l t p) e;
+        names = ap (λ (y : CommitLayout). names_of y l.shape d (read_record l t p)) y_is ∙ names_is (read_record l t p) e;
         images =
             λ j h.
             subst (λ (r : Committed). image_of l.shape d r j ≡ get_or (l.images t) j []) e
@@ -184,11 +184,11 @@ module _ (y : CommitLayout) {l : Ledger} (f : WellFormed l) (d : Bytes) (c : ℕ
   each_is : (i p n : ℕ) → (0 < n → y ≡ Numbers) → Standing y f d c i p n → l.book.oldest c ≤ i → i + n ≤ l.book.uncommitted c
       → (e : Committed) → List-as-Memᴰ e (read_from l c i p n) → ReadAsLedger y l d c e
   unfolding read_from
-  each_is i p zero y-is st a b e m = absurd (List·Memᴰ·not-nil m)
-  each_is i p (suc n) y-is st a b e m =
+  each_is i p zero y_is st a b e m = absurd (List·Memᴰ·not-nil m)
+  each_is i p (suc n) y_is st a b e m =
       elim (List·Memᴰ·cases-cons m) [
-        | inl q ↦ subst (λ (r : Committed). ReadAsLedger y l d c r) (sym q) (record_is i p (y-is (omega arith)) a (omega arith) (first_stands y f d c i p n st))
-        | inr r ↦ each_is (suc i) _ n (λ _. y-is (omega arith)) (rest_stands y f d c i p n st) (omega arith) (omega arith) e r
+        | inl q ↦ subst (λ (r : Committed). ReadAsLedger y l d c r) (sym q) (record_is i p (y_is (omega arith)) a (omega arith) (first_stands y f d c i p n st))
+        | inr r ↦ each_is (suc i) _ n (λ _. y_is (omega arith)) (rest_stands y f d c i p n st) (omega arith) (omega arith) e r
       ]
 
 module _ (l : Ledger) (c : ℕ) where

@@ -55,7 +55,7 @@ module _ {y : CommitLayout} {l : Ledger} {d : Bytes} {tail_at : ℕ → Tail} (f
   area_target = ap (λ (s : Shape). flat_map (image_on d) (below s.blocks)) (shape_read f z) ∙ flat_map_below (image_on d) (target l) l.shape.blocks image_target
 
 -- ---- one that is committed and stays so leaves the kept writes as they are
-module _ (t : Name) (g : Stage) (oldest uncommitted next : ℕ → ℕ) (k : Book) (committed-still : is_committed g ≡ is_committed (k.entry t).stage) where
+module _ (t : Name) (g : Stage) (oldest uncommitted next : ℕ → ℕ) (k : Book) (committed_still : is_committed g ≡ is_committed (k.entry t).stage) where
   abbrev after : Book
   after = restaged t g oldest uncommitted next k
 
@@ -63,7 +63,7 @@ module _ (t : Name) (g : Stage) (oldest uncommitted next : ℕ → ℕ) (k : Boo
   names_stay u = change_by t _ k.entry (λ (e : Entry). e.names) refl u
 
   committed_stays : (u : Name) → is_committed (after.entry u).stage ≡ is_committed (k.entry u).stage
-  committed_stays u = change_by t _ k.entry (λ (e : Entry). is_committed e.stage) committed-still u
+  committed_stays u = change_by t _ k.entry (λ (e : Entry). is_committed e.stage) committed_still u
 
   required_stays : (ts : List Name) (u : Name) → required_within after ts u ≡ required_within k ts u
   unfolding required_within

@@ -68,4 +68,4 @@ writes_limited l w [] h = tt
 writes_limited l w (p ∷ ps) h = (point_limited h.0, writes_limited (entered_point p l) p.outcome.world ps h.1)
 
 pub report_limit : ReportLimit in_sequence step_at
-report_limit tape is-bytes s fits = writes_limited (start_ledger in_sequence s) (start_world s) (run step_at tape (start_world s)) (demands tape is-bytes s fits)
+report_limit tape is_bytes s fits = writes_limited (start_ledger in_sequence s) (start_world s) (run step_at tape (start_world s)) (demands tape is_bytes s fits)

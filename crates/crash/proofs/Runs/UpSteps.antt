@@ -116,25 +116,25 @@ module _ {l : Ledger} {w : World} (u : RelatedUp l w) where
 
   -- WRITE
   module _ (c : ℕ) (in_range_lem : c < l.shape.cores) (b : ℕ) (low : b < l.shape.blocks) (o : ℕ) (inside : o ≤ 124) (v : Bytes) (fits : (length v ≡ 4) × IsBytes v)
-      (no-25 : ltb 8 (length (writer_blocks c k (write_book c b o v k))) ≡ false)
-      (no-26 : journal_passes c l.shape k (write_book c b o v k) ≡ false) (no-27 : number_passes c k ≡ false) where
+      (no_25 : ltb 8 (length (writer_blocks c k (write_book c b o v k))) ≡ false)
+      (no_26 : journal_passes c l.shape k (write_book c b o v k) ≡ false) (no_27 : number_passes c k ≡ false) where
     home_image : book_holder k b k.writes ≡ none → block_at w.disk (home_block b) ≡ image_now l b
     home_image h = u.homes b low ∙ home_current u.inv b h
 
     well_formed_after : WellFormed (with_book l (write_book c b o v k))
     unfolding writer_blocks number_passes
-    well_formed_after = well_formed_write l u.up.well_formed c in_range_lem b o v low inside fits.0 fits.1 running_holds (λ n x h. holder_open x n h) no-25 no-27
+    well_formed_after = well_formed_write l u.up.well_formed c in_range_lem b o v low inside fits.0 fits.1 running_holds (λ n x h. holder_open x n h) no_25 no_27
 
     pub write_memory : written_memory w c b o v ≡ store w.memory b (replaced o 4 (image_now l b) v)
     unfolding journal_passes writer_blocks
-    write_memory = memory_written u.up c in_range_lem b low o inside v fits.0 fits.1 (holder_open b) home_image (ltb-false _ _ no-26) well_formed_after
+    write_memory = memory_written u.up c in_range_lem b low o inside v fits.0 fits.1 (holder_open b) home_image (ltb-false _ _ no_26) well_formed_after
 
     pub write_at : RelatedUp (with_book l (write_book c b o v k)) (written c b o v w).world
     unfolding written journal_passes writer_blocks
     write_at =
         let current = (u.up.well_formed.ranks c in_range_lem).current in
         record {
-          up = write_up u.up c in_range_lem b low o inside v fits.0 fits.1 (holder_open b) home_image (ltb-false _ _ no-26) well_formed_after;
+          up = write_up u.up c in_range_lem b low o inside v fits.0 fits.1 (holder_open b) home_image (ltb-false _ _ no_26) well_formed_after;
           home = u.home;
           homes = u.homes;
           inv = inv_write u.inv c b o v current;

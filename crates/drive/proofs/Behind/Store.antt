@@ -81,7 +81,7 @@ module _ {l : Ledger} {w : World} (u : CardUp l w) (c : ℕ) (in_range_lem : c <
   stored = (core_of w.card c).stored
 
   -- the book with g's stage replaced: who retired and who stored home stay
-  module _ (stage : Stage) (Closed-after : is_closed stage ≡ true) (not_retired : is_retired stage ≡ false) (none-home : (b : ℕ) (bs : List ℕ) → homed_by b bs stage ≡ false) (un : ℕ → ℕ) where
+  module _ (stage : Stage) (closed_after : is_closed stage ≡ true) (not_retired : is_retired stage ≡ false) (none_home : (b : ℕ) (bs : List ℕ) → homed_by b bs stage ≡ false) (un : ℕ → ℕ) where
     abbrev after : Book
     after = restaged g stage l.book.oldest un l.book.next l.book
 
@@ -94,7 +94,7 @@ module _ {l : Ledger} {w : World} (u : CardUp l w) (c : ℕ) (in_range_lem : c <
     homed_after : (j : ℕ) (v : Name) → homed (with_book l after) j v ≡ homed l j v
     homed_after j =
         change_by g (staged stage) l.book.entry (λ e. homed_by j e.blocks e.stage)
-        (none-home j (l.book.entry g).blocks ∙ sym (ap (homed_by j (l.book.entry g).blocks) (stage_now u c in_range_lem busy)))
+        (none_home j (l.book.entry g).blocks ∙ sym (ap (homed_by j (l.book.entry g).blocks) (stage_now u c in_range_lem busy)))
 
     was_safe : (v : Name) → (So (is_retired (stage_of after v)) ⊎ ((j : ℕ) × So (homed (with_book l after) j v))) → So (member_of (kept (book_without since l.book)) v)
     was_safe v (inl h) = y.safe v (inl (sym (retired_after v) ∙ h))
@@ -171,7 +171,7 @@ module _ {l : Ledger} {w : World} (u : CardUp l w) (c : ℕ) (in_range_lem : c <
         })
 
   -- ---- the commit
-  module _ (all-stored : length (l.book.entry g).blocks < stored) (no_part : parts c ≡ false) (fine₂ : WellFormed (with_book l k₂)) where
+  module _ (all_stored : length (l.book.entry g).blocks < stored) (no_part : parts c ≡ false) (fine₂ : WellFormed (with_book l k₂)) where
     abbrev pub since₂ : Name → Bool
     since₂ v = same_name v g || since v
 
@@ -182,7 +182,7 @@ module _ {l : Ledger} {w : World} (u : CardUp l w) (c : ℕ) (in_range_lem : c <
     k₄ = after (committed 0) refl refl (λ j bs. unfold any in refl) un₂
 
     is_last : k₂ ≡ k₄
-    is_last = last_store u c in_range_lem busy all-stored
+    is_last = last_store u c in_range_lem busy all_stored
 
     fine₄ : WellFormed (with_book l k₄)
     fine₄ = subst (λ (k : Book). WellFormed (with_book l k)) is_last fine₂

@@ -146,9 +146,9 @@ module _ (v : DriveService) {d : DriveLedger} {w : Drive} (x : DriveDown d w) (b
       go : (bs : List ℕ) → d.now.left ≡ bs
           → BookPhase (record { service = v.service; since = none ∷ v.since }) (record { now = recover_ledger bs d.now; before = d.now; since = left_kind bs ∷ d.since })
       go [] e =
-          let empty-kinds : d.since ≡ [] = no_kinds x free e in
-          let empty-since : v.since ≡ [] = none_long v.since (long ∙ ap length empty-kinds) in
-          emptied e empty-since empty-kinds
+          let empty_kinds : d.since ≡ [] = no_kinds x free e in
+          let empty_since : v.since ≡ [] = none_long v.since (long ∙ ap length empty_kinds) in
+          emptied e empty_since empty_kinds
       go (i ∷ bs) e = restored i bs
 
 -- ---- a cut leaves a book that is empty

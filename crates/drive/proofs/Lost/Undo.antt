@@ -45,7 +45,7 @@ apart_more ps k apart fresh i j a b e =
     last_at : (j : ℕ) → j < length (ps ++ (k ∷ [])) → length ps ≤ j → get_or (ps ++ (k ∷ [])) j 0 ≡ k
     last_at j h ge = let q : j ≡ length ps = omega (arith, long) in ap (λ (i : ℕ). get_or (ps ++ (k ∷ [])) i 0) q ∙ get_or_at ps k [] 0 (length ps) refl
 
-module _ (marked : ℕ → Bool) (old d : Bytes) (size : length d ≡ 32896) (old-size : length old ≡ 8192) where
+module _ (marked : ℕ → Bool) (old d : Bytes) (size : length d ≡ 32896) (old_size : length old ≡ 8192) where
   abbrev Low : List ℕ → Type 0
   Low ps = (j : ℕ) → j < length ps → get_or ps j 0 < 257
 

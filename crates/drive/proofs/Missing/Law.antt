@@ -88,16 +88,16 @@ module _ {l : Ledger} (f : WellFormed l) (since : Name → Bool) (last : Last l 
   behind_none : (t : Name) → So (member_of (valid_in k₀) t) → (u : Name) → OrDependedOn k t u → since u ≡ false
   behind_none t v u b =
       let in_kept : So (member_of (kept k₀) t) = and_left (member_of (kept k₀) t) _ (sym (valid₀ t) ∙ v) in
-      let u-kept : So (member_of (kept k₀) u) =
+      let u_kept : So (member_of (kept k₀) u) =
       ⊎_elim (λ e. subst (λ (x : Name). So (member_of (kept k₀) x)) e in_kept)
       (λ r. in_any name_equality ((largest_kept k₀).is_one.dependencies t u (any_in name_equality t _ in_kept) (depends_same t u r))) b in
-      not_since u ((kept_largest k₀ known₀).sub u u-kept)
+      not_since u ((kept_largest k₀ known₀).sub u u_kept)
 
   -- none of them is: valid behind it too
   none_behind : (t : Name) → So (member_of (valid_in k) t) → ((u : Name) → OrDependedOn k t u → since u ≡ false) → So (member_of (valid_in k₀) t)
   none_behind t v none =
       let both = sym (valid_now_lem t) ∙ v in
-      let t-kept : So (member_of (kept k) t) = and_left (member_of (kept k) t) _ both in
+      let t_kept : So (member_of (kept k) t) = and_left (member_of (kept k) t) _ both in
       let alive : not (is_retired (stage_of k t)) ≡ true = and_right (member_of (kept k) t) _ both in
       let t₀ : So (member_of (kept k₀) t) =
       (kept_largest k₀ known₀).max (λ u. So (member_of (kept k) u) × OrDependedOn k t u)
@@ -108,7 +108,7 @@ module _ {l : Ledger} (f : WellFormed l) (since : Name → Bool) (last : Last l 
         ⊎_elim (λ y. y) (λ y. clash y refl) ((kept_largest k known).closed u x p.0 q),
         inr (further u x p.1 (any_in name_equality x _ q)),
       ))
-      t (t-kept, inl refl) in
+      t (t_kept, inl refl) in
       valid₀ t ∙ and_both t₀ (ap not (stage_retired since l.book t) ∙ alive)
     where
       extend : {a b x : Name} → DependsOn (Requires k) a b → Memᴰ x (required_in k b) → DependsOn (Requires k) a x
@@ -151,7 +151,7 @@ pub too_early_law : {d : DriveLedger} {w : Drive} → Formatted d w → is_up d.
     → (home_too_early c d ≡ false → AllBehind d.now (commit_since d.since) (oldest_name c d.now.book))
     × (AllBehind d.now (commit_since d.since) (oldest_name c d.now.book) → home_too_early c d ≡ false)
 unfolding home_too_early
-too_early_law {d} r h c valid none-home =
+too_early_law {d} r h c valid none_home =
     let t = oldest_name c d.now.book in
     let law = valid_behind_law r h t valid in
-    rw (eq-eqb (stage_count (stage_of d.now.book t)) 0 none-home) (λ q. law.0 (not-false _ q), λ q. ap not (law.1 q))
+    rw (eq-eqb (stage_count (stage_of d.now.book t)) 0 none_home) (λ q. law.0 (not-false _ q), λ q. ap not (law.1 q))

@@ -188,13 +188,13 @@ module _ {l : Ledger} {w : World} (u : RelatedUp l w) {ks : List StoreKind} {beh
     only_t v n i j g a d k e =
         let b = get_or bs j 0 in
         let vs = (l.book.entry v).blocks in
-        let took-v : So (took_in l.book b v) = subst (λ (y : ℕ). So (any (eqb y) vs)) e (in_any block_equality (get_or_mem vs i 0 d)) in
+        let took_v : So (took_in l.book b v) = subst (λ (y : ℕ). So (any (eqb y) vs)) e (in_any block_equality (get_or_mem vs i 0 d)) in
         let took_t : So (took_in l.book b t) = in_any block_equality (get_or_mem bs j 0 k) in
-        let homed-v : So (homed l b v) = ap (homed_by b vs) g ∙ subst (λ (y : ℕ). So (any (eqb y) (take n vs))) e (in_any block_equality (mem_take n vs i a d)) in
-        let homed-t : So (homed l b t) = ap (homed_by b bs) stage ∙ in_any block_equality (mem_take m bs j (omega arith) k) in
+        let homed_v : So (homed l b v) = ap (homed_by b vs) g ∙ subst (λ (y : ℕ). So (any (eqb y) (take n vs))) e (in_any block_equality (mem_take n vs i a d)) in
+        let homed_t : So (homed l b t) = ap (homed_by b bs) stage ∙ in_any block_equality (mem_take m bs j (omega arith) k) in
         ⊎_elim (λ q. q)
-        (⊎_elim (λ o. clash (o.retires_first homed-v) (ap is_retired stage)) (λ o. clash (o.retires_first homed-t) (ap is_retired g)))
-        (one_older (status l) (homed l b) (history_of l b) (u.inv.block_inv b).chain v t (u.inv.took b v took-v) (u.inv.took b t took_t))
+        (⊎_elim (λ o. clash (o.retires_first homed_v) (ap is_retired stage)) (λ o. clash (o.retires_first homed_t) (ap is_retired g)))
+        (one_older (status l) (homed l b) (history_of l b) (u.inv.block_inv b).chain v t (u.inv.took b v took_v) (u.inv.took b t took_t))
 
     home_here : (p j : ℕ) → j < length bs → Place l tails ks p → p ≡ home_block (get_or bs j 0) → So (home_since ks t)
     home_here p j k (in_journal a q g e lo hi o) y =

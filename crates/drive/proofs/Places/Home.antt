@@ -77,13 +77,13 @@ module _ {area : ℕ → Bytes} {l : Ledger} (v : Inv area l) (f : WellFormed l)
   another : (x : Name) (n i : ℕ) → stage_of l.book x ≡ committed n → i < n → i < length (l.book.entry x).blocks → get_or (l.book.entry x).blocks i 0 ≡ b → x ≢ t → ⊥
   another x n i g a d e ne =
       let xs = (l.book.entry x).blocks in
-      let took-x : So (took_in l.book b x) = subst (λ (j : ℕ). So (any (eqb j) xs)) e (in_any block_equality (get_or_mem xs i 0 d)) in
-      let homed-x : So (homed l b x) = ap (homed_by b xs) g ∙ subst (λ (j : ℕ). So (any (eqb j) (take n xs))) e (in_any block_equality (mem_take n xs i a d)) in
+      let took_x : So (took_in l.book b x) = subst (λ (j : ℕ). So (any (eqb j) xs)) e (in_any block_equality (get_or_mem xs i 0 d)) in
+      let homed_x : So (homed l b x) = ap (homed_by b xs) g ∙ subst (λ (j : ℕ). So (any (eqb j) (take n xs))) e (in_any block_equality (mem_take n xs i a d)) in
       ⊎_elim ne
       (⊎_elim
-      (λ o. clash (o.retires_first homed-x) (ap is_retired stage))
-      (λ o. clash (lower_retired v t none_lower b took_t x took-x (ap is_closed g) (o.lower (ap is_closed stage))) (ap is_retired g)))
-      (one_older (status l) (homed l b) (history_of l b) (v.block_inv b).chain x t (v.took b x took-x) (v.took b t took_t))
+      (λ o. clash (o.retires_first homed_x) (ap is_retired stage))
+      (λ o. clash (lower_retired v t none_lower b took_t x took_x (ap is_closed g) (o.lower (ap is_closed stage))) (ap is_retired g)))
+      (one_older (status l) (homed l b) (history_of l b) (v.block_inv b).chain x t (v.took b x took_x) (v.took b t took_t))
 
   fresh : (p : ℕ) → Place l tail_at ks p → p ≢ home_block b
   fresh p (in_journal a q h e lo hi o) y = home_apart l.shape a _ (home_block b) (omega (arith, low)) (sym y ∙ e)

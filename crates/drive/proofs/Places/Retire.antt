@@ -38,7 +38,7 @@ not_master (at_home t m i h g a d e) z = (let r = sym e ∙ z in omega arith)
 
 module _ {l : Ledger} (f : WellFormed l) {tail_at : ℕ → Tail} {ks : List StoreKind} {behind now : Bytes} (z : DiskStands Numbers l now tail_at) {places : List ℕ} {old : Bytes}
     (s : BetweenDisks l tail_at ks behind now places old) (c : ℕ) (in_range_lem : c < l.shape.cores) (m : ℕ) (stage : stage_of l.book (oldest_name c l.book) ≡ committed m)
-    (safe_t : So (member_of (kept (book_without (commit_since ks) l.book)) (oldest_name c l.book))) (none-home : home_since ks (oldest_name c l.book) ≡ false)
+    (safe_t : So (member_of (kept (book_without (commit_since ks) l.book)) (oldest_name c l.book))) (none_home : home_since ks (oldest_name c l.book) ≡ false)
     (fine₂ : WellFormed (advanced l (oldest_name c l.book) retired (raise c l.book.oldest))) (tail₂ : ℕ → Tail)
     (own_tail : tail₂ c ≡ past_tail c l (tail_at c))
     (other_tail : (a : ℕ) → a ≢ c → tail₂ a ≡ tail_at a) where
@@ -66,8 +66,8 @@ module _ {l : Ledger} (f : WellFormed l) {tail_at : ℕ → Tail} {ks : List Sto
   own_kept : (k a q : ℕ) → a ≡ c → k ≡ journal_block l.shape a ((tail_at a).position + q) → length (contents (ledger_without (commit_since ks) l) a) ≤ q → q < length (contents l a)
       → So (part_since ks a) ⊎ So (commit_since ks (last_name l a)) → Place l₃ tail₂ ks k
   own_kept k a q i e lo hi o =
-      let behind-long = past_behind f z s.cached c in_range_lem m stage safe_t none-home fine₂ in
-      let now-long = past_now f z s.cached c in_range_lem m stage safe_t none-home fine₂ in
+      let behind_long = past_behind f z s.cached c in_range_lem m stage safe_t none_home fine₂ in
+      let now_long = past_now f z s.cached c in_range_lem m stage safe_t none_home fine₂ in
       let lo₂ : length (contents (ledger_without (commit_since ks) l) c) ≤ q = subst (λ (x : ℕ). length (contents (ledger_without (commit_since ks) l) x) ≤ q) i lo in
       let hi₂ : q < length (contents l c) = subst (λ (x : ℕ). q < length (contents l x)) i hi in
       in_journal c (q - n) in_range_lem
@@ -79,10 +79,10 @@ module _ {l : Ledger} (f : WellFormed l) {tail_at : ℕ → Tail} {ks : List Sto
       elim (ℕ_discrete a c) [
         | yes i ↦ own_kept k a q i e lo hi o
         | no ne ↦ in_journal a q h (e ∙ ap (λ (x : Tail). journal_block l.shape a (x.position + q)) (sym (other_tail a ne)))
-            (rw (other_behind f z s.cached c in_range_lem m stage safe_t none-home fine₂ a ne) lo) (rw (other_now f z s.cached c in_range_lem m stage safe_t none-home fine₂ a ne) hi) o
+            (rw (other_behind f z s.cached c in_range_lem m stage safe_t none_home fine₂ a ne) lo) (rw (other_now f z s.cached c in_range_lem m stage safe_t none_home fine₂ a ne) hi) o
       ]
   kept_places k (at_home v j i h g a d e) =
-      let ne : v ≢ t = λ q. clash (subst (λ (x : Name). So (home_since ks x)) q h) none-home in
+      let ne : v ≢ t = λ q. clash (subst (λ (x : Name). So (home_since ks x)) q h) none_home in
       at_home v j i h (ap (λ (x : Entry). x.stage) (change_other t (staged retired) l.book.entry v ne) ∙ g) a (rw (blocks_same v) d) (rw (blocks_same v) e)
 
   changed : Restages l.book l₃.book t retired
@@ -123,7 +123,7 @@ module _ {l : Ledger} (f : WellFormed l) {tail_at : ℕ → Tail} {ks : List Sto
           ]
 
   is_master_lem : length block ≡ 128
-  is_master_lem = (is_block f z s.cached c in_range_lem m stage safe_t none-home fine₂ tail₂ own_tail other_tail).size
+  is_master_lem = (is_block f z s.cached c in_range_lem m stage safe_t none_home fine₂ tail₂ own_tail other_tail).size
 
   behind_fits : 128 * 0 + 128 ≤ length behind
   behind_fits = omega (arith, s.cached.stands.size)
@@ -134,7 +134,7 @@ module _ {l : Ledger} (f : WellFormed l) {tail_at : ℕ → Tail} {ks : List Sto
   pub between_retire : BetweenDisks l₃ tail₂ ks (store behind 0 block) (store now 0 block) places old
   between_retire =
       record {
-        cached = cached_retire f z s.cached c in_range_lem m stage safe_t none-home fine₂ tail₂ own_tail other_tail;
+        cached = cached_retire f z s.cached c in_range_lem m stage safe_t none_home fine₂ tail₂ own_tail other_tail;
         count = s.count;
         few = s.few;
         lies = λ j h. kept_places _ (s.lies j h);
@@ -154,7 +154,7 @@ module _ {l : Ledger} (f : WellFormed l) {tail_at : ℕ → Tail} {ks : List Sto
             record {
               index = x.index;
               within = x.within;
-              place = x.place ∙ place₃ f z s.cached c in_range_lem m stage safe_t none-home fine₂ tail₂ own_tail other_tail a;
+              place = x.place ∙ place₃ f z s.cached c in_range_lem m stage safe_t none_home fine₂ tail₂ own_tail other_tail a;
               says = x.says;
             };
         parts = λ a h p. part_past a (s.parts a h p);

@@ -198,7 +198,7 @@ module _ {l : Ledger} {w : World} (u : CardUp l w) (c : ℕ) (in_range_lem : c <
         (λ t p. home_kept place t (blocks_stay t) (s.homes t p))
 
   -- ---- the commit, where no part of its record is since the barrier
-  module _ (all-stored : length (l.book.entry (uncommitted_name c l.book)).blocks < stored) (no_part : part_since ks c ≡ false) (fine₂ : WellFormed l₂) where
+  module _ (all_stored : length (l.book.entry (uncommitted_name c l.book)).blocks < stored) (no_part : part_since ks c ≡ false) (fine₂ : WellFormed l₂) where
     abbrev g : Name
     g = uncommitted_name c l.book
 
@@ -206,18 +206,18 @@ module _ {l : Ledger} {w : World} (u : CardUp l w) (c : ℕ) (in_range_lem : c <
     commit_kinds = commit g ∷ ks
 
     first : commit_since ks (last_name l c) ≡ false
-    first = commit_first u c in_range_lem busy s.cached all-stored no_part fine₂
+    first = commit_first u c in_range_lem busy s.cached all_stored no_part fine₂
 
     behind_own : contents (ledger_without (commit_since commit_kinds) l₂) c ≡ contents l c
     unfolding any
-    behind_own = commit_behind u c in_range_lem busy s.cached all-stored no_part fine₂
+    behind_own = commit_behind u c in_range_lem busy s.cached all_stored no_part fine₂
 
     behind_other : (a : ℕ) → a < l.shape.cores → a ≢ c → contents (ledger_without (commit_since commit_kinds) l₂) a ≡ contents (ledger_without (commit_since ks) l) a
     unfolding any
-    behind_other = commit_behind_other u c in_range_lem busy s.cached all-stored no_part fine₂
+    behind_other = commit_behind_other u c in_range_lem busy s.cached all_stored no_part fine₂
 
     last_own : last_name l₂ c ≡ g
-    last_own = ap (new_name c) (omega (arith, last_uncommitted u c in_range_lem busy all-stored))
+    last_own = ap (new_name c) (omega (arith, last_uncommitted u c in_range_lem busy all_stored))
 
     since_other : (a : ℕ) → a ≢ c → commit_since commit_kinds (last_name l₂ a) ≡ commit_since ks (last_name l a)
     unfolding any
@@ -261,7 +261,7 @@ module _ {l : Ledger} {w : World} (u : CardUp l w) (c : ℕ) (in_range_lem : c <
     unfolding any
     between_commit =
         between_more s (commit g) place (b u c in_range_lem busy) (is_block u c in_range_lem busy) u.disk.size u.disk.bytes low_place few fresh commit_places
-        (cached_commit u c in_range_lem busy s.cached all-stored no_part fine₂)
+        (cached_commit u c in_range_lem busy s.cached all_stored no_part fine₂)
         (in_journal c (length (contents l c)) in_range_lem refl (let e = ap length behind_own in omega arith) (omega (arith, own_contents))
         (inr (ap (commit_since commit_kinds) last_own ∙ rw (same_name_refl g) refl)))
         (λ a h p. elim (ℕ_discrete a c) [

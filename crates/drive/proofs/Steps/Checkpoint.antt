@@ -91,9 +91,9 @@ module _ {d : DriveLedger} {w : Drive} (u : DriveUp d w) (c : ℕ) (may : MayChe
   pub counted : stage_count (stage_of l.book t) ≡ m
   counted = ap stage_count stage
 
-  module _ (not-early : home_too_early c d ≡ false) where
+  module _ (not_early : home_too_early c d ≡ false) where
     not_too_early : (eqb (stage_count (stage_of l.book t)) 0 && not (any (same_name t) (valid_in (book_without since l.book)))) ≡ false
-    not_too_early = unfold home_too_early in not-early
+    not_too_early = unfold home_too_early in not_early
 
     -- ---- it is kept by what is behind the barrier
     formed₀ : WellFormed (ledger_without since l)
@@ -176,7 +176,7 @@ module _ {d : DriveLedger} {w : Drive} (u : DriveUp d w) (c : ℕ) (may : MayChe
           (image_block up.up c in_range_lem some more) formed₂))
 
     -- ---- the master store
-    module _ (few : length w.since < 64) (left : home_left c d.now.book ≡ false) (none-home : home_since d.since (oldest_name c d.now.book) ≡ false) where
+    module _ (few : length w.since < 64) (left : home_left c d.now.book ≡ false) (none_home : home_since d.since (oldest_name c d.now.book) ≡ false) where
       all : m ≡ length bs
       all = all_home up c in_range_lem some may.valid may.none_shared left
 
@@ -240,7 +240,7 @@ module _ {d : DriveLedger} {w : Drive} (u : DriveUp d w) (c : ℕ) (may : MayChe
             between =
                 rw (master_ledger, master_tails, master_disk)
                 (between_slice
-                (between_retire up.up.well_formed up.up.disk u.between c in_range_lem m stage safe_t none-home formed₃ tails₂
+                (between_retire up.up.well_formed up.up.disk u.between c in_range_lem m stage safe_t none_home formed₃ tails₂
                 (own_tail up.up c in_range_lem some all) (other_tail up.up c in_range_lem some all))
                 few (block_at x.disk 0) was (bytes_block_at x.disk 0 up.up.disk.bytes));
             few = few;

@@ -39,20 +39,20 @@ use Rattle.drive.proofs.Steps.Related.{DriveUp, DriveMaster, DriveDown, Formatte
 disk_same : (k : Command) (w : World) → next_store in_sequence k w ≡ no_store → (done_by in_sequence k w).world.disk ≡ w.disk
 disk_same k w e = (done_makes in_sequence k w).disk ∙ ap (λ (s : DiskStore). with_store s w.disk) e
 
-module _ (k : Command) {d : DriveLedger} {w : Drive} (no_kind : kind_of k d.now ≡ none) (no-next : next_store in_sequence k w.world ≡ no_store)
+module _ (k : Command) {d : DriveLedger} {w : Drive} (no_kind : kind_of k d.now ≡ none) (no_next : next_store in_sequence k w.world ≡ no_store)
     (up_after : RelatedUp (carried_out k d.now) (done_by in_sequence k w.world).world)
     (keeps : (ks : List StoreKind) (behind : Bytes) (places : List ℕ) (old : Bytes) → BetweenDisks d.now (tail_of w.world.card) ks behind w.world.disk places old
     → BetweenDisks (carried_out k d.now) (tail_of (done_by in_sequence k w.world).world.card) ks behind (done_by in_sequence k w.world).world.disk places old) where
   pub kept_up : DriveUp d w → DriveUp (ledger_after k d) (drive_after k w)
   unfolding ledger_after drive_after
   kept_up u =
-      rw (no_kind, no-next)
+      rw (no_kind, no_next)
       (record { up = up_after; behind = u.behind; between = keeps d.since u.behind w.since w.images u.between; unmastered = u.unmastered })
 
   pub kept_master : DriveMaster d w → DriveMaster (ledger_after k d) (drive_after k w)
   unfolding ledger_after drive_after
   kept_master u =
-      rw (no_kind, no-next)
+      rw (no_kind, no_next)
       (record {
         up = up_after;
         kinds = u.kinds;
@@ -62,7 +62,7 @@ module _ (k : Command) {d : DriveLedger} {w : Drive} (no_kind : kind_of k d.now 
         behind = u.behind;
         between = keeps u.kinds u.behind u.places w.images u.between;
         few = u.few;
-        lost = rw (disk_same k w.world no-next) u.lost;
+        lost = rw (disk_same k w.world no_next) u.lost;
       })
 
 -- ---- CLOSE

@@ -65,7 +65,7 @@ no_kinds {d} v h e =
     let q : eqb (length d.now.left) 0 ≡ true = rw e (eq-eqb 0 0 refl) in
     none_since d.since v.only (rw q at (or_none (any is_master_store d.since) _ h).1)
 
-module _ {d : DriveLedger} {w : Drive} (v : DriveDown d w) (none-missing : barrier_missing RECOVER d ≡ false) (few : length w.since < 64) where
+module _ {d : DriveLedger} {w : Drive} (v : DriveDown d w) (none_missing : barrier_missing RECOVER d ≡ false) (few : length w.since < 64) where
   abbrev l : Ledger
   l = d.now
 
@@ -74,7 +74,7 @@ module _ {d : DriveLedger} {w : Drive} (v : DriveDown d w) (none-missing : barri
 
   free : (any is_master_store d.since ≡ false) × ((eqb (length l.left) 0 && any is_restore d.since) ≡ false)
   unfolding barrier_missing
-  free = or_none _ _ none-missing
+  free = or_none _ _ none_missing
 
   abbrev places₂ : ℕ → List ℕ
   places₂ p = w.since ++ (p ∷ [])
@@ -154,7 +154,7 @@ module _ {d : DriveLedger} {w : Drive} (v : DriveDown d w) (none-missing : barri
   -- ---- the master store
   module _ (e : l.left ≡ []) where
     no_places : w.since ≡ []
-    no_places = none_long w.since (v.count ∙ ap length (no_kinds v none-missing e))
+    no_places = none_long w.since (v.count ∙ ap length (no_kinds v none_missing e))
 
     abbrev block : Bytes
     block = master_block Numbers d.now.shape (λ (c : ℕ). new_tail (first_number d.now c) 0)
@@ -194,7 +194,7 @@ module _ {d : DriveLedger} {w : Drive} (v : DriveDown d w) (none-missing : barri
           up = up_after;
           kinds = [];
           places = [];
-          is_master_lem = rw (no_kinds v none-missing e) refl;
+          is_master_lem = rw (no_kinds v none_missing e) refl;
           last_place = rw no_places refl;
           behind = (recovered in_sequence x).world.disk;
           between = between_barrier up_after.up.well_formed up_after.up.disk up_after.inv _ (images_size 0 (omega arith)) (images_bytes 0 (omega arith));

@@ -51,7 +51,7 @@ drive_more k d w up kind e n h b next p q behind s =
       unmastered = rw n h;
     })
 
-module _ {d : DriveLedger} {w : Drive} (u : DriveUp d w) (c : ℕ) (may : MayStore d.now c) (none-missing : barrier_missing (STORE c) d ≡ false) (few : length w.since < 64) where
+module _ {d : DriveLedger} {w : Drive} (u : DriveUp d w) (c : ℕ) (may : MayStore d.now c) (none_missing : barrier_missing (STORE c) d ≡ false) (few : length w.since < 64) where
   abbrev l : Ledger
   l = d.now
 
@@ -106,7 +106,7 @@ module _ {d : DriveLedger} {w : Drive} (u : DriveUp d w) (c : ℕ) (may : MaySto
   -- no barrier is missing
   free : (any is_master_store d.since ≡ false) × ((commit_next c l.book && part_since d.since c) ≡ false)
   unfolding barrier_missing
-  free = or_none _ _ none-missing
+  free = or_none _ _ none_missing
 
   next_is : next_store in_sequence (STORE c) x ≡ one_store (record_store c x)
   unfolding next_store

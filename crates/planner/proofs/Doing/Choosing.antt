@@ -56,14 +56,14 @@ module _ (w : World) where
     unfolding next_command choices first_choice
     next_close e = rw (none_closed, e) refl
 
-    module _ (none-run : select (runs_on w) (cores_of w) ≡ []) where
+    module _ (none_run : select (runs_on w) (cores_of w) ≡ []) where
       next_oldest : {e : Committed} {es : List Committed} → sort_by stamp_of (oldest_ones w) ≡ e ∷ es → next_command w ≡ some (oldest_next w e.core)
       unfolding next_command choices first_choice
-      next_oldest h = rw (none_closed, none-run, h) refl
+      next_oldest h = rw (none_closed, none_run, h) refl
 
       next_none : sort_by stamp_of (oldest_ones w) ≡ [] → next_command w ≡ none
       unfolding next_command choices first_choice
-      next_none h = rw (none_closed, none-run, h) refl
+      next_none h = rw (none_closed, none_run, h) refl
 
 -- ---- what is listed
 -- where no core has one, none is listed
@@ -90,10 +90,10 @@ module _ {l : Ledger} {w : World} (u : RelatedUp l w) where
       let h = store_answered u c m in
       next_done (STORE c) (next_store w e) (chosen_done u (STORE c) h (store_chosen u c m h))
 
-  module _ (no-closed : select (closed_on w) (cores_of w) ≡ []) where
+  module _ (no_closed : select (closed_on w) (cores_of w) ≡ []) where
     all_committed : (c : ℕ) → c < l.shape.cores → l.book.uncommitted c ≡ l.book.next c
     all_committed c h =
-        let z = sym (closing_live u.up c h) ∙ none_meets (closed_on w) l.shape.cores (in_cores (closed_on w) [] no-closed) c h in
+        let z = sym (closing_live u.up c h) ∙ none_meets (closed_on w) l.shape.cores (in_cores (closed_on w) [] no_closed) c h in
         omega (arith, ltb-false (l.book.uncommitted c) (l.book.next c) z, (u.up.well_formed.ranks c h).mid)
 
     -- ---- a CLOSE
@@ -108,13 +108,13 @@ module _ {l : Ledger} {w : World} (u : RelatedUp l w) where
         } in
         let h = close_answered u c m in
         let first : (i : ℕ) → i < c → has_running l.book i ≡ false = λ i q. sym (live_runs u.up i (omega (arith, f.in_range_lem))) ∙ f.lower i q in
-        next_done (CLOSE c) (next_close w no-closed e) (chosen_done u (CLOSE c) h (close_chosen u c m first h))
+        next_done (CLOSE c) (next_close w no_closed e) (chosen_done u (CLOSE c) h (close_chosen u c m first h))
 
-    module _ (no-running : select (runs_on w) (cores_of w) ≡ []) where
+    module _ (no_running : select (runs_on w) (cores_of w) ≡ []) where
       is_quiescent : Quiescent l
       is_quiescent =
           record {
-            none_running = λ c h. sym (live_runs u.up c h) ∙ none_meets (runs_on w) l.shape.cores (in_cores (runs_on w) [] no-running) c h;
+            none_running = λ c h. sym (live_runs u.up c h) ∙ none_meets (runs_on w) l.shape.cores (in_cores (runs_on w) [] no_running) c h;
             none_closed = all_committed;
           }
 
@@ -162,7 +162,7 @@ module _ {l : Ledger} {w : World} (u : RelatedUp l w) where
       choose_lowest e es h =
           let s = sort_first stamp_of (oldest_ones w) h in
           let r = in_oldest u.up e s.0 in
-          choose_oldest r.0 e r.1 s.1 (subst (λ (c : ℕ). next_command w ≡ some (oldest_next w c)) r.1.core (next_oldest w no-closed no-running h))
+          choose_oldest r.0 e r.1 s.1 (subst (λ (c : ℕ). next_command w ≡ some (oldest_next w c)) r.1.core (next_oldest w no_closed no_running h))
 
       -- ---- nothing
       choose_nothing : sort_by stamp_of (oldest_ones w) ≡ [] → Choice IsUp w
@@ -172,17 +172,17 @@ module _ {l : Ledger} {w : World} (u : RelatedUp l w) where
             | yes g ↦ absurd (Memᴰ.not-nil (subst (Memᴰ (oldest_in u.up c q g).0) (sort_none stamp_of (oldest_ones w) h) (oldest_in u.up c q g).1))
             | no g ↦ omega (arith, (u.up.well_formed.ranks c q).low, all_committed c q)
           ] in
-          nothing_left (next_none w no-closed no-running h) (list_up u.up ∙ quiescent_empty is_quiescent none_old)
+          nothing_left (next_none w no_closed no_running h) (list_up u.up ∙ quiescent_empty is_quiescent none_old)
 
   choose_up : Choice IsUp w
   choose_up = by_closed (select (closed_on w) (cores_of w)) refl
     where
-      by_oldest : (no-closed : select (closed_on w) (cores_of w) ≡ []) (no-running : select (runs_on w) (cores_of w) ≡ []) (es : List Committed)
+      by_oldest : (no_closed : select (closed_on w) (cores_of w) ≡ []) (no_running : select (runs_on w) (cores_of w) ≡ []) (es : List Committed)
           → sort_by stamp_of (oldest_ones w) ≡ es → Choice IsUp w
       by_oldest a b [] e = choose_nothing a b e
       by_oldest a b (x ∷ es) e = choose_lowest a b x es e
 
-      by_running : (no-closed : select (closed_on w) (cores_of w) ≡ []) (cs : List ℕ) → select (runs_on w) (cores_of w) ≡ cs → Choice IsUp w
+      by_running : (no_closed : select (closed_on w) (cores_of w) ≡ []) (cs : List ℕ) → select (runs_on w) (cores_of w) ≡ cs → Choice IsUp w
       by_running a [] e = by_oldest a e (sort_by stamp_of (oldest_ones w)) refl
       by_running a (c ∷ cs) e = choose_close a c cs e
 

@@ -130,7 +130,7 @@ all_both p q (i ∷ is) = crossed (p i) (all p is) (q i) (all q is) ∙ ap (λ (
 abbrev none_stored : World → ℕ → Bool
 none_stored w c = is_empty (committed_of w c) && not (closed_on w c)
 
-module _ (q : Unretired → Bool) (not_committed : (h : ℕ) (e : Committed) → q (committed_as h e) ≡ false) (not-closed : (c : ℕ) (k : Core) → q (closed_as c k) ≡ false) where
+module _ (q : Unretired → Bool) (not_committed : (h : ℕ) (e : Committed) → q (committed_as h e) ≡ false) (not_closed : (c : ℕ) (k : Core) → q (closed_as c k) ≡ false) where
   committed_tested : (h : ℕ) (es : List Committed) → all q (committed_ones h es) ≡ is_empty es
   unfolding all is_empty committed_ones
   committed_tested h [] = refl
@@ -144,7 +144,7 @@ module _ (q : Unretired → Bool) (not_committed : (h : ℕ) (e : Committed) →
       let cs = cond k.closed.live (closed_as c k ∷ []) [] in
       let rs = cond k.running.live (running_as c k ∷ []) [] in
       all_append q (committed_ones k.homed (committed_of w c)) (cs ++ rs)
-      ∙ ap₂ ◌&&◌ (committed_tested k.homed (committed_of w c)) (all_append q cs rs ∙ ap₂ ◌&&◌ (all_if q k.closed.live (closed_as c k) (not-closed c k)) e)
+      ∙ ap₂ ◌&&◌ (committed_tested k.homed (committed_of w c)) (all_append q cs rs ∙ ap₂ ◌&&◌ (all_if q k.closed.live (closed_as c k) (not_closed c k)) e)
       ∙ sym (and_assoc (is_empty (committed_of w c)) (not (closed_on w c)) b)
 
 empty_core : (w : World) (c : ℕ) → is_empty (unretired_of w c) ≡ (none_stored w c && not (runs_on w c))

@@ -131,19 +131,19 @@ order_closes n {us} {vs} {a} {b} r ra rb e k low first =
     let none : running_ones xs ≡ [] = none_running xs first in
     let s = sort_by stamp_of (sx ++ sy) in
     let rest = closed_from (suc n) (running_ones ys) in
-    let was-running : running_ones (xs ++ (a ∷ ys)) ≡ a ∷ running_ones ys =
+    let was_running : running_ones (xs ++ (a ∷ ys)) ≡ a ∷ running_ones ys =
     select_in runs xs ys a ra ∙ ap (λ (l : List Unretired). l ++ (a ∷ running_ones ys)) none in
-    let is-running : running_ones (xs ++ (b ∷ ys)) ≡ running_ones ys =
+    let is_running : running_ones (xs ++ (b ∷ ys)) ≡ running_ones ys =
     select_out runs xs ys b rb ∙ ap (λ (l : List Unretired). l ++ running_ones ys) none in
     ap (order_from n) r.was
     ∙ ap₂ (λ (l m : List Unretired). map stamped_as (sort_by stamp_of l) ++ closed_from n m)
-    (select_out (λ (u : Unretired). not (runs u)) xs ys a (ap not ra)) was-running
+    (select_out (λ (u : Unretired). not (runs u)) xs ys a (ap not ra)) was_running
     ∙ ap₂ (λ (t : Name) (i : ℕ). map stamped_as s ++ (new_stamped t i ∷ rest)) (sym e) (sym k)
     ∙ sym (append_assoc (map stamped_as s) (stamped_as b ∷ []) rest)
     ∙ ap (λ (l : List Stamped). l ++ rest) (sym (map-append stamped_as s (b ∷ [])))
     ∙ ap (λ (l : List Unretired). map stamped_as l ++ rest) (sym (sort_highest stamp_of b sx sy lx ly))
     ∙ ap₂ (λ (l m : List Unretired). map stamped_as (sort_by stamp_of l) ++ closed_from (suc n) m)
-    (sym (select_in (λ (u : Unretired). not (runs u)) xs ys b (ap not rb))) (sym is-running)
+    (sym (select_in (λ (u : Unretired). not (runs u)) xs ys b (ap not rb))) (sym is_running)
     ∙ ap (order_from (suc n)) (sym r.is)
 
 -- a retirement, the lowest stamp first

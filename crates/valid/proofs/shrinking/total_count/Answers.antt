@@ -1,12 +1,12 @@
 -- `valid::total_count` meets its contract: the sum of the counts passed.
-use Rattle.valid.proofs.Lowering.{all-counted}
+use Rattle.valid.proofs.Lowering.{all_counted}
 use Rattle.valid.proofs.shrinking.total_count.Goals as goal
 
 pub loop-c-init : goal.loop-c-init
-loop-c-init c = search all-counted
+loop-c-init c = search all_counted
 
 pub loop-c-preserved : goal.loop-c-preserved
-loop-c-preserved c = search all-counted
+loop-c-preserved c = search all_counted
 
 pub returns : goal.returns
-returns c = search all-counted
+returns c = search all_counted
