@@ -1,7 +1,7 @@
 -- The lowest block from a place on that a set holds: no lower one is held, and it is the bound or held itself. It is lowered with each block of each
 -- record, and in the end it is the first of those held.
 use Rattle.model.proofs.Base.{ℕ, zero, suc, ◌+◌, ◌/◌, ◌%◌, ◌≤◌, ◌<◌, arith, dec_lt, ◌≡◌, refl, sym, ap, ◌∙◌, Bool, true, false}
-use Rattle.model.proofs.Base.{true≢false, List, [], ◌∷◌, ◌++◌, append_assoc, List-as-Memᴰ, List·Memᴰ·head, List·Memᴰ·tail, eqb}
+use Rattle.model.proofs.Base.{true≢false, List, [], ◌∷◌, ◌++◌, append_assoc, Memᴰ, mem_head, mem_tail, eqb}
 use Rattle.model.proofs.Base.{leb, lt-ltb, le-ltb, le-leb, lt-leb, leb-true, eq-eqb, ne_eqb, get_or, flat_map, below, any, select, Bytes}
 use Rattle.model.specs.Layout.{new_tag, pair_at}
 use Rattle.model.specs.Journal.{journal_at, tags_of, blocks_of, took}
@@ -76,10 +76,10 @@ module _ (a : ℕ) (p : ℕ → ℕ → Bool) (f : ℕ → ℕ → ℕ) (step : 
   lowest_steps z (suc n) = after_one z (stepped f z n) (f n (stepped f z n)) n (lowest_steps z n) (step n (stepped f z n))
 
 -- ---- the first of those held
-select_none : {A : Type 0} (p : A → Bool) (xs : List A) → ((x : A) → List-as-Memᴰ x xs → p x ≡ false) → select p xs ≡ []
+select_none : {A : Type 0} (p : A → Bool) (xs : List A) → ((x : A) → Memᴰ x xs → p x ≡ false) → select p xs ≡ []
 unfolding select
 select_none p [] h = refl
-select_none p (x ∷ xs) h = rw (h x (List·Memᴰ·head refl)) (select_none p xs (λ y m. h y (List·Memᴰ·tail m)))
+select_none p (x ∷ xs) h = rw (h x (mem_head refl)) (select_none p xs (λ y m. h y (mem_tail m)))
 
 below_split : (n b : ℕ) → b < n → (rest : List ℕ) × (below n ≡ below b ++ (b ∷ rest))
 unfolding below

@@ -1,5 +1,5 @@
 -- The descriptor of a record that was read has passed the range test: functions over records may take block numbers as bytes.
-use Rattle.model.proofs.Base.{ℕ, zero, suc, ◌+◌, ◌*◌, ◌≤◌, ◌<◌, arith, ◌≡◌, subst, List, List-as-Memᴰ, get_or, below, Bytes}
+use Rattle.model.proofs.Base.{ℕ, zero, suc, ◌+◌, ◌*◌, ◌≤◌, ◌<◌, arith, ◌≡◌, subst, List, Memᴰ, get_or, below, Bytes}
 use mathlib.Core.List.Memᴰ
 use Rattle.model.specs.Lists.{total}
 use Rattle.model.specs.Journal.{journal_at, tags_of, blocks_of}
@@ -77,7 +77,7 @@ unfolding RunsTested IsJournal run_in
 reads_tested y s d ts most xs zs start count r l c h =
     record {
       room = omega (arith, r.few c h, reads_low y s d ts most xs zs start count r l c h);
-      each = λ j g. extent_known j (journal_known y s d c (tail_for ts c) (get_or most c 0) _ (subst (List-as-Memᴰ (this j)) (r.journals c h) (Memᴰ.map this (below_mem (get_or count c 0) j g))));
+      each = λ j g. extent_known j (journal_known y s d c (tail_for ts c) (get_or most c 0) _ (subst (Memᴰ (this j)) (r.journals c h) (Memᴰ.map this (below_mem (get_or count c 0) j g))));
     }
   where
     this : ℕ → Committed

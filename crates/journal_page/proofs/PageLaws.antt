@@ -26,7 +26,7 @@ use Rattle.model.specs.declared.CommitLayout.{CommitLayout}
 use Rattle.model.specs.declared.Committed.{Committed}
 use Rattle.model.proofs.Base.{ℕ, zero, suc, ◌+◌, ◌≤◌, ◌<◌, arith, add-one, ◌≡◌, refl, sym, ap, ◌∙◌, ◌≢◌}
 use Rattle.model.proofs.Base.{Bool, true, false, true≢false, cond, not, List, [], ◌∷◌, ◌++◌, map, length, get_or, replicate}
-use Rattle.model.proofs.Base.{List-as-Memᴰ, List·Memᴰ·head, List·Memᴰ·tail, Memᴰ·cast, append-nil, flat_map, any, ◌⊎◌, inl, inr, subst}
+use Rattle.model.proofs.Base.{Memᴰ, mem_head, mem_tail, mem_cast, append-nil, flat_map, any, ◌⊎◌, inl, inr, subst}
 use Rattle.model.proofs.Base.{length-map, length-append, list_get_or_append, eqb, eq-eqb, ne_eqb, eqb-true, eqb-false, below, Bytes}
 use Rattle.model.proofs.Lists.{cases, length_below, get_or_map, get_or_map_below, each_append, each_get_or, get_or_each, mem_each, any_mem, mem_any, flat_map_append, mem_flat_map, mem_below}
 use Rattle.journal_page.proofs.Numerals.{set_right, digit_last}
@@ -250,12 +250,12 @@ abbrev pub Ascending : List Committed → Type 0
 Ascending [] = Unit {0}
 Ascending (e ∷ es) = Each (Before e) es × Ascending es
 
-ascending_append : (xs ys : List Committed) → Ascending xs → Ascending ys → ((x y : Committed) → List-as-Memᴰ x xs → List-as-Memᴰ y ys → Before x y)
+ascending_append : (xs ys : List Committed) → Ascending xs → Ascending ys → ((x y : Committed) → Memᴰ x xs → Memᴰ y ys → Before x y)
     → Ascending (xs ++ ys)
 ascending_append [] ys a b h = b
 ascending_append (x ∷ xs) ys a b h = (
-  each_append (Before x) xs ys a.0 (mem_each (Before x) ys (λ y m. h x y (List·Memᴰ·head refl) m)),
-  ascending_append xs ys a.1 b (λ u v m n. h u v (List·Memᴰ·tail m) n),
+  each_append (Before x) xs ys a.0 (mem_each (Before x) ys (λ y m. h x y (mem_head refl) m)),
+  ascending_append xs ys a.1 b (λ u v m n. h u v (mem_tail m) n),
 )
 
 ascending_get_or : (es : List Committed) → Ascending es → (i j : ℕ) (z : Committed) → i < j → j < length es → Before (get_or es i z) (get_or es j z)
@@ -294,11 +294,11 @@ module _ (y : CommitLayout) (s : Shape) (d : Bytes) (tail_at : ℕ → Tail) (mo
       subst Ascending (sym (flat_map_append one (below n) (n ∷ [])))
       (ascending_append (flat_map one (below n)) (one n ++ []) (cores_ascending n) (subst Ascending (sym (append-nil (one n))) (one_ascending n)) between)
     where
-      between : (x z : Committed) → List-as-Memᴰ x (flat_map one (below n)) → List-as-Memᴰ z (one n ++ []) → Before x z
+      between : (x z : Committed) → Memᴰ x (flat_map one (below n)) → Memᴰ z (one n ++ []) → Before x z
       between x z m l =
           let r = mem_flat_map one (below n) m in
           let a = journal_known y s d r.0 (tail_at r.0) (most r.0) x r.2 in
-          let b = journal_known y s d n (tail_at n) (most n) z (subst (λ (es : List Committed). List-as-Memᴰ z es) (append-nil (one n)) l) in
+          let b = journal_known y s d n (tail_at n) (most n) z (subst (λ (es : List Committed). Memᴰ z es) (append-nil (one n)) l) in
           inl (omega (arith, a.1.core, b.1.core, mem_below n r.1))
 
 -- what is read of a disk is in order of core and number, strictly
@@ -316,26 +316,26 @@ unfolding committed_by
 committed_distinct d = journals_distinct (layout_on d) (shape_on d) d (tail_on d) (λ (c : ℕ). (shape_on d).journal)
 
 -- the word is kept exactly for those in the valid set
-pub kept_valid : (d : Bytes) (e : Committed) → List-as-Memᴰ e (committed_on d) → (is_in (valid_on d) (name_of e) ≡ true ↔ List-as-Memᴰ e (valid_on d))
+pub kept_valid : (d : Bytes) (e : Committed) → Memᴰ e (committed_on d) → (is_in (valid_on d) (name_of e) ≡ true ↔ Memᴰ e (valid_on d))
 unfolding is_in
 kept_valid d e m = (there, λ v. mem_any (λ (u : Committed). same_name (name_of e) (name_of u)) v (same_name_refl (name_of e)))
   where
-    there : any (λ (u : Committed). same_name (name_of e) (name_of u)) (valid_on d) ≡ true → List-as-Memᴰ e (valid_on d)
+    there : any (λ (u : Committed). same_name (name_of e) (name_of u)) (valid_on d) ≡ true → Memᴰ e (valid_on d)
     there h =
         let r = any_mem (λ (u : Committed). same_name (name_of e) (name_of u)) (valid_on d) h in
-        let within : List-as-Memᴰ r.0 (committed_on d) = unfold valid_on_by in valid_within in_sequence (layout_on d) (shape_on d) d (tail_on d) (committed_on d) r.0 r.1 in
-        Memᴰ·cast (committed_distinct d e r.0 m within (same_name_true (name_of e) (name_of r.0) r.2)) r.1
+        let within : Memᴰ r.0 (committed_on d) = unfold valid_on_by in valid_within in_sequence (layout_on d) (shape_on d) d (tail_on d) (committed_on d) r.0 r.1 in
+        mem_cast (committed_distinct d e r.0 m within (same_name_true (name_of e) (name_of r.0) r.2)) r.1
 
 -- paper 02, (d): 'the page counts the cores named', by the disk's layout
 abbrev pub cores_on : Bytes → Committed → ℕ
 cores_on d e = cores_named (names_of (layout_on d) (shape_on d) d e)
 
 -- the line of one in the valid set, and of one that is not
-pub kept_line : (d : Bytes) (e : Committed) → List-as-Memᴰ e (committed_on d) → List-as-Memᴰ e (valid_on d) → transaction_line d e ≡ transaction_fields true (cores_on d e) e
+pub kept_line : (d : Bytes) (e : Committed) → Memᴰ e (committed_on d) → Memᴰ e (valid_on d) → transaction_line d e ≡ transaction_fields true (cores_on d e) e
 unfolding transaction_line
 kept_line d e m v = rw ((kept_valid d e m).1 v) refl
 
-pub left_line : (d : Bytes) (e : Committed) → List-as-Memᴰ e (committed_on d) → (List-as-Memᴰ e (valid_on d) → ⊥) → transaction_line d e ≡ transaction_fields false (cores_on d e) e
+pub left_line : (d : Bytes) (e : Committed) → Memᴰ e (committed_on d) → (Memᴰ e (valid_on d) → ⊥) → transaction_line d e ≡ transaction_fields false (cores_on d e) e
 unfolding transaction_line
 left_line d e m v =
     cases (is_in (valid_on d) (name_of e)) (λ t. absurd (v ((kept_valid d e m).0 t))) (λ t. rw t refl)

@@ -10,7 +10,7 @@ use Rattle.model.specs.JournalPage.{page_refusal, end_on}
 use Rattle.model.specs.declared.Shape.{Shape}
 use Rattle.model.specs.declared.Name.{Name}
 use Rattle.model.specs.declared.Committed.{Committed}
-use Rattle.model.proofs.Base.{ℕ, zero, suc, ◌+◌, ◌*◌, ◌^◌, ◌≤◌, ◌<◌, arith, ◌≡◌, List, [], ◌∷◌, List-as-Memᴰ, length, drop, length-take, eqb, below, any, Bytes}
+use Rattle.model.proofs.Base.{ℕ, zero, suc, ◌+◌, ◌*◌, ◌^◌, ◌≤◌, ◌<◌, arith, ◌≡◌, List, [], ◌∷◌, Memᴰ, length, drop, length-take, eqb, below, any, Bytes}
 use Rattle.model.proofs.Lists.{each_take, length_below}
 use Rattle.model.proofs.Select.{select_length}
 use Rattle.model.proofs.Limits.{InRange}
@@ -70,7 +70,7 @@ unfolding shape_on
 shape_limits d h = master_limits (block_at d 0) ((refusal_numbers d).2.0 h).1
 
 -- each transaction of a disk's page fits
-pub committed_fits : (d : Bytes) → page_refusal d ≡ 0 → Each IsByte d → (e : Committed) → List-as-Memᴰ e (committed_on d) → Fits d e
+pub committed_fits : (d : Bytes) → page_refusal d ≡ 0 → Each IsByte d → (e : Committed) → Memᴰ e (committed_on d) → Fits d e
 unfolding committed_by
 committed_fits d h a e m =
     let s = shape_on d in

@@ -1,6 +1,6 @@
 -- Two disks with the same master and the same journal blocks are read alike, whatever they hold: the same transactions, the same valid set,
 -- the same images. A home store leaves both, so recovery goes on as it began.
-use Rattle.model.proofs.Base.{ℕ, zero, suc, ◌+◌, ◌-◌, ◌*◌, ◌%◌, ◌≤◌, ◌<◌, arith, ◌≡◌, refl, sym, ap, fun_ext, ◌∙◌, cond, List, [], ◌∷◌, List-as-Memᴰ, List·Memᴰ·head, List·Memᴰ·tail, length, below, select, any, eqb, Bytes}
+use Rattle.model.proofs.Base.{ℕ, zero, suc, ◌+◌, ◌-◌, ◌*◌, ◌%◌, ◌≤◌, ◌<◌, arith, ◌≡◌, refl, sym, ap, fun_ext, ◌∙◌, cond, List, [], ◌∷◌, Memᴰ, mem_head, mem_tail, length, below, select, any, eqb, Bytes}
 use Rattle.model.specs.Bytes.{block_at, store}
 use Rattle.model.specs.Shape.{home_block, journal_block}
 use Rattle.model.specs.Layout.{block_count, tail_in, shape_in, layout_in}
@@ -27,7 +27,7 @@ pub record SameJournals (s : Shape) (d e : Bytes) : Type 0 where
 
 -- each of a core with a journal
 abbrev pub InJournals : Shape → List Committed → Type 0
-InJournals s es = (x : Committed) → List-as-Memᴰ x es → x.core < s.cores
+InJournals s es = (x : Committed) → Memᴰ x es → x.core < s.cores
 
 module _ {s : Shape} {d e : Bytes} (same : SameJournals s d e) where
   -- ---- the records
@@ -98,8 +98,8 @@ module _ {s : Shape} {d e : Bytes} (same : SameJournals s d e) where
   unfolding newest
   newest_alike b best [] low = refl
   newest_alike b best (x ∷ es) low =
-      rw (took_alike x (low x (List·Memᴰ·head refl)) b)
-      (newest_alike b (cond (took s e b x) (Whole (later best x)) best) es (λ y m. low y (List·Memᴰ·tail m)))
+      rw (took_alike x (low x (mem_head refl)) b)
+      (newest_alike b (cond (took s e b x) (Whole (later best x)) best) es (λ y m. low y (mem_tail m)))
 
 -- ---- whole disks
 pub record ReadAlike (d e : Bytes) : Type 0 where

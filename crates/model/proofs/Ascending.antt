@@ -1,18 +1,18 @@
 -- Ascending numbers: the numbers below a count are, and those of them that meet a test. Those left after the first are those above it.
-use Rattle.model.proofs.Base.{ℕ, zero, suc, ◌+◌, ◌<◌, arith, ◌≡◌, refl, sym, ◌∙◌, inl, inr, Bool, List, [], ◌∷◌, ◌++◌, List-as-Memᴰ, List·Memᴰ·head, List·Memᴰ·tail, List·Memᴰ·not-nil, ap}
-use Rattle.model.proofs.Base.{List·Memᴰ·append-cases, List·Memᴰ·eq-of-singleton, length, leb, le-leb, lt-leb, leb-true, leb-false, below, select}
+use Rattle.model.proofs.Base.{ℕ, zero, suc, ◌+◌, ◌<◌, arith, ◌≡◌, refl, sym, ◌∙◌, inl, inr, Bool, List, [], ◌∷◌, ◌++◌, Memᴰ, mem_head, mem_tail, mem_not_nil, ap}
+use Rattle.model.proofs.Base.{mem_append_cases, mem_eq_of_singleton, length, leb, le-leb, lt-leb, leb-true, leb-false, below, select}
 use Rattle.model.proofs.Lists.{cases, mem_below}
 use Rattle.model.proofs.Select.{select_mem, select_same}
 
 abbrev pub Ascending : List ℕ → Type 0
 Ascending [] = Unit {0}
-Ascending (x ∷ xs) = ((y : ℕ) → List-as-Memᴰ y xs → x < y) × Ascending xs
+Ascending (x ∷ xs) = ((y : ℕ) → Memᴰ y xs → x < y) × Ascending xs
 
-ascending_snoc : (xs : List ℕ) (n : ℕ) → Ascending xs → ((y : ℕ) → List-as-Memᴰ y xs → y < n) → Ascending (xs ++ (n ∷ []))
-ascending_snoc [] n a h = (λ y m. absurd (List·Memᴰ·not-nil m), tt)
+ascending_snoc : (xs : List ℕ) (n : ℕ) → Ascending xs → ((y : ℕ) → Memᴰ y xs → y < n) → Ascending (xs ++ (n ∷ []))
+ascending_snoc [] n a h = (λ y m. absurd (mem_not_nil m), tt)
 ascending_snoc (x ∷ xs) n a h = (
-  λ y m. elim (List·Memᴰ·append-cases xs m) [ inl p ↦ a.0 y p | inr p ↦ (let e = List·Memᴰ·eq-of-singleton p in omega (arith, h x (List·Memᴰ·head refl))) ],
-  ascending_snoc xs n a.1 (λ y m. h y (List·Memᴰ·tail m)),
+  λ y m. elim (mem_append_cases xs m) [ inl p ↦ a.0 y p | inr p ↦ (let e = mem_eq_of_singleton p in omega (arith, h x (mem_head refl))) ],
+  ascending_snoc xs n a.1 (λ y m. h y (mem_tail m)),
 )
 
 pub ascending_below : (n : ℕ) → Ascending (below n)
@@ -42,5 +42,5 @@ select_after r b bs (x ∷ xs) a e =
     rw (lt-leb (b + 1) x (omega arith)) (sym j ∙ f ∙ sym g))
     (λ h.
     let k : select (leb r) xs ≡ b ∷ bs = rw h at e in
-    let m = select_mem (leb r) xs b (rw k (List·Memᴰ·head refl)) in
+    let m = select_mem (leb r) xs b (rw k (mem_head refl)) in
     rw (lt-leb (b + 1) x (omega (arith, leb-false r x h, leb-true r b m.1))) (select_after r b bs xs a.1 k))

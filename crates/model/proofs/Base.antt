@@ -10,14 +10,14 @@ pub use mathlib.Core.Logic.{◌≢◌, ◌⊎◌, inl, inr, ⊎_elim, ⊎_map}
 pub use mathlib.Core.Bool.{Bool, true, false, cond, not, ◌&&◌, ◌||◌, So, true≢false, false≢true}
 pub use mathlib.Core.Option.{Option, none, some}
 pub use mathlib.Core.List.{List, [], ◌∷◌, ◌++◌, map, append_assoc, append-nil, map-append}
-pub use mathlib.Core.List.Memᴰ.{append_cases as List·Memᴰ·append-cases}
-pub use mathlib.Core.List.Memᴰ.{cases_cons as List·Memᴰ·cases-cons}
-pub use mathlib.Core.List.Memᴰ.{cast as Memᴰ·cast}
-pub use mathlib.Core.List.Memᴰ.{eq_of_singleton as List·Memᴰ·eq-of-singleton}
-pub use mathlib.Core.List.Memᴰ.{head as List·Memᴰ·head}
-pub use mathlib.Core.List.Memᴰ.{not-nil as List·Memᴰ·not-nil}
-pub use mathlib.Core.List.Memᴰ.{tail as List·Memᴰ·tail}
-pub use mathlib.Core.List.{Memᴰ as List-as-Memᴰ}
+pub use mathlib.Core.List.Memᴰ.{append_cases as mem_append_cases}
+pub use mathlib.Core.List.Memᴰ.{cases_cons as mem_cases_cons}
+pub use mathlib.Core.List.Memᴰ.{cast as mem_cast}
+pub use mathlib.Core.List.Memᴰ.{eq_of_singleton as mem_eq_of_singleton}
+pub use mathlib.Core.List.Memᴰ.{head as mem_head}
+pub use mathlib.Core.List.Memᴰ.{not-nil as mem_not_nil}
+pub use mathlib.Core.List.Memᴰ.{tail as mem_tail}
+pub use mathlib.Core.List.{Memᴰ}
 pub use lib.ListN.{length, take, drop, get_or, set, replicate, length-set, length-map, length-take, length-drop, length-append, length-replicate, get_or-map as list_get_or_map, get_or-append as list_get_or_append, get_or-replicate}
 pub use lib.Seq.{get_or-set_same, get_or-set_other, take_all, take-suc, get_or_at, get_or-take, ext_get_or}
 pub use lib.Dec.{eqb, ltb, leb}

@@ -1,6 +1,6 @@
 -- Paper 02, (h): 36 is the report task's alone, on any card value, any slices and any tape. Of command 2 its condition is that of 25, which
 -- comes before; no other command asks it.
-use Rattle.model.proofs.Base.{ℕ, arith, ◌≡◌, refl, sym, ◌∙◌, ◌≢◌, Bool, true, false, not, false≢true, List, [], ◌∷◌, List-as-Memᴰ, eqb, all}
+use Rattle.model.proofs.Base.{ℕ, arith, ◌≡◌, refl, sym, ◌∙◌, ◌≢◌, Bool, true, false, not, false≢true, List, [], ◌∷◌, Memᴰ, eqb, all}
 use Rattle.model.specs.Bytes.{Bytes}
 use Rattle.model.specs.Limits.{max_taken}
 use Rattle.model.specs.Command.{World, First, refusal}
@@ -54,7 +54,7 @@ module _ (o : Order) where
       first : First 36 (conditions_on o (read_at t at) w)
       first = rw h at (decided_refused (command_decided o t at w) (read_answer o (read_at t at) w) (rw h (omega arith))).0
 
-      among : List-as-Memᴰ 36 (read_numbers (read_at t at))
+      among : Memᴰ 36 (read_numbers (read_at t at))
       among = rw (read_numbers_lem o (read_at t at) w) at (first_number first)
 
       other : (r : Read) → read_at t at ≡ r → all (λ (n : ℕ). not (eqb n 36)) (read_numbers r) ≡ true → command_byte t at ≡ 9

@@ -2,7 +2,7 @@
 -- and journals, so the disk is read alike and recovery gives the same; a cut starts it over on such a disk; all else is refused. So the
 -- RECOVER commands of a card that is down are carried out and bring it up with `recovered_area`.
 use Rattle.model.proofs.Base.{ℕ, zero, suc, ◌+◌, ◌*◌, ◌≤◌, ◌<◌, arith, ℕ_discrete, ◌≡◌, refl, sym, ap, subst, ◌∙◌, ◌⊎◌, inl, inr, true, false, not, true≢false}
-use Rattle.model.proofs.Base.{List, [], ◌∷◌, ◌++◌, append-nil, List-as-Memᴰ, List·Memᴰ·head, length, length-replicate, take, drop, flat_map, below, any, select, eqb, leb, ne_eqb, eq-eqb, le-leb, Bytes}
+use Rattle.model.proofs.Base.{List, [], ◌∷◌, ◌++◌, append-nil, Memᴰ, mem_head, length, length-replicate, take, drop, flat_map, below, any, select, eqb, leb, ne_eqb, eq-eqb, le-leb, Bytes}
 use lib.Seq.{take-add, drop-drop}
 use Rattle.model.specs.Bytes.{part, block_at, store, zero_memory}
 use Rattle.model.specs.Shape.{home_block}
@@ -204,7 +204,7 @@ module _ {d : Bytes} {w : World} (u : UnderWay d w) where
     home_done = under_step e
 
     block_low : b < (shape_on w.disk).blocks
-    block_low = left_below in_sequence (layout_on w.disk) w (subst (List-as-Memᴰ b) (sym e) (List·Memᴰ·head refl))
+    block_low = left_below in_sequence (layout_on w.disk) w (subst (Memᴰ b) (sym e) (mem_head refl))
 
     home_left : left_in after_home ≡ bs
     unfolding blocks_left

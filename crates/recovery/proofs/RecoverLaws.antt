@@ -1,7 +1,7 @@
 -- RECOVER stores the newest image of the lowest block left and counts on, or, with none left, stores the master with all
 -- journals emptied and comes up. Refused, or carried out, it meets its contract.
-use Rattle.model.proofs.Base.{ℕ, ◌+◌, ◌%◌, ◌≤◌, ◌<◌, arith, ◌≡◌, refl, sym, ap, ◌∙◌, true, List, [], ◌∷◌, map, List-as-Memᴰ}
-use Rattle.model.proofs.Base.{List·Memᴰ·head, length, get_or, set, get_or-set_same, not-false, below, Bytes}
+use Rattle.model.proofs.Base.{ℕ, ◌+◌, ◌%◌, ◌≤◌, ◌<◌, arith, ◌≡◌, refl, sym, ap, ◌∙◌, true, List, [], ◌∷◌, map, Memᴰ}
+use Rattle.model.proofs.Base.{mem_head, length, get_or, set, get_or-set_same, not-false, below, Bytes}
 use Rattle.model.specs.Bytes.{block_at, store}
 use Rattle.model.specs.Shape.{home_block, clamped}
 use Rattle.model.specs.Card.{new_tail, fresh_card}
@@ -112,10 +112,10 @@ unfolding first_or
 first_some n b [] e h = absurd (omega arith)
 first_some n b (x ∷ xs) e h = (xs, rw e)
 
-first_none : (n b : ℕ) (xs : List ℕ) → b ≡ first_or n xs → n ≤ b → ((x : ℕ) → List-as-Memᴰ x xs → x < n) → xs ≡ []
+first_none : (n b : ℕ) (xs : List ℕ) → b ≡ first_or n xs → n ≤ b → ((x : ℕ) → Memᴰ x xs → x < n) → xs ≡ []
 unfolding first_or
 first_none n b [] e h f = refl
-first_none n b (x ∷ xs) e h f = let g : x < n = f x (List·Memᴰ·head refl) in absurd (omega arith)
+first_none n b (x ∷ xs) e h f = let g : x < n = f x (mem_head refl) in absurd (omega arith)
 
 recovered_read : (v : List ℕ) → byte_in v 5 ≡ (card_in v).recovered
 unfolding card_in

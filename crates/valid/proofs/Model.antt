@@ -1,6 +1,6 @@
 -- The valid set and the journals hang on the tails of the cores that the disk has, and on no others.
 use Rattle.model.proofs.Base.{ℕ, zero, suc, ◌+◌, ◌<◌, ◌≡◌, refl, sym, ap, ◌∙◌, Bool, true, ◌&&◌, List}
-use Rattle.model.proofs.Base.{[], ◌∷◌, List-as-Memᴰ, List·Memᴰ·head, List·Memᴰ·tail, length, eqb, ltb, leb}
+use Rattle.model.proofs.Base.{[], ◌∷◌, Memᴰ, mem_head, mem_tail, length, eqb, ltb, leb}
 use Rattle.model.proofs.Base.{ltb-true, all, Bytes}
 use Rattle.model.specs.Layout.{has_head, stamp_in, names_in, few_names, is_listable, is_commit}
 use Rattle.model.specs.Journal.{name_of, journal_at, journal, journals, names_of}
@@ -21,21 +21,21 @@ use Rattle.model.proofs.Records.{journals_known}
 
 -- ---- tails that agree on the cores of the disk give the same
 module _ {A : Type 0} where
-  all_cong : (p q : A → Bool) (xs : List A) → ((x : A) → List-as-Memᴰ x xs → p x ≡ q x) → all p xs ≡ all q xs
+  all_cong : (p q : A → Bool) (xs : List A) → ((x : A) → Memᴰ x xs → p x ≡ q x) → all p xs ≡ all q xs
   unfolding all
   all_cong p q [] h = refl
-  all_cong p q (x ∷ xs) h = rw (h x (List·Memᴰ·head refl), all_cong p q xs (λ z m. h z (List·Memᴰ·tail m)))
+  all_cong p q (x ∷ xs) h = rw (h x (mem_head refl), all_cong p q xs (λ z m. h z (mem_tail m)))
 
   module _ (p q : List A → A → Bool) where
-    strike_cong : (es : List A) → ((ss : List A) (e : A) → List-as-Memᴰ e es → p ss e ≡ q ss e) → strike p es ≡ strike q es
+    strike_cong : (es : List A) → ((ss : List A) (e : A) → Memᴰ e es → p ss e ≡ q ss e) → strike p es ≡ strike q es
     unfolding strike
     strike_cong es h = select_alike (p es) (q es) es (h es)
 
-    strike_within : (es : List A) (e : A) → List-as-Memᴰ e (strike p es) → List-as-Memᴰ e es
+    strike_within : (es : List A) (e : A) → Memᴰ e (strike p es) → Memᴰ e es
     unfolding strike
     strike_within es e m = (select_mem (p es) es e m).0
 
-    shrink_in_cong : (n : ℕ) (es : List A) → ((ss : List A) (e : A) → List-as-Memᴰ e es → p ss e ≡ q ss e) → shrink_in n p es ≡ shrink_in n q es
+    shrink_in_cong : (n : ℕ) (es : List A) → ((ss : List A) (e : A) → Memᴰ e es → p ss e ≡ q ss e) → shrink_in n p es ≡ shrink_in n q es
     shrink_in_cong zero es h = unfold shrink_in in refl
     shrink_in_cong (suc n) es h =
         let z : strike p es ≡ strike q es = strike_cong es h in
@@ -47,12 +47,12 @@ module _ {A : Type 0} where
         ∙ ap (shrink_in n q) z
         ∙ sym (shrink_in_again q n es (rw z at t)))
 
-    shrink_cong : (es : List A) → ((ss : List A) (e : A) → List-as-Memᴰ e es → p ss e ≡ q ss e) → shrink p es ≡ shrink q es
+    shrink_cong : (es : List A) → ((ss : List A) (e : A) → Memᴰ e es → p ss e ≡ q ss e) → shrink p es ≡ shrink q es
     unfolding shrink
     shrink_cong es h = shrink_in_cong (length es) es h
 
 -- each that a record read names is of a core that the disk has
-named_core : (y : CommitLayout) (s : Shape) (d : Bytes) (c k : ℕ) (e : Committed) → KnownRecord y s d c k e → (n : Name) → List-as-Memᴰ n (names_of y s d e) → n.core < s.cores
+named_core : (y : CommitLayout) (s : Shape) (d : Bytes) (c k : ℕ) (e : Committed) → KnownRecord y s d c k e → (n : Name) → Memᴰ n (names_of y s d e) → n.core < s.cores
 unfolding names_of is_commit is_listable
 named_core y s d c k e r n m =
     let f = journal_at s d c (e.position + (e.count + 1)) in
@@ -61,7 +61,7 @@ named_core y s d c k e r n m =
     ltb-true n.core s.cores (and_left (ltb n.core s.cores) _ (all_mem (is_listable s) (names_in y f) a (rw g at m)))
 
 module _ (o : Order) (y : CommitLayout) (s : Shape) (d : Bytes) (t₁ t₂ : ℕ → Tail) (same : (c : ℕ) → c < s.cores → (t₁ c).number ≡ (t₂ c).number) where
-  names_tails : (es : List Committed) (e : Committed) → ((n : Name) → List-as-Memᴰ n (required_of o y s d e) → n.core < s.cores) → names_met o y s d t₁ es e ≡ names_met o y s d t₂ es e
+  names_tails : (es : List Committed) (e : Committed) → ((n : Name) → Memᴰ n (required_of o y s d e) → n.core < s.cores) → names_met o y s d t₁ es e ≡ names_met o y s d t₂ es e
   unfolding names_met is_met
   names_tails es e h = all_cong (is_met t₁ es) (is_met t₂ es) (required_of o y s d e) (λ n m. rw (same n.core (h n m)))
 

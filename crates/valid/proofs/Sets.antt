@@ -1,7 +1,7 @@
 -- The records that count, core by core: which elements the model's list of them has, a name looked up by the counts, and what lower
 -- counts select of it.
 use Rattle.model.proofs.Base.{ℕ, zero, suc, ◌+◌, ◌-◌, ◌≤◌, ◌<◌, arith, dec_lt, ◌≡◌, refl, sym, ap, ◌∙◌, subst}
-use Rattle.model.proofs.Base.{Bool, true, ◌&&◌, List, [], ◌∷◌, ◌++◌, map, flat_map, append-nil, List-as-Memᴰ, List·Memᴰ·not-nil, List·Memᴰ·cases-cons, inl, inr}
+use Rattle.model.proofs.Base.{Bool, true, ◌&&◌, List, [], ◌∷◌, ◌++◌, map, flat_map, append-nil, Memᴰ, mem_not_nil, mem_cases_cons, inl, inr}
 use Rattle.model.proofs.Base.{get_or, ltb, lt-ltb, le-ltb, ltb-true, ltb-false, below, select}
 use mathlib.Core.List.Memᴰ
 use Rattle.model.specs.Card.{new_name, same_name}
@@ -37,13 +37,13 @@ select_below m (suc n) h =
     ]
 
 -- of two numbers of each, one never above the other: with equal sums they are equal
-total_tight : {A : Type 0} (f g : A → ℕ) (xs : List A) → Each (λ (x : A). f x ≤ g x) xs → total f xs ≡ total g xs → (x : A) → List-as-Memᴰ x xs → f x ≡ g x
+total_tight : {A : Type 0} (f g : A → ℕ) (xs : List A) → Each (λ (x : A). f x ≤ g x) xs → total f xs ≡ total g xs → (x : A) → Memᴰ x xs → f x ≡ g x
 unfolding total
-total_tight f g [] a h x m = absurd (List·Memᴰ·not-nil m)
+total_tight f g [] a h x m = absurd (mem_not_nil m)
 total_tight f g (z ∷ zs) a h x m =
     let t = total_le f g zs a.1 in
     let e : f z ≡ g z = omega (arith, a.0) in
-    elim (List·Memᴰ·cases-cons m) [ inl q ↦ rw q e | inr i ↦ total_tight f g zs a.1 (omega arith) x i ]
+    elim (mem_cases_cons m) [ inl q ↦ rw q e | inr i ↦ total_tight f g zs a.1 (omega arith) x i ]
 
 -- ---- the records that count
 -- record j of core c
@@ -65,21 +65,21 @@ unfolding tail_number
 tail_number_lem s ks l c h = rw (lt-ltb c 8 (omega (arith, l.few_cores)))
 
 module _ (s : Shape) (xs zs ks start count : List ℕ) where
-  pub mem_records : (e : Committed) → List-as-Memᴰ e (records_in s xs zs ks start count) → (c : ℕ) × (j : ℕ) × IsCounted s xs zs ks start count e c j
+  pub mem_records : (e : Committed) → Memᴰ e (records_in s xs zs ks start count) → (c : ℕ) × (j : ℕ) × IsCounted s xs zs ks start count e c j
   unfolding records_in run_in record_of
   mem_records e m =
       let r = mem_flat_map (λ (c : ℕ). run_in xs zs c (get_or ks c 0) (get_or start c 0) (get_or count c 0)) (below s.cores) m in
       let q = Memᴰ.of_map (λ (j : ℕ). record_in xs zs r.0 (get_or ks r.0 0 + j) (get_or start r.0 0 + j)) (below (get_or count r.0 0)) r.2 in
       (r.0, q.0, record { core = mem_below s.cores r.1; place = mem_below (get_or count r.0 0) q.1; same = sym q.2 })
 
-  pub records_mem : (c j : ℕ) → c < s.cores → j < get_or count c 0 → List-as-Memᴰ (record_of xs zs ks start c j) (records_in s xs zs ks start count)
+  pub records_mem : (c j : ℕ) → c < s.cores → j < get_or count c 0 → Memᴰ (record_of xs zs ks start c j) (records_in s xs zs ks start count)
   unfolding records_in run_in record_of
   records_mem c j h l =
       flat_map_mem (λ (c : ℕ). run_in xs zs c (get_or ks c 0) (get_or start c 0) (get_or count c 0)) (below_mem s.cores c h)
       (Memᴰ.map (λ (j : ℕ). record_in xs zs c (get_or ks c 0 + j) (get_or start c 0 + j)) (below_mem (get_or count c 0) j l))
 
   -- a name is that of one of them only
-  pub named_record : (c j : ℕ) (e : Committed) → new_name c (get_or ks c 0 + j) ≡ name_of e → List-as-Memᴰ e (records_in s xs zs ks start count)
+  pub named_record : (c j : ℕ) (e : Committed) → new_name c (get_or ks c 0 + j) ≡ name_of e → Memᴰ e (records_in s xs zs ks start count)
       → IsCounted s xs zs ks start count e c j
   named_record c j e q m =
       let r = mem_records e m in

@@ -1,5 +1,5 @@
 -- A round keeps the valid set, and where no count falls it is the valid set: so the recursion over counts is shrinking.
-use Rattle.model.proofs.Base.{ℕ, ◌+◌, ◌-◌, ◌≤◌, ◌<◌, arith, dec_lt, ◌≡◌, refl, sym, ap, ◌∙◌, subst, Bool, true, ◌&&◌, true≢false, List, [], ◌∷◌, List-as-Memᴰ, length, get_or}
+use Rattle.model.proofs.Base.{ℕ, ◌+◌, ◌-◌, ◌≤◌, ◌<◌, arith, dec_lt, ◌≡◌, refl, sym, ap, ◌∙◌, subst, Bool, true, ◌&&◌, true≢false, List, [], ◌∷◌, Memᴰ, length, get_or}
 use Rattle.model.proofs.Base.{eq-eqb, select, Bytes}
 use Rattle.model.specs.Card.{new_name, same_name}
 use Rattle.model.specs.Journal.{name_of}
@@ -29,7 +29,7 @@ module _ {A : Type 0} where
   selected_twice es ss ts p q = ((λ x. p.0 x && q.0 x), q.1 ∙ ap (select q.0) p.1 ∙ select_twice p.0 q.0 es)
 
   selected_within : (es ss : List A) → SelectedOf ss es → Within ss es
-  selected_within es ss p e m = (select_mem p.0 es e (subst (λ (l : List A). List-as-Memᴰ e l) p.1 m)).0
+  selected_within es ss p e m = (select_mem p.0 es e (subst (λ (l : List A). Memᴰ e l) p.1 m)).0
 
 module _ {A : Type 0} (stays : List A → A → Bool) where
   -- a selection that has all that shrinking leaves is shrunk to the same
@@ -73,7 +73,7 @@ module _ (y : CommitLayout) (s : Shape) (d : Bytes) (xs ks start before after : 
     valid = valid_set in_sequence y s d (numbered ks) given
 
     -- with a valid record all of its core before it are valid, and so met
-    earlier_met : (c j m : ℕ) → c < s.cores → m ≤ j → List-as-Memᴰ (record_of xs zs ks start c j) valid → record_met y s d ks before c (get_or xs (get_or start c 0 + m) 0) ≡ true
+    earlier_met : (c j m : ℕ) → c < s.cores → m ≤ j → Memᴰ (record_of xs zs ks start c j) valid → record_met y s d ks before c (get_or xs (get_or start c 0 + m) 0) ≡ true
     unfolding is_in numbered
     earlier_met c j m h g i =
         let name : ℕ → Name = λ k. new_name c (get_or ks c 0 + k) in
@@ -97,8 +97,8 @@ module _ (y : CommitLayout) (s : Shape) (d : Bytes) (xs ks start before after : 
         let h = r.2.core in
         let same = r.2.same in
         elim (dec_lt j (get_or after c 0)) [
-          | yes g ↦ subst (λ (x : Committed). List-as-Memᴰ x (records_in s xs zs ks start after)) (sym same) (records_mem s xs zs ks start after c j h g)
-          | no g ↦ absurd (true≢false (sym (earlier_met c j (get_or after c 0) h (omega arith) (subst (λ (x : Committed). List-as-Memᴰ x valid) same i))
+          | yes g ↦ subst (λ (x : Committed). Memᴰ x (records_in s xs zs ks start after)) (sym same) (records_mem s xs zs ks start after c j h g)
+          | no g ↦ absurd (true≢false (sym (earlier_met c j (get_or after c 0) h (omega arith) (subst (λ (x : Committed). Memᴰ x valid) same i))
               ∙ (begins c h).unmet (omega (arith, r.2.place))))
         ]
 

@@ -2,8 +2,8 @@
 -- That is the area as the card came up with the kept writes, since the valid transactions are the kept unretired ones.
 -- Nothing is assumed of how the reader finds that transaction: `NewestHolder` says what it has to be.
 use Rattle.model.proofs.Base.{ℕ, ◌≤◌, arith, ◌≡◌, refl, sym, ap, ◌∙◌, ⊎_elim, Bool, false, not, ◌&&◌, So, Option, none, some}
-use Rattle.model.proofs.Base.{List, [], ◌∷◌, ◌++◌, List-as-Memᴰ, List·Memᴰ·head, List·Memᴰ·tail, List·Memᴰ·not-nil}
-use Rattle.model.proofs.Base.{List·Memᴰ·cases-cons, eqb, leb, leb-true, leb-false, not-true, select, Bytes}
+use Rattle.model.proofs.Base.{List, [], ◌∷◌, ◌++◌, Memᴰ, mem_head, mem_tail, mem_not_nil}
+use Rattle.model.proofs.Base.{mem_cases_cons, eqb, leb, leb-true, leb-false, not-true, select, Bytes}
 use Rattle.model.specs.declared.Name.{Name}
 use Rattle.model.proofs.Lists.{cases, and_left, and_right, and_both}
 use Rattle.crash.specs.Book.{Write, is_retired, kept, kept_writes, image, blank}
@@ -44,32 +44,32 @@ NewestHolder l b (some t) =
 -- there is one, or none took the block
 module _ (p : Name → Bool) (f : Name → ℕ) where
   abbrev HighestOf : List Name → Option Name → Type 0
-  HighestOf ts none = (t : Name) → List-as-Memᴰ t ts → So (p t) → ⊥
-  HighestOf ts (some t) = List-as-Memᴰ t ts × So (p t) × ((u : Name) → List-as-Memᴰ u ts → So (p u) → f u ≤ f t)
+  HighestOf ts none = (t : Name) → Memᴰ t ts → So (p t) → ⊥
+  HighestOf ts (some t) = Memᴰ t ts × So (p t) × ((u : Name) → Memᴰ u ts → So (p u) → f u ≤ f t)
 
   highest : (ts : List Name) → (o : Option Name) × HighestOf ts o
-  highest [] = (none, λ t m h. List·Memᴰ·not-nil m)
+  highest [] = (none, λ t m h. mem_not_nil m)
   highest (x ∷ ts) = cases (p x) (λ h. with_x h (highest ts)) (λ h. without_x h (highest ts))
     where
       with_x : So (p x) → (o : Option Name) × HighestOf ts o → (o : Option Name) × HighestOf (x ∷ ts) o
       with_x h (none, k) =
-          (some x, (List·Memᴰ·head refl, h, λ u m q. ⊎_elim (λ e. rw e (omega arith)) (λ n. absurd (k u n q)) (List·Memᴰ·cases-cons m)))
+          (some x, (mem_head refl, h, λ u m q. ⊎_elim (λ e. rw e (omega arith)) (λ n. absurd (k u n q)) (mem_cases_cons m)))
       with_x h (some t, k) =
           cases (leb (f x) (f t))
-          (λ o. (some t, (List·Memᴰ·tail k.0, k.1, λ u m q. ⊎_elim (λ e. rw e (leb-true (f x) (f t) o)) (λ n. k.2 u n q) (List·Memᴰ·cases-cons m))))
+          (λ o. (some t, (mem_tail k.0, k.1, λ u m q. ⊎_elim (λ e. rw e (leb-true (f x) (f t) o)) (λ n. k.2 u n q) (mem_cases_cons m))))
           (λ o. (
             some x,
             (
-              List·Memᴰ·head refl,
+              mem_head refl,
               h,
-              λ u m q. ⊎_elim (λ e. rw e (omega arith)) (λ n. omega (arith, leb-false (f x) (f t) o, k.2 u n q)) (List·Memᴰ·cases-cons m),
+              λ u m q. ⊎_elim (λ e. rw e (omega arith)) (λ n. omega (arith, leb-false (f x) (f t) o, k.2 u n q)) (mem_cases_cons m),
             ),
           ))
 
       without_x : p x ≡ false → (o : Option Name) × HighestOf ts o → (o : Option Name) × HighestOf (x ∷ ts) o
-      without_x h (none, k) = (none, λ t m q. ⊎_elim (λ e. clash (rw e at q) h) (λ n. k t n q) (List·Memᴰ·cases-cons m))
+      without_x h (none, k) = (none, λ t m q. ⊎_elim (λ e. clash (rw e at q) h) (λ n. k t n q) (mem_cases_cons m))
       without_x h (some t, k) =
-          (some t, (List·Memᴰ·tail k.0, k.1, λ u m q. ⊎_elim (λ e. clash (rw e at q) h) (λ n. k.2 u n q) (List·Memᴰ·cases-cons m)))
+          (some t, (mem_tail k.0, k.1, λ u m q. ⊎_elim (λ e. clash (rw e at q) h) (λ n. k.2 u n q) (mem_cases_cons m)))
 
 pub newest_holder : (l : Ledger) (b : ℕ) → (o : Option Name) × NewestHolder l b o
 newest_holder l b = as_tests (highest (took_in l.book b) l.stamp (valid_in l.book))

@@ -2,7 +2,7 @@
 -- Each block has its invariant (`BlockInv`), by what the ledger knows of the transactions; a transaction took the blocks that
 -- it held after some write. Where a command only adds to what is known of transactions (`Grows`), these stay.
 use Rattle.model.proofs.Base.{ℕ, ◌≤◌, ◌<◌, arith, ◌≡◌, refl, subst, fun_ext, inl, inr, ⊎_elim, Bool, true, false, cond, So, List}
-use Rattle.model.proofs.Base.{[], ◌∷◌, List-as-Memᴰ, take, eqb, any, Bytes}
+use Rattle.model.proofs.Base.{[], ◌∷◌, Memᴰ, take, eqb, any, Bytes}
 use Rattle.model.specs.Bytes.{replaced}
 use Rattle.model.specs.Card.{same_name}
 use Rattle.model.specs.declared.Name.{Name}
@@ -90,7 +90,7 @@ open_not_homed b bs =
 
 -- ---- the invariant
 abbrev pub AllOpened : Book → Type 0
-AllOpened k = (t : Name) → So (is_opened (stage_of k t)) → List-as-Memᴰ t k.opened
+AllOpened k = (t : Name) → So (is_opened (stage_of k t)) → Memᴰ t k.opened
 
 pub record Inv (home : ℕ → Bytes) (l : Ledger) : Type 0 where
   pub block_inv : (b : ℕ) → BlockInv (status l) (homed l b) (area_before l b) (home b) (history_of l b)
@@ -100,7 +100,7 @@ pub record Inv (home : ℕ → Bytes) (l : Ledger) : Type 0 where
   pub known : AllOpened l.book
   pub retired_kept : (t : Name) → So (is_retired (stage_of l.book t)) → So (member_of (kept l.book) t)
 
-pub opened_of : (k : Book) → AllOpened k → (t : Name) → So (is_committed (stage_of k t)) → List-as-Memᴰ t k.opened
+pub opened_of : (k : Book) → AllOpened k → (t : Name) → So (is_committed (stage_of k t)) → Memᴰ t k.opened
 opened_of k known t h = known t (closed_opened (stage_of k t) (committed_closed (stage_of k t) h))
 
 pub sound_of : (l : Ledger) → AllOpened l.book → ((t : Name) → So (is_retired (stage_of l.book t)) → So (member_of (kept l.book) t)) → StatusSound (status l)

@@ -2,7 +2,7 @@
 -- Each moves one transaction one stage on (`Moves`) and writes nothing. All but a home store leave alone who has stored
 -- which block home; a home store adds one, whose older holders are retired since 33 did not apply.
 use Rattle.model.proofs.Base.{ℕ, suc, ◌+◌, ◌≤◌, ◌<◌, arith, ◌≡◌, refl, sym, ap, subst, ◌∙◌, ◌≢◌, Bool, false, cond, ◌||◌, So}
-use Rattle.model.proofs.Base.{List, [], ◌∷◌, List-as-Memᴰ, List·Memᴰ·head, List·Memᴰ·tail, length, take, get_or, take_all, take-suc}
+use Rattle.model.proofs.Base.{List, [], ◌∷◌, Memᴰ, mem_head, mem_tail, length, take, get_or, take_all, take-suc}
 use Rattle.model.proofs.Base.{eqb, leb, eqb-true, lt-ltb, any, Bytes}
 use mathlib.Core.Bool.{or-false}
 use Rattle.model.specs.Checkpoint.{share}
@@ -62,8 +62,8 @@ pub record Staged (t : Name) (g : Stage) (l l' : Ledger) : Type 0 where
   pub begun : l'.book.begun ≡ l.book.begun
   pub saved : l'.saved ≡ l.saved
   pub writes : l'.book.writes ≡ l.book.writes
-  pub opened : (u : Name) → List-as-Memᴰ u l.book.opened → List-as-Memᴰ u l'.book.opened
-  pub opened_t : List-as-Memᴰ t l'.book.opened
+  pub opened : (u : Name) → Memᴰ u l.book.opened → Memᴰ u l'.book.opened
+  pub opened_t : Memᴰ t l'.book.opened
   pub entry : (u : Name) → l'.book.entry u ≡ change t (staged g) l.book.entry u
   pub closes : l.closes ≤ l'.closes
   pub stamp : (u : Name) → So (is_closed (stage_of l.book u)) → l'.stamp u ≡ l.stamp u
@@ -86,7 +86,7 @@ module _ {t : Name} {g : Stage} {l l' : Ledger} (m : Staged t g l l') where
 
   staged_known : AllOpened l.book → AllOpened l'.book
   staged_known known =
-      staged_each (λ u e. So (is_opened e.stage) → List-as-Memᴰ u l'.book.opened) (λ h. m.opened_t) (λ u n h. m.opened u (known u h))
+      staged_each (λ u e. So (is_opened e.stage) → Memᴰ u l'.book.opened) (λ h. m.opened_t) (λ u n h. m.opened u (known u h))
 
   staged_grows : (u : Name) → Grows l l' u
   staged_grows u =
@@ -161,7 +161,7 @@ module _ {t : Name} {g : Stage} {l l' : Ledger} (m : Staged t g l l') where
 
 -- a command that changes the book alone
 book_staged : (l : Ledger) (k : Book) (t : Name) (g : Stage) → k.begun ≡ l.book.begun → Moves (stage_of l.book t) g → k.writes ≡ l.book.writes
-    → ((u : Name) → List-as-Memᴰ u l.book.opened → List-as-Memᴰ u k.opened) → List-as-Memᴰ t k.opened
+    → ((u : Name) → Memᴰ u l.book.opened → Memᴰ u k.opened) → Memᴰ t k.opened
     → ((u : Name) → k.entry u ≡ change t (staged g) l.book.entry u) → (So (is_closed g) → So (is_closed (stage_of l.book t)))
     → Staged t g l (with_book l k)
 book_staged l k t g begun moves writes opened opened_t entry was_closed =
@@ -195,7 +195,7 @@ lower_retired {l = l} v t none_lower b k u k' h low =
 pub begin_staged : (l : Ledger) (t : Name) → stage_of l.book t ≡ absent → Staged t running l (with_book l (begin t l.book))
 unfolding begin
 begin_staged l t r =
-    book_staged l (begin t l.book) t running refl (rw r opens) refl (λ u h. List·Memᴰ·tail h) (List·Memᴰ·head refl) (λ u. refl) (λ h. clash h refl)
+    book_staged l (begin t l.book) t running refl (rw r opens) refl (λ u h. mem_tail h) (mem_head refl) (λ u. refl) (λ h. clash h refl)
 
 pub inv_begin : {home : ℕ → Bytes} {l : Ledger} → Inv home l → (t : Name) → stage_of l.book t ≡ absent → Inv home (with_book l (begin t l.book))
 inv_begin {l = l} v t r = inv_staged (begin_staged l t r) v (λ h. clash h refl) (λ b. rw r refl)

@@ -2,8 +2,8 @@
 -- images are the current ones, and these are copied. The first copies of its core change, and no other block of memory.
 -- Its number and its stamp are far from the width of their fields.
 use Rattle.model.proofs.Base.{ℕ, zero, suc, ◌+◌, ◌-◌, ◌*◌, ◌%◌, ◌^◌, ◌≤◌, ◌<◌, arith, ℕ_discrete, add-zero, ◌≡◌, refl, sym, ap}
-use Rattle.model.proofs.Base.{subst, ◌∙◌, ◌≢◌, true, some, List, [], ◌∷◌, List-as-Memᴰ, length, get_or, length-set, get_or-set_same}
-use Rattle.model.proofs.Base.{get_or-set_other, Bytes, map, List·Memᴰ·head, List·Memᴰ·tail}
+use Rattle.model.proofs.Base.{subst, ◌∙◌, ◌≢◌, true, some, List, [], ◌∷◌, Memᴰ, length, get_or, length-set, get_or-set_same}
+use Rattle.model.proofs.Base.{get_or-set_other, Bytes, map, mem_head, mem_tail}
 use native.Mathlib.Nat.{zero-add}
 use Rattle.model.specs.Bytes.{block_at, store}
 use Rattle.model.specs.Card.{new_name, fresh_core, taken, highest_of, tail_of, core_of, holder_of}
@@ -82,7 +82,7 @@ module _ (c : ℕ) (eight : c < 8) where
       ∙ block_other m (copy_block c i) (block_at m (b % 64)) f z (get_or bs j 0 % 64) (images_apart (get_or bs j 0 % 64) i (omega arith)))
 
   -- where the images are those that f gives, they are stored one after the other
-  copies_stored_lem : (f : ℕ → Bytes) (bs : List ℕ) (i : ℕ) (m : Bytes) → length m ≡ 16384 → i + length bs ≤ 8 → ((b : ℕ) → List-as-Memᴰ b bs → block_at m (b % 64) ≡ f b)
+  copies_stored_lem : (f : ℕ → Bytes) (bs : List ℕ) (i : ℕ) (m : Bytes) → length m ≡ 16384 → i + length bs ≤ 8 → ((b : ℕ) → Memᴰ b bs → block_at m (b % 64) ≡ f b)
       → copied c i bs m ≡ copies_stored c i (map f bs) m
   unfolding copied copies_stored
   copies_stored_lem f [] i m n h e = refl
@@ -90,8 +90,8 @@ module _ (c : ℕ) (eight : c < 8) where
       let z = length_image m b n in
       let g = fits m i n (omega arith) in
       copies_stored_lem f bs (suc i) (store m (copy_block c i) (block_at m (b % 64))) (length_store m (copy_block c i) (block_at m (b % 64)) g z ∙ n) (omega arith)
-      (λ j q. block_other m (copy_block c i) (block_at m (b % 64)) g z (j % 64) (images_apart (j % 64) i (omega arith)) ∙ e j (List·Memᴰ·tail q))
-      ∙ ap (λ (y : Bytes). copies_stored c (suc i) (map f bs) (store m (copy_block c i) y)) (e b (List·Memᴰ·head refl))
+      (λ j q. block_other m (copy_block c i) (block_at m (b % 64)) g z (j % 64) (images_apart (j % 64) i (omega arith)) ∙ e j (mem_tail q))
+      ∙ ap (λ (y : Bytes). copies_stored c (suc i) (map f bs) (store m (copy_block c i) y)) (e b (mem_head refl))
 
 -- copies of different cores
 cores_copies : (a c i j : ℕ) → i < 8 → j < 8 → a ≢ c → copy_block a i ≢ copy_block c j
@@ -100,7 +100,7 @@ cores_copies a c i j h g ne e = ne (omega arith)
 
 module _ {l : Ledger} {w : World} (u : CardUp l w) (c : ℕ) (in_range_lem : c < l.shape.cores)
     (runs : (l.book.entry (next_name c l.book)).stage ≡ running) (free : l.book.uncommitted c ≡ l.book.next c)
-    (holds : (b : ℕ) → List-as-Memᴰ b (l.book.entry (next_name c l.book)).blocks → book_holder l.book b l.book.writes ≡ some (next_name c l.book))
+    (holds : (b : ℕ) → Memᴰ b (l.book.entry (next_name c l.book)).blocks → book_holder l.book b l.book.writes ≡ some (next_name c l.book))
     (fine : WellFormed (close_ledger c l)) where
   abbrev t : Name
   t = next_name c l.book
@@ -220,7 +220,7 @@ module _ {l : Ledger} {w : World} (u : CardUp l w) (c : ℕ) (in_range_lem : c <
       omega (arith, u.well_formed.range.few_cores, sum_low l₂.book l.shape.cores (unfold close_ledger in λ a g. (fine.ranks a g).top))
 
   -- the images of its blocks are the current ones
-  current_image : (b : ℕ) → List-as-Memᴰ b (l.book.entry t).blocks → block_at w.memory (b % 64) ≡ image_now l b
+  current_image : (b : ℕ) → Memᴰ b (l.book.entry t).blocks → block_at w.memory (b % 64) ≡ image_now l b
   current_image b m =
       let g : b < l.shape.blocks = (u.well_formed.limits t (running_present _ runs)).blocks b m in
       let e : b % 64 ≡ b = omega (arith, u.well_formed.range.few_blocks) in

@@ -1,7 +1,7 @@
 -- CUT leaves a card that is down by the ledger's cut: memory is lost, the disk and the transactions stay as they are.
 -- Nothing that recovery reads depends on the phase or on how far recovery is, so journals, the newest images and the
 -- area of the kept writes stay; and recovery, starting over, has all held blocks before it.
-use Rattle.model.proofs.Base.{ℕ, ◌<◌, arith, ◌≡◌, refl, sym, subst, ◌∙◌, false, List, List-as-Memᴰ, length, length-replicate, eqb}
+use Rattle.model.proofs.Base.{ℕ, ◌<◌, arith, ◌≡◌, refl, sym, subst, ◌∙◌, false, List, Memᴰ, length, length-replicate, eqb}
 use Rattle.model.proofs.Base.{leb, le-leb, below, any, select, Bytes}
 use Rattle.model.specs.Bytes.{block_at, zero_memory}
 use Rattle.model.specs.Shape.{home_block}
@@ -47,7 +47,7 @@ module _ (p : Phase) (bs : List ℕ) {l : Ledger} where
       }
 
 -- ---- the blocks held
-pub held_low : (n : ℕ) (k : Book) {b : ℕ} → List-as-Memᴰ b (blocks_in n k) → b < n
+pub held_low : (n : ℕ) (k : Book) {b : ℕ} → Memᴰ b (blocks_in n k) → b < n
 unfolding blocks_in
 held_low n k {b} m = mem_below n (select_mem _ (below n) b m).0
 
@@ -58,7 +58,7 @@ all_left bs = sym (select_same (leb 0) bs (λ b m. le-leb 0 b (omega arith)))
 -- ---- CUT
 -- what the commands before a cut leave to recovery
 pub record TargetsStand (l : Ledger) (d : Bytes) : Type 0 where
-  pub held : (b : ℕ) → b < l.shape.blocks → List-as-Memᴰ b (blocks_in l.shape.blocks l.book) → Newest l b
+  pub held : (b : ℕ) → b < l.shape.blocks → Memᴰ b (blocks_in l.shape.blocks l.book) → Newest l b
   pub home : (b : ℕ) → b < l.shape.blocks → any (eqb b) (blocks_in l.shape.blocks l.book) ≡ false → block_at d (home_block b) ≡ target l b
 
 module _ {y : CommitLayout} {l : Ledger} {d : Bytes} {tail_at : ℕ → Tail} (f : WellFormed l) (z : DiskStands y l d tail_at) (g : TargetsStand l d) where
@@ -99,7 +99,7 @@ down_gives {l} {w} v =
           v.at_home b h
           (cases (any (eqb b) l.left)
           (λ y.
-          let q : List-as-Memᴰ b (select (leb w.card.recovered) bs) = subst (List-as-Memᴰ b) v.left (any_in block_equality b l.left y) in
+          let q : Memᴰ b (select (leb w.card.recovered) bs) = subst (Memᴰ b) v.left (any_in block_equality b l.left y) in
           clash (in_any block_equality (select_mem (leb w.card.recovered) bs b q).0) a)
           (λ y. y));
     }

@@ -1,7 +1,7 @@
 -- A card that has come up with empty journals agrees with a fresh ledger: the master names the first numbers, no commit
 -- of such a number or a higher one lies in a journal, and there is no transaction, no holder and no image in memory.
 -- FORMAT and the last RECOVER both leave such a card.
-use Rattle.model.proofs.Base.{ℕ, ◌-◌, ◌≤◌, ◌<◌, arith, ◌≡◌, refl, sym, ap, ◌∙◌, false, List, [], flat_map, List-as-Memᴰ, length, get_or}
+use Rattle.model.proofs.Base.{ℕ, ◌-◌, ◌≤◌, ◌<◌, arith, ◌≡◌, refl, sym, ap, ◌∙◌, false, List, [], flat_map, Memᴰ, length, get_or}
 use Rattle.model.proofs.Base.{Bytes, length-map, length-replicate, list_get_or_map, get_or-replicate, below}
 use native.Mathlib.Nat.{sub_self}
 use Rattle.model.specs.Valid.{in_sequence}
@@ -107,7 +107,7 @@ module _ {s : Shape} {first : ℕ → ℕ} {w : World} (r : InRange s) (u : Come
           none_homed = λ k. refl;
         })
 
-    pub fresh_up : ((x : Write) → List-as-Memᴰ x saved → WriteFits s x) → ((c : ℕ) → c < s.cores → (1 ≤ first c) × (first c ≤ 4000000001)) → CardUp (fresh_ledger in_sequence s saved first) w
+    pub fresh_up : ((x : Write) → Memᴰ x saved → WriteFits s x) → ((c : ℕ) → c < s.cores → (1 ≤ first c) × (first c ≤ 4000000001)) → CardUp (fresh_ledger in_sequence s saved first) w
     unfolding fresh_ledger fresh_card empty_book book_holder
     fresh_up fits firsts =
         record {

@@ -2,7 +2,7 @@
 -- changes neither journals nor master, so the rest of recovery stays as it was. With no block left the home area is the
 -- target, and the master store empties all journals: no commit has an uncommitted number, so a fresh card has come up.
 use Rattle.model.proofs.Base.{ℕ, suc, ◌+◌, ◌-◌, ◌≤◌, ◌<◌, arith, ℕ_discrete, ◌≡◌, refl, sym, ap, subst, ◌∙◌, ◌≢◌}
-use Rattle.model.proofs.Base.{false, List, [], ◌∷◌, ◌++◌, map, List-as-Memᴰ, List·Memᴰ·head}
+use Rattle.model.proofs.Base.{false, List, [], ◌∷◌, ◌++◌, map, Memᴰ, mem_head}
 use Rattle.model.proofs.Base.{length, length-map, eqb, leb, ne_eqb, lt-ltb}
 use Rattle.model.proofs.Base.{below, any}
 use Rattle.model.specs.Bytes.{Bytes, block_at, store}
@@ -56,8 +56,8 @@ module _ {l : Ledger} {w : World} (v : CardDown l w) where
 
   -- ---- a home store
   module _ {b : ℕ} {bs : List ℕ} (e : l.left ≡ b ∷ bs) where
-    pub held_first : List-as-Memᴰ b (blocks_in l.shape.blocks l.book)
-    held_first = (select_mem (leb w.card.recovered) (blocks_in l.shape.blocks l.book) b (subst (List-as-Memᴰ b) (sym e ∙ v.left) (List·Memᴰ·head refl))).0
+    pub held_first : Memᴰ b (blocks_in l.shape.blocks l.book)
+    held_first = (select_mem (leb w.card.recovered) (blocks_in l.shape.blocks l.book) b (subst (Memᴰ b) (sym e ∙ v.left) (mem_head refl))).0
 
     first_low : b < l.shape.blocks
     first_low = held_low l.shape.blocks l.book held_first

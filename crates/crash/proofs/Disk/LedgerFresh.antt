@@ -1,7 +1,7 @@
 -- The ledger of a card that has just come up is in order, and stays so over CUT and a home store of RECOVER, which leave
 -- its transactions as they are. Current images are blocks of bytes, and every write that is kept fits the disk.
-use Rattle.model.proofs.Base.{ℕ, ◌+◌, ◌≤◌, ◌<◌, arith, ◌≡◌, refl, ◌∙◌, inl, inr, List, [], ◌∷◌, ◌++◌, List-as-Memᴰ, List·Memᴰ·head}
-use Rattle.model.proofs.Base.{List·Memᴰ·tail, List·Memᴰ·not-nil, List·Memᴰ·append-cases, length, length-replicate, eqb, all}
+use Rattle.model.proofs.Base.{ℕ, ◌+◌, ◌≤◌, ◌<◌, arith, ◌≡◌, refl, ◌∙◌, inl, inr, List, [], ◌∷◌, ◌++◌, Memᴰ, mem_head}
+use Rattle.model.proofs.Base.{mem_tail, mem_not_nil, mem_append_cases, length, length-replicate, eqb, all}
 use Rattle.model.proofs.Base.{Bytes}
 use Rattle.model.specs.Bytes.{replaced}
 use Rattle.model.specs.Valid.{in_sequence}
@@ -26,12 +26,12 @@ replaced_block o x v h n bv i =
     let fits : o + 4 ≤ length x = omega arith in
     record { size = length_replaced o 4 x v fits n ∙ i.size; bytes = bytes_replaced o 4 x v i.bytes bv }
 
-pub image_block : (s : Shape) (base : ℕ → Bytes) (b : ℕ) → IsBlock (base b) → (ws : List Write) → ((w : Write) → List-as-Memᴰ w ws → WriteFits s w) → IsBlock (image base ws b)
+pub image_block : (s : Shape) (base : ℕ → Bytes) (b : ℕ) → IsBlock (base b) → (ws : List Write) → ((w : Write) → Memᴰ w ws → WriteFits s w) → IsBlock (image base ws b)
 unfolding image
 image_block s base b h [] fits = h
 image_block s base b h (w ∷ ws) fits =
-    let rest = image_block s base b h ws (λ x m. fits x (List·Memᴰ·tail m)) in
-    let fit = fits w (List·Memᴰ·head refl) in
+    let rest = image_block s base b h ws (λ x m. fits x (mem_tail m)) in
+    let fit = fits w (mem_head refl) in
     cases (eqb b w.block)
     (λ e. rw e (replaced_block w.offset (image base ws b) w.bytes fit.offset fit.size fit.bytes rest))
     (λ e. rw e rest)
@@ -46,7 +46,7 @@ now_block l f b =
     image_block l.shape (image blank l.saved) b (image_block l.shape blank b (blank_block b) l.saved f.saved) l.book.writes f.writes
 
 -- ---- a card that has come up, a cut, a home store of recovery
-pub well_formed_fresh : (s : Shape) (saved : List Write) (first : ℕ → ℕ) → InRange s → ((w : Write) → List-as-Memᴰ w saved → WriteFits s w)
+pub well_formed_fresh : (s : Shape) (saved : List Write) (first : ℕ → ℕ) → InRange s → ((w : Write) → Memᴰ w saved → WriteFits s w)
     → ((c : ℕ) → c < s.cores → (1 ≤ first c) × (first c ≤ 4000000001)) → WellFormed (fresh_ledger in_sequence s saved first)
 unfolding fresh_ledger empty_book
 well_formed_fresh s saved first r fits firsts =
@@ -70,14 +70,14 @@ well_formed_fresh s saved first r fits firsts =
       far = λ t h. refl;
       limits = λ t h. absurd (h refl);
       unopened = λ t h. (refl, refl);
-      named = λ t u m. absurd (List·Memᴰ·not-nil m);
+      named = λ t u m. absurd (mem_not_nil m);
       frozen = λ t h. impossible cc;
       stamps = λ t u h. impossible cc;
       ascending = λ c i j lt h. impossible cc;
       closes = omega arith;
-      opened = λ t m. absurd (List·Memᴰ·not-nil m);
+      opened = λ t m. absurd (mem_not_nil m);
       known = λ t h. absurd (h refl);
-      writes = λ w m. absurd (List·Memᴰ·not-nil m);
+      writes = λ w m. absurd (mem_not_nil m);
       saved = fits;
     }
 
@@ -120,9 +120,9 @@ pub well_formed_home : (b : ℕ) (bs : List ℕ) (l : Ledger) → WellFormed l �
 unfolding recover_ledger
 well_formed_home b bs l = well_formed_with_phase l Down bs
 
-pub kept_fits : (l : Ledger) → WellFormed l → (w : Write) → List-as-Memᴰ w (kept_writes l.book ++ l.saved) → WriteFits l.shape w
+pub kept_fits : (l : Ledger) → WellFormed l → (w : Write) → Memᴰ w (kept_writes l.book ++ l.saved) → WriteFits l.shape w
 unfolding kept_writes
 kept_fits l f w m =
-    elim (List·Memᴰ·append-cases (kept_writes l.book) m) [ inl p ↦ f.writes w (select_mem _ l.book.writes w p).0 | inr p ↦ f.saved w p ]
+    elim (mem_append_cases (kept_writes l.book) m) [ inl p ↦ f.writes w (select_mem _ l.book.writes w p).0 | inr p ↦ f.saved w p ]
 
 -- a core whose numbers, stages and blocks stay, but for the one to open

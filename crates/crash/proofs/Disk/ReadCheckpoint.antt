@@ -2,7 +2,7 @@
 -- The card's count of committed ones is the ledger's, so the journals are read whole; the closed ones that still store
 -- stand in the card. Every closed unretired transaction is one of these two: so 33 looks at the same transactions.
 use Rattle.model.proofs.Base.{ℕ, ◌-◌, ◌≤◌, ◌<◌, arith, dec_lt, ℕ_discrete, ◌≡◌, refl, sym, ap, ap₂, subst, ◌∙◌, inl, inr, Bool}
-use Rattle.model.proofs.Base.{true, false, not, ◌&&◌, List-as-Memᴰ, List·Memᴰ·head, length, eqb, ltb, eq-eqb, ne_eqb, lt-ltb, le-ltb}
+use Rattle.model.proofs.Base.{true, false, not, ◌&&◌, Memᴰ, mem_head, length, eqb, ltb, eq-eqb, ne_eqb, lt-ltb, le-ltb}
 use Rattle.model.proofs.Base.{ltb-true, not-true, below, any}
 use Rattle.model.specs.Card.{new_name, same_name, taken, shape_of, tail_of, core_of, committed_count}
 use Rattle.model.specs.Journal.{journals, name_of, blocks_of}
@@ -61,7 +61,7 @@ module _ {l : Ledger} {w : World} (u : CardUp l w) where
   oldest_is c h g =
       rw (oldest_of c h g)
       (read_list_is u.well_formed u.disk c h (read_record l (oldest_name c l.book) (tail_of w.card c).position)
-      (rw (read_list_first l c (tail_of w.card c) g) (List·Memᴰ·head refl)))
+      (rw (read_list_first l c (tail_of w.card c) g) (mem_head refl)))
 
 -- ---- 33: a lower one that shares a block
 pub record Lower (l : Ledger) (t v : Name) : Type 0 where
@@ -111,7 +111,7 @@ module _ {l : Ledger} {w : World} (u : CardUp l w) (c : ℕ) (e : Committed) (x 
   blocks_up : (g : Committed) (i : ℕ) → ReadAsLedger Numbers l w.disk i g → blocks_of (shape_of w.card) w.disk g ≡ (l.book.entry (name_of g)).blocks
   blocks_up g i y = ap (λ (s : Shape). blocks_of s w.disk g) (shape_up u) ∙ y.blocks
 
-  read_lower : (g : Committed) → List-as-Memᴰ g (committed_now w) → lower_read g ≡ true → Lower l (name_of e) (name_of g)
+  read_lower : (g : Committed) → Memᴰ g (committed_now w) → lower_read g ≡ true → Lower l (name_of e) (name_of g)
   read_lower g m h =
       let y = journals_are u.well_formed u.disk (committed_count w.card) (count_enough u) g (rw (committed_now_lem u) at m) in
       let p : g.stamp < e.stamp = ltb-true g.stamp e.stamp (and_left _ _ h) in
@@ -159,7 +159,7 @@ module _ {l : Ledger} {w : World} (u : CardUp l w) (c : ℕ) (e : Committed) (x 
           | inl i ↦ (let g = read_list_has l v.core (tail_of w.card v.core) v.number i.0 i.1 in
               let y = read_list_is u.well_formed u.disk v.core h g.0 g.1 in
               let m = listed_journals u.well_formed u.disk (committed_count w.card) (count_enough u) g.0 in
-              let p = subst (λ (j : ℕ). (j < l.shape.cores) × List-as-Memᴰ g.0 (read_list l j (tail_of w.card j))) (sym y.core) (h, g.1) in
+              let p = subst (λ (j : ℕ). (j < l.shape.cores) × Memᴰ g.0 (read_list l j (tail_of w.card j))) (sym y.core) (h, g.1) in
               or_left (any lower_closed (below (shape_of w.card).cores))
               (mem_any lower_read (rw (committed_now_lem u) (m p.0 p.1)) (lower_read_lem g.0 v.core y (subst (Lower l (name_of e)) (sym g.2) r))))
           | inr i ↦ or_right (any lower_read (committed_now w))

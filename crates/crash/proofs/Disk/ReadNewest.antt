@@ -2,8 +2,8 @@
 -- The reader's choice has the highest stamp of those that took the block, the ledger's holder too, and no two closed
 -- transactions have one stamp. A transaction took a block once, so its place in the record is the ledger's.
 use Rattle.model.proofs.Base.{ℕ, ◌-◌, ◌≤◌, ◌<◌, arith, ◌≡◌, refl, sym, ap, ◌∙◌, ◌⊎◌, inl, inr, true, false, List, [], ◌∷◌}
-use Rattle.model.proofs.Base.{List-as-Memᴰ, List·Memᴰ·head, List·Memᴰ·tail, List·Memᴰ·not-nil, List·Memᴰ·cases-cons}
-use Rattle.model.proofs.Base.{List·Memᴰ·eq-of-singleton, Memᴰ·cast, length, get_or, eqb, leb, eq-eqb, eqb-true, leb-true, leb-false}
+use Rattle.model.proofs.Base.{Memᴰ, mem_head, mem_tail, mem_not_nil, mem_cases_cons}
+use Rattle.model.proofs.Base.{mem_eq_of_singleton, mem_cast, length, get_or, eqb, leb, eq-eqb, eqb-true, leb-true, leb-false}
 use Rattle.model.proofs.Base.{any, Bytes}
 use Rattle.model.specs.Journal.{journals, name_of, blocks_of, took}
 use Rattle.model.specs.Valid.{in_sequence, valid_set, later, newest}
@@ -29,9 +29,9 @@ use Rattle.crash.proofs.Disk.ReadValid.{valid_name, valid_read, valid_are, own_t
 module _ (s : Shape) (d : Bytes) (b : ℕ) where
   -- the highest stamp of those that took the block
   record Highest (es : List Committed) (top : Committed) : Type 0 where
-    among : List-as-Memᴰ top es
+    among : Memᴰ top es
     took_it : took s d b top ≡ true
-    most : (e : Committed) → List-as-Memᴰ e es → took s d b e ≡ true → e.stamp ≤ top.stamp
+    most : (e : Committed) → Memᴰ e es → took s d b e ≡ true → e.stamp ≤ top.stamp
 
   newest_later : (best : Found) (x : Committed) (es : List Committed) → took s d b x ≡ true → newest s d b best (x ∷ es) ≡ newest s d b (Whole (later best x)) es
   unfolding newest
@@ -45,21 +45,21 @@ module _ (s : Shape) (d : Bytes) (b : ℕ) where
   highest_of : {a x y top : Committed} (es : List Committed) → (y ≡ a) ⊎ (y ≡ x) → took s d b y ≡ true → a.stamp ≤ y.stamp
       → (took s d b x ≡ true → x.stamp ≤ y.stamp) → Highest (y ∷ es) top → Highest (a ∷ x ∷ es) top
   highest_of {a} {x} {y} {top} es o t p q r =
-      let high : y.stamp ≤ top.stamp = r.most y (List·Memᴰ·head refl) t in
+      let high : y.stamp ≤ top.stamp = r.most y (mem_head refl) t in
       record {
         among =
-            elim (List·Memᴰ·cases-cons r.among) [
-              | inl e ↦ elim o [ inl g ↦ List·Memᴰ·head (e ∙ g) | inr g ↦ List·Memᴰ·tail (List·Memᴰ·head (e ∙ g)) ]
-              | inr m ↦ List·Memᴰ·tail (List·Memᴰ·tail m)
+            elim (mem_cases_cons r.among) [
+              | inl e ↦ elim o [ inl g ↦ mem_head (e ∙ g) | inr g ↦ mem_tail (mem_head (e ∙ g)) ]
+              | inr m ↦ mem_tail (mem_tail m)
             ];
         took_it = r.took_it;
         most =
             λ e m g.
-            elim (List·Memᴰ·cases-cons m) [
+            elim (mem_cases_cons m) [
               | inl i ↦ omega (arith, ap (λ (k : Committed). k.stamp) i)
-              | inr n ↦ elim (List·Memᴰ·cases-cons n) [
+              | inr n ↦ elim (mem_cases_cons n) [
                 | inl i ↦ omega (arith, ap (λ (k : Committed). k.stamp) i, q (ap (took s d b) (sym i) ∙ g))
-                | inr j ↦ r.most e (List·Memᴰ·tail j) g
+                | inr j ↦ r.most e (mem_tail j) g
               ]
             ];
       }
@@ -70,9 +70,9 @@ module _ (s : Shape) (d : Bytes) (b : ℕ) where
     a,
     refl,
     record {
-      among = List·Memᴰ·head refl;
+      among = mem_head refl;
       took_it = h;
-      most = λ e m g. omega (arith, ap (λ (k : Committed). k.stamp) (List·Memᴰ·eq-of-singleton m));
+      most = λ e m g. omega (arith, ap (λ (k : Committed). k.stamp) (mem_eq_of_singleton m));
     },
   )
   newest_over a (x ∷ es) h =
@@ -86,35 +86,35 @@ module _ (s : Shape) (d : Bytes) (b : ℕ) where
       (r.0, newest_later (Whole a) x es k ∙ rw o r.1, highest_of es (inl refl) h (omega arith) (λ t. omega arith) r.2)))
       (λ k. let r = newest_over a es h in (r.0, newest_skip (Whole a) x es k ∙ r.1, highest_of es (inl refl) h (omega arith) (λ t. clash t k) r.2))
 
-  newest_highest : (es : List Committed) (e : Committed) → List-as-Memᴰ e es → took s d b e ≡ true → (top : Committed) × (newest s d b Miss es ≡ Whole top) × Highest es top
+  newest_highest : (es : List Committed) (e : Committed) → Memᴰ e es → took s d b e ≡ true → (top : Committed) × (newest s d b Miss es ≡ Whole top) × Highest es top
   unfolding later
-  newest_highest [] e m h = absurd (List·Memᴰ·not-nil m)
+  newest_highest [] e m h = absurd (mem_not_nil m)
   newest_highest (x ∷ es) e m h =
       cases (took s d b x)
       (λ k. let r = newest_over x es k in (r.0, newest_later Miss x es k ∙ r.1, r.2))
       (λ k.
-      elim (List·Memᴰ·cases-cons m) [
+      elim (mem_cases_cons m) [
         | inl q ↦ clash h (ap (took s d b) q ∙ k)
         | inr n ↦ (let r = newest_highest es e n h in let v = r.2 in (
           r.0,
           newest_skip Miss x es k ∙ r.1,
           record {
-            among = List·Memᴰ·tail v.among;
+            among = mem_tail v.among;
             took_it = v.took_it;
-            most = λ f i g. elim (List·Memᴰ·cases-cons i) [ inl q ↦ clash g (ap (took s d b) q ∙ k) | inr j ↦ v.most f j g ];
+            most = λ f i g. elim (mem_cases_cons i) [ inl q ↦ clash g (ap (took s d b) q ∙ k) | inr j ↦ v.most f j g ];
           },
         ))
       ])
 
 -- ---- a block's place in a list
-place_in : (b : ℕ) (bs : List ℕ) → List-as-Memᴰ b bs → (place_of b bs < length bs) × (get_or bs (place_of b bs) 0 ≡ b)
+place_in : (b : ℕ) (bs : List ℕ) → Memᴰ b bs → (place_of b bs < length bs) × (get_or bs (place_of b bs) 0 ≡ b)
 unfolding place_of
-place_in b [] m = absurd (List·Memᴰ·not-nil m)
+place_in b [] m = absurd (mem_not_nil m)
 place_in b (x ∷ bs) m =
     cases (eqb b x)
     (λ h. rw h (omega arith, sym (eqb-true b x h)))
     (λ h.
-    elim (List·Memᴰ·cases-cons m) [
+    elim (mem_cases_cons m) [
       | inl e ↦ clash (eq-eqb b x e) h
       | inr n ↦ (let r = place_in b bs n in rw h (omega (arith, r.0), r.1))
     ])
@@ -125,12 +125,12 @@ unfolding took
 took_read b r = rw r.blocks
 
 module _ {y : CommitLayout} {l : Ledger} {d : Bytes} {tail_at : ℕ → Tail} (f : WellFormed l) (z : DiskStands y l d tail_at) {b : ℕ} (n : Newest l b) where
-  abbrev taken_by : List-as-Memᴰ b (l.book.entry n.holder).blocks
-  taken_by = Memᴰ·cast (sym n.block) (get_or_mem (l.book.entry n.holder).blocks n.place 0 n.within)
+  abbrev taken_by : Memᴰ b (l.book.entry n.holder).blocks
+  taken_by = mem_cast (sym n.block) (get_or_mem (l.book.entry n.holder).blocks n.place 0 n.within)
 
   newest_read : (most : ℕ → ℕ) → ((c : ℕ) → c < l.shape.cores → l.book.uncommitted c - l.book.oldest c ≤ most c)
       → (e : Committed) × (newest l.shape d b Miss (valid_set in_sequence y l.shape d tail_at (journals y l.shape d tail_at most)) ≡ Whole e)
-      × List-as-Memᴰ e (valid_set in_sequence y l.shape d tail_at (journals y l.shape d tail_at most)) × (name_of e ≡ n.holder)
+      × Memᴰ e (valid_set in_sequence y l.shape d tail_at (journals y l.shape d tail_at most)) × (name_of e ≡ n.holder)
   newest_read most enough =
       let vs = valid_set in_sequence y l.shape d tail_at (journals y l.shape d tail_at most) in
       let h = valid_read f z most enough n.holder n.valid in

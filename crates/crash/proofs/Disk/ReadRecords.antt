@@ -2,8 +2,8 @@
 -- stand one after the other, then no commit of the next number stands anywhere, so the reading ends there. `journals_read` is
 -- demand 2 for all journals of a disk.
 use Rattle.model.proofs.Base.{ℕ, zero, suc, ◌+◌, ◌-◌, ◌*◌, ◌%◌, ◌≤◌, ◌<◌, arith, ℕ_discrete, add-one, add-zero, ◌≡◌, refl, sym}
-use Rattle.model.proofs.Base.{ap, subst, ◌∙◌, inl, inr, true, false, List, [], ◌∷◌, ◌++◌, map, flat_map, append_assoc, List-as-Memᴰ}
-use Rattle.model.proofs.Base.{List·Memᴰ·head, List·Memᴰ·tail, List·Memᴰ·not-nil, List·Memᴰ·cases-cons, length, get_or, length-map}
+use Rattle.model.proofs.Base.{ap, subst, ◌∙◌, inl, inr, true, false, List, [], ◌∷◌, ◌++◌, map, flat_map, append_assoc, Memᴰ}
+use Rattle.model.proofs.Base.{mem_head, mem_tail, mem_not_nil, mem_cases_cons, length, get_or, length-map}
 use Rattle.model.proofs.Base.{length-append, list_get_or_map, list_get_or_append, ext_get_or, below, Bytes}
 use lib.Seq.{get_or-append-add}
 use Rattle.model.specs.Card.{new_name}
@@ -182,11 +182,11 @@ module _ (y : CommitLayout) {l : Ledger} (f : WellFormed l) (d : Bytes) (c : ℕ
           (names_read x st)
 
   each_is : (i p n : ℕ) → (0 < n → y ≡ Numbers) → Standing y f d c i p n → l.book.oldest c ≤ i → i + n ≤ l.book.uncommitted c
-      → (e : Committed) → List-as-Memᴰ e (read_from l c i p n) → ReadAsLedger y l d c e
+      → (e : Committed) → Memᴰ e (read_from l c i p n) → ReadAsLedger y l d c e
   unfolding read_from
-  each_is i p zero y_is st a b e m = absurd (List·Memᴰ·not-nil m)
+  each_is i p zero y_is st a b e m = absurd (mem_not_nil m)
   each_is i p (suc n) y_is st a b e m =
-      elim (List·Memᴰ·cases-cons m) [
+      elim (mem_cases_cons m) [
         | inl q ↦ subst (λ (r : Committed). ReadAsLedger y l d c r) (sym q) (record_is i p (y_is (omega arith)) a (omega arith) (first_stands y f d c i p n st))
         | inr r ↦ each_is (suc i) _ n (λ _. y_is (omega arith)) (rest_stands y f d c i p n st) (omega arith) (omega arith) e r
       ]
@@ -203,14 +203,14 @@ module _ (l : Ledger) (c : ℕ) where
   from_at i p (suc n) zero e h = omega arith
   from_at i p (suc n) (suc j) e h = from_at (suc i) _ n j e (omega arith) ∙ omega arith
 
-  from_has : (i p n j : ℕ) → i ≤ j → j < i + n → (e : Committed) × List-as-Memᴰ e (read_from l c i p n) × (name_of e ≡ new_name c j)
+  from_has : (i p n j : ℕ) → i ≤ j → j < i + n → (e : Committed) × Memᴰ e (read_from l c i p n) × (name_of e ≡ new_name c j)
   unfolding read_from
   from_has i p zero j a b = absurd (omega arith)
   from_has i p (suc n) j a b =
       elim (ℕ_discrete i j) [
-        | yes e ↦ (read_record l (new_name c i) p, List·Memᴰ·head refl, ap (new_name c) e)
+        | yes e ↦ (read_record l (new_name c i) p, mem_head refl, ap (new_name c) e)
         | no ne ↦ (let r = from_has (suc i) ((p + (length (l.book.entry (new_name c i)).blocks + 2)) % l.shape.journal) n j (omega arith) (omega arith) in
-            (r.0, List·Memᴰ·tail r.1, r.2))
+            (r.0, mem_tail r.1, r.2))
       ]
 
   module _ (t : Tail) where
@@ -225,7 +225,7 @@ module _ (l : Ledger) (c : ℕ) where
 
     -- each transaction stored whole has its record
     pub read_list_has : (i : ℕ) → l.book.oldest c ≤ i → i < l.book.uncommitted c
-        → (e : Committed) × List-as-Memᴰ e (read_list l c t) × (name_of e ≡ new_name c i)
+        → (e : Committed) × Memᴰ e (read_list l c t) × (name_of e ≡ new_name c i)
     unfolding read_list
     read_list_has i a b = from_has (l.book.oldest c) t.position (l.book.uncommitted c - l.book.oldest c) i a (omega arith)
 
@@ -279,7 +279,7 @@ module _ {y : CommitLayout} {l : Ledger} {d : Bytes} {tail_at : ℕ → Tail} (f
       (omega (arith, r.mid, j.room, blocks_more k c (k.oldest c) count_of (k.next c - k.oldest c) (omega (arith, r.mid))))
       (λ q. j.clear (k.oldest c + count_of) q (omega (arith, r.low))))
 
-  pub read_list_is : (e : Committed) → List-as-Memᴰ e (read_list l c (tail_at c)) → ReadAsLedger y l d c e
+  pub read_list_is : (e : Committed) → Memᴰ e (read_list l c (tail_at c)) → ReadAsLedger y l d c e
   unfolding read_list
   read_list_is =
       each_is y f d c in_range_lem (l.book.oldest c) (tail_at c).position count_of (λ g. z.numbered c in_range_lem (omega arith)) journal_standing (omega arith) (omega (arith, (f.ranks c in_range_lem).low))

@@ -2,7 +2,7 @@
 -- Both valid sets are the largest of their kind over the same transactions, with the same names and the same tails:
 -- so the names of the reader's set are the ledger's set, and so are the blocks.
 use Rattle.model.proofs.Base.{ℕ, List, ◌∷◌, ◌-◌, ◌≤◌, ◌<◌, arith, dec_lt, ◌≡◌, sym, ap, subst, fun_ext, ◌∙◌, ◌⊎◌, inl, inr, Bool, true, false}
-use Rattle.model.proofs.Base.{not, ◌&&◌, ◌||◌, map, flat_map, List-as-Memᴰ, Memᴰ·cast, eqb, ltb, not-true, lt-ltb, below, all, any, select, Bytes}
+use Rattle.model.proofs.Base.{not, ◌&&◌, ◌||◌, map, flat_map, Memᴰ, mem_cast, eqb, ltb, not-true, lt-ltb, below, all, any, select, Bytes}
 use mathlib.Core.List.Memᴰ
 use Rattle.model.specs.Card.{same_name}
 use Rattle.model.specs.Journal.{journal, journals, name_of, names_of, blocks_of}
@@ -38,11 +38,11 @@ met_in_monotone : (k : Book) → Monotone (met_in k)
 unfolding met_in
 met_in_monotone k = named_monotone (required_in k) (λ (t : Name). t) same_name same_name_true same_name_refl (below_oldest k)
 
-pub valid_unretired : (k : Book) (t : Name) → List-as-Memᴰ t (valid_in k) → List-as-Memᴰ t (unretired k)
+pub valid_unretired : (k : Book) (t : Name) → Memᴰ t (valid_in k) → Memᴰ t (unretired k)
 unfolding valid_in
 valid_unretired k = shrink_within (met_in k) (unretired k)
 
-valid_met : (k : Book) (t n : Name) → List-as-Memᴰ t (valid_in k) → List-as-Memᴰ n (required_in k t) → (below_oldest k n ≡ true) ⊎ (any (same_name n) (valid_in k) ≡ true)
+valid_met : (k : Book) (t n : Name) → Memᴰ t (valid_in k) → Memᴰ n (required_in k t) → (below_oldest k n ≡ true) ⊎ (any (same_name n) (valid_in k) ≡ true)
 unfolding valid_in met_in
 valid_met k t n m i =
     or_cases (below_oldest k n) (any (same_name n) (valid_in k))
@@ -53,59 +53,59 @@ module _ {y : CommitLayout} {l : Ledger} {d : Bytes} {tail_at : ℕ → Tail} (f
   below_tail_lem : (n : Name) → n.core < l.shape.cores → ltb n.number (tail_at n.core).number ≡ below_oldest l.book n
   below_tail_lem n h = ap (ltb n.number) (z.journals n.core h).number
 
-  each_core : (t n : Name) → t.core < l.shape.cores → List-as-Memᴰ n (required in_sequence t (l.book.entry t).names) → n.core < l.shape.cores
+  each_core : (t n : Name) → t.core < l.shape.cores → Memᴰ n (required in_sequence t (l.book.entry t).names) → n.core < l.shape.cores
   each_core t n h = required_core in_sequence t (l.book.entry t).names l.shape.cores h (λ u m. (f.limits u (f.named t u m)).core) n
 
   -- the one before the first since the card came up is below the tail
-  required_or_below : (t n : Name) → t.core < l.shape.cores → List-as-Memᴰ n (required in_sequence t (l.book.entry t).names)
-      → List-as-Memᴰ n (required_in l.book t) ⊎ (below_oldest l.book n ≡ true)
+  required_or_below : (t n : Name) → t.core < l.shape.cores → Memᴰ n (required in_sequence t (l.book.entry t).names)
+      → Memᴰ n (required_in l.book t) ⊎ (below_oldest l.book n ≡ true)
   required_or_below t n c m =
       let r = f.ranks t.core c in
-      elim (required_in_book l.book t n (subst (λ (o : Order). List-as-Memᴰ n (required o t (l.book.entry t).names)) (sym f.sequence) m)) [
+      elim (required_in_book l.book t n (subst (λ (o : Order). Memᴰ n (required o t (l.book.entry t).names)) (sym f.sequence) m)) [
         | inl i ↦ inl i
         | inr e ↦ inr (subst (λ (x : Name). below_oldest l.book x ≡ true) (sym e.0)
             (lt-ltb (t.number - 1) (l.book.oldest t.core) (omega (arith, e.1, r.below.from_first, r.below.positive))))
       ]
 
   -- what the book asks for, in sequence
-  book_sequence : (t n : Name) → List-as-Memᴰ n (required_in l.book t) → List-as-Memᴰ n (required in_sequence t (l.book.entry t).names)
-  book_sequence t n j = subst (λ (o : Order). List-as-Memᴰ n (required o t (l.book.entry t).names)) f.sequence (book_required l.book t n j)
+  book_sequence : (t n : Name) → Memᴰ n (required_in l.book t) → Memᴰ n (required in_sequence t (l.book.entry t).names)
+  book_sequence t n j = subst (λ (o : Order). Memᴰ n (required o t (l.book.entry t).names)) f.sequence (book_required l.book t n j)
 
-  met_or_below : (t n : Name) → List-as-Memᴰ t (valid_in l.book) → List-as-Memᴰ n (required_in l.book t) ⊎ (below_oldest l.book n ≡ true)
+  met_or_below : (t n : Name) → Memᴰ t (valid_in l.book) → Memᴰ n (required_in l.book t) ⊎ (below_oldest l.book n ≡ true)
       → (below_oldest l.book n ≡ true) ⊎ (any (same_name n) (valid_in l.book) ≡ true)
   met_or_below t n m (inl i) = valid_met l.book t n m i
   met_or_below t n m (inr b) = inl b
 
   module _ (most : ℕ → ℕ) (enough : (c : ℕ) → c < l.shape.cores → l.book.uncommitted c - l.book.oldest c ≤ most c) where
     -- ---- all journals
-    journals_listed : (e : Committed) → List-as-Memᴰ e (journals y l.shape d tail_at most)
-        → (e.core < l.shape.cores) × List-as-Memᴰ e (read_list l e.core (tail_at e.core))
+    journals_listed : (e : Committed) → Memᴰ e (journals y l.shape d tail_at most)
+        → (e.core < l.shape.cores) × Memᴰ e (read_list l e.core (tail_at e.core))
     unfolding journals
     journals_listed e m =
         let r = mem_flat_map (λ (c : ℕ). journal y l.shape d c (tail_at c) (most c)) (below l.shape.cores) m in
         let h = mem_below l.shape.cores r.1 in
-        let x : List-as-Memᴰ e (read_list l r.0 (tail_at r.0)) = rw (journal_read f z r.0 h (most r.0) (enough r.0 h)) at r.2 in
+        let x : Memᴰ e (read_list l r.0 (tail_at r.0)) = rw (journal_read f z r.0 h (most r.0) (enough r.0 h)) at r.2 in
         let c : e.core ≡ r.0 = (read_list_is f z r.0 h e x).core in
-        subst (λ (i : ℕ). (i < l.shape.cores) × List-as-Memᴰ e (read_list l i (tail_at i))) (sym c) (h, x)
+        subst (λ (i : ℕ). (i < l.shape.cores) × Memᴰ e (read_list l i (tail_at i))) (sym c) (h, x)
 
-    pub listed_journals : (e : Committed) → e.core < l.shape.cores → List-as-Memᴰ e (read_list l e.core (tail_at e.core))
-        → List-as-Memᴰ e (journals y l.shape d tail_at most)
+    pub listed_journals : (e : Committed) → e.core < l.shape.cores → Memᴰ e (read_list l e.core (tail_at e.core))
+        → Memᴰ e (journals y l.shape d tail_at most)
     unfolding journals
     listed_journals e h m =
         flat_map_mem (λ (c : ℕ). journal y l.shape d c (tail_at c) (most c)) (below_mem l.shape.cores e.core h)
         (rw (journal_read f z e.core h (most e.core) (enough e.core h)) m)
 
-    pub journals_are : (e : Committed) → List-as-Memᴰ e (journals y l.shape d tail_at most) → ReadAsLedger y l d e.core e
+    pub journals_are : (e : Committed) → Memᴰ e (journals y l.shape d tail_at most) → ReadAsLedger y l d e.core e
     journals_are e m = let r = journals_listed e m in read_list_is f z e.core r.0 e r.1
 
     -- ---- they are the ledger's committed unretired transactions
-    read_unretired : (e : Committed) → List-as-Memᴰ e (journals y l.shape d tail_at most) → List-as-Memᴰ (name_of e) (unretired l.book)
+    read_unretired : (e : Committed) → Memᴰ e (journals y l.shape d tail_at most) → Memᴰ (name_of e) (unretired l.book)
     unfolding unretired
     read_unretired e m =
         let u = (journals_are e m).unretired in
         mem_select _ l.book.opened (name_of e) (f.known (name_of e) (closed_present _ u.is_closed_lem)) (and_both u.is_committed_lem (ap not u.not_retired))
 
-    unretired_read : (t : Name) → List-as-Memᴰ t (unretired l.book) → (e : Committed) × List-as-Memᴰ e (journals y l.shape d tail_at most) × (name_of e ≡ t)
+    unretired_read : (t : Name) → Memᴰ t (unretired l.book) → (e : Committed) × Memᴰ e (journals y l.shape d tail_at most) × (name_of e ≡ t)
     unfolding unretired
     unretired_read t m =
         let g = (l.book.entry t).stage in
@@ -115,7 +115,7 @@ module _ {y : CommitLayout} {l : Ledger} {d : Bytes} {tail_at : ℕ → Tail} (f
         elim (dec_lt t.core l.shape.cores) [
           | yes c ↦ (let i = committed_rank (f.ranks t.core c) t.number a b in
               let r = read_list_has l t.core (tail_at t.core) t.number i.0 i.1 in
-              let e = subst (λ (i : ℕ). (i < l.shape.cores) × List-as-Memᴰ r.0 (read_list l i (tail_at i))) (sym (ap (λ (n : Name). n.core) r.2)) (c, r.1) in
+              let e = subst (λ (i : ℕ). (i < l.shape.cores) × Memᴰ r.0 (read_list l i (tail_at i))) (sym (ap (λ (n : Name). n.core) r.2)) (c, r.1) in
               (r.0, listed_journals r.0 e.0 e.1, r.2))
           | no c ↦ clash a (ap is_committed (f.far t (omega arith)))
         ]
@@ -135,12 +135,12 @@ module _ {y : CommitLayout} {l : Ledger} {d : Bytes} {tail_at : ℕ → Tail} (f
         sym (valid_by_highest tail_at read listed_by (names_of y l.shape d) (λ e m. (journals_are e m).names)
         (λ e m n i. let b = f.limits n (f.named (name_of e) n i) in (omega (arith, b.core, f.range.few_cores), b.low)))
 
-    listed_met : (e : Committed) → List-as-Memᴰ e (shrink (met_with tail_at listed_by) read) → (n : Name) → List-as-Memᴰ n (required in_sequence (name_of e) (listed_by e))
+    listed_met : (e : Committed) → Memᴰ e (shrink (met_with tail_at listed_by) read) → (n : Name) → Memᴰ n (required in_sequence (name_of e) (listed_by e))
         → (below_tail tail_at n ≡ true) ⊎ Named name_of (shrink (met_with tail_at listed_by) read) n
     unfolding is_met is_in required
     listed_met = shrunk_names (λ (e : Committed). predecessor (name_of e) ∷ listed_by e) name_of same_name same_name_true same_name_refl (below_tail tail_at) read
 
-    pub valid_name : (e : Committed) → List-as-Memᴰ e (valid_set in_sequence y l.shape d tail_at read) → List-as-Memᴰ (name_of e) (valid_in l.book)
+    pub valid_name : (e : Committed) → Memᴰ e (valid_set in_sequence y l.shape d tail_at read) → Memᴰ (name_of e) (valid_in l.book)
     unfolding valid_in met_in
     valid_name e m =
         let vs = shrink (met_with tail_at listed_by) read in
@@ -148,7 +148,7 @@ module _ {y : CommitLayout} {l : Ledger} {d : Bytes} {tail_at : ℕ → Tail} (f
         let ts = map name_of vs in
         let inside : Within vs read = shrink_within (met_with tail_at listed_by) read in
         let within : Within ts (unretired k) =
-        λ t i. let r = Memᴰ.of_map name_of vs i in Memᴰ·cast (sym r.2) (read_unretired r.0 (inside r.0 r.1)) in
+        λ t i. let r = Memᴰ.of_map name_of vs i in mem_cast (sym r.2) (read_unretired r.0 (inside r.0 r.1)) in
         let closed : AllStay (met_in k) ts =
         λ t i.
         let r = Memᴰ.of_map name_of vs i in
@@ -156,14 +156,14 @@ module _ {y : CommitLayout} {l : Ledger} {d : Bytes} {tail_at : ℕ → Tail} (f
         subst (λ (t : Name). all (λ (n : Name). below_oldest k n || any (same_name n) ts) (required_in k t) ≡ true) r.2
         (mem_all (λ (n : Name). below_oldest k n || any (same_name n) ts) (required_in k (name_of r.0))
         (λ n j.
-        let q : List-as-Memᴰ n (required in_sequence (name_of r.0) (listed_by r.0)) = book_sequence (name_of r.0) n j in
+        let q : Memᴰ n (required in_sequence (name_of r.0) (listed_by r.0)) = book_sequence (name_of r.0) n j in
         elim (listed_met r.0 r.1 n q) [
           | inl b ↦ or_left (any (same_name n) ts) (sym (below_tail_lem n (each_core (name_of r.0) n c q)) ∙ b)
-          | inr u ↦ or_right (below_oldest k n) (in_any name_equality (Memᴰ·cast u.2 (Memᴰ.map name_of u.1)))
+          | inr u ↦ or_right (below_oldest k n) (in_any name_equality (mem_cast u.2 (Memᴰ.map name_of u.1)))
         ])) in
         shrink_largest (met_in k) (met_in_monotone k) (unretired k) ts within closed (name_of e) (Memᴰ.map name_of (rw valid_listed at m))
 
-    name_valid : (e : Committed) → List-as-Memᴰ e read → List-as-Memᴰ (name_of e) (valid_in l.book) → List-as-Memᴰ e (valid_set in_sequence y l.shape d tail_at read)
+    name_valid : (e : Committed) → Memᴰ e read → Memᴰ (name_of e) (valid_in l.book) → Memᴰ e (valid_set in_sequence y l.shape d tail_at read)
     unfolding is_met is_in required
     name_valid e m v =
         let k = l.book in
@@ -185,13 +185,13 @@ module _ {y : CommitLayout} {l : Ledger} {d : Bytes} {tail_at : ℕ → Tail} (f
         (shrink_largest (met_with tail_at listed_by) (met_with_monotone tail_at listed_by) read ss (λ x i. (select_mem test read x i).0) closed e (mem_select test read e m (in_any name_equality v)))
 
     -- a valid transaction of the ledger is read, as a valid one
-    pub valid_read : (t : Name) → List-as-Memᴰ t (valid_in l.book)
-        → (e : Committed) × List-as-Memᴰ e (valid_set in_sequence y l.shape d tail_at read) × (name_of e ≡ t)
+    pub valid_read : (t : Name) → Memᴰ t (valid_in l.book)
+        → (e : Committed) × Memᴰ e (valid_set in_sequence y l.shape d tail_at read) × (name_of e ≡ t)
     valid_read t v =
         let r = unretired_read t (valid_unretired l.book t v) in
         (r.0, name_valid r.0 r.1 (rw r.2 v), r.2)
 
-    pub valid_are : (e : Committed) → List-as-Memᴰ e (valid_set in_sequence y l.shape d tail_at read) → ReadAsLedger y l d e.core e
+    pub valid_are : (e : Committed) → Memᴰ e (valid_set in_sequence y l.shape d tail_at read) → ReadAsLedger y l d e.core e
     valid_are e m = journals_are e (valid_within in_sequence y l.shape d tail_at (journals y l.shape d tail_at most) e m)
 
     pub valid_same : (n : Name) → is_in (valid_set in_sequence y l.shape d tail_at read) n ≡ any (same_name n) (valid_in l.book)
@@ -200,7 +200,7 @@ module _ {y : CommitLayout} {l : Ledger} {d : Bytes} {tail_at : ℕ → Tail} (f
         let vs = valid_set in_sequence y l.shape d tail_at read in
         bool_ext
         (λ h. let r = any_mem (λ (e : Committed). same_name n (name_of e)) vs h in
-        in_any name_equality (Memᴰ·cast (same_name_true n (name_of r.0) r.2) (valid_name r.0 r.1)))
+        in_any name_equality (mem_cast (same_name_true n (name_of r.0) r.2) (valid_name r.0 r.1)))
         (λ h. let r = valid_read n (any_in name_equality n (valid_in l.book) h) in
         mem_any (λ (e : Committed). same_name n (name_of e)) r.1 (rw r.2 (same_name_refl n)))
 

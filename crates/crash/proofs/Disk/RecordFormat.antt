@@ -1,7 +1,7 @@
 -- The record of a closed transaction of the ledger keeps the rules of the format, and is read back as what the ledger has
 -- for it: blocks, names, stamp and images. Each of its blocks is 128 bytes; none is a commit of a higher number.
 use Rattle.model.proofs.Base.{ℕ, zero, suc, ◌+◌, ◌-◌, ◌%◌, ◌≤◌, ◌<◌, arith, ◌≡◌, refl, sym, ap, ◌∙◌, true, false, not, List, []}
-use Rattle.model.proofs.Base.{◌∷◌, ◌++◌, map, List-as-Memᴰ, length, get_or, length-map, list_get_or_map, ext_get_or, eqb, ltb, ne_eqb}
+use Rattle.model.proofs.Base.{◌∷◌, ◌++◌, map, Memᴰ, length, get_or, length-map, list_get_or_map, ext_get_or, eqb, ltb, ne_eqb}
 use Rattle.model.proofs.Base.{inl, inr, lt-ltb, ltb-true, le-leb, below, Bytes}
 use Rattle.model.specs.Bytes.{be4, part, number}
 use Rattle.model.specs.Card.{new_name}
@@ -88,7 +88,7 @@ distinct_of (h ∷ hs) z f =
     (distinct_of hs z (λ i j a b e. let y : suc i ≡ suc j = f (suc i) (suc j) (omega arith) (omega arith) e in omega arith))
 
 -- ---- the highest number of each core that it names
-module _ (l : Ledger) (t : Name) (named : (u : Name) → List-as-Memᴰ u (l.book.entry t).names → Limits l.shape u (l.book.entry u)) where
+module _ (l : Ledger) (t : Name) (named : (u : Name) → Memᴰ u (l.book.entry t).names → Limits l.shape u (l.book.entry u)) where
   highest_high : (c : ℕ) → IsWord (highest_in (l.book.entry t).names c)
   highest_high c =
       elim (highest_member (l.book.entry t).names c) [
@@ -108,7 +108,7 @@ module _ {l : Ledger} (f : WellFormed l) (t : Name) (h : is_closed (l.book.entry
       let m = limits_of in
       let n = length_record_tags l t in
       let z = f.frozen t h in
-      let named : (u : Name) → List-as-Memᴰ u (l.book.entry t).names → Limits l.shape u (l.book.entry u) = λ u x. f.limits u (f.named t u x) in
+      let named : (u : Name) → Memᴰ u (l.book.entry t).names → Limits l.shape u (l.book.entry u) = λ u x. f.limits u (f.named t u x) in
       record {
         shape = f.range;
         number = m.high;

@@ -1,7 +1,7 @@
 -- For paper 02's (g): what recovery of the disk gives, `recovered_area`, is at every point of a run the area that the kept writes give.
 -- CHECKPOINT and RETIRE change neither these nor what they are made over, done or refused: so a cut after any of them brings back what one
 -- before them would.
-use Rattle.model.proofs.Base.{ℕ, zero, suc, ◌<◌, arith, ◌≡◌, refl, sym, ap, subst, fun_ext, ◌∙◌, Bool, true, false, true≢false, List, [], ◌∷◌, ◌++◌, List-as-Memᴰ, length, flat_map, below, any, all, select, eqb, Bytes}
+use Rattle.model.proofs.Base.{ℕ, zero, suc, ◌<◌, arith, ◌≡◌, refl, sym, ap, subst, fun_ext, ◌∙◌, Bool, true, false, true≢false, List, [], ◌∷◌, ◌++◌, Memᴰ, length, flat_map, below, any, all, select, eqb, Bytes}
 use Rattle.model.specs.Bytes.{block_at, zero_memory}
 use Rattle.model.specs.Card.{is_blank, is_down, down_card}
 use Rattle.model.specs.Command.{World, Outcome, refusal}
@@ -47,7 +47,7 @@ module _ {y : CommitLayout} {l : Ledger} {d : Bytes} {tail_at : ℕ → Tail} (f
   image_target : (b : ℕ) → b < l.shape.blocks → image_on d b ≡ target l b
   image_target b h =
       cases (any (eqb b) (held_on d))
-      (λ t. newest_image_lem f z (g.held b h (subst (List-as-Memᴰ b) (blocks_on f z) (any_in block_equality b (held_on d) t))))
+      (λ t. newest_image_lem f z (g.held b h (subst (Memᴰ b) (blocks_on f z) (any_in block_equality b (held_on d) t))))
       (λ n. not_held d b (subst (λ (s : Shape). b < s.blocks) (sym (shape_read f z)) h) n ∙ g.home b h (ap (any (eqb b)) (sym (blocks_on f z)) ∙ n))
 
   pub area_target : recovered_area d ≡ kept_area l

@@ -1,6 +1,6 @@
 -- Where two ledgers differ in one transaction of core c, their lists differ in the list of core c alone, and there in that transaction.
 use Rattle.model.proofs.Base.{ℕ, zero, suc, ◌+◌, ◌-◌, ◌≤◌, ◌<◌, arith, ℕ_discrete, ◌≡◌, refl, sym, ap, ap₂, subst, ◌∙◌, ◌≢◌, inl, inr, cond}
-use Rattle.model.proofs.Base.{List, [], ◌∷◌, ◌++◌, append_assoc, List-as-Memᴰ, List·Memᴰ·not-nil, List·Memᴰ·append-cases, List·Memᴰ·eq-of-singleton, length}
+use Rattle.model.proofs.Base.{List, [], ◌∷◌, ◌++◌, append_assoc, Memᴰ, mem_not_nil, mem_append_cases, mem_eq_of_singleton, length}
 use Rattle.model.proofs.Base.{flat_map, below}
 use Rattle.model.specs.Card.{new_name}
 use Rattle.model.specs.declared.Name.{Name}
@@ -17,22 +17,22 @@ use Rattle.planner.proofs.Transactions.LedgerList.{entry_as, entries_from, close
 record Split (c n : ℕ) : Type 0 where
   above : List ℕ
   is : below n ≡ below c ++ (c ∷ above)
-  higher : (i : ℕ) → List-as-Memᴰ i above → c < i
+  higher : (i : ℕ) → Memᴰ i above → c < i
 
 split : (c n : ℕ) → c < n → Split c n
 unfolding below
 split c zero h = absurd (omega arith)
 split c (suc n) h =
     elim (ℕ_discrete n c) [
-      | yes e ↦ record { above = []; is = ap (λ (i : ℕ). below i ++ (i ∷ [])) e; higher = λ i m. absurd (List·Memᴰ·not-nil m) }
+      | yes e ↦ record { above = []; is = ap (λ (i : ℕ). below i ++ (i ∷ [])) e; higher = λ i m. absurd (mem_not_nil m) }
       | no ne ↦ (let s = split c n (omega arith) in
           record {
             above = s.above ++ (n ∷ []);
             is = ap (λ (is : List ℕ). is ++ (n ∷ [])) s.is ∙ append_assoc (below c) (c ∷ s.above) (n ∷ []);
             higher =
                 λ i m.
-                elim (List·Memᴰ·append-cases s.above m)
-                [ inl p ↦ s.higher i p | inr p ↦ (let e : i ≡ n = List·Memᴰ·eq-of-singleton p in omega arith) ];
+                elim (mem_append_cases s.above m)
+                [ inl p ↦ s.higher i p | inr p ↦ (let e : i ≡ n = mem_eq_of_singleton p in omega arith) ];
           })
     ]
 

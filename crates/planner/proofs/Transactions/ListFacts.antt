@@ -1,7 +1,7 @@
 -- The ledger's list against the card: how many commands its transactions can take at most; that all of them run exactly where every journal
 -- is empty and nothing is closed, and that there are none exactly where nothing runs besides.
 use Rattle.model.proofs.Base.{ℕ, zero, suc, ◌+◌, ◌-◌, ◌*◌, ◌≤◌, ◌<◌, arith, ◌≡◌, refl, sym, ap, ap₂, ◌∙◌}
-use Rattle.model.proofs.Base.{Bool, true, false, not, cond, ◌&&◌, List, [], ◌∷◌, ◌++◌, List-as-Memᴰ, List·Memᴰ·head, List·Memᴰ·tail, length, flat_map, below, all}
+use Rattle.model.proofs.Base.{Bool, true, false, not, cond, ◌&&◌, List, [], ◌∷◌, ◌++◌, Memᴰ, mem_head, mem_tail, length, flat_map, below, all}
 use mathlib.Core.Bool.{and_assoc, and-true}
 use Rattle.model.specs.Lists.{total}
 use Rattle.model.specs.Card.{core_of}
@@ -93,11 +93,11 @@ module _ {l : Ledger} {w : World} (u : CardUp l w) where
 
 -- ---- empty
 module _ {A : Type 0} where
-  all_flat : (q : A → Bool) (f : ℕ → List A) (p : ℕ → Bool) (is : List ℕ) → ((i : ℕ) → List-as-Memᴰ i is → p i ≡ all q (f i)) → all p is ≡ all q (flat_map f is)
+  all_flat : (q : A → Bool) (f : ℕ → List A) (p : ℕ → Bool) (is : List ℕ) → ((i : ℕ) → Memᴰ i is → p i ≡ all q (f i)) → all p is ≡ all q (flat_map f is)
   unfolding all flat_map
   all_flat q f p [] h = refl
   all_flat q f p (i ∷ is) h =
-      ap₂ ◌&&◌ (h i (List·Memᴰ·head refl)) (all_flat q f p is (λ j m. h j (List·Memᴰ·tail m))) ∙ sym (all_append q (f i) (flat_map f is))
+      ap₂ ◌&&◌ (h i (mem_head refl)) (all_flat q f p is (λ j m. h j (mem_tail m))) ∙ sym (all_append q (f i) (flat_map f is))
 
   -- a list is empty where all its elements meet what none does
   empty_all : (xs : List A) → is_empty xs ≡ all (λ (x : A). false) xs
@@ -105,7 +105,7 @@ module _ {A : Type 0} where
   empty_all [] = refl
   empty_all (x ∷ xs) = refl
 
-  empty_flat : (f : ℕ → List A) (p : ℕ → Bool) (is : List ℕ) → ((i : ℕ) → List-as-Memᴰ i is → p i ≡ is_empty (f i)) → all p is ≡ is_empty (flat_map f is)
+  empty_flat : (f : ℕ → List A) (p : ℕ → Bool) (is : List ℕ) → ((i : ℕ) → Memᴰ i is → p i ≡ is_empty (f i)) → all p is ≡ is_empty (flat_map f is)
   empty_flat f p is h = all_flat (λ (x : A). false) f p is (λ i m. h i m ∙ empty_all (f i)) ∙ sym (empty_all (flat_map f is))
 
   -- one that is there on a condition

@@ -1,8 +1,8 @@
 -- What is in the ledger's list of unretired transactions: transactions as the ledger has them, each running, closed or committed, those that
 -- do not run with a stamp of their own.
 use Rattle.model.proofs.Base.{ℕ, zero, suc, ◌+◌, ◌-◌, ◌≤◌, ◌<◌, arith, dec_lt, ◌≡◌, refl, sym, ap, subst, ◌∙◌, ◌⊎◌, inl, inr}
-use Rattle.model.proofs.Base.{true, false, not, [], List-as-Memᴰ, List·Memᴰ·not-nil, List·Memᴰ·cases-cons, List·Memᴰ·append-cases}
-use Rattle.model.proofs.Base.{List·Memᴰ·eq-of-singleton, length, flat_map, below, all}
+use Rattle.model.proofs.Base.{true, false, not, [], Memᴰ, mem_not_nil, mem_cases_cons, mem_append_cases}
+use Rattle.model.proofs.Base.{mem_eq_of_singleton, length, flat_map, below, all}
 use Rattle.model.specs.Card.{new_name}
 use Rattle.model.proofs.Lists.{cases, mem_below, mem_flat_map, mem_all}
 use Rattle.crash.specs.Book.{Stage, Book, running, is_running, is_closed, is_retired, has_running}
@@ -15,23 +15,23 @@ use Rattle.planner.specs.Plan.{Unretired, stores_for, stores_left, runs}
 use Rattle.planner.proofs.Transactions.LedgerList.{entry_as, entries_from, closed_of, running_of, core_list, ledger_list}
 
 -- ---- where it stands
-pub entries_mem : (l : Ledger) (c i n : ℕ) {u : Unretired} → List-as-Memᴰ u (entries_from l c i n)
+pub entries_mem : (l : Ledger) (c i n : ℕ) {u : Unretired} → Memᴰ u (entries_from l c i n)
     → (j : ℕ) × (i ≤ j) × (j < i + n) × (u ≡ entry_as l (new_name c j))
 unfolding entries_from
-entries_mem l c i zero m = absurd (List·Memᴰ·not-nil m)
+entries_mem l c i zero m = absurd (mem_not_nil m)
 entries_mem l c i (suc n) m =
-    elim (List·Memᴰ·cases-cons m) [
+    elim (mem_cases_cons m) [
       | inl e ↦ (i, omega arith, omega arith, e)
       | inr p ↦ (let r = entries_mem l c (suc i) n p in (r.0, omega (arith, r.1), omega (arith, r.2), r.3))
     ]
 
-pub running_mem : (l : Ledger) (c : ℕ) {u : Unretired} → List-as-Memᴰ u (running_of l c)
+pub running_mem : (l : Ledger) (c : ℕ) {u : Unretired} → Memᴰ u (running_of l c)
     → (has_running l.book c ≡ true) × (u ≡ entry_as l (next_name c l.book))
 unfolding running_of
 running_mem l c {u} m =
     cases (has_running l.book c)
-    (λ h. (h, List·Memᴰ·eq-of-singleton (rw h at m)))
-    (λ h. absurd (List·Memᴰ·not-nil (let p : List-as-Memᴰ u [] = rw h at m in p)))
+    (λ h. (h, mem_eq_of_singleton (rw h at m)))
+    (λ h. absurd (mem_not_nil (let p : Memᴰ u [] = rw h at m in p)))
 
 -- one of core c: closed, or the one that runs
 pub record OfCore (l : Ledger) (c : ℕ) (u : Unretired) : Type 0 where
@@ -39,10 +39,10 @@ pub record OfCore (l : Ledger) (c : ℕ) (u : Unretired) : Type 0 where
   pub is : u ≡ entry_as l (new_name c number)
   pub place : ((l.book.oldest c ≤ number) × (number < l.book.next c)) ⊎ ((number ≡ l.book.next c) × (has_running l.book c ≡ true))
 
-list_mem : (l : Ledger) (c : ℕ) (low : l.book.oldest c ≤ l.book.next c) {u : Unretired} → List-as-Memᴰ u (core_list l c) → OfCore l c u
+list_mem : (l : Ledger) (c : ℕ) (low : l.book.oldest c ≤ l.book.next c) {u : Unretired} → Memᴰ u (core_list l c) → OfCore l c u
 unfolding core_list closed_of
 list_mem l c low m =
-    elim (List·Memᴰ·append-cases (entries_from l c (l.book.oldest c) (l.book.next c - l.book.oldest c)) m) [
+    elim (mem_append_cases (entries_from l c (l.book.oldest c) (l.book.next c - l.book.oldest c)) m) [
       | inl p ↦ (let r = entries_mem l c (l.book.oldest c) (l.book.next c - l.book.oldest c) p in
           record { number = r.0; is = r.3; place = inl (r.1, omega (arith, r.2)) })
       | inr p ↦ (let r = running_mem l c p in record { number = l.book.next c; is = r.1; place = inr (refl, r.0) })
@@ -88,10 +88,10 @@ module _ {l : Ledger} (f : WellFormed l) where
   low_next : (c : ℕ) → c < l.shape.cores → l.book.oldest c ≤ l.book.next c
   low_next c h = omega (arith, (f.ranks c h).low, (f.ranks c h).mid)
 
-  pub of_core : (c : ℕ) → c < l.shape.cores → {u : Unretired} → List-as-Memᴰ u (core_list l c) → OfCore l c u
+  pub of_core : (c : ℕ) → c < l.shape.cores → {u : Unretired} → Memᴰ u (core_list l c) → OfCore l c u
   of_core c h m = list_mem l c (low_next c h) m
 
-  pub member : {u : Unretired} → List-as-Memᴰ u (ledger_list l) → Member l u
+  pub member : {u : Unretired} → Memᴰ u (ledger_list l) → Member l u
   unfolding ledger_list
   member m =
       let r = mem_flat_map (core_list l) (below l.shape.cores) m in

@@ -1,6 +1,6 @@
 -- No name stands twice in the ledger's list; so the stamps of those that do not run are distinct.
 use Rattle.model.proofs.Base.{ℕ, zero, suc, ◌-◌, ◌≤◌, ◌<◌, arith, ◌≡◌, refl, sym, ap, subst, ◌∙◌, ◌≢◌, inl, inr, Bool, not}
-use Rattle.model.proofs.Base.{List, [], ◌∷◌, ◌++◌, List-as-Memᴰ, List·Memᴰ·not-nil, List·Memᴰ·append-cases}
+use Rattle.model.proofs.Base.{List, [], ◌∷◌, ◌++◌, Memᴰ, mem_not_nil, mem_append_cases}
 use Rattle.model.proofs.Base.{flat_map, below, not-true}
 use Rattle.model.specs.Lists.{Pairs, select}
 use Rattle.model.specs.Card.{new_name}
@@ -18,17 +18,17 @@ use Rattle.planner.proofs.Transactions.ListMembers.{entries_mem, running_mem, of
 -- ---- several lists
 module _ {A : Type 0} where
   pairs_flat : (R : A → A → Type 0) (f : ℕ → List A) (n : ℕ) → ((i : ℕ) → i < n → Pairs R (f i))
-      → ((i j : ℕ) (x y : A) → i < j → j < n → List-as-Memᴰ x (f i) → List-as-Memᴰ y (f j) → R x y) → Pairs R (flat_map f (below n))
+      → ((i j : ℕ) (x y : A) → i < j → j < n → Memᴰ x (f i) → Memᴰ y (f j) → R x y) → Pairs R (flat_map f (below n))
   unfolding flat_map below
   pairs_flat R f zero own between = tt
   pairs_flat R f (suc n) own between =
       subst (Pairs R) (sym (flat_map_append f (below n) (n ∷ [])))
       (pairs_append R (flat_map f (below n)) (f n ++ []) (pairs_flat R f n (λ i h. own i (omega arith)) (λ i j x y a b. between i j x y a (omega arith)))
-      (pairs_append R (f n) [] (own n (omega arith)) tt (λ x y m q. absurd (List·Memᴰ·not-nil q)))
+      (pairs_append R (f n) [] (own n (omega arith)) tt (λ x y m q. absurd (mem_not_nil q)))
       (λ x y m q.
       let r = mem_flat_map f (below n) m in
       between r.0 n x y (mem_below n r.1) (omega arith) r.2
-      (elim (List·Memᴰ·append-cases (f n) q) [ inl p ↦ p | inr p ↦ absurd (List·Memᴰ·not-nil p) ])))
+      (elim (mem_append_cases (f n) q) [ inl p ↦ p | inr p ↦ absurd (mem_not_nil p) ])))
 
 -- ---- names
 abbrev OtherName : Unretired → Unretired → Type 0
