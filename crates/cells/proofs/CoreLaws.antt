@@ -8,6 +8,7 @@ use Rattle.model.specs.declared.Core.{Core}
 use Rattle.model.specs.declared.Card.{Card}
 use Rattle.model.proofs.Lists.{map_below}
 use Rattle.cells.specs.Cells.{byte_in, phase_in, holder_in, transaction_in, core_in, card_in, tail_place, holder_place, core_place}
+use Rattle.cells.specs.declared.cores.CoreNumbers.{CoreNumbers}
 use Rattle.cells.specs.Changes.{with_numbers, with_closed, with_closes, Frame}
 use Rattle.cells.proofs.FitsLaws.{fits_next, fits_count, frame_set, frame_then, frame_wider}
 use Rattle.cells.proofs.ReadLaws.{length_tabled, core_of_card_in}
@@ -188,3 +189,8 @@ module _ (v w : List ℕ) where
       (tails_kept (λ i p q. e.low i (omega arith)))
       (cores_kept (λ i p. e.high i (omega arith)))
       refl
+
+-- the same numbers
+pub numbers_cong : (a b d e f g i j : ℕ) → a ≡ b → d ≡ e → f ≡ g → i ≡ j
+    → (let k : CoreNumbers = record { next = a; used = d; stored = f; homed = i } in k) ≡ (let l : CoreNumbers = record { next = b; used = e; stored = g; homed = j } in l)
+numbers_cong a b d e f g i j p q r s = λ x. record { next = p x; used = q x; stored = r x; homed = s x }

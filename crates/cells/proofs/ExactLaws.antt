@@ -1,6 +1,6 @@
 -- Cells and cards: cells fit exactly if they are those of their card, and a card within its widths is the card of its cells.
 use Rattle.model.proofs.Base.{ℕ, zero, suc, ◌+◌, ◌-◌, ◌*◌, ◌/◌, ◌%◌, ◌≤◌, ◌<◌, arith, ◌≡◌, refl, sym, ap, ap₂, subst, ◌∙◌, Bool}
-use Rattle.model.proofs.Base.{true, false, cond, not, false≢true, List, map, length, get_or, set, replicate, length-replicate}
+use Rattle.model.proofs.Base.{true, false, cond, not, List, map, length, get_or, set, replicate, length-replicate}
 use Rattle.model.proofs.Base.{get_or-replicate, ext_get_or, eqb, ltb, leb, eq-eqb, ne_eqb, eqb-true, eqb-false, lt-ltb, le-ltb}
 use Rattle.model.proofs.Base.{ltb-true, ltb-false, le-leb, leb-true, below}
 use Rattle.model.specs.Card.{new_tail, fresh_core, no_holder, new_holder, highest_of, tail_of, core_of, holder_of, fresh_card, empty_card, blank_card, down_card}
@@ -10,7 +10,8 @@ use Rattle.model.specs.declared.Tail.{Tail}
 use Rattle.model.specs.declared.Name.{Name}
 use Rattle.model.specs.declared.Transaction.{Transaction}
 use Rattle.model.specs.declared.Core.{Core}
-use Rattle.model.specs.declared.Holder.{Holder}
+use Rattle.std.specs.Prelude.{Some, None}
+use Rattle.model.specs.Card.{Holder}
 use Rattle.model.specs.declared.Card.{Card}
 use Rattle.model.proofs.Lists.{cases, bool_ext, get_or_map_below}
 use Rattle.cells.proofs.FitsLaws.{in_place, fits_zero, fits_phase, fits_in_number, fits_in_position, fits_in_holder, fits_in_core, fits_set}
@@ -76,14 +77,14 @@ holder_fits (suc x) =
     rw (ne_eqb (suc x) 0 (omega arith), z)
     (bool_ext (λ e. omega (arith, tests, sym (name_fits x) ∙ lt-ltb x 34359738368 (omega (arith, tests)))) (λ e. omega (arith, tests, name_fits x ∙ eq-eqb x _ (omega (arith, tests)))))
 
-holder_back : (b : Bool) (n : Name) → let h : Holder = record { held = b; name = n } in SizedHolder h → holder_in (holder_cell h) ≡ h
+holder_back : (h : Holder) → SizedHolder h → holder_in (holder_cell h) ≡ h
 unfolding holder_in holder_cell
-holder_back true n s = holder_cell_lem (name_cell n) n (name_back n s.name)
-holder_back false n s = sym (s.free refl)
+holder_back (Some n) s = holder_cell_lem (name_cell n) n (name_back n s)
+holder_back None s = refl
 
 holder_sized : (t : Bool) (n : Name) → SizedName n → SizedHolder (cond t no_holder (new_holder n))
-holder_sized true n s = record { name = omega arith; free = λ e. refl }
-holder_sized false n s = record { name = s; free = λ e. absurd (false≢true (sym e)) }
+holder_sized true n s = omega arith
+holder_sized false n s = s
 
 -- a list given by its index
 table_is : {A : Type 0} (f : ℕ → A) (n : ℕ) (d : A) (xs : List A) → length xs ≡ n → ((i : ℕ) → i < n → f i ≡ get_or xs i d) → map f (below n) ≡ xs
@@ -270,7 +271,7 @@ module _ (x : Card) (n : ℕ) where
       (table_is _ 8 (fresh_core 0) x.cores s.lengths.1 (λ c h.
       core_back (cells_of x n) (core_place c) (core_of x c) (s.core c h) (λ j l. cell_at (core_place c + j) (omega arith) ∙ core_cell_lem c j h l)))
       (table_is _ 64 no_holder x.holders s.lengths.2 (λ b h.
-      ap holder_in (cell_at (holder_place b) (omega arith) ∙ holder_at b h) ∙ holder_back (holder_of x b).held (holder_of x b).name (s.holder b h)))
+      ap holder_in (cell_at (holder_place b) (omega arith) ∙ holder_at b h) ∙ holder_back (holder_of x b) (s.holder b h)))
 
 -- ---- the card of cells w
 module _ (w : List ℕ) where

@@ -4,6 +4,7 @@ pub mod RefusalLaws
 pub mod EntryLaws
 pub mod FitsLaws
 pub mod ReadLaws
+pub mod RangeLaws
 pub mod TransactionLaws
 pub mod CellLaws
 pub mod CoreLaws

@@ -1,6 +1,6 @@
 -- Cells zeroed are the blank card; with the phase put they are the card that is down; with shape and tails put, core by
 -- core, the card that has come up. Each is framed.
-use Rattle.model.proofs.Base.{ℕ, zero, suc, ◌+◌, ◌%◌, ◌≤◌, ◌<◌, arith, ◌≡◌, refl, sym, ap, subst, ◌∙◌, List, [], ◌∷◌, map, length}
+use Rattle.model.proofs.Base.{ℕ, zero, suc, ◌+◌, ◌%◌, ◌≤◌, ◌<◌, arith, ◌≡◌, refl, sym, ap, ◌∙◌, List, [], ◌∷◌, map, length}
 use Rattle.model.proofs.Base.{get_or, set, replicate, length-set, length-replicate, get_or-replicate, get_or-set_same, get_or-set_other}
 use mathlib.Core.List.{map-id}
 use lib.ListN.{get_or-eq_default}
@@ -10,7 +10,6 @@ use Rattle.model.specs.declared.Shape.{Shape}
 use Rattle.model.specs.declared.Tail.{Tail}
 use Rattle.model.specs.declared.Core.{Core}
 use Rattle.model.specs.declared.Card.{Card}
-use Rattle.layout.proofs.DiskLaws.{Zeroed, zeroed_all}
 use Rattle.cells.specs.Cells.{phase_in, card_in, cells_of, core_place, tail_place}
 use Rattle.cells.specs.Changes.{with_numbers, with_tail, up_with, fits_at, AllFit, Frame}
 use Rattle.cells.proofs.Parts.{filled, filled_none, filled_more, filled_all}
@@ -24,29 +23,21 @@ use Rattle.cells.proofs.CoreLaws.{tails_kept, cores_kept, holders_kept}
 abbrev zeros : List ℕ
 zeros = replicate 423 0
 
-module _ (v : List ℕ) (size : length v ≡ 423) where
-  zeros_frame : Frame v zeros 0 423
-  unfolding AllFit
-  zeros_frame =
-      record {
-        size = length-replicate {A = ℕ} 423 0 ∙ sym size;
-        low = λ i h. absurd (omega arith);
-        high = λ i h. get_or-eq_default zeros 0 (let b : length zeros ≤ i = omega arith in b) ∙ sym (get_or-eq_default v 0 (let b : length v ≤ i = omega arith in b));
-        fits = λ f i h. ap (fits_at i) (get_or-replicate 423 i 0 0 h) ∙ fits_zero i;
-      }
+pub blank_left : zeros ≡ cells_of blank_card 0
+blank_left = sym blank_cells
 
-  module _ (w : List ℕ) (i : ℕ) (z : Zeroed v w i) (h : length w ≤ i) where
-    all_zero : w ≡ zeros
-    all_zero = zeroed_all v w i z h ∙ ap (λ (n : ℕ). replicate n 0) size
+pub blank_seen : card_in zeros ≡ blank_card
+blank_seen = blank_read
 
-    pub blank_left : w ≡ cells_of blank_card 0
-    blank_left = all_zero ∙ sym blank_cells
-
-    pub blank_seen : card_in w ≡ blank_card
-    blank_seen = ap card_in all_zero ∙ blank_read
-
-    pub blank_frame : Frame v w 0 423
-    blank_frame = subst (λ (u : List ℕ). Frame v u 0 423) (sym all_zero) zeros_frame
+pub blank_frame : (v : List ℕ) → length v ≡ 423 → Frame v zeros 0 423
+unfolding AllFit
+blank_frame v size =
+    record {
+      size = length-replicate {A = ℕ} 423 0 ∙ sym size;
+      low = λ i h. absurd (omega arith);
+      high = λ i h. get_or-eq_default zeros 0 (let b : length zeros ≤ i = omega arith in b) ∙ sym (get_or-eq_default v 0 (let b : length v ≤ i = omega arith in b));
+      fits = λ f i h. ap (fits_at i) (get_or-replicate 423 i 0 0 h) ∙ fits_zero i;
+    }
 
 -- ---- down
 module _ (v w : List ℕ) (e : w ≡ cells_of blank_card 0) where

@@ -1,6 +1,6 @@
 -- What the cells say: header, a transaction, names and holders are read as the code reads them, and each field of a core
 -- at its cell. `X-there` reads a core of the card at the place that the code computed.
-use Rattle.model.proofs.Base.{ℕ, ◌+◌, ◌-◌, ◌*◌, ◌/◌, ◌%◌, ◌≤◌, ◌<◌, arith, ◌≡◌, refl, sym, ap, ◌∙◌, Bool, not, List, map, length}
+use Rattle.model.proofs.Base.{ℕ, ◌+◌, ◌-◌, ◌*◌, ◌/◌, ◌%◌, ◌<◌, arith, ◌≡◌, refl, sym, ap, ◌∙◌, Bool, not, List, map, length}
 use Rattle.model.proofs.Base.{get_or, set, length-set, length-map, get_or-set_same, get_or-set_other, ext_get_or, eqb, ne_eqb, eqb-true}
 use Rattle.model.proofs.Base.{eqb-false, below}
 use Rattle.model.specs.Shape.{clamped}
@@ -10,6 +10,8 @@ use Rattle.model.specs.declared.Shape.{Shape}
 use Rattle.model.specs.declared.Name.{Name}
 use Rattle.model.specs.declared.Transaction.{Transaction}
 use Rattle.model.specs.declared.Core.{Core}
+use native.Mathlib.Decide.{dec_lt}
+use Rattle.model.proofs.Base.{min}
 use Rattle.model.proofs.Lists.{cases, length_below, get_or_map_below}
 use Rattle.cells.proofs.Parts.{took_all, took_some}
 use Rattle.cells.specs.Cells.{byte_in, number_in, phase_in, name_in, holder_in, tail_from, transaction_in, core_in, card_in, tail_place, holder_place, core_place, running_place, closed_place}
@@ -74,13 +76,13 @@ module _ (w : List ℕ) (a : ℕ) where
   unfolding transaction_in
   block_read i d h = get_or_map_below _ 8 i d h
 
-  pub count_high : (n : ℕ) → n ≡ byte_in w (a + 2) → 8 < n → 8 ≡ length (taken (transaction_in w a))
-  count_high n e h = took_all (transaction_in w a) blocks_long (let q : n ≡ (transaction_in w a).count = e ∙ count_read in omega arith)
-
-  pub count_low : (n : ℕ) → n ≡ byte_in w (a + 2) → n ≤ 8 → n ≡ length (taken (transaction_in w a))
-  count_low n e h =
-      let q : n ≡ (transaction_in w a).count = e ∙ count_read in
-      q ∙ took_some (transaction_in w a) blocks_long (omega arith)
+  pub count_taken : (n m : ℕ) → n ≡ min m 8 → m ≡ byte_in w (a + 2) → n ≡ length (taken (transaction_in w a))
+  count_taken n m e f =
+      let q : m ≡ (transaction_in w a).count = f ∙ count_read in
+      elim (dec_lt 8 m) [
+        | yes h ↦ let r : n ≡ 8 = omega arith in r ∙ took_all (transaction_in w a) blocks_long (omega arith)
+        | no h ↦ let r : n ≡ (transaction_in w a).count = omega arith in r ∙ took_some (transaction_in w a) blocks_long (omega arith)
+      ]
 
 -- ---- names and holders in a cell
 name_cong : (a b c d : ℕ) → a ≡ b → c ≡ d → new_name a c ≡ new_name b d

@@ -9,6 +9,10 @@ use Rattle.model.specs.Bytes.{block_at}
 use Rattle.model.proofs.Lists.{cases}
 use Rattle.model.proofs.OneStore.{right_lengths}
 use Rattle.model.proofs.Command.{Numbered, refusal_clear, unless_refused, unless_done}
+use Rattle.std.specs.Prelude.{Result, Err}
+use Rattle.model.specs.Refusal.{number_of, answer_of}
+use Rattle.model.specs.declared.Refusal.{Refusal}
+use Rattle.model.proofs.RefusalNumbers.{number_not_0}
 use Rattle.cells.specs.Answer.{first_of, by_phase, phase_refusal}
 use Rattle.model.specs.declared.Phase.{Phase}
 use Rattle.model.specs.declared.Phase.TheVariants.{Blank, Up, Down}
@@ -21,6 +25,10 @@ first_hit n a b e h = rw (← e) (simp (ne_eqb n 0 h))
 pub first_pass : (n r a b : ℕ) → n ≡ a → n ≡ 0 → r ≡ b → r ≡ first_of a b
 unfolding first_of
 first_pass n r a b e h q = rw (← e, h) q
+
+-- what `?` hands on of the first stage
+pub handed_on : {A : Type 0} (r : Result A Refusal) (e : Refusal) (a b : ℕ) → number_of e ≡ a → r ≡ Err e → answer_of r ≡ first_of a b
+handed_on r e a b q h = rw h (first_hit (number_of e) a b q (number_not_0 e))
 
 -- a list of conditions in two stages
 pub refusal_joined : (xs ys : List (Bool × ℕ)) → Numbered xs → refusal (xs ++ ys) ≡ first_of (refusal xs) (refusal ys)
@@ -105,7 +113,7 @@ module _ (w : World) where
       (sym (refusal_joined ((wrong_length w, 1) ∷ (is_blank w.card.phase, 20) ∷ (is_up w.card.phase, 23) ∷ []) ((not (is_master (block_at w.disk 0)), 8) ∷ []) (omega arith, (omega arith, (omega arith, tt)))))
 
   -- passed: the slices have their lengths
-  pub passed_lengths : (n b u d : ℕ) → n ≡ phase_refusal w b u d → n ≡ 0 → length w.disk ≡ 32896
+  pub passed_lengths : (b u d : ℕ) → 0 ≡ phase_refusal w b u d → length w.disk ≡ 32896
   unfolding phase_refusal
-  passed_lengths n b u d e h =
-      cases (wrong_length w) (λ t. let z : n ≡ 1 = rw t at e in absurd (omega arith)) (λ t. (right_lengths w t).0)
+  passed_lengths b u d e =
+      cases (wrong_length w) (λ t. let z : ◌≡◌ {A = ℕ} 0 1 = rw t at e in absurd (omega arith)) (λ t. (right_lengths w t).0)

@@ -1,11 +1,10 @@
 -- A tail is read at its two cells, eight in turn are the card's tails; two cells put are the card with that tail replaced,
 -- framed.
-use Rattle.model.proofs.Base.{ℕ, ◌+◌, ◌%◌, ◌≤◌, ◌<◌, arith, ◌≡◌, sym, ap, ◌∙◌, List, map, length, get_or, set, length-set}
+use Rattle.model.proofs.Base.{ℕ, ◌+◌, ◌%◌, ◌<◌, arith, ◌≡◌, sym, ap, ◌∙◌, List, map, length, get_or, set, length-set}
 use Rattle.model.proofs.Base.{get_or-set_same, get_or-set_other, below}
 use Rattle.model.specs.Card.{new_tail, tail_of}
 use Rattle.model.specs.declared.Tail.{Tail}
 use Rattle.model.proofs.Lists.{map_below}
-use Rattle.layout.proofs.Loops.{Filled, filled_all}
 use Rattle.cells.specs.Cells.{byte_in, number_in, phase_in, holder_in, tail_from, card_in, tail_place, holder_place, core_place}
 use Rattle.cells.specs.Changes.{with_tail, Frame}
 use Rattle.cells.proofs.FitsLaws.{fits_number, fits_position, frame_then, frame_set}
@@ -17,12 +16,9 @@ module _ (w : List ℕ) where
   unfolding tail_from
   tail_read c h n p e f = tail_cong _ _ _ _ e f ∙ sym (tail_at w c h)
 
-  all_tails : map (tail_of (card_in w)) (below 8) ≡ (card_in w).tails
+  pub all_tails : map (tail_of (card_in w)) (below 8) ≡ (card_in w).tails
   unfolding card_in
   all_tails = map_below _ _ 8 (λ c h. tail_at w c h)
-
-  pub tails_read : (out : List Tail) (c : ℕ) → Filled (tail_of (card_in w)) 8 out c → 8 ≤ c → out ≡ (card_in w).tails
-  tails_read out c f h = filled_all (tail_of (card_in w)) 8 out c f h ∙ all_tails
 
 -- two cells put
 module _ (v : List ℕ) (c : ℕ) (size : length v ≡ 423) (h : c < 8) (n : ℕ) where

@@ -1,10 +1,14 @@
 -- A transaction at its place: the same cells give the same one; the place cleared, with its frame; one that is live stays open.
-use Rattle.model.proofs.Base.{ℕ, ◌+◌, ◌%◌, ◌≤◌, ◌<◌, arith, ◌≡◌, ap, ◌∙◌, Bool, true, not, List, length, get_or, set}
-use Rattle.model.proofs.Base.{get_or-set_same, get_or-set_other, eqb, eqb-true, eqb-false, below}
+use Rattle.model.proofs.Base.{ℕ, ◌+◌, ◌%◌, ◌≤◌, ◌<◌, arith, ◌≡◌, ap, ◌∙◌, Bool, true, not, List, length, get_or}
+use Rattle.model.proofs.Base.{eqb, below}
 use Rattle.model.specs.Card.{no_transaction}
 use Rattle.model.specs.declared.Transaction.{Transaction}
-use Rattle.model.proofs.Lists.{cases, map_below}
-use Rattle.cells.proofs.FitsLaws.{fits_zero, frame_then, frame_same, frame_set}
+use Rattle.model.proofs.Lists.{map_below}
+use Rattle.model.proofs.Base.{subst, sym, ◌++◌, take, drop, replicate, length-drop, length-replicate, get_or-replicate}
+use Rattle.std.proofs.lemmas.List.{length-take-le}
+use Rattle.cells.proofs.FitsLaws.{fits_zero}
+use Rattle.cells.proofs.RangeLaws.{with_cells, cell_at, cells_frame}
+use Rattle.cells.specs.Changes.{fits_at}
 use Rattle.cells.specs.Cells.{byte_in, number_in, transaction_in}
 use Rattle.cells.specs.Changes.{opened_or, Frame}
 
@@ -30,39 +34,47 @@ transaction_in_low v w a n b e h = transaction_in_same v w b (λ i p q. e.low i 
 pub transaction_in_high : (v w : List ℕ) (a n b : ℕ) → Frame v w a n → a + n ≤ b → transaction_in w b ≡ transaction_in v b
 transaction_in_high v w a n b e h = transaction_in_same v w b (λ i p q. e.high i (omega arith))
 
--- ---- a place cleared
-pub record Cleared (v : List ℕ) (a : ℕ) (w : List ℕ) (i : ℕ) : Type 0 where
-  pub most : i ≤ 19
-  pub rest : Frame v w a 19
-  pub zero : (k : ℕ) → a ≤ k → k < a + i → get_or w k 0 ≡ 0
+-- ---- a place cleared: n cells, which are nineteen, filled with zeros
+module _ (v ys : List ℕ) (a n : ℕ) (size : length v ≡ 423) (within : a + 19 ≤ 423) (e : n ≡ 19) (z : ys ≡ replicate (length (take n (drop a v))) 0) where
+  long : length (take n (drop a v)) ≡ n
+  long = length-take-le n (drop a v) (omega (arith, length-drop a v))
 
-module _ (v : List ℕ) (a : ℕ) where
-  pub cleared_start : Cleared v a v 0
-  cleared_start = record { most = omega arith; rest = frame_same v a 19; zero = λ k p q. absurd (omega arith) }
+  zeros : ys ≡ replicate n 0
+  zeros = z ∙ ap (λ (k : ℕ). replicate k 0) long
 
-  module _ (w : List ℕ) (i : ℕ) (c : Cleared v a w i) where
-    pub cleared_more : length v ≡ 423 → a + 19 ≤ 423 → i < 19 → Cleared v a (set w (a + i) 0) (i + 1)
-    cleared_more n f h =
-        record {
-          most = omega arith;
-          rest = frame_then w (set w (a + i) 0) v a 19 c.rest (frame_set w a 19 (a + i) 0 (omega arith) (omega arith) (fits_zero (a + i)));
-          zero = λ k p q. cases (eqb k (a + i))
-              (λ t. let z : k ≡ a + i = eqb-true k (a + i) t in rw z (get_or-set_same w (a + i) 0 0 (omega (arith, c.rest.size))))
-              (λ t. let z : k ≡ a + i → ⊥ = eqb-false k (a + i) t in get_or-set_other w (a + i) k 0 0 z ∙ c.zero k p (omega arith));
-        }
+  fits : a + n ≤ length v
+  fits = omega arith
 
-    pub cleared_all : 19 ≤ i → transaction_in w a ≡ no_transaction
-    unfolding transaction_in below
-    cleared_all h =
-        transaction_cong _ _ _ _ _ _ _ _ _ _
-        (ap (λ (n : ℕ). not (eqb n 0)) (c.zero a (omega arith) (omega arith)))
-        (at 1 (omega arith))
-        (ap (λ (n : ℕ). n % 256) (at 2 (omega arith)))
-        (map_below (λ (k : ℕ). byte_in w (a + 3 + k)) (λ (k : ℕ). 0) 8 (λ k p. ap (λ (n : ℕ). n % 256) (c.zero (a + 3 + k) (omega arith) (omega arith))))
-        (map_below (λ (k : ℕ). number_in w (a + 11 + k)) (λ (k : ℕ). 0) 8 (λ k p. ap (λ (n : ℕ). n % 4294967296) (c.zero (a + 11 + k) (omega arith) (omega arith))))
-      where
-        at : (k : ℕ) → k < 19 → get_or w (a + k) 0 ≡ 0
-        at k p = c.zero (a + k) (omega arith) (omega arith)
+  count : length ys ≡ n
+  count = ap (length {A = ℕ}) zeros ∙ length-replicate n 0
+
+  zero_at : (k : ℕ) → k < 19 → get_or ys k 0 ≡ 0
+  zero_at k p = ap (λ (xs : List ℕ). get_or xs k 0) zeros ∙ get_or-replicate n k 0 0 (omega arith)
+
+  at : (k : ℕ) → k < 19 → get_or (with_cells v ys a n fits count) (a + k) 0 ≡ 0
+  at k p = cell_at v ys a n fits count k (omega arith) ∙ zero_at k p
+
+  pub cleared : transaction_in (take a v ++ (ys ++ drop n (drop a v))) a ≡ no_transaction
+  unfolding transaction_in below
+  cleared =
+      let w : List ℕ = with_cells v ys a n fits count in
+      let first : get_or w a 0 ≡ 0 = let q : a + 0 ≡ a = omega arith in ap (λ (k : ℕ). get_or w k 0) (sym q) ∙ at 0 (omega arith) in
+      transaction_cong _ _ _ _ _ _ _ _ _ _
+      (ap (λ (k : ℕ). not (eqb k 0)) first)
+      (at 1 (omega arith))
+      (ap (λ (k : ℕ). k % 256) (at 2 (omega arith)))
+      (map_below (λ (k : ℕ). byte_in w (a + 3 + k)) (λ (k : ℕ). 0) 8 (λ k p. ap (λ (m : ℕ). m % 256) (later 3 k (omega arith))))
+      (map_below (λ (k : ℕ). number_in w (a + 11 + k)) (λ (k : ℕ). 0) 8 (λ k p. ap (λ (m : ℕ). m % 4294967296) (later 11 k (omega arith))))
+    where
+      later : (j k : ℕ) → j + k < 19 → get_or (with_cells v ys a n fits count) (a + j + k) 0 ≡ 0
+      later j k p = let q : a + j + k ≡ a + (j + k) = omega arith in ap (λ (m : ℕ). get_or (with_cells v ys a n fits count) m 0) q ∙ at (j + k) p
+
+  pub cleared_frame : Frame v (take a v ++ (ys ++ drop n (drop a v))) a 19
+  cleared_frame =
+      ap_frame (cells_frame v ys a n fits count (λ f k p. ap (fits_at (a + k)) (zero_at k (omega arith)) ∙ fits_zero (a + k)))
+    where
+      ap_frame : Frame v (with_cells v ys a n fits count) a n → Frame v (with_cells v ys a n fits count) a 19
+      ap_frame g = subst (λ (k : ℕ). Frame v (with_cells v ys a n fits count) a k) e g
 
 -- a transaction that is open
 pub open_live : (t : Transaction) (g : Bool) → g ≡ t.live → g ≡ true → t ≡ opened_or t

@@ -5,14 +5,14 @@ use Rattle.std.specs.Prelude.{ℕ, ◌+◌, ◌-◌, ◌*◌, ◌/◌, ◌%◌, 
 use Rattle.model.specs.Lists.{below}
 use Rattle.model.specs.Bytes.{Bytes}
 use Rattle.model.specs.Command.{World}
-use Rattle.model.specs.Card.{new_tail, new_name, no_holder, new_holder, highest_of, tail_of, core_of, holder_of}
+use Rattle.model.specs.Card.{new_tail, new_name, no_holder, new_holder, highest_of, tail_of, core_of, holder_of, is_held, holder_name}
 use Rattle.model.specs.declared.Phase.{Phase}
 use Rattle.model.specs.declared.Phase.TheVariants.{Blank, Up, Down}
 use Rattle.model.specs.declared.Tail.{Tail}
 use Rattle.model.specs.declared.Name.{Name}
 use Rattle.model.specs.declared.Transaction.{Transaction}
 use Rattle.model.specs.declared.Core.{Core}
-use Rattle.model.specs.declared.Holder.{Holder}
+use Rattle.model.specs.Card.{Holder}
 use Rattle.model.specs.declared.Card.{Card}
 
 -- ---- where each part stands
@@ -173,7 +173,7 @@ unfoldable pub name_cell : Name → ℕ
 name_cell n = 8 * n.number + n.core
 
 unfoldable pub holder_cell : Holder → ℕ
-holder_cell h = cond h.held (name_cell h.name + 1) 0
+holder_cell h = cond (is_held h) (name_cell (holder_name h) + 1) 0
 
 -- cell i of a header, of a transaction, of a core
 unfoldable pub header_cell : Card → ℕ → ℕ → ℕ

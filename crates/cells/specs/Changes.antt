@@ -5,6 +5,7 @@ use Rattle.model.specs.declared.Phase.TheVariants.{Up}
 use Rattle.model.specs.declared.Shape.{Shape}
 use Rattle.model.specs.declared.Tail.{Tail}
 use Rattle.model.specs.declared.Transaction.{Transaction}
+use Rattle.cells.specs.declared.cores.CoreNumbers.{CoreNumbers}
 use Rattle.model.specs.declared.Core.{Core}
 use Rattle.model.specs.declared.Card.{Card}
 use Rattle.cells.specs.Cells.{first_tail, first_holder, first_core, core_size, transaction_size, transaction_in, card_in}
@@ -61,7 +62,10 @@ ChangedAt a f v w = (transaction_in w a ≡ f (transaction_in v a)) × Frame v w
 unfoldable pub opened_or : Transaction → Transaction
 opened_or t = cond t.live t opened
 
--- a core with these numbers, and with this closed transaction
+-- a core's numbers, a core with these numbers, and with this closed transaction
+abbrev pub numbers_of : Core → CoreNumbers
+numbers_of k = record { next = k.next; used = k.used; stored = k.stored; homed = k.homed }
+
 abbrev pub with_numbers : Core → ℕ → ℕ → ℕ → ℕ → Core
 with_numbers k next used stored homed =
     record { next = next; used = used; stored = stored; homed = homed; running = k.running; closed = k.closed }

@@ -1,11 +1,11 @@
 -- Cards that are the card of their cells: each array has its length, each field is within its width.
-use Rattle.std.specs.Prelude.{ℕ, ◌<◌, ◌≡◌, false, length, get_or}
-use Rattle.model.specs.Card.{no_holder, highest_of, tail_of, core_of, holder_of}
+use Rattle.std.specs.Prelude.{ℕ, ◌<◌, ◌≡◌, length, get_or}
+use Rattle.model.specs.Card.{highest_of, tail_of, core_of, holder_of, holder_name}
 use Rattle.model.specs.declared.Tail.{Tail}
 use Rattle.model.specs.declared.Name.{Name}
 use Rattle.model.specs.declared.Transaction.{Transaction}
 use Rattle.model.specs.declared.Core.{Core}
-use Rattle.model.specs.declared.Holder.{Holder}
+use Rattle.model.specs.Card.{Holder}
 use Rattle.model.specs.declared.Card.{Card}
 
 -- A field of eight bytes has no bound here.
@@ -31,10 +31,9 @@ pub record SizedTail (t : Tail) : Type 0 where
   pub number : t.number < 4294967296
   pub position : t.position < 256
 
--- a block without a holder has no name
-pub record SizedHolder (h : Holder) : Type 0 where
-  pub name : SizedName h.name
-  pub free : h.held ≡ false → h ≡ no_holder
+-- a holder, if there is one, has a name of that size
+abbrev pub SizedHolder : Holder → Type 0
+SizedHolder h = SizedName (holder_name h)
 
 pub record SizedCard (x : Card) : Type 0 where
   pub shape : (x.shape.cores < 256) × (x.shape.blocks < 256) × (x.shape.journal < 256)

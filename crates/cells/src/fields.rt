@@ -3,6 +3,7 @@ ghost use Rattle.std.specs.Prelude.{◌≡◌, ◌+◌, ◌<◌, length};
 ghost use Rattle.model.specs.Card.{shape_of};
 ghost use Rattle.cells.specs.Cells.{byte_in, number_in, card_in, core_place, running_place, closed_place};
 
+use crate::State;
 use model::{Phase, Shape};
 
 // The header: phase, the shape's three numbers, closes, how far recovery is, the count of stores.
@@ -56,24 +57,23 @@ pub const BLOCKS: usize = 3;
 pub const HIGHEST: usize = 11;
 
 // The lowest byte of cell i.
-pub fn byte_in(w: &[u64], i: usize) -> u8
-    requires { (length w.now ≡ 423) × (i < 423) }
+pub fn byte_in(w: &State, i: usize) -> u8
+    requires { i < 423 }
     ensures { result ≡ byte_in w.now i }
 {
     (w[i] % 256) as u8
 }
 
 // The lowest four bytes of cell i.
-pub fn number_in(w: &[u64], i: usize) -> u32
-    requires { (length w.now ≡ 423) × (i < 423) }
+pub fn number_in(w: &State, i: usize) -> u32
+    requires { i < 423 }
     ensures { result ≡ number_in w.now i }
 {
     (w[i] % 4294967296) as u32
 }
 
 // The disk's shape, within its limits.
-pub fn shape_of(w: &[u64]) -> Shape
-    requires { length w.now ≡ 423 }
+pub fn shape_of(w: &State) -> Shape
     ensures { result ≡ shape_of (card_in w.now) }
 {
     let s = Shape {
@@ -85,12 +85,10 @@ pub fn shape_of(w: &[u64]) -> Shape
 }
 
 // Blank, up or down.
-pub fn phase_of(w: &[u64]) -> Phase
-    requires { length w.now ≡ 423 }
+pub fn phase_of(w: &State) -> Phase
     ensures { result ≡ (card_in w.now).phase }
 {
-    let n = w[PHASE];
-    match n {
+    match w[PHASE] {
         0 => Phase::Blank,
         1 => Phase::Up,
         _ => Phase::Down,

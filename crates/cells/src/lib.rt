@@ -12,24 +12,18 @@ mod tails; // where each core's journal begins
 mod phases; // the card as each phase begins
 mod refusals; // what commands meet first
 
-pub use cores::put_numbers;
+pub use cores::{CoreNumbers, numbers_at, put_numbers};
 pub use fields::{
     BLOCKS, CLOSES, CORE_SIZE, CORES, COUNT, HIGHEST, HOLDERS, HOMED, PHASE, RECOVERED, STAMP,
     STORED, STORES, TAILS, TRANSACTION_SIZE, USED, byte_in, closed_place, core_place, number_in,
     phase_of, running_place, shape_of,
 };
-pub use holders::{hold, holder_at, is_held, name_of, same_name};
+pub use holders::{hold, holder_at, is_held, name_of};
 pub use phases::{blank, come_up, go_down};
-pub use refusals::{
-    block_refusal, core_refusal, entry_refusal, phase_refusal, state_refusal, wrong_length,
-};
+pub use refusals::{check_block, check_core, check_entry, check_phase, check_up, wrong_length};
 pub use stores::{put_stores, stores_of};
 pub use tails::{put_tail, tail_at, tails_of};
 pub use transactions::{block_count, clear, is_live};
 
-// What a command answers: the number of its refusal, 0 if it is done, and the stores that it did.
-#[derive(Clone, Copy)]
-pub struct Answer {
-    pub number: u8,
-    pub stores: u8,
-}
+// The card's state: the cells that the caller lends.
+pub type State = [u64; 423];

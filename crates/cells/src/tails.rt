@@ -5,12 +5,14 @@ ghost use Rattle.model.specs.declared.Card.{Card};
 ghost use Rattle.cells.specs.Cells.{card_in, tail_place};
 ghost use Rattle.cells.specs.Changes.{with_tail, Changed};
 
+use crate::State;
 use crate::fields::{POSITION, TAIL_SIZE, TAILS, byte_in, number_in};
 use model::Tail;
+use std::array;
 
 // Core c's tail.
-pub fn tail_at(w: &[u64], c: u8) -> Tail
-    requires { (length w.now ≡ 423) × (c < 8) }
+pub fn tail_at(w: &State, c: u8) -> Tail
+    requires { c < 8 }
     ensures { result ≡ tail_of (card_in w.now) c }
 {
     let at = TAILS + TAIL_SIZE * c as usize;
@@ -21,25 +23,15 @@ pub fn tail_at(w: &[u64], c: u8) -> Tail
 }
 
 // The tails of all cores.
-pub fn tails_of(w: &[u64]) -> [Tail; 8]
-    requires { length w.now ≡ 423 }
+pub fn tails_of(w: &State) -> [Tail; 8]
     ensures { result ≡ (card_in w.now).tails }
 {
-    let mut tails = [Tail {
-        number: 0,
-        position: 0,
-    }; 8];
-    let mut c: u8 = 0;
-    while c < 8 {
-        tails[c as usize] = tail_at(w, c);
-        c += 1;
-    }
-    tails
+    array::from_fn(|c| tail_at(w, c as u8))
 }
 
 // Core c's tail replaced.
-pub fn put_tail(w: &mut [u64], c: u8, t: Tail)
-    requires { (length w.old ≡ 423) × (c < 8) }
+pub fn put_tail(w: &mut State, c: u8, t: Tail)
+    requires { c < 8 }
     ensures { Changed (λ (x : Card). with_tail x c t) w.old w.new (tail_place c) 2 }
 {
     let at = TAILS + TAIL_SIZE * c as usize;

@@ -5,37 +5,30 @@ ghost use Rattle.model.specs.Limits.{max_taken};
 ghost use Rattle.cells.specs.Cells.{transaction_size, transaction_in};
 ghost use Rattle.cells.specs.Changes.{Frame};
 
+use crate::State;
 use crate::fields::{COUNT, TRANSACTION_SIZE, byte_in};
 use model::Shape;
 
 // Whether there is a transaction at a place.
-pub fn is_live(w: &[u64], at: usize) -> bool
-    requires { (length w.now ≡ 423) × (at + transaction_size ≤ 423) }
+pub fn is_live(w: &State, at: usize) -> bool
+    requires { at + transaction_size ≤ 423 }
     ensures { result ≡ (transaction_in w.now at).live }
 {
     w[at] != 0
 }
 
 // How many blocks it took.
-pub fn block_count(w: &[u64], at: usize) -> usize
-    requires { (length w.now ≡ 423) × (at + transaction_size ≤ 423) }
+pub fn block_count(w: &State, at: usize) -> usize
+    requires { at + transaction_size ≤ 423 }
     ensures { (result ≡ length (taken (transaction_in w.now at))) × (result ≤ max_taken) }
 {
-    let n = byte_in(w, at + COUNT) as usize;
-    if Shape::MAX_TAKEN < n {
-        return Shape::MAX_TAKEN;
-    }
-    n
+    usize::from(byte_in(w, at + COUNT)).min(Shape::MAX_TAKEN)
 }
 
 // No transaction at a place.
-pub fn clear(w: &mut [u64], at: usize)
-    requires { (length w.old ≡ 423) × (at + transaction_size ≤ 423) }
+pub fn clear(w: &mut State, at: usize)
+    requires { at + transaction_size ≤ 423 }
     ensures { (transaction_in w.new at ≡ no_transaction) × Frame w.old w.new at transaction_size }
 {
-    let mut i: usize = 0;
-    while i < TRANSACTION_SIZE {
-        w[at + i] = 0;
-        i += 1;
-    }
+    w[at..at + TRANSACTION_SIZE].fill(0);
 }

@@ -1,5 +1,5 @@
 -- A home store puts the image of the next block home and counts it.
-use Rattle.model.proofs.Base.{ℕ, ◌+◌, ◌<◌, arith, ◌≡◌, ap, ◌∙◌, List, get_or, Bytes}
+use Rattle.model.proofs.Base.{ℕ, ◌+◌, ◌<◌, arith, ◌≡◌, ◌∙◌, List, get_or, Bytes}
 use Rattle.model.specs.Bytes.{block_at, store}
 use Rattle.model.specs.Shape.{home_block}
 use Rattle.model.specs.Card.{shape_of, core_of, with_core}
@@ -12,12 +12,12 @@ use Rattle.model.specs.declared.Committed.{Committed}
 use Rattle.images.specs.Newest.{image_at}
 use Rattle.images.specs.declared.newest.Image.{Image}
 use Rattle.images.proofs.ImageBytes.{image_bytes}
-use Rattle.cells.specs.Cells.{world, byte_in, number_in, card_in, core_place}
-use Rattle.cells.specs.Changes.{Frame, with_numbers}
+use Rattle.cells.specs.Cells.{world, card_in, core_place}
+use Rattle.model.specs.declared.Core.{Core}
+use Rattle.cells.specs.declared.cores.CoreNumbers.{CoreNumbers}
+use Rattle.cells.specs.Changes.{Frame, numbers_of, with_numbers}
 use Rattle.cells.proofs.FitsLaws.{frame_wider}
 use Rattle.cells.specs.Answer.{Stores}
-use Rattle.cells.proofs.ReadLaws.{next_there, used_there, stored_there}
-use Rattle.oldest.proofs.CardLaws.{same_numbers}
 
 -- ---- a home store
 pub home_put : (s : Shape) (d : Bytes) (e : Committed) (i b : ℕ) → b ≡ get_or (blocks_of s d e) i 0 → (at : Image) → at ≡ image_at s d e i
@@ -42,10 +42,5 @@ module _ (v w : List ℕ) (c : ℕ) (e : Committed) (d k : Bytes) where
       }
 
 -- ---- counted in its core
-module _ (v : List ℕ) (c : ℕ) (h : c < 8) (p : ℕ) (q : p ≡ core_place c) (next : ℕ) (n : next ≡ number_in v p) (b : ℕ) (u : b ≡ byte_in v (p + 1)) where
-  pub core_homed : (stored : ℕ) → stored ≡ byte_in v (p + 2) → (homed : ℕ) → homed ≡ (core_of (card_in v) c).homed
-      → (x : Card) → x ≡ with_core (card_in v) c (with_numbers (core_of (card_in v) c) next b stored (homed + 1)) → x ≡ with_core (card_in v) c (homed_core (core_of (card_in v) c))
-  core_homed stored s homed r x z =
-      z
-      ∙ ap (with_core (card_in v) c)
-      (same_numbers (core_of (card_in v) c) _ _ _ _ _ _ _ _ (next_there v c h p q next n) (used_there v c h p q b u) (stored_there v c h p q stored s) (ap (λ (i : ℕ). i + 1) r))
+pub core_homed : (k : Core) (n : CoreNumbers) → n ≡ numbers_of k → (homed : ℕ) → homed ≡ k.homed → with_numbers k n.next n.used n.stored (homed + 1) ≡ homed_core k
+core_homed k n e homed r = rw (e, r)

@@ -10,33 +10,20 @@ ghost use Rattle.cells.specs.Answer.{Meets};
 ghost use Rattle.cells.specs.Cells.{world_in};
 
 use crate::stores::stored_home;
-use cells::Answer;
+use cells::State;
+use model::Refusal;
 use oldest::{ask_oldest, homed};
 
 // CHECKPOINT. Where all images are stored home it answers 35.
-pub fn checkpoint(w: &mut [u64], c: u8, disk: &mut [u8], memory: &[u8]) -> Answer
-    requires { length w.old ≡ 423 }
+pub fn checkpoint(w: &mut State, c: u8, disk: &mut [u8], memory: &[u8]) -> Result<u8, Refusal>
     ensures { Meets (checkpoint in_sequence c (world_in w.old disk.old memory.now))
         w.old w.new disk.new memory.now result }
 {
-    let asked = ask_oldest(w, c, disk, memory);
-    if asked.number != 0 {
-        return Answer {
-            number: asked.number,
-            stores: 0,
-        };
-    }
-    let e = asked.oldest;
+    let e = ask_oldest(w, c, disk, memory)?;
     let done = homed(w, c);
     if e.count <= done {
-        return Answer {
-            number: 35,
-            stores: 0,
-        };
+        return Err(Refusal::AllStoredHome);
     }
     stored_home(w, c, done, e, disk);
-    Answer {
-        number: 0,
-        stores: 1,
-    }
+    Ok(1)
 }

@@ -13,24 +13,28 @@ use Rattle.model.specs.declared.Card.{Card}
 use Rattle.layout.proofs.Blocks.{block_lent}
 use Rattle.cells.specs.Cells.{byte_in, transaction_in, card_in, running_place, closed_place, world_in}
 use Rattle.cells.specs.Changes.{Frame}
-use Rattle.cells.specs.Answer.{new_answer, Meets}
+use Rattle.cells.specs.Answer.{Meets}
 use Rattle.cells.proofs.ReadLaws.{block_read, running_there, running_live, closed_live}
 use Rattle.cells.proofs.EntryLaws.{entry, entry_hit, entry_pass, Entered, entered}
-use Rattle.cells.proofs.MeetLaws.{meets_refused, meets_done}
+use Rattle.cells.proofs.MeetLaws.{meets_handed, meets_done}
+use Rattle.std.specs.Prelude.{Result, Ok, Err}
+use Rattle.model.specs.Refusal.{number_of, answer_of}
+use Rattle.model.specs.declared.Refusal.{Refusal}
 
 -- ---- refusals
 -- what CLOSE asks of the core
 abbrev of_running : Card → ℕ → List (Bool × ℕ)
 of_running x c = (not (core_of x c).running.live, 28) ∷ ((core_of x c).closed.live, 29) ∷ []
 
-module _ (v : List ℕ) (c : ℕ) (d m : Bytes) (n : ℕ) (e : n ≡ refusal (entry c (world_in v d m))) where
-  pub close_first : (n ≡ 0 → ⊥) → n ≡ refusal (close_conditions c (world_in v d m))
+module _ (v : List ℕ) (c : ℕ) (d m : Bytes) where
+  pub close_first : {A : Type 0} (r : Result A Refusal) (e : Refusal) → number_of e ≡ refusal (entry c (world_in v d m)) → r ≡ Err e
+      → answer_of r ≡ refusal (close_conditions c (world_in v d m))
   unfolding close_conditions
-  close_first h = entry_hit c (world_in v d m) (of_running (card_in v) c) n e h
+  close_first r e q h = entry_hit c (world_in v d m) (of_running (card_in v) c) r e q h
 
-  module _ (h : n ≡ 0) where
+  module _ (e : 0 ≡ refusal (entry c (world_in v d m))) where
     few : c < 8
-    few = (entered (card_in v) c d m [] tt (sym e ∙ h)).few
+    few = (entered (card_in v) c d m [] tt (sym e)).few
 
     -- the places stand within the cells
     pub running_fits : (a : ℕ) → a ≡ running_place c → a + 19 ≤ 423
@@ -45,7 +49,7 @@ module _ (v : List ℕ) (c : ℕ) (d m : Bytes) (n : ℕ) (e : n ≡ refusal (en
 
       pub close_none : not g ≡ true → 28 ≡ refusal (close_conditions c (world_in v d m))
       unfolding close_conditions refusal
-      close_none z = entry_pass c (world_in v d m) (of_running (card_in v) c) n e h 28 (rw (← runs, not-true g z))
+      close_none z = entry_pass c (world_in v d m) (of_running (card_in v) c) e 28 (rw (← runs, not-true g z))
 
       module _ (b : ℕ) (s : b ≡ closed_place c) (k : Bool) (t : k ≡ (transaction_in v b).live) where
         is_closed_lem : k ≡ (core_of (card_in v) c).closed.live
@@ -53,11 +57,11 @@ module _ (v : List ℕ) (c : ℕ) (d m : Bytes) (n : ℕ) (e : n ≡ refusal (en
 
         pub close_early : not g ≡ false → k ≡ true → 29 ≡ refusal (close_conditions c (world_in v d m))
         unfolding close_conditions refusal
-        close_early z y = entry_pass c (world_in v d m) (of_running (card_in v) c) n e h 29 (rw (← runs, not-false g z, ← is_closed_lem, y))
+        close_early z y = entry_pass c (world_in v d m) (of_running (card_in v) c) e 29 (rw (← runs, not-false g z, ← is_closed_lem, y))
 
         pub close_free : not g ≡ false → k ≡ false → 0 ≡ refusal (close_conditions c (world_in v d m))
         unfolding close_conditions refusal
-        close_free z y = entry_pass c (world_in v d m) (of_running (card_in v) c) n e h 0 (rw (← runs, not-false g z, ← is_closed_lem, y))
+        close_free z y = entry_pass c (world_in v d m) (of_running (card_in v) c) e 0 (rw (← runs, not-false g z, ← is_closed_lem, y))
 
 -- ---- the copies
 -- the element of the array is the block taken
@@ -103,15 +107,16 @@ pub flag_read : (c : ℕ) (m : Bytes) (i : ℕ) (image : Bytes) → image ≡ bl
 flag_read c m i image e f q = q ∙ ap flag_of e
 
 -- ---- the command
-module _ (v : List ℕ) (size : length v ≡ 423) (c : ℕ) (d m : Bytes) (n : ℕ) (e : n ≡ refusal (close_conditions c (world_in v d m))) where
-  pub close_refused : (n ≡ 0 → ⊥) → Meets (close c (world_in v d m)) v v d m (new_answer n 0)
+module _ (v : List ℕ) (size : length v ≡ 423) (c : ℕ) (d m : Bytes) where
+  pub close_refused : (e : Refusal) → number_of e ≡ refusal (close_conditions c (world_in v d m)) → (r : Result ℕ Refusal) → r ≡ Err e
+      → Meets (close c (world_in v d m)) v v d m r
   unfolding close
-  close_refused h = meets_refused (close_conditions c (world_in v d m)) v d m (closed c (world_in v d m)) size n e h
+  close_refused e q r h = meets_handed (close_conditions c (world_in v d m)) v d m (closed c (world_in v d m)) size e q r h
 
-  module _ (h : n ≡ 0) where
+  module _ (e : 0 ≡ refusal (close_conditions c (world_in v d m))) where
     close_entered : Entered (card_in v) c d m
     unfolding close_conditions
-    close_entered = entered (card_in v) c d m (of_running (card_in v) c) (omega arith, (omega arith, tt)) (sym e ∙ h)
+    close_entered = entered (card_in v) c d m (of_running (card_in v) c) (omega arith, (omega arith, tt)) (sym e)
 
     pub close_memory : length m ≡ 16384
     close_memory = close_entered.memory
@@ -123,8 +128,8 @@ module _ (v : List ℕ) (size : length v ≡ 423) (c : ℕ) (d m : Bytes) (n : �
       pub close_place : a + 19 ≤ 423
       close_place = omega (arith, close_core)
 
-      pub close_done : (z : Bytes) → z ≡ copied c 0 (taken (transaction_in v a)) m → (w : List ℕ) → card_in w ≡ closed_card (card_in v) c → Frame v w 0 423 → Meets (close c (world_in v d m)) v w d z (new_answer 0 0)
+      pub close_done : (z : Bytes) → z ≡ copied c 0 (taken (transaction_in v a)) m → (w : List ℕ) → card_in w ≡ closed_card (card_in v) c → Frame v w 0 423 → Meets (close c (world_in v d m)) v w d z (Ok 0)
       unfolding close closed
       close_done z r w s f =
-          meets_done (close_conditions c (world_in v d m)) v d m (closed c (world_in v d m)) size n e h w d z 0
+          meets_done (close_conditions c (world_in v d m)) v d m (closed c (world_in v d m)) size e w d z 0
           (rw (r, s, running_there v c close_core a q)) 0 423 f

@@ -6,14 +6,14 @@ use Rattle.model.specs.Card.{no_transaction, stamped, core_of, with_core}
 use Rattle.model.specs.Commit.{closed_card}
 use Rattle.model.specs.declared.Transaction.{Transaction}
 use Rattle.model.proofs.Lists.{cases, map_below}
-use Rattle.cells.specs.Cells.{byte_in, number_in, transaction_in, card_in, core_place, running_place, closed_place}
-use Rattle.cells.specs.Changes.{with_numbers, with_closed, fits_at, AllFit, Frame}
+use Rattle.cells.specs.Cells.{transaction_in, card_in, core_place, running_place, closed_place}
+use Rattle.cells.specs.Changes.{with_closed, fits_at, AllFit, Frame}
 use Rattle.cells.proofs.FitsLaws.{running_place_lem, closed_place_lem, fits_at_lem, fits_stamp, fits_closes, fits_set, frame_same, frame_set, frame_then, frame_wider}
 use Rattle.cells.proofs.TransactionLaws.{transaction_cong}
 use Rattle.cells.proofs.CellLaws.{running_put}
 use Rattle.cells.proofs.CoreLaws.{core_of_with, with_core_twice, closed_put, closes_put}
 use Rattle.close.specs.Frozen.{frozen, counted_close}
-use Rattle.cells.proofs.ReadLaws.{next_there, used_there, homed_there, running_there}
+use Rattle.cells.proofs.ReadLaws.{running_there}
 
 -- ---- a transaction copied, cell by cell
 transaction_moved : (v w : List ℕ) (a b : ℕ) → ((k : ℕ) → k < 19 → get_or w (b + k) 0 ≡ get_or v (a + k) 0) → transaction_in w b ≡ transaction_in v a
@@ -136,13 +136,6 @@ module _ (v u : List ℕ) (c : ℕ) (size : length v ≡ 423) (h : c < 8) (f : F
           let y : transaction_in w (running_place c) ≡ no_transaction = ap (transaction_in w) (sym p) ∙ z in
           running_put (set u (closed_place c + 1) s) w c h cleared_frame
           ∙ rw (x, y, core_of_with v c h (with_closed k (stamped k.running s))) (with_core_twice (card_in v) c _ _)
-
--- ---- the numbers after a CLOSE
-pub close_counted : (v : List ℕ) (c : ℕ) → c < 8 → (a : ℕ) → a ≡ core_place c → (n : ℕ) → n ≡ number_in v a → (next : ℕ) → next ≡ (n + 1) % 2 ^ 32
-    → (used : ℕ) → used ≡ byte_in v (a + 1) → (homed : ℕ) → homed ≡ byte_in v (a + 3)
-    → (w : List ℕ) → card_in w ≡ with_core (card_in v) c (with_numbers (core_of (card_in v) c) next used 0 homed) → card_in w ≡ with_core (card_in v) c (counted_close (core_of (card_in v) c))
-close_counted v c h a e n i next j used k homed l w q =
-    q ∙ rw (j, next_there v c h a e n i, used_there v c h a e used k, homed_there v c h a e homed l)
 
 -- ---- a running transaction closed
 closes_read : (w : List ℕ) → get_or w 4 0 ≡ (card_in w).closes

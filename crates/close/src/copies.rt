@@ -5,11 +5,12 @@ ghost use Rattle.model.specs.Bytes.{block_at, store};
 ghost use Rattle.model.specs.Card.{taken};
 ghost use Rattle.model.specs.Layout.{flag_of};
 ghost use Rattle.model.specs.Commit.{copy_block, copied};
-ghost use Rattle.model.specs.Limits.{memory_size, max_taken};
+ghost use Rattle.model.specs.Limits.{max_taken};
 ghost use Rattle.cells.specs.Cells.{transaction_size, transaction_in};
 
-use cells::{BLOCKS, block_count, byte_in};
-use model::Shape;
+use cells::{BLOCKS, State, block_count, byte_in};
+use model::{Memory, Shape};
+use std::array;
 
 // The memory block of a core's copy i.
 fn copy_place(c: u8, i: usize) -> usize
@@ -21,49 +22,40 @@ fn copy_place(c: u8, i: usize) -> usize
 
 // The image of a block copied to copy i of a core, through a value: two parts of memory cannot be lent at once. Only a
 // card that no run made has a block past the 64 images; its number counts round.
-fn copy_image(memory: &mut [u8], c: u8, i: usize, b: u8)
-    requires { (length memory.old ≡ memory_size) × (c < 8) × (i < max_taken) }
+fn copy_image(memory: &mut Memory, c: u8, i: usize, b: u8)
+    requires { (c < 8) × (i < max_taken) }
     ensures { memory.new ≡ store memory.old (copy_block c i) (block_at memory.old (b % 64)) }
 {
     let image = layout::load_block(memory, b as usize % 64);
     let start = Shape::BLOCK_SIZE * copy_place(c, i);
     let end = start + Shape::BLOCK_SIZE;
-    layout::write_image(&mut memory[start..end], image);
+    memory[start..end].copy_from_slice(&image);
 }
 
 // The images of the blocks of the transaction at a place, in the order taken, to the first of its core's copies onward.
-pub fn copy_images(w: &[u64], at: usize, c: u8, memory: &mut [u8])
-    requires { (length w.now ≡ 423) × (at + transaction_size ≤ 423) × (length memory.old ≡ memory_size) × (c < 8) }
+pub fn copy_images(w: &State, at: usize, c: u8, memory: &mut Memory)
+    requires { (at + transaction_size ≤ 423) × (c < 8) }
     ensures { memory.new ≡ copied c 0 (taken (transaction_in w.now at)) memory.old }
 {
     let count = block_count(w, at);
-    let mut i: usize = 0;
-    while i < count {
+    for i in 0..count {
         let b = byte_in(w, at + BLOCKS + i);
         copy_image(memory, c, i, b);
-        i += 1;
     }
 }
 
 // Copy i of a core, as a value.
-pub fn copy_at(memory: &[u8], c: u8, i: usize) -> [u8; Shape::BLOCK_SIZE]
-    requires { (length memory.now ≡ memory_size) × (c < 8) × (i < max_taken) }
+pub fn copy_at(memory: &Memory, c: u8, i: usize) -> [u8; Shape::BLOCK_SIZE]
+    requires { (c < 8) × (i < max_taken) }
     ensures { result ≡ block_at memory.now (copy_block c i) }
 {
     layout::load_block(memory, copy_place(c, i))
 }
 
 // The escape flags of a core's copies: of all eight, since the descriptor itself leaves out what was not taken.
-pub fn flags_of(memory: &[u8], c: u8) -> [u8; Shape::MAX_TAKEN]
-    requires { (length memory.now ≡ memory_size) × (c < 8) }
+pub fn flags_of(memory: &Memory, c: u8) -> [u8; Shape::MAX_TAKEN]
+    requires { c < 8 }
     ensures { result ≡ map (λ (i : ℕ). flag_of (block_at memory.now (copy_block c i))) (below max_taken) }
 {
-    let mut flags = [0u8; Shape::MAX_TAKEN];
-    let mut i = 0;
-    while i < Shape::MAX_TAKEN {
-        let image = copy_at(memory, c, i);
-        flags[i] = layout::flag_of(image);
-        i += 1;
-    }
-    flags
+    array::from_fn(|i| layout::flag_of(copy_at(memory, c, i)))
 }

@@ -3,33 +3,36 @@ use Rattle.model.proofs.Base.{ℕ, ◌+◌, ◌%◌, ◌≤◌, ◌<◌, arith, 
 use Rattle.model.specs.Card.{no_transaction, taken, record_size, core_of, with_core}
 use Rattle.model.specs.Commit.{core_stored}
 use Rattle.model.specs.declared.Transaction.{Transaction}
-use Rattle.cells.specs.Cells.{byte_in, number_in, transaction_in, card_in, core_place, closed_place}
-use Rattle.cells.specs.Changes.{with_numbers, with_closed, Frame}
+use Rattle.cells.specs.Cells.{transaction_in, card_in, core_place, closed_place}
+use Rattle.cells.specs.declared.cores.CoreNumbers.{CoreNumbers}
+use Rattle.cells.specs.Changes.{numbers_of, with_numbers, with_closed, Frame}
 use Rattle.cells.proofs.FitsLaws.{frame_then, frame_wider}
-use Rattle.cells.proofs.ReadLaws.{next_there, used_there, stored_there, homed_there, closed_there}
+use Rattle.cells.proofs.ReadLaws.{closed_there}
 use Rattle.cells.proofs.CoreLaws.{core_of_with, with_core_twice, closed_put}
 
 -- ---- a store counted
-module _ (v : List ℕ) (c : ℕ) (size : length v ≡ 423) (h : c < 8) (a : ℕ) (e : a ≡ core_place c) (next : ℕ) (i : next ≡ number_in v a) (used : ℕ) (j : used ≡ byte_in v (a + 1)) (stored : ℕ) (k : stored ≡ byte_in v (a + 2)) (homed : ℕ) (l : homed ≡ byte_in v (a + 3))
-    (p : ℕ) (q : p ≡ closed_place c) (n : ℕ) (r : n ≡ length (taken (transaction_in v p))) where
+module _ (v : List ℕ) (c : ℕ) (size : length v ≡ 423) (h : c < 8) (k : CoreNumbers) (e : k ≡ numbers_of (core_of (card_in v) c)) (p : ℕ) (q : p ≡ closed_place c) (n : ℕ) (r : n ≡ length (taken (transaction_in v p))) where
   count_there : n ≡ length (taken (core_of (card_in v) c).closed)
   count_there = r ∙ ap (λ (t : Transaction). length (taken t)) (closed_there v c h p q)
 
-  pub store_counted : stored ≤ n → (w : List ℕ) → card_in w ≡ with_core (card_in v) c (with_numbers (core_of (card_in v) c) next used (stored + 1) homed)
+  stored_now : k.stored ≡ (core_of (card_in v) c).stored
+  stored_now = ap (λ (m : CoreNumbers). m.stored) e
+
+  pub store_counted : k.stored ≤ n → (w : List ℕ) → card_in w ≡ with_core (card_in v) c (with_numbers (core_of (card_in v) c) k.next k.used (k.stored + 1) k.homed)
       → card_in w ≡ with_core (card_in v) c (core_stored (core_of (card_in v) c))
   unfolding core_stored
   store_counted z w f =
-      f ∙ rw (next_there v c h a e next i, used_there v c h a e used j, stored_there v c h a e stored k, homed_there v c h a e homed l, le-leb (core_of (card_in v) c).stored (length (taken (core_of (card_in v) c).closed)) (omega (arith, count_there, stored_there v c h a e stored k)))
+      f ∙ rw (e, le-leb (core_of (card_in v) c).stored (length (taken (core_of (card_in v) c).closed)) (omega (arith, count_there, stored_now)))
 
-  module _ (u : List ℕ) (filled : ℕ) (s : filled ≡ (used + (n + 2)) % 256) (f : card_in u ≡ with_core (card_in v) c (with_numbers (core_of (card_in v) c) next filled 0 homed)) where
-    pub store_committed : n < stored → (w : List ℕ) → transaction_in w p ≡ no_transaction → Frame u w p 19 → card_in w ≡ with_core (card_in v) c (core_stored (core_of (card_in v) c))
+  module _ (u : List ℕ) (filled : ℕ) (s : filled ≡ (k.used + (n + 2)) % 256) (f : card_in u ≡ with_core (card_in v) c (with_numbers (core_of (card_in v) c) k.next filled 0 k.homed)) where
+    pub store_committed : n < k.stored → (w : List ℕ) → transaction_in w p ≡ no_transaction → Frame u w p 19 → card_in w ≡ with_core (card_in v) c (core_stored (core_of (card_in v) c))
     unfolding core_stored record_size
     store_committed z w t g =
-        let m = with_numbers (core_of (card_in v) c) next filled 0 homed in
+        let m = with_numbers (core_of (card_in v) c) k.next filled 0 k.homed in
         let y : transaction_in w (closed_place c) ≡ no_transaction = ap (transaction_in w) (sym q) ∙ t in
         let x : card_in w ≡ with_core (card_in v) c (with_closed m no_transaction) =
         closed_put u w c h (rw q at g) ∙ rw (f, y, core_of_with v c h m) (with_core_twice (card_in v) c m (with_closed m no_transaction)) in
-        x ∙ rw (s, count_there, next_there v c h a e next i, used_there v c h a e used j, homed_there v c h a e homed l, lt-leb (core_of (card_in v) c).stored (length (taken (core_of (card_in v) c).closed)) (omega (arith, count_there, stored_there v c h a e stored k)))
+        x ∙ rw (s, count_there, e, lt-leb (core_of (card_in v) c).stored (length (taken (core_of (card_in v) c).closed)) (omega (arith, count_there, stored_now)))
 
 module _ (v u : List ℕ) (c : ℕ) (f : Frame v u (core_place c) 4) where
   pub counted_frame : Frame v u (core_place c) 42

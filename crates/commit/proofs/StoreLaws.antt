@@ -2,7 +2,8 @@
 -- stands at the position after what the journal holds. Refused, or carried out, STORE meets its contract.
 use Rattle.model.proofs.Base.{ℕ, ◌+◌, ◌-◌, ◌*◌, ◌≤◌, ◌<◌, min, arith, ◌≡◌, sym, ap, ◌∙◌, Bool, true, false, not, List, [], ◌∷◌}
 use Rattle.model.proofs.Base.{◌++◌, map, length, take, drop, get_or, length-take, ne_eqb, le-leb, lt-leb, not-true, not-false}
-use Rattle.model.proofs.Base.{below, Bytes}
+use Rattle.model.proofs.Base.{below, append-nil, Bytes}
+use lib.Seq.{drop-length}
 use Rattle.model.specs.Bytes.{block_at}
 use Rattle.model.specs.Shape.{clamped, journal_block}
 use Rattle.model.specs.Card.{taken, highest_of, shape_of, tail_of, core_of, with_core}
@@ -19,33 +20,41 @@ use Rattle.model.proofs.OneStore.{shape_limits, store_place_low, position}
 use Rattle.layout.proofs.Blocks.{block_lent}
 use Rattle.cells.specs.Cells.{byte_in, number_in, transaction_in, card_in, core_place, closed_place, world_in}
 use Rattle.cells.specs.Changes.{Frame}
-use Rattle.cells.specs.Answer.{new_answer, Meets}
+use Rattle.cells.specs.Answer.{Meets}
 use Rattle.cells.proofs.ReadLaws.{stamp_read, count_read, blocks_long, next_there, used_there, stored_there, closed_there, closed_live}
 use Rattle.cells.proofs.EntryLaws.{entry, entry_hit, entry_pass, Entered, entered}
-use Rattle.cells.proofs.MeetLaws.{meets_refused, meets_done}
+use Rattle.cells.proofs.MeetLaws.{meets_handed, meets_done}
+use Rattle.std.specs.Prelude.{Result, Ok, Err}
+use Rattle.model.specs.Refusal.{number_of, answer_of}
+use Rattle.model.specs.declared.Refusal.{Refusal}
 use Rattle.close.proofs.CloseLaws.{taken_at, copy_flag}
+
+-- a part as long as a block, written as a whole
+pub whole_lent : (p b n : Bytes) → length p ≡ 128 → b ≡ n → b ++ drop 128 p ≡ n
+whole_lent p b n h e = ap (λ (k : ℕ). b ++ drop k p) (sym h) ∙ (ap (λ (l : Bytes). b ++ l) (drop-length p) ∙ (append-nil b ∙ e))
 
 -- ---- refusals
 -- what STORE asks of the core
 abbrev of_closed : Card → ℕ → List (Bool × ℕ)
 of_closed x c = (not (core_of x c).closed.live, 30) ∷ []
 
-module _ (v : List ℕ) (c : ℕ) (d m : Bytes) (n : ℕ) (e : n ≡ refusal (entry c (world_in v d m))) where
-  pub store_first : (n ≡ 0 → ⊥) → n ≡ refusal (store_conditions c (world_in v d m))
+module _ (v : List ℕ) (c : ℕ) (d m : Bytes) where
+  pub store_first : {A : Type 0} (r : Result A Refusal) (e : Refusal) → number_of e ≡ refusal (entry c (world_in v d m)) → r ≡ Err e
+      → answer_of r ≡ refusal (store_conditions c (world_in v d m))
   unfolding store_conditions
-  store_first h = entry_hit c (world_in v d m) (of_closed (card_in v) c) n e h
+  store_first r e q h = entry_hit c (world_in v d m) (of_closed (card_in v) c) r e q h
 
-  module _ (h : n ≡ 0) (a : ℕ) (q : a ≡ closed_place c) (g : Bool) (r : g ≡ (transaction_in v a).live) where
+  module _ (e : 0 ≡ refusal (entry c (world_in v d m))) (a : ℕ) (q : a ≡ closed_place c) (g : Bool) (r : g ≡ (transaction_in v a).live) where
     is_closed_lem : g ≡ (core_of (card_in v) c).closed.live
-    is_closed_lem = closed_live v c (entered (card_in v) c d m [] tt (sym e ∙ h)).few a q g r
+    is_closed_lem = closed_live v c (entered (card_in v) c d m [] tt (sym e)).few a q g r
 
     pub store_none : not g ≡ true → 30 ≡ refusal (store_conditions c (world_in v d m))
     unfolding store_conditions refusal
-    store_none z = entry_pass c (world_in v d m) (of_closed (card_in v) c) n e h 30 (rw (← is_closed_lem, not-true g z))
+    store_none z = entry_pass c (world_in v d m) (of_closed (card_in v) c) e 30 (rw (← is_closed_lem, not-true g z))
 
     pub store_free : not g ≡ false → 0 ≡ refusal (store_conditions c (world_in v d m))
     unfolding store_conditions refusal
-    store_free z = entry_pass c (world_in v d m) (of_closed (card_in v) c) n e h 0 (rw (← is_closed_lem, not-false g z))
+    store_free z = entry_pass c (world_in v d m) (of_closed (card_in v) c) e 0 (rw (← is_closed_lem, not-false g z))
 
 -- ---- the arrays of a transaction, read out of its cells
 abbrev pub block_in : List ℕ → ℕ → ℕ → ℕ
@@ -129,15 +138,16 @@ unfolding next_position
 position_is v c h t i a e u j s k = rw (i, used_there v c h a e u j, stored_there v c h a e s k)
 
 -- ---- the command
-module _ (v : List ℕ) (size : length v ≡ 423) (c : ℕ) (d m : Bytes) (n : ℕ) (e : n ≡ refusal (store_conditions c (world_in v d m))) where
-  pub store_refused : (n ≡ 0 → ⊥) → Meets (store_next c (world_in v d m)) v v d m (new_answer n 0)
+module _ (v : List ℕ) (size : length v ≡ 423) (c : ℕ) (d m : Bytes) where
+  pub store_refused : (e : Refusal) → number_of e ≡ refusal (store_conditions c (world_in v d m)) → (r : Result ℕ Refusal) → r ≡ Err e
+      → Meets (store_next c (world_in v d m)) v v d m r
   unfolding store_next
-  store_refused h = meets_refused (store_conditions c (world_in v d m)) v d m (stored c (world_in v d m)) size n e h
+  store_refused e q r h = meets_handed (store_conditions c (world_in v d m)) v d m (stored c (world_in v d m)) size e q r h
 
-  module _ (h : n ≡ 0) where
+  module _ (e : 0 ≡ refusal (store_conditions c (world_in v d m))) where
     store_entered : Entered (card_in v) c d m
     unfolding store_conditions
-    store_entered = entered (card_in v) c d m (of_closed (card_in v) c) (omega arith, tt) (sym e ∙ h)
+    store_entered = entered (card_in v) c d m (of_closed (card_in v) c) (omega arith, tt) (sym e)
 
     pub store_memory : length m ≡ 16384
     store_memory = store_entered.memory
@@ -158,8 +168,8 @@ module _ (v : List ℕ) (size : length v ≡ 423) (c : ℕ) (d m : Bytes) (n : �
 
       pub store_done : p ≡ next_position (card_in v) c → (z : Bytes) → z ≡ next_stored c (core_of (card_in v) c) m
           → (w : List ℕ) → card_in w ≡ with_core (card_in v) c (core_stored (core_of (card_in v) c)) → Frame v w (core_place c) 42
-          → Meets (store_next c (world_in v d m)) v w (take (128 * j) d ++ (z ++ drop (128 * j + 128 - 128 * j) (drop (128 * j) d))) m (new_answer 0 1)
+          → Meets (store_next c (world_in v d m)) v w (take (128 * j) d ++ (z ++ drop (128 * j + 128 - 128 * j) (drop (128 * j) d))) m (Ok 1)
       unfolding store_next stored
       store_done i z k w l f =
-          meets_done (store_conditions c (world_in v d m)) v d m (stored c (world_in v d m)) size n e h w _ m 1
+          meets_done (store_conditions c (world_in v d m)) v d m (stored c (world_in v d m)) size e w _ m 1
           (rw (block_lent d j z (next_stored c (core_of (card_in v) c) m) k, l, store_place, i)) (core_place c) 42 f

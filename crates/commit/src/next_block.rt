@@ -4,19 +4,20 @@ ghost use Rattle.model.specs.Bytes.{block_at};
 ghost use Rattle.model.specs.Card.{taken, highest_of, core_of};
 ghost use Rattle.model.specs.Layout.{descriptor_block, commit_block, escaped};
 ghost use Rattle.model.specs.Commit.{copy_block, copy_tags, closed_number, next_stored, next_position};
-ghost use Rattle.model.specs.Limits.{block_size, memory_size, max_taken};
+ghost use Rattle.model.specs.Limits.{max_taken};
 ghost use Rattle.cells.specs.Cells.{transaction_size, transaction_in, card_in};
 
 use cells::{
-    BLOCKS, COUNT, HIGHEST, STAMP, STORED, USED, block_count, byte_in, closed_place, core_place,
-    number_in, tail_at,
+    BLOCKS, COUNT, HIGHEST, STAMP, STORED, State, USED, block_count, byte_in, closed_place,
+    core_place, number_in, tail_at,
 };
 use close::{copy_at, flags_of};
-use model::Shape;
+use model::{Block, Memory, Shape};
+use std::array;
 
 // The number of core c's closed transaction: CLOSE moved the count on. Only a card that no run made has the count at 0.
-fn closed_number(w: &[u64], c: u8) -> u32
-    requires { (length w.now ≡ 423) × (c < 8) }
+fn closed_number(w: &State, c: u8) -> u32
+    requires { c < 8 }
     ensures { result ≡ closed_number (core_of (card_in w.now) c) }
 {
     let next = number_in(w, core_place(c));
@@ -27,36 +28,24 @@ fn closed_number(w: &[u64], c: u8) -> u32
 }
 
 // The blocks of the transaction at a place, as a value.
-fn blocks_of(w: &[u64], at: usize) -> [u8; Shape::MAX_TAKEN]
-    requires { (length w.now ≡ 423) × (at + transaction_size ≤ 423) }
+fn blocks_of(w: &State, at: usize) -> [u8; Shape::MAX_TAKEN]
+    requires { at + transaction_size ≤ 423 }
     ensures { result ≡ (transaction_in w.now at).blocks }
 {
-    let mut blocks = [0u8; Shape::MAX_TAKEN];
-    let mut i: usize = 0;
-    while i < Shape::MAX_TAKEN {
-        blocks[i] = byte_in(w, at + BLOCKS + i);
-        i += 1;
-    }
-    blocks
+    array::from_fn(|i| byte_in(w, at + BLOCKS + i))
 }
 
 // The highest number of each core that the transaction at a place names, as a value.
-fn highest_of(w: &[u64], at: usize) -> [u32; 8]
-    requires { (length w.now ≡ 423) × (at + transaction_size ≤ 423) }
+fn highest_of(w: &State, at: usize) -> [u32; 8]
+    requires { at + transaction_size ≤ 423 }
     ensures { result ≡ (transaction_in w.now at).highest }
 {
-    let mut highest = [0u32; 8];
-    let mut c: usize = 0;
-    while c < 8 {
-        highest[c] = number_in(w, at + HIGHEST + c);
-        c += 1;
-    }
-    highest
+    array::from_fn(|c| number_in(w, at + HIGHEST + c))
 }
 
 // The descriptor of the closed transaction of core c, which stands at the place given.
-fn write_first(block: &mut [u8], w: &[u64], at: usize, number: u32, c: u8, memory: &[u8])
-    requires { (length block.old ≡ block_size) × (length w.now ≡ 423) × (at + transaction_size ≤ 423) × (length memory.now ≡ memory_size) × (c < 8) }
+fn write_first(block: &mut Block, w: &State, at: usize, number: u32, c: u8, memory: &Memory)
+    requires { (at + transaction_size ≤ 423) × (c < 8) }
     ensures { block.new ≡ descriptor_block number (copy_tags c (taken (transaction_in w.now at)) memory.now) }
 {
     let flags = flags_of(memory, c);
@@ -66,8 +55,8 @@ fn write_first(block: &mut [u8], w: &[u64], at: usize, number: u32, c: u8, memor
 }
 
 // A data block: copy i of the core, whatever the image is by now.
-fn write_copy(block: &mut [u8], c: u8, i: usize, memory: &[u8])
-    requires { (length block.old ≡ block_size) × (length memory.now ≡ memory_size) × (c < 8) × (i < max_taken) }
+fn write_copy(block: &mut Block, c: u8, i: usize, memory: &Memory)
+    requires { (c < 8) × (i < max_taken) }
     ensures { block.new ≡ escaped (block_at memory.now (copy_block c i)) }
 {
     let image = copy_at(memory, c, i);
@@ -75,8 +64,8 @@ fn write_copy(block: &mut [u8], c: u8, i: usize, memory: &[u8])
 }
 
 // The commit of the transaction at a place.
-fn write_last(block: &mut [u8], w: &[u64], at: usize, number: u32)
-    requires { (length block.old ≡ block_size) × (length w.now ≡ 423) × (at + transaction_size ≤ 423) }
+fn write_last(block: &mut Block, w: &State, at: usize, number: u32)
+    requires { (at + transaction_size ≤ 423) }
     ensures { let t = transaction_in w.now at in
         block.new ≡ commit_block number t.stamp (highest_of t) }
 {
@@ -86,8 +75,8 @@ fn write_last(block: &mut [u8], w: &[u64], at: usize, number: u32)
 }
 
 // What is stored next: the descriptor, then the copies in the order taken, then the commit.
-pub fn write_next(block: &mut [u8], w: &[u64], c: u8, memory: &[u8])
-    requires { (length block.old ≡ block_size) × (length w.now ≡ 423) × (length memory.now ≡ memory_size) × (c < 8) }
+pub fn write_next(block: &mut Block, w: &State, c: u8, memory: &Memory)
+    requires { c < 8 }
     ensures { block.new ≡ next_stored c (core_of (card_in w.now) c) memory.now }
 {
     let at = closed_place(c);
@@ -105,8 +94,8 @@ pub fn write_next(block: &mut [u8], w: &[u64], c: u8, memory: &[u8])
 }
 
 // The position of what is stored next: records follow one another from the tail.
-pub fn next_position(w: &[u64], c: u8) -> usize
-    requires { (length w.now ≡ 423) × (c < 8) }
+pub fn next_position(w: &State, c: u8) -> usize
+    requires { c < 8 }
     ensures { result ≡ next_position (card_in w.now) c }
 {
     let t = tail_at(w, c);

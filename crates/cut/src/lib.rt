@@ -3,38 +3,28 @@
 
 ghost use Rattle.std.specs.Prelude.{◌≡◌, length};
 ghost use Rattle.model.specs.Command.{refusal};
+ghost use Rattle.model.specs.Refusal.{answer_of};
 ghost use Rattle.model.specs.Recovery.{cut_conditions, cut};
 ghost use Rattle.cells.specs.Answer.{Meets};
 ghost use Rattle.cells.specs.Cells.{world_in};
 
-use cells::{Answer, go_down, phase_refusal};
-use layout::zero_all;
+use cells::{State, check_phase, go_down};
+use model::Refusal;
 
 // A card that is down is cut like one that is up.
-fn cut_refusal(w: &[u64], disk: &[u8], memory: &[u8]) -> u8
-    requires { length w.now ≡ 423 }
-    ensures { result ≡ refusal (cut_conditions (world_in w.now disk.now memory.now)) }
+fn check_cut(w: &State, disk: &[u8], memory: &[u8]) -> Result<(), Refusal>
+    ensures { answer_of result ≡ refusal (cut_conditions (world_in w.now disk.now memory.now)) }
 {
-    phase_refusal(w, disk, memory, 20, 0, 0)
+    check_phase(w, disk, memory, Err(Refusal::CardBlank), Ok(()), Ok(()))
 }
 
 // CUT.
-pub fn cut(w: &mut [u64], disk: &[u8], memory: &mut [u8]) -> Answer
-    requires { length w.old ≡ 423 }
+pub fn cut(w: &mut State, disk: &[u8], memory: &mut [u8]) -> Result<u8, Refusal>
     ensures { Meets (cut (world_in w.old disk.now memory.old))
         w.old w.new disk.now memory.new result }
 {
-    let n = cut_refusal(w, disk, memory);
-    if n != 0 {
-        return Answer {
-            number: n,
-            stores: 0,
-        };
-    }
-    zero_all(memory);
+    check_cut(w, disk, memory)?;
+    memory.fill(0);
     go_down(w);
-    Answer {
-        number: 0,
-        stores: 0,
-    }
+    Ok(0)
 }

@@ -9,7 +9,7 @@ use lib.Dec.{ltb, eqb}
 use borrow.Author.Tests.{lt-ltb, eq-eqb, ne_eqb, eqb-false, not-true}
 use Rattle.model.specs.Bytes.{Bytes}
 use Rattle.model.specs.Shape.{home_block}
-use Rattle.model.specs.Card.{holder_of}
+use Rattle.model.specs.Card.{holder_of, is_held}
 use Rattle.model.specs.Command.{World, Outcome, DiskStore, no_store, one_store, whole_disk, count_of, Decided, refused, carried_out}
 use Rattle.model.specs.Reading.{read_number, read_block, block_reader}
 use Rattle.model.specs.Tape.{Point, command_byte, next_offset, run, world_after, Command, Read, early, read_at, unknown, whole}
@@ -32,7 +32,10 @@ use Rattle.crash.proofs.Runs.ReportLimited.{report_limit}
 use Rattle.crash.proofs.Books.Largest.{largest_kept}
 use Rattle.cells.specs.Cells.{stores_in, Exact, world, world_in}
 use Rattle.reading.specs.declared.BlockPart.{BlockPart}
-use Rattle.reading.specs.Part.{part_of}
+use Rattle.reading.specs.Part.{slice_number, answered, part_of}
+use Rattle.std.specs.Prelude.{Ok, Err}
+use Rattle.model.specs.Refusal.{number_of}
+use Rattle.model.specs.declared.Refusal.{Refusal}
 use Rattle.reading.proofs.ReadLaws.{readable}
 use Rattle.command.specs.Counting.{counted}
 use Rattle.command.proofs.CountLaws.{counted_sum, counted_none, counted_more}
@@ -204,9 +207,9 @@ module _ (x : Card) (b : ℕ) (d m : Bytes) where
   length_read : read_number b (world x d m) ≡ 0 → length (read_block b (world x d m)) ≡ 128
   unfolding read_block
   length_read h =
-      let r = readable x b d m 0 (sym h) refl in
+      let r = readable x b d m (sym h) in
       rw (eq-eqb _ _ h)
-      (cases (holder_of x b).held
+      (cases (is_held (holder_of x b))
       (λ q. rw q (length_block_at 128 m r.memory b (omega (arith, r.below))))
       (λ q. rw q (length_block_at 257 d r.disk (home_block b) (omega (arith, r.below)))))
 
@@ -223,6 +226,13 @@ module _ (x : Card) (b : ℕ) (d m : Bytes) where
     into_block l e = e
 
 -- ---- where a block's bytes stand
-pub part_wide : (b : ℕ) (w : World) (p : BlockPart) → p ≡ part_of b w → ◌≡◌ {A = wide.Part} (record { number = p.number; slice = p.slice; from = p.from; length = p.length }) (part_in b w)
-unfolding part_in
-part_wide b w p e = rw e
+module _ (b : ℕ) (w : World) where
+  pub part_there : (p : BlockPart) → answered (Ok p) ≡ part_of b w → (n : ℕ) → n ≡ slice_number p.slice
+      → ◌≡◌ {A = wide.Part} (record { number = 0; slice = n; from = p.from; length = p.length }) (part_in b w)
+  unfolding part_in
+  part_there p e n q = rw (q, ← e)
+
+  pub part_nowhere : (e : Refusal) → answered (Err e) ≡ part_of b w → (n : ℕ) → n ≡ number_of e
+      → ◌≡◌ {A = wide.Part} (record { number = n; slice = 0; from = 0; length = 0 }) (part_in b w)
+  unfolding part_in
+  part_nowhere e q n h = rw (h, ← q)

@@ -7,7 +7,7 @@ ghost use Rattle.cells.specs.Cells.{cells_of, stores_in, world_in};
 ghost use Rattle.firmware.specs.Session.{read_into, RunsCommand, RunsTape, part_in};
 ghost use Rattle.firmware.specs.Plans.{PlansCard};
 
-use model::Shape;
+use model::{Shape, answer_number};
 
 // What came of one command: the offset of the next one, the number answered (0 if done) and the command's byte.
 #[repr(C)]
@@ -71,19 +71,19 @@ pub fn command(
         w.new disk.new memory.new result }
 {
     let done = command::counted_command(w, tape, at, disk, memory);
-    let answer = done.answer;
     Reply {
         next: done.next as u64,
-        number: answer.number as u32,
+        number: answer_number(done.answer) as u32,
         byte: done.byte as u32,
     }
 }
 
 // The number that reading block b answers, 0 for none.
+// stays: the C interface answers a refusal by its number
 pub fn read_number(w: &[u64; 423], b: u16, disk: &[u8], memory: &[u8]) -> u8
     ensures { result ≡ read_number b (world_in w.now disk.now memory.now) }
 {
-    reading::read_number(w, b, disk, memory)
+    answer_number(reading::check_read(w, b, disk, memory))
 }
 
 // Block b handed on as a part of a lent slice, without copying.
@@ -97,16 +97,24 @@ pub fn read_block<'a>(w: &[u64; 423], b: u16, disk: &'a [u8], memory: &'a [u8]) 
 pub fn read_part(w: &[u64; 423], b: u16, disk: &[u8], memory: &[u8]) -> Part
     ensures { result ≡ part_in b (world_in w.now disk.now memory.now) }
 {
-    let p = reading::read_part(w, b, disk, memory);
-    Part {
-        number: p.number as u32,
-        slice: p.slice as u32,
-        from: p.from as u64,
-        length: p.length as u64,
+    match reading::read_part(w, b, disk, memory) {
+        Ok(p) => Part {
+            number: 0,
+            slice: u32::from(p.slice),
+            from: p.from as u64,
+            length: p.length as u64,
+        },
+        Err(e) => Part {
+            number: u8::from(e) as u32,
+            slice: 0,
+            from: 0,
+            length: 0,
+        },
     }
 }
 
 // Block b copied into a lent buffer; a refusal touches no byte of it.
+// stays: the C interface answers a refusal by its number
 pub fn copy_block<'a>(
     w: &[u64; 423],
     b: u16,
@@ -122,7 +130,7 @@ pub fn copy_block<'a>(
         return n;
     }
     let block = read_block(w, b, disk, memory);
-    layout::copy_block(out, block);
+    out.copy_from_slice(block);
     0
 }
 
@@ -144,6 +152,7 @@ pub fn run(w: &mut [u64; 423], tape: &[u8], disk: &mut [u8], memory: &mut [u8]) 
         byte: 0,
     };
     let mut at: usize = 0;
+    // stays: a `while`, since where the next command begins is known only when this one was read
     while at < tape.len() {
         let done = command(w, tape, at, disk, memory);
         last = Stop {

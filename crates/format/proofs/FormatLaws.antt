@@ -2,6 +2,7 @@
 -- and the card come up with first tails are what its definition leaves.
 use Rattle.model.proofs.Base.{ℕ, ◌<◌, arith, ◌≡◌, refl, sym, ap, subst, ◌∙◌, Bool, not, List, [], ◌∷◌, length, get_or, replicate}
 use Rattle.model.proofs.Base.{get_or-replicate, Bytes}
+use Rattle.std.specs.Prelude.{Option, Some, None}
 use Rattle.model.specs.Bytes.{store}
 use Rattle.model.specs.Shape.{in_range, checked, checked_answer, clamped}
 use Rattle.model.specs.Card.{is_blank, new_tail, fresh_card}
@@ -11,8 +12,6 @@ use Rattle.model.specs.Format.{format_conditions, formatted_disk, formatted, for
 use Rattle.model.specs.declared.Tail.{Tail}
 use Rattle.model.specs.declared.Shape.{Shape}
 use Rattle.model.specs.declared.CommitLayout.TheVariants.{Numbers}
-use Rattle.model.specs.declared.Checked.{Checked}
-use Rattle.model.specs.declared.Checked.TheVariants.{Fits, OutOfRange}
 use Rattle.model.specs.declared.Phase.TheVariants.{Up}
 use Rattle.model.proofs.Lists.{cases}
 use Rattle.model.proofs.Limits.{InRange, range_test, clamped_range, clamped_same}
@@ -22,9 +21,14 @@ use Rattle.model.proofs.Encoding.{master_same}
 use Rattle.layout.proofs.DiskLaws.{zero_memory_lem, zero_disk_lem}
 use Rattle.cells.specs.Cells.{card_in, world_in}
 use Rattle.cells.specs.Changes.{Frame}
-use Rattle.cells.specs.Answer.{new_answer, outcome_in, Meets, first_of}
+use Rattle.cells.specs.Answer.{outcome_in, Meets, first_of}
 use Rattle.cells.proofs.RefusalLaws.{first_hit, first_pass, refusal_joined}
-use Rattle.cells.proofs.MeetLaws.{meets_refused, meets_done}
+use Rattle.std.specs.Prelude.{Result, Ok, Err}
+use Rattle.model.specs.Refusal.{number_of}
+use Rattle.model.specs.declared.Refusal.{Refusal}
+use Rattle.model.specs.declared.Refusal.TheVariants.{OutOfRange}
+use Rattle.model.proofs.RefusalNumbers.{number_not_0}
+use Rattle.cells.proofs.MeetLaws.{meets_refused, meets_handed, meets_done}
 
 -- ---- the two stages
 -- what comes before the operands
@@ -43,16 +47,16 @@ format_stages c b j w =
 
 -- ---- the master
 -- what the constructor made is the shape asked for, within its limits
-fits_range : (c b j : ℕ) (s : Shape) → Fits s ≡ checked c b j → InRange s × (s ≡ record { cores = c; blocks = b; journal = j })
+fits_range : (c b j : ℕ) (s : Shape) → Some s ≡ checked c b j → InRange s × (s ≡ record { cores = c; blocks = b; journal = j })
 unfolding checked
 fits_range c b j s e =
     cases (in_range c b j)
-    (λ h. let q : s ≡ record { cores = c; blocks = b; journal = j } = (let r : Fits s ≡ Fits (record { cores = c; blocks = b; journal = j }) = rw h at e in cc) in
+    (λ h. let q : s ≡ record { cores = c; blocks = b; journal = j } = (let r : Some s ≡ Some (record { cores = c; blocks = b; journal = j }) = rw h at e in cc) in
     (subst InRange (sym q) (range_test (record { cores = c; blocks = b; journal = j }) h), q))
-    (λ h. let r : Fits s ≡ OutOfRange = rw h at e in let z : ◌≡◌ {A = ℕ} 0 1 = cc in absurd (omega arith))
+    (λ h. let r : Some s ≡ None = rw h at e in let z : ◌≡◌ {A = ℕ} 0 1 = cc in absurd (omega arith))
 
 -- the constructor's shape is read as it is
-pub fits_same : (c b j : ℕ) (made : Checked) → made ≡ checked c b j → (s : Shape) → made ≡ Fits s → clamped s ≡ s
+pub fits_same : (c b j : ℕ) (made : Option Shape) → made ≡ checked c b j → (s : Shape) → made ≡ Some s → clamped s ≡ s
 fits_same c b j made e s f = clamped_same s (fits_range c b j s (sym f ∙ e)).0
 
 -- eight tails at number 1 and position 0
@@ -72,20 +76,23 @@ pub format_left : (s : Shape) → clamped s ≡ s
     → (d m : Bytes) → length d ≡ 32896 → length m ≡ 16384
     → (d' m' b : Bytes) → d' ≡ replicate (length d) 0 → m' ≡ replicate (length m) 0 → b ≡ store d' 0 (master_block Numbers (clamped s) (λ (c : ℕ). get_or first_tails c (new_tail 0 0)))
     → (w : List ℕ) → card_in w ≡ fresh_card Up s first_tails
-    → outcome_in (new_answer 0 0) w b m' ≡ formatted s
+    → outcome_in (Ok 0) w b m' ≡ formatted s
 unfolding formatted formatted_disk
 format_left s e d m dl ml d' m' b p q r w y = rw (r, p, q, y, zero_disk_lem d dl, zero_memory_lem m ml, first_master s e)
 
 -- ---- the command
-module _ (c b j : ℕ) (v : List ℕ) (d m : Bytes) (l : length v ≡ 423) (n : ℕ) (e : n ≡ refusal (not_blank (world_in v d m))) where
-  pub not_blank_lem : (n ≡ 0 → ⊥) → Meets (format c b j (world_in v d m)) v v d m (new_answer n 0)
+module _ (c b j : ℕ) (v : List ℕ) (d m : Bytes) (l : length v ≡ 423) where
+  pub not_blank_lem : (e : Refusal) → number_of e ≡ refusal (not_blank (world_in v d m)) → (r : Result ℕ Refusal) → r ≡ Err e
+      → Meets (format c b j (world_in v d m)) v v d m r
   unfolding format
-  not_blank_lem h = meets_refused (format_conditions c b j (world_in v d m)) v d m _ l n (first_hit n _ _ e h ∙ format_stages c b j (world_in v d m)) h
+  not_blank_lem e q r h =
+      meets_handed (format_conditions c b j (world_in v d m)) v d m _ l e
+      (first_hit (number_of e) _ _ q (number_not_0 e) ∙ format_stages c b j (world_in v d m)) r h
 
-  module _ (h : n ≡ 0) where
+  module _ (e : 0 ≡ refusal (not_blank (world_in v d m))) where
     -- the slices have their lengths
     lengths : (length d ≡ 32896) × (length m ≡ 16384)
-    lengths = right_lengths (world_in v d m) (refusal_clear (not_blank (world_in v d m)) (omega arith, (omega arith, tt)) (sym e ∙ h)).0
+    lengths = right_lengths (world_in v d m) (refusal_clear (not_blank (world_in v d m)) (omega arith, (omega arith, tt)) (sym e)).0
 
     pub blank_disk : length d ≡ 32896
     blank_disk = lengths.0
@@ -93,17 +100,17 @@ module _ (c b j : ℕ) (v : List ℕ) (d m : Bytes) (l : length v ≡ 423) (n : 
     pub blank_memory : length m ≡ 16384
     blank_memory = lengths.1
 
-    module _ (made : Checked) (q : made ≡ checked c b j) where
-      pub out_of_range : made ≡ OutOfRange → Meets (format c b j (world_in v d m)) v v d m (new_answer 4 0)
+    module _ (made : Option Shape) (q : made ≡ checked c b j) where
+      pub out_of_range : made ≡ None → Meets (format c b j (world_in v d m)) v v d m (Err OutOfRange)
       unfolding format
       out_of_range o =
-          meets_refused (format_conditions c b j (world_in v d m)) v d m _ l 4
-          (first_pass n 4 _ _ e h (rw (← q, o)) ∙ format_stages c b j (world_in v d m)) (omega arith)
+          meets_refused (format_conditions c b j (world_in v d m)) v d m _ l OutOfRange
+          (first_pass 0 4 _ _ e refl (rw (← q, o)) ∙ format_stages c b j (world_in v d m))
 
-      pub format_done : (s : Shape) → made ≡ Fits s → (w : List ℕ) (k a : Bytes) → outcome_in (new_answer 0 0) w k a ≡ formatted s → Frame v w 0 423
-          → Meets (format c b j (world_in v d m)) v w k a (new_answer 0 0)
+      pub format_done : (s : Shape) → made ≡ Some s → (w : List ℕ) (k a : Bytes) → outcome_in (Ok 0) w k a ≡ formatted s → Frame v w 0 423
+          → Meets (format c b j (world_in v d m)) v w k a (Ok 0)
       unfolding format
       format_done s f w k a r g =
-          meets_done (format_conditions c b j (world_in v d m)) v d m _ l 0
-          (first_pass n 0 _ _ e h (rw (← q, f)) ∙ format_stages c b j (world_in v d m)) refl w k a 0
+          meets_done (format_conditions c b j (world_in v d m)) v d m _ l
+          (first_pass 0 0 _ _ e refl (rw (← q, f)) ∙ format_stages c b j (world_in v d m)) w k a 0
           (r ∙ ap formatted (fits_range c b j s (sym f ∙ q)).1) 0 423 g

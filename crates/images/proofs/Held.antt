@@ -1,6 +1,7 @@
 -- The lowest block from a place on that a set holds: no lower one is held, and it is the bound or held itself. It is lowered with each block of each
 -- record, and in the end it is the first of those held.
-use Rattle.model.proofs.Base.{ℕ, zero, suc, ◌+◌, ◌/◌, ◌%◌, ◌≤◌, ◌<◌, arith, dec_lt, ◌≡◌, refl, sym, ap, ◌∙◌, Bool, true, false}
+use Rattle.model.proofs.Base.{ℕ, zero, suc, ◌+◌, ◌≤◌, ◌<◌, min, arith, dec_lt, ◌≡◌, refl, sym, ap, ◌∙◌, Bool, true, false}
+use Rattle.std.specs.Prelude.{Some, None}
 use Rattle.model.proofs.Base.{true≢false, List, [], ◌∷◌, ◌++◌, append_assoc, Memᴰ, mem_head, mem_tail, eqb}
 use Rattle.model.proofs.Base.{leb, lt-ltb, le-ltb, le-leb, lt-leb, leb-true, eq-eqb, ne_eqb, get_or, flat_map, below, any, select, Bytes}
 use Rattle.model.specs.Layout.{new_tag, pair_at}
@@ -13,9 +14,10 @@ use Rattle.model.proofs.Select.{select_mem, select_append}
 use Rattle.layout.specs.Loops.{some}
 use Rattle.layout.specs.Narrow.{BlocksBelow}
 use Rattle.layout.proofs.Loops.{some_none, some_step}
-use Rattle.journal.specs.Records.{record_in, records_in, ExtentTested, descriptor_blocks}
+use Rattle.journal.specs.declared.extents.Extent.{Extent}
+use Rattle.journal.specs.Records.{extent_at, record_in, records_in, ExtentTested, descriptor_blocks}
 use Rattle.journal.proofs.Tested.{blocks_bytes}
-use Rattle.images.specs.Newest.{stepped, first_or, held_from, lower_of, lower_at, lower_by, lower_in, asked_in}
+use Rattle.images.specs.Newest.{stepped, first_of, held_from, lower_of, lower_at, lower_by, lower_in, asked_in}
 use Rattle.images.proofs.Steps.{any_flat_map, blocks_some, asked_core, asked_all}
 
 -- of those from a on and below z that p holds of the lowest is m, or it is z
@@ -34,13 +36,20 @@ unfolding lower_of
 lower_less a x best h = rw (lt-leb a x h)
 
 module _ (a x best : ℕ) (h : a ≤ x) where
-  pub lower_it : x < best → x ≡ lower_of a x best
+  lower_it : x < best → x ≡ lower_of a x best
   unfolding lower_of
   lower_it l = rw (le-leb a x h, lt-ltb x best l)
 
-  pub lower_not : best ≤ x → best ≡ lower_of a x best
+  lower_not : best ≤ x → best ≡ lower_of a x best
   unfolding lower_of
   lower_not l = rw (le-leb a x h, le-ltb x best l)
+
+pub lower_min : (a x best r : ℕ) → a ≤ x → r ≡ min x best → r ≡ lower_of a x best
+lower_min a x best r h e =
+    elim (dec_lt x best) [
+      | yes l ↦ (let z : r ≡ x = omega arith in z ∙ lower_it a x best h l)
+      | no g ↦ (let z : r ≡ best = omega arith in z ∙ lower_not a x best h (omega arith))
+    ]
 
 lowest_one : (a z y : ℕ) → Lowest a z (λ (x : ℕ). eqb x y) (lower_of a y z)
 lowest_one a z y =
@@ -98,38 +107,39 @@ module _ (a z : ℕ) (p : ℕ → Bool) (m : ℕ) (w : Lowest a z p m) where
       let r = select_mem p (below n) x h in
       cases (leb a x) (λ t. absurd (true≢false (sym r.1 ∙ w.none x (leb-true a x t) (omega (arith, mem_below n r.0))))) (λ t. t))
 
-  first_held : a ≤ m → p m ≡ true → (rest : List ℕ) → first_or z (select (leb a) (select p (below m ++ (m ∷ rest)))) ≡ m
-  unfolding first_or select
+  first_held : a ≤ m → p m ≡ true → (rest : List ℕ) → first_of (select (leb a) (select p (below m ++ (m ∷ rest)))) ≡ Some m
+  unfolding first_of select
   first_held h t rest =
       rw (select_append p (below m) (m ∷ rest), select_append (leb a) (select p (below m)) (select p (m ∷ rest)), none_below m (omega arith), t, le-leb a m h)
 
-  lowest_first : m ≡ first_or z (select (leb a) (select p (below z)))
-  unfolding first_or
-  lowest_first =
-      elim (dec_lt m z) [
-        | yes l ↦ let q = below_split z m l in let r = w.held l in
-            sym (ap (λ (xs : List ℕ). first_or z (select (leb a) (select p xs))) q.1 ∙ first_held r.0 r.1 q.0)
-        | no g ↦ let e : m ≡ z = omega (arith, w.most) in e ∙ sym (ap (first_or z) (none_below z (omega arith)))
-      ]
+  lowest_some : m < z → Some m ≡ first_of (select (leb a) (select p (below z)))
+  lowest_some l =
+      let q = below_split z m l in
+      let r = w.held l in
+      sym (ap (λ (xs : List ℕ). first_of (select (leb a) (select p xs))) q.1 ∙ first_held r.0 r.1 q.0)
+
+  lowest_none : z ≤ m → None ≡ first_of (select (leb a) (select p (below z)))
+  unfolding first_of
+  lowest_none g = sym (ap first_of (none_below z g))
 
 -- ---- the blocks that records took
-module _ (s : Shape) (d : Bytes) (a : ℕ) (xs : List ℕ) where
+module _ (s : Shape) (d : Bytes) (a : ℕ) (xs : List Extent) where
   pub lower_at_lem : (f : Bytes) (i x best r : ℕ) → x ≡ (pair_at new_tag f 16 i).block → r ≡ lower_of a x best → r ≡ lower_at f a i best
   unfolding lower_at
   lower_at_lem f i x best r e h = h ∙ rw e
 
-  pub extent_bytes : (c x p n : ℕ) (f : Bytes) → p ≡ x % 256 → f ≡ journal_at s d c p → n ≡ x / 256 → ExtentTested s d c x → InRange s → BlocksBelow 256 f n
-  extent_bytes c x p n f e q h t l = rw (q, e, h) (blocks_bytes s (journal_at s d c (x % 256)) (x / 256) t.below l)
+  pub extent_bytes : (c : ℕ) (x : Extent) (f : Bytes) → f ≡ journal_at s d c x.position → ExtentTested s d c x → InRange s → BlocksBelow 256 f x.count
+  extent_bytes c x f q t l = rw q (blocks_bytes s (journal_at s d c x.position) x.count t.below l)
 
-  pub lower_by_lem : (c x p n best r : ℕ) (f : Bytes) → p ≡ x % 256 → f ≡ journal_at s d c p → n ≡ x / 256 → r ≡ stepped (lower_at f a) best n → r ≡ lower_by s d a c x best
+  pub lower_by_lem : (c : ℕ) (x : Extent) (best r : ℕ) (f : Bytes) → f ≡ journal_at s d c x.position → r ≡ stepped (lower_at f a) best x.count → r ≡ lower_by s d a c x best
   unfolding lower_by
-  lower_by_lem c x p n best r f e q h z = z ∙ rw (q, e, h)
+  lower_by_lem c x best r f q z = z ∙ rw q
 
-  lowest_in : (zs : List ℕ) (c k j z : ℕ) → Lowest a z (λ (x : ℕ). asked_in (took s d x) xs zs c k j) (lower_in s d a xs c k j z)
+  lowest_in : (c k j z : ℕ) → Lowest a z (λ (x : ℕ). asked_in (took s d x) xs c k j) (lower_in s d a xs c k j z)
   unfolding asked_in took blocks_of tags_of record_in lower_by lower_at descriptor_blocks
-  lowest_in zs c k j z =
-      let f : Bytes = journal_at s d c (get_or xs (k + j) 0 % 256) in
-      let n : ℕ = get_or xs (k + j) 0 / 256 in
+  lowest_in c k j z =
+      let f : Bytes = journal_at s d c (extent_at xs (k + j)).position in
+      let n : ℕ = (extent_at xs (k + j)).count in
       lowest_same a z (λ (x : ℕ). some n (λ (i : ℕ). eqb x (pair_at new_tag f 16 i).block)) (λ (x : ℕ). any (eqb x) (descriptor_blocks f n)) (stepped (lower_at f a) z n)
       (λ x. blocks_some (eqb x) f n)
       (lowest_steps a (λ (i x : ℕ). eqb x (pair_at new_tag f 16 i).block) (lower_at f a) (λ i y. lowest_one a y (pair_at new_tag f 16 i).block) z n)
@@ -139,19 +149,24 @@ module _ (s : Shape) (d : Bytes) (a : ℕ) (xs : List ℕ) where
     abbrev pub lower_core : ℕ → ℕ → ℕ
     lower_core c best = stepped (lower_in s d a xs c (get_or start c 0)) best (get_or count c 0)
 
-    lowest_core : (zs : List ℕ) (c z : ℕ) → Lowest a z (λ (x : ℕ). asked_core (took s d x) xs zs start count c) (lower_core c z)
-    lowest_core zs c z =
+    lowest_core : (c z : ℕ) → Lowest a z (λ (x : ℕ). asked_core (took s d x) xs start count c) (lower_core c z)
+    lowest_core c z =
         let k : ℕ = get_or start c 0 in
-        lowest_steps a (λ (j x : ℕ). asked_in (took s d x) xs zs c k j) (lower_in s d a xs c k) (λ j y. lowest_in zs c k j y) z (get_or count c 0)
+        lowest_steps a (λ (j x : ℕ). asked_in (took s d x) xs c k j) (lower_in s d a xs c k) (λ j y. lowest_in c k j y) z (get_or count c 0)
 
-    lowest_all : (zs ks : List ℕ) (z : ℕ) → Lowest a z (λ (x : ℕ). any (eqb x) (flat_map (blocks_of s d) (records_in s xs zs ks start count))) (stepped lower_core z s.cores)
+    lowest_all : (ks : List ℕ) (z : ℕ) → Lowest a z (λ (x : ℕ). any (eqb x) (flat_map (blocks_of s d) (records_in s xs ks start count))) (stepped lower_core z s.cores)
     unfolding took blocks_of tags_of record_in
-    lowest_all zs ks z =
-        lowest_same a z (λ (x : ℕ). some s.cores (asked_core (took s d x) xs zs start count)) (λ (x : ℕ). any (eqb x) (flat_map (blocks_of s d) (records_in s xs zs ks start count)))
+    lowest_all ks z =
+        lowest_same a z (λ (x : ℕ). some s.cores (asked_core (took s d x) xs start count)) (λ (x : ℕ). any (eqb x) (flat_map (blocks_of s d) (records_in s xs ks start count)))
         (stepped lower_core z s.cores)
-        (λ x. asked_all (took s d x) xs zs (λ c k i. refl) s ks start count ∙ sym (any_flat_map (eqb x) (blocks_of s d) (records_in s xs zs ks start count)))
-        (lowest_steps a (λ (c x : ℕ). asked_core (took s d x) xs zs start count c) lower_core (λ c y. lowest_core zs c y) z s.cores)
+        (λ x. asked_all (took s d x) xs (λ c k i. refl) s ks start count ∙ sym (any_flat_map (eqb x) (blocks_of s d) (records_in s xs ks start count)))
+        (lowest_steps a (λ (c x : ℕ). asked_core (took s d x) xs start count c) lower_core (λ c y. lowest_core c y) z s.cores)
 
-    pub held_is : (r : ℕ) → r ≡ stepped lower_core s.blocks s.cores → (zs ks : List ℕ) → r ≡ held_from s d (records_in s xs zs ks start count) a
-    unfolding held_from blocks_held
-    held_is r h zs ks = h ∙ lowest_first a s.blocks _ (stepped lower_core s.blocks s.cores) (lowest_all zs ks s.blocks)
+    module _ (r : ℕ) (h : r ≡ stepped lower_core s.blocks s.cores) (ks : List ℕ) where
+      pub held_some : r < s.blocks → Some r ≡ held_from s d (records_in s xs ks start count) a
+      unfolding held_from blocks_held
+      held_some l = lowest_some a s.blocks _ r (rw (← h) at (lowest_all ks s.blocks)) l
+
+      pub held_none : s.blocks ≤ r → None ≡ held_from s d (records_in s xs ks start count) a
+      unfolding held_from blocks_held
+      held_none l = lowest_none a s.blocks _ r (rw (← h) at (lowest_all ks s.blocks)) l

@@ -6,22 +6,19 @@ use Rattle.model.specs.Checkpoint.{share}
 use Rattle.model.specs.declared.Shape.{Shape}
 use Rattle.model.specs.declared.Committed.{Committed}
 use Rattle.layout.specs.Loops.{some}
-use Rattle.journal.specs.Records.{record_in, records_in, descriptor_blocks}
+use Rattle.journal.specs.declared.extents.Extent.{Extent}
+use Rattle.journal.specs.Records.{committed_in, extent_at, record_in, records_in, descriptor_blocks}
 use Rattle.images.specs.Newest.{shares_below, asked_in}
 use Rattle.images.proofs.Steps.{blocks_some, asked_core, asked_all}
 
 -- ---- shared blocks
 module _ (s : Shape) (d : Bytes) (g : Committed) (f : Bytes) where
   -- the i-th block of descriptor f is one that g took
-  unfoldable pub took_at : ℕ → Bool
+  abbrev pub took_at : ℕ → Bool
   took_at i = took s d (pair_at new_tag f 16 i).block g
 
-  pub took_at_lem : (i x : ℕ) (r : Bool) → x ≡ (pair_at new_tag f 16 i).block → r ≡ took s d x g → r ≡ took_at i
-  unfolding took_at
-  took_at_lem i x r e q = q ∙ rw e
-
   pub share_is : (n : ℕ) (r : Bool) → r ≡ some n took_at → r ≡ share (descriptor_blocks f n) (blocks_of s d g)
-  unfolding share took took_at
+  unfolding share took
   share_is n r e = e ∙ blocks_some (λ (b : ℕ). any (eqb b) (blocks_of s d g)) f n
 
 module _ (s : Shape) (d : Bytes) (e g : Committed) where
@@ -35,12 +32,12 @@ module _ (s : Shape) (d : Bytes) (e g : Committed) where
   stamp_shares f r q h l = h ∙ rw (q, lt-ltb g.stamp e.stamp l)
 
 -- ---- one of a set
-module _ (p : Committed → Bool) (xs zs : List ℕ) where
-  pub asked_in_lem : (c a j : ℕ) (f : Committed) (r : Bool) → f ≡ record_in xs zs c 0 (a + j) → r ≡ p f → r ≡ asked_in p xs zs c a j
-  unfolding asked_in
+module _ (p : Committed → Bool) (xs : List Extent) where
+  pub asked_in_lem : (c a j : ℕ) (f : Committed) (r : Bool) → f ≡ committed_in c 0 (extent_at xs (a + j)) → r ≡ p f → r ≡ asked_in p xs c a j
+  unfolding asked_in record_in
   asked_in_lem c a j f r e h = h ∙ rw e
 
-pub shares_is : (s : Shape) (d : Bytes) (e : Committed) (xs zs start count : List ℕ) (r : Bool) → r ≡ some s.cores (asked_core (shares_below s d e) xs zs start count)
-    → (ks : List ℕ) → r ≡ any (shares_below s d e) (records_in s xs zs ks start count)
+pub shares_is : (s : Shape) (d : Bytes) (e : Committed) (xs : List Extent) (start count : List ℕ) (r : Bool) → r ≡ some s.cores (asked_core (shares_below s d e) xs start count)
+    → (ks : List ℕ) → r ≡ any (shares_below s d e) (records_in s xs ks start count)
 unfolding shares_below blocks_of tags_of record_in
-shares_is s d e xs zs start count r h ks = h ∙ asked_all (shares_below s d e) xs zs (λ c k i. refl) s ks start count
+shares_is s d e xs start count r h ks = h ∙ asked_all (shares_below s d e) xs (λ c k i. refl) s ks start count

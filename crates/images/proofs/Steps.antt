@@ -8,36 +8,38 @@ use Rattle.model.specs.declared.Committed.{Committed}
 use Rattle.model.proofs.Lists.{any_append, any_map}
 use Rattle.layout.specs.Loops.{some}
 use Rattle.layout.proofs.Loops.{some_map}
-use Rattle.journal.specs.Records.{record_in, run_in, records_in, SizedCommitted, RangeTested, RunTested, descriptor_blocks}
+use Rattle.journal.specs.declared.extents.Extent.{Extent}
+use Rattle.journal.specs.Records.{committed_in, extent_at, record_in, run_in, records_in, SizedCommitted, RangeTested, RunTested, descriptor_blocks}
 use Rattle.journal.proofs.Tested.{run_extent, extent_sized, extent_tested}
 use Rattle.images.specs.Newest.{stepped, asked_in}
 
--- ---- a value after steps: y after i of n
-module _ {A : Type 0} (f : ℕ → A → A) (x : A) (n : ℕ) where
-  pub record Stepped (i : ℕ) (y : A) : Type 0 where
-    pub most : i ≤ n
-    pub same : y ≡ stepped f x i
+-- ---- a value after steps
+module _ {A : Type 0} (f : ℕ → A → A) (x : A) where
+  -- y is the value after i of them
+  abbrev pub Stepped : ℕ → A → Type 0
+  Stepped i y = y ≡ stepped f x i
 
   pub stepped_start : Stepped 0 x
   unfolding stepped
-  stepped_start = record { most = omega arith; same = refl }
+  stepped_start = refl
 
-  pub stepped_more : (i : ℕ) (y r : A) → Stepped i y → r ≡ f i y → i < n → Stepped (i + 1) r
+  pub stepped_more : (i : ℕ) (y r : A) → Stepped i y → r ≡ f i y → Stepped (i + 1) r
   unfolding stepped
-  stepped_more i y r w e h = record { most = omega arith; same = e ∙ ap (f i) w.same ∙ rw add-one }
+  stepped_more i y r w e = e ∙ ap (f i) w ∙ rw add-one
 
-  pub stepped_end : (i : ℕ) (y : A) → Stepped i y → n ≤ i → y ≡ stepped f x n
-  stepped_end i y w h = let e : i ≡ n = omega (arith, w.most) in w.same ∙ ap (stepped f x) e
+  pub stepped_end : (n i : ℕ) (y : A) → Stepped i y → n ≤ i → i ≤ n → y ≡ stepped f x n
+  stepped_end n i y w h g = let e : i ≡ n = omega arith in w ∙ ap (stepped f x) e
 
 pub ruleset steps = (rules, stepped_start, stepped_more, stepped_end)
 
 -- ---- what callees ask of the record at place a + j
-module _ (s : Shape) (d : Bytes) (c : ℕ) (xs zs : List ℕ) (a j : ℕ) (e : Committed) (q : e ≡ record_in xs zs c 0 (a + j)) (n : ℕ) (t : RunTested s d xs c a n) (h : j < n) where
+module _ (s : Shape) (d : Bytes) (c : ℕ) (xs : List Extent) (a j : ℕ) (e : Committed) (q : e ≡ committed_in c 0 (extent_at xs (a + j))) (n : ℕ)
+    (t : RunTested s d xs c a n) (h : j < n) where
   pub run_sized : c < s.cores → SizedCommitted s e
-  run_sized l = extent_sized s d c xs zs (a + j) 0 e q (run_extent s d xs c a n t j h) l
+  run_sized l = extent_sized s d c (extent_at xs (a + j)) 0 e q (run_extent s d xs c a n t j h) l
 
   pub run_tested : RangeTested s d e
-  run_tested = extent_tested s d c xs zs (a + j) 0 e q (run_extent s d xs c a n t j h)
+  run_tested = extent_tested s d c (extent_at xs (a + j)) 0 e q (run_extent s d xs c a n t j h)
 
 -- ---- a test of some record
 pub any_flat_map : {A B : Type 0} (p : B → Bool) (f : A → List B) (xs : List A) → any p (flat_map f xs) ≡ any (λ (x : A). any p (f x)) xs
@@ -53,17 +55,17 @@ blocks_some p f n =
     some_map q (pair_at new_tag f 16) n ∙ sym (any_map (λ (h : Tag). h.block) q p (λ h. refl) (map (pair_at new_tag f 16) (below n)))
 
 -- of those of core c
-abbrev pub asked_core : (Committed → Bool) → List ℕ → List ℕ → List ℕ → List ℕ → ℕ → Bool
-asked_core p xs zs start count c = some (get_or count c 0) (asked_in p xs zs c (get_or start c 0))
+abbrev pub asked_core : (Committed → Bool) → List Extent → List ℕ → List ℕ → ℕ → Bool
+asked_core p xs start count c = some (get_or count c 0) (asked_in p xs c (get_or start c 0))
 
 -- a test that does not look at the number
-module _ (p : Committed → Bool) (xs zs : List ℕ) (free : (c k i : ℕ) → p (record_in xs zs c k i) ≡ p (record_in xs zs c 0 i)) where
-  asked_run : (c k a n : ℕ) → some n (asked_in p xs zs c a) ≡ any p (run_in xs zs c k a n)
+module _ (p : Committed → Bool) (xs : List Extent) (free : (c k i : ℕ) → p (record_in xs c k i) ≡ p (record_in xs c 0 i)) where
+  asked_run : (c k a n : ℕ) → some n (asked_in p xs c a) ≡ any p (run_in xs c k a n)
   unfolding some asked_in run_in
-  asked_run c k a n = sym (any_map (λ (j : ℕ). record_in xs zs c (k + j) (a + j)) (asked_in p xs zs c a) p (λ j. free c (k + j) (a + j)) (below n))
+  asked_run c k a n = sym (any_map (λ (j : ℕ). record_in xs c (k + j) (a + j)) (asked_in p xs c a) p (λ j. free c (k + j) (a + j)) (below n))
 
-  pub asked_all : (s : Shape) (ks start count : List ℕ) → some s.cores (asked_core p xs zs start count) ≡ any p (records_in s xs zs ks start count)
+  pub asked_all : (s : Shape) (ks start count : List ℕ) → some s.cores (asked_core p xs start count) ≡ any p (records_in s xs ks start count)
   unfolding some records_in
   asked_all s ks start count =
       ap (λ (q : ℕ → Bool). any q (below s.cores)) (fun_ext (λ c. asked_run c (get_or ks c 0) (get_or start c 0) (get_or count c 0)))
-      ∙ sym (any_flat_map p (λ (c : ℕ). run_in xs zs c (get_or ks c 0) (get_or start c 0) (get_or count c 0)) (below s.cores))
+      ∙ sym (any_flat_map p (λ (c : ℕ). run_in xs c (get_or ks c 0) (get_or start c 0) (get_or count c 0)) (below s.cores))

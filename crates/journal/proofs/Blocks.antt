@@ -1,6 +1,6 @@
 -- Where a block stands among those that a transaction took, and whether it took it.
-use Rattle.model.proofs.Base.{ℕ, zero, suc, ◌+◌, ◌≤◌, ◌<◌, arith, dec_lt, ◌≡◌, refl, sym, ap, ◌∙◌, Bool, true, false, List, [], ◌∷◌, map, length}
-use Rattle.model.proofs.Base.{get_or, length-map, list_get_or_map, eqb, ltb, eq-eqb, ne_eqb, lt-ltb, le-ltb, below, any, Bytes}
+use Rattle.model.proofs.Base.{ℕ, suc, ◌≤◌, ◌<◌, arith, dec_lt, ◌≡◌, refl, sym, ap, ◌∙◌, Bool, true, false, cond, List, [], ◌∷◌, map, length}
+use Rattle.model.proofs.Base.{get_or, length-map, list_get_or_map, eqb, ltb, ltb-true, lt-ltb, le-ltb, below, any, Bytes}
 use Rattle.model.specs.Layout.{Tag, new_tag, pair_at, pairs_in, tags_in}
 use Rattle.model.specs.Journal.{journal_at, tags_of, blocks_of, took}
 use Rattle.model.specs.Recovery.{place_of}
@@ -8,29 +8,13 @@ use Rattle.model.specs.declared.Shape.{Shape}
 use Rattle.model.specs.declared.Committed.{Committed}
 use Rattle.model.proofs.Lists.{cases, length_below, get_or_map_below}
 use Rattle.model.proofs.Records.{length_blocks_of}
-use Rattle.layout.proofs.Loops.{Missed, missed_more, some_not}
-use Rattle.journal.specs.Records.{descriptor_blocks}
+use Rattle.layout.proofs.Ranges.{range_below}
+use Rattle.std.specs.Prelude.{Option, Some, None}
+use Rattle.std.specs.List.{range_with_len, position_or_len}
+use Rattle.std.specs.Option.{is_some}
+use Rattle.journal.specs.Records.{descriptor_blocks, place_among}
 
 -- ---- the place of a block
--- none of the first j is block b
-unfoldable Unlike : ℕ → List ℕ → ℕ → Type 0
-Unlike b xs j = (i : ℕ) → i < j → eqb b (get_or xs i 0) ≡ false
-
-unlike_rest : (b x : ℕ) (xs : List ℕ) (j : ℕ) → Unlike b (x ∷ xs) (suc j) → Unlike b xs j
-unfolding Unlike
-unlike_rest b x xs j p i h = p (suc i) (omega arith)
-
-place_at : (b : ℕ) (xs : List ℕ) (j : ℕ) → Unlike b xs j → j < length xs → eqb b (get_or xs j 0) ≡ true → place_of b xs ≡ j
-unfolding place_of Unlike
-place_at b [] j p l h = absurd (omega arith)
-place_at b (x ∷ xs) zero p l h = rw h
-place_at b (x ∷ xs) (suc j) p l h = rw (p 0 (omega arith)) (ap suc (place_at b xs j (unlike_rest b x xs j p) (omega arith) h))
-
-place_none : (b : ℕ) (xs : List ℕ) → Unlike b xs (length xs) → place_of b xs ≡ length xs
-unfolding place_of Unlike
-place_none b [] p = refl
-place_none b (x ∷ xs) p = rw (p 0 (omega arith)) (ap suc (place_none b xs (unlike_rest b x xs (length xs) p)))
-
 length_descriptor : (f : Bytes) (n : ℕ) → length (descriptor_blocks f n) ≡ n
 unfolding descriptor_blocks tags_in pairs_in
 length_descriptor f n = simp (length-map, length_below)
@@ -39,31 +23,14 @@ pub block_at : (f : Bytes) (n i : ℕ) → i < n → get_or (descriptor_blocks f
 unfolding descriptor_blocks tags_in pairs_in
 block_at f n i h = list_get_or_map (λ (x : Tag). x.block) (map (pair_at new_tag f 16) (below n)) i (new_tag 0 0) ∙ rw (get_or_map_below (pair_at new_tag f 16) n i (new_tag 0 0) h)
 
--- the i-th block of descriptor f is block b
-unfoldable pub is_block : Bytes → ℕ → ℕ → Bool
+-- the place of block b among the first n of descriptor f, as `position` finds it
+abbrev pub is_block : Bytes → ℕ → ℕ → Bool
 is_block f b i = eqb b (pair_at new_tag f 16 i).block
 
-module _ (f : Bytes) (n b j : ℕ) (w : Missed (is_block f b) n j) where
-  unlike : Unlike b (descriptor_blocks f n) j
-  unfolding Unlike is_block
-  unlike i h = ap (eqb b) (block_at f n i (omega (arith, w.most))) ∙ some_not (is_block f b) j w.fails i h
-
-  pub place_end : n ≤ j → j ≡ place_of b (descriptor_blocks f n)
-  place_end q =
-      let e : j ≡ length (descriptor_blocks f n) = omega (arith, w.most, length_descriptor f n) in
-      e ∙ sym (place_none b (descriptor_blocks f n) (rw e at unlike))
-
-  module _ (x : ℕ) (e : x ≡ (pair_at new_tag f 16 j).block) (l : j < n) where
-    pub place_hit : x ≡ b → j ≡ place_of b (descriptor_blocks f n)
-    place_hit h = sym (place_at b (descriptor_blocks f n) j unlike (omega (arith, length_descriptor f n)) (eq-eqb b (get_or (descriptor_blocks f n) j 0) (omega (arith, block_at f n j l))))
-
-    pub place_more : (x ≡ b → ⊥) → Missed (is_block f b) n (j + 1)
-    unfolding is_block
-    place_more h = missed_more (is_block f b) n j false w (sym (ne_eqb b (pair_at new_tag f 16 j).block (λ y. h (e ∙ sym y)))) refl l
-
-pub place_is : (s : Shape) (d : Bytes) (e : Committed) (b r : ℕ) (f : Bytes) → f ≡ journal_at s d e.core e.position → r ≡ place_of b (descriptor_blocks f e.count) → r ≡ place_of b (blocks_of s d e)
-unfolding descriptor_blocks blocks_of tags_of
-place_is s d e b r f q h = h ∙ rw q
+position_place : (f : Bytes) (b : ℕ) (xs : List ℕ) → position_or_len (is_block f b) xs ≡ place_of b (map (λ (h : Tag). h.block) (map (pair_at new_tag f 16) xs))
+unfolding place_of
+position_place f b [] = refl
+position_place f b (x ∷ xs) = cases (eqb b (pair_at new_tag f 16 x).block) (λ h. rw h) (λ h. rw h (omega (arith, position_place f b xs)))
 
 -- it took the block where that has a place
 place_any : (b : ℕ) (xs : List ℕ) → ltb (place_of b xs) (length xs) ≡ any (eqb b) xs
@@ -80,6 +47,41 @@ place_any b (x ∷ xs) =
       | no g ↦ let h : n ≤ m = omega arith in le-ltb (suc m) (suc n) (omega arith) ∙ sym (le-ltb m n h)
     ]
 
-pub took_is : (s : Shape) (d : Bytes) (e : Committed) (b p : ℕ) → p ≡ place_of b (blocks_of s d e) → ltb p e.count ≡ took s d b e
-unfolding took
-took_is s d e b p h = ap (ltb p) (sym (length_blocks_of s d e)) ∙ rw h (place_any b (blocks_of s d e))
+pub place_found : (f : Bytes) (n b : ℕ) (r : Option ℕ)
+    → r ≡ cond (ltb (position_or_len (is_block f b) (range_with_len 0 n)) (length (range_with_len 0 n))) (Some (position_or_len (is_block f b) (range_with_len 0 n))) None
+    → r ≡ place_among b (descriptor_blocks f n)
+unfolding place_among descriptor_blocks tags_in pairs_in
+place_found f n b r e =
+    let bs = descriptor_blocks f n in
+    let z : position_or_len (is_block f b) (range_with_len 0 n) ≡ place_of b bs =
+    ap (position_or_len (is_block f b)) (range_below n) ∙ position_place f b (below n) in
+    let l : length (range_with_len 0 n) ≡ length bs = ap length (range_below n) ∙ length_below n ∙ sym (length_descriptor f n) in
+    e ∙ rw (z, l, place_any b bs)
+
+pub place_is : (s : Shape) (d : Bytes) (e : Committed) (b : ℕ) (r : Option ℕ) (f : Bytes) → f ≡ journal_at s d e.core e.position
+    → r ≡ place_among b (descriptor_blocks f e.count) → r ≡ place_among b (blocks_of s d e)
+unfolding descriptor_blocks blocks_of tags_of
+place_is s d e b r f q h = h ∙ rw q
+
+-- ---- a place found, and none
+module _ (s : Shape) (d : Bytes) (e : Committed) (b : ℕ) (r : Option ℕ) (h : r ≡ place_among b (blocks_of s d e)) where
+  pub took_is : is_some r ≡ took s d b e
+  unfolding took place_among
+  took_is = ap is_some h ∙ cases (any (eqb b) (blocks_of s d e)) (λ t. rw t) (λ t. rw t)
+
+  pub took_none : r ≡ None → took s d b e ≡ false
+  unfolding took place_among
+  took_none z = cases (any (eqb b) (blocks_of s d e)) (λ t. let q : None ≡ Some (place_of b (blocks_of s d e)) = sym z ∙ h ∙ rw t in cc) (λ t. t)
+
+  module _ (i : ℕ) (z : r ≡ Some i) where
+    pub took_some : took s d b e ≡ true
+    unfolding took place_among
+    took_some = cases (any (eqb b) (blocks_of s d e)) (λ t. t) (λ t. let q : ◌≡◌ {A = Option ℕ} (Some i) None = sym z ∙ h ∙ rw t in cc)
+
+    pub took_place : i ≡ place_of b (blocks_of s d e)
+    unfolding took place_among
+    took_place = let q : Some i ≡ Some (place_of b (blocks_of s d e)) = sym z ∙ h ∙ rw took_some in cc
+
+    pub took_within : i < e.count
+    unfolding took
+    took_within = omega (arith, took_place, length_blocks_of s d e, ltb-true _ _ (place_any b (blocks_of s d e) ∙ took_some))

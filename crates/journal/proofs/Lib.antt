@@ -2,5 +2,6 @@
 pub mod OneRecord
 pub mod Blocks
 pub mod Tested
+pub mod Whole
 pub mod Ending
 pub mod Reading

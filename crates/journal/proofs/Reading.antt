@@ -1,6 +1,6 @@
 -- How the journals are read. Of one journal, what was put in and what the walk has yet to read are its records; core by core they stand one
 -- behind the other, and all of them have passed the range test.
-use Rattle.model.proofs.Base.{ℕ, suc, ◌+◌, ◌-◌, ◌*◌, ◌/◌, ◌%◌, ◌≤◌, ◌<◌, arith, dec_lt, add-one, ◌≡◌, refl, sym, ap, ap₂, ◌∙◌, List, []}
+use Rattle.model.proofs.Base.{ℕ, suc, ◌+◌, ◌-◌, ◌*◌, ◌≤◌, ◌<◌, arith, dec_lt, add-one, ◌≡◌, refl, sym, ap, ap₂, subst, ◌∙◌, List, []}
 use Rattle.model.proofs.Base.{◌∷◌, ◌++◌, map-append, append_assoc, append-nil, length, length-map, get_or, set, length-set, get_or-set_same, get_or-set_other, below, Bytes}
 use Rattle.model.specs.Lists.{total}
 use Rattle.model.specs.Limits.{max_number}
@@ -10,31 +10,21 @@ use Rattle.model.specs.declared.Shape.{Shape}
 use Rattle.model.specs.declared.Tail.{Tail}
 use Rattle.model.specs.declared.CommitLayout.{CommitLayout}
 use Rattle.model.specs.declared.Committed.{Committed}
-use Rattle.model.specs.declared.Found.TheVariants.{Miss}
-use Rattle.model.specs.declared.RecordRead.{RecordRead}
-use Rattle.model.specs.declared.RecordRead.TheVariants.{Read}
+use Rattle.std.specs.Prelude.{Result, Ok, Err}
+use Rattle.model.specs.declared.JournalEnd.{JournalEnd}
 use Rattle.model.proofs.Lists.{map_below, mem_below, mem_each, length_below, flat_map_below, get_or_map_below}
 use Rattle.model.proofs.Totals.{total_last, total_same}
 use Rattle.model.proofs.JournalEnds.{found_by, found_as, read_whole}
 use Rattle.model.proofs.Journal.{KnownRecord, descriptor_number, record_known, no_room, records_hit, records_miss}
 use Rattle.model.proofs.Limits.{InRange}
 use Rattle.journal.specs.declared.walk.Walk.{Walk}
-use Rattle.journal.specs.Records.{tail_for, numbers_of, record_in, run_in, records_in, RunsTested}
+use Rattle.journal.specs.declared.extents.Extent.{Extent}
+use Rattle.journal.specs.Records.{tail_for, numbers_of, extent_of, no_extent, extent_at, record_in, run_in, records_in, RunsTested}
 use Rattle.journal.specs.Walk.{walk_from, past, IsJournal, SameTo, JournalRead, Behind, Reads}
 use Rattle.journal.proofs.Tested.{total_few, reads_tested}
 
--- ---- arrays of records
-pub record_is : (xs zs : List ℕ) (c k i x p n z : ℕ) → x ≡ get_or xs i 0 → p ≡ x % 256 → n ≡ x / 256 → z ≡ get_or zs i 0
-    → ◌≡◌ {A = Committed} (record { core = c; number = k; position = p; count = n; stamp = z }) (record_in xs zs c k i)
-unfolding record_in
-record_is xs zs c k i x p n z e f g h = rw (← e, ← f, ← g, ← h)
-
--- two arrays of 96 are as long as each other
-pub long : (xs ys : List ℕ) → length xs ≡ 96 → length ys ≡ 96 → length xs ≡ length ys
-long xs ys h g = h ∙ sym g
-
 -- ---- a record just read
-module _ (y : CommitLayout) (s : Shape) (d : Bytes) (c k p left : ℕ) (r : RecordRead) (e : r ≡ read_record y s d c k p left) (x : Committed) (z : r ≡ Read x) where
+module _ (y : CommitLayout) (s : Shape) (d : Bytes) (c k p left : ℕ) (r : Result Committed JournalEnd) (e : r ≡ read_record y s d c k p left) (x : Committed) (z : r ≡ Ok x) where
   hit_known : KnownRecord y s d c k x × (x.position ≡ p) × (x.count + 2 ≤ left)
   hit_known = record_known y s d c k p left x (read_whole y s d c k p left x (sym e ∙ z))
 
@@ -44,154 +34,118 @@ module _ (y : CommitLayout) (s : Shape) (d : Bytes) (c k p left : ℕ) (r : Reco
   pub hit_number : k ≤ max_number
   hit_number = descriptor_number s k _ hit_known.0.descriptor
 
-pub from_tail : (s : Shape) (t : Tail) (most : ℕ) → ◌≡◌ {A = Walk} (record { number = t.number; at = t.position; left = s.journal; most = most }) (walk_from s t most)
-unfolding walk_from
-from_tail s t most = refl
-
-pub past_record : (s : Shape) (w : Walk) (e : Committed) (p : ℕ) → p ≡ (w.at + (e.count + 2)) % s.journal
-    → ◌≡◌ {A = Walk} (record { number = w.number + 1; at = p; left = w.left - (e.count + 2); most = w.most - 1 }) (past s w e)
-unfolding past
-past_record s w e p h = rw h
-
 -- ---- the records of one core
 -- those before a place hang on what stands before it
-pub run_same : (xs zs ys us : List ℕ) (b : ℕ) → SameTo b xs ys → SameTo b zs us → (c k a n : ℕ) → a + n ≤ b → run_in ys us c k a n ≡ run_in xs zs c k a n
+pub run_same : (xs ys : List Extent) (b : ℕ) → SameTo b xs ys → (c k a n : ℕ) → a + n ≤ b → run_in ys c k a n ≡ run_in xs c k a n
 unfolding run_in record_in SameTo
-run_same xs zs ys us b p q c k a n h =
-    map_below (λ (j : ℕ). record_in ys us c (k + j) (a + j)) (λ (j : ℕ). record_in xs zs c (k + j) (a + j)) n
-    (λ j l. rw (p (a + j) (omega arith), q (a + j) (omega arith)))
+run_same xs ys b p c k a n h =
+    map_below (λ (j : ℕ). record_in ys c (k + j) (a + j)) (λ (j : ℕ). record_in xs c (k + j) (a + j)) n (λ j l. rw (p (a + j) (omega arith)))
 
-pub run_length : (xs zs : List ℕ) (c k a n : ℕ) → length (run_in xs zs c k a n) ≡ n
+pub run_length : (xs : List Extent) (c k a n : ℕ) → length (run_in xs c k a n) ≡ n
 unfolding run_in
-run_length xs zs c k a n = length-map (below n) (λ (j : ℕ). record_in xs zs c (k + j) (a + j)) ∙ length_below n
+run_length xs c k a n = length-map (below n) (λ (j : ℕ). record_in xs c (k + j) (a + j)) ∙ length_below n
 
-run_more : (xs zs : List ℕ) (c k a n : ℕ) → run_in xs zs c k a (n + 1) ≡ run_in xs zs c k a n ++ (record_in xs zs c (k + n) (a + n) ∷ [])
+run_more : (xs : List Extent) (c k a n : ℕ) → run_in xs c k a (n + 1) ≡ run_in xs c k a n ++ (record_in xs c (k + n) (a + n) ∷ [])
 unfolding run_in below
-run_more xs zs c k a n = rw (add-one, below, map-append)
+run_more xs c k a n = rw (add-one, below, map-append)
 
-set_same : (xs : List ℕ) (i x b : ℕ) → b ≤ i → SameTo b xs (set xs i x)
+set_same : (xs : List Extent) (i b : ℕ) (x : Extent) → b ≤ i → SameTo b xs (set xs i x)
 unfolding SameTo
-set_same xs i x b h j l = get_or-set_other xs i j x 0 (omega arith)
+set_same xs i b x h j l = get_or-set_other xs i j x no_extent (omega arith)
 
-same_trans : (b : ℕ) (xs ys zs : List ℕ) → SameTo b xs ys → SameTo b ys zs → SameTo b xs zs
+same_trans : (b : ℕ) (xs ys zs : List Extent) → SameTo b xs ys → SameTo b ys zs → SameTo b xs zs
 unfolding SameTo
 same_trans b xs ys zs p q i h = q i h ∙ p i h
 
-same_self : (b : ℕ) (xs : List ℕ) → SameTo b xs xs
+same_self : (b : ℕ) (xs : List Extent) → SameTo b xs xs
 unfolding SameTo
 same_self b xs i h = refl
 
-module _ (y : CommitLayout) (s : Shape) (d : Bytes) (c a : ℕ) (xs zs : List ℕ) where
-  abbrev rest : Walk → List Committed
-  rest w = records_from w.most y s d c w.number w.at w.left
+module _ (y : CommitLayout) (s : Shape) (d : Bytes) (c : ℕ) (t : Tail) (most a : ℕ) (xs : List Extent) where
+  abbrev rest : ℕ → Walk → List Committed
+  rest n w = records_from n y s d c w.number w.at w.left
 
-  -- n were put in from place a on, and the walk, which began at v, stands behind them
-  pub record ReadTo (v : Walk) (ys us : List ℕ) (w : Walk) (n : ℕ) : Type 0 where
-    pub number : w.number ≡ v.number + n
-    pub left : 2 * n + w.left ≤ v.left
-    pub short : v.left ≤ 24
-    pub room : a ≤ 84
-    pub same : run_in ys us c v.number a n ++ rest w ≡ rest v
+  -- n were put in from place a on, and the walk stands behind them
+  pub record ReadTo (ys : List Extent) (w : Walk) (n : ℕ) : Type 0 where
+    pub number : w.number ≡ t.number + n
+    pub left : 2 * n + w.left ≤ s.journal
+    pub same : run_in ys c t.number a n ++ rest (most - n) w ≡ journal y s d c t most
     pub extents : SameTo a xs ys
-    pub stamps : SameTo a zs us
-    pub long_extents : length ys ≡ 96
-    pub long_stamps : length us ≡ 96
+    pub long : length ys ≡ 96
 
-  pub read_none : (t : Tail) (most : ℕ) (v : Walk) → v ≡ walk_from s t most → InRange s → a ≤ 84 → length xs ≡ 96 → length zs ≡ 96
-      → ReadTo v xs zs v 0
-  unfolding run_in below walk_from
-  read_none t most v o l r h g =
+  pub read_none : (w : Walk) → w ≡ walk_from s t → length xs ≡ 96 → ReadTo xs w 0
+  unfolding run_in below journal
+  read_none w o g =
       record {
-        number = omega arith;
-        left = omega arith;
-        short = rw o l.short;
-        room = r;
-        same = refl;
+        number = rw o (omega arith);
+        left = rw o (omega arith);
+        same = let z : most - 0 ≡ most = omega arith in rw (o, z) refl;
         extents = same_self a xs;
-        stamps = same_self a zs;
-        long_extents = h;
-        long_stamps = g;
+        long = g;
       }
 
   -- ---- one record more
-  module _ (v : Walk) (ys us : List ℕ) (w : Walk) (n : ℕ) (b : ReadTo v ys us w n) (r : RecordRead) (e : r ≡ read_record y s d c w.number w.at w.left)
-      (x : Committed) (z : r ≡ Read x) where
-    pub read_few : n < 12
-    read_few = omega (arith, b.short, b.left, hit_fits y s d c w.number w.at w.left r e x z)
+  module _ (l : InRange s) (ys : List Extent) (w : Walk) (n : ℕ) (b : ReadTo ys w n) (r : Result Committed JournalEnd)
+      (e : r ≡ read_record y s d c w.number w.at w.left) (x : Committed) (z : r ≡ Ok x) where
+    read_few : n < 12
+    read_few = omega (arith, l.short, b.left, hit_fits y s d c w.number w.at w.left r e x z)
 
-    read_room : a + n < 96
-    read_room = omega (arith, b.room, read_few)
+    pub read_place : a ≤ 84 → a + n < 96
+    read_place m = omega (arith, m, read_few)
 
-    pub read_place : (ys : List ℕ) → length ys ≡ 96 → a + n < length ys
-    read_place ys g = omega (arith, read_room)
-
-    pub read_more : 0 < w.most → (q : ℕ) → q % 256 ≡ x.position → q / 256 ≡ x.count → (u : Walk) → u ≡ past s w x
-        → ReadTo v (set ys (a + n) q) (set us (a + n) x.stamp) u (n + 1)
-    unfolding past record_in
-    read_more m q p f u g =
+    pub read_more : a ≤ 84 → n < most → (q : Extent) → q ≡ extent_of x → (u : Walk) → u ≡ past s w x → ReadTo (set ys (a + n) q) u (n + 1)
+    unfolding record_in
+    read_more m lt q p u g =
         let k = hit_known y s d c w.number w.at w.left r e x z in
         let ys' = set ys (a + n) q in
-        let us' = set us (a + n) x.stamp in
-        let at_ys : get_or ys' (a + n) 0 ≡ q = get_or-set_same ys (a + n) q 0 (omega (arith, b.long_extents, read_room)) in
-        let at_us : get_or us' (a + n) 0 ≡ x.stamp = get_or-set_same us (a + n) x.stamp 0 (omega (arith, b.long_stamps, read_room)) in
-        let this : record_in ys' us' c (v.number + n) (a + n) ≡ x = rw (at_ys, at_us, p, f, ← b.number, ← k.0.number, ← k.0.core) in
-        let before : run_in ys' us' c v.number a n ≡ run_in ys us c v.number a n =
-        run_same ys us ys' us' (a + n) (set_same ys (a + n) q (a + n) (omega arith)) (set_same us (a + n) x.stamp (a + n) (omega arith)) c v.number a n (omega arith) in
-        let now : run_in ys' us' c v.number a (n + 1) ≡ run_in ys us c v.number a n ++ (x ∷ []) =
-        run_more ys' us' c v.number a n ∙ ap₂ (λ (f g : List Committed). f ++ g) before (ap (λ (b : Committed). b ∷ []) this) in
-        let more : w.most ≡ suc (w.most - 1) = omega arith in
-        let hit : rest w ≡ x ∷ rest (past s w x) =
-        ap (λ (i : ℕ). records_from i y s d c w.number w.at w.left) more
-        ∙ records_hit y s d c w.number w.at w.left (w.most - 1) x (read_whole y s d c w.number w.at w.left x (sym e ∙ z)) in
+        let at_ys : extent_at ys' (a + n) ≡ extent_of x = get_or-set_same ys (a + n) q no_extent (omega (arith, b.long, read_place m)) ∙ p in
+        let this : record_in ys' c (t.number + n) (a + n) ≡ x = rw (at_ys, ← b.number, ← k.0.number, ← k.0.core) in
+        let before : run_in ys' c t.number a n ≡ run_in ys c t.number a n = run_same ys ys' (a + n) (set_same ys (a + n) (a + n) q (omega arith)) c t.number a n (omega arith) in
+        let now : run_in ys' c t.number a (n + 1) ≡ run_in ys c t.number a n ++ (x ∷ []) =
+        run_more ys' c t.number a n ∙ ap₂ (λ (f g : List Committed). f ++ g) before (ap (λ (b : Committed). b ∷ []) this) in
+        let more : most - n ≡ suc (most - (n + 1)) = omega arith in
+        let hit : rest (most - n) w ≡ x ∷ rest (most - (n + 1)) (past s w x) =
+        ap (λ (i : ℕ). rest i w) more
+        ∙ records_hit y s d c w.number w.at w.left (most - (n + 1)) x (read_whole y s d c w.number w.at w.left x (sym e ∙ z)) in
         rw g
         (record {
           number = omega (arith, b.number);
           left = omega (arith, b.left, k.2);
-          short = b.short;
-          room = b.room;
           same =
-              ap (λ (f : List Committed). f ++ rest (past s w x)) now
-              ∙ append_assoc (run_in ys us c v.number a n) (x ∷ []) (rest (past s w x))
-              ∙ ap (λ (f : List Committed). run_in ys us c v.number a n ++ f) (sym hit)
+              ap (λ (f : List Committed). f ++ rest (most - (n + 1)) (past s w x)) now
+              ∙ append_assoc (run_in ys c t.number a n) (x ∷ []) (rest (most - (n + 1)) (past s w x))
+              ∙ ap (λ (f : List Committed). run_in ys c t.number a n ++ f) (sym hit)
               ∙ b.same;
-          extents = same_trans a xs ys ys' b.extents (set_same ys (a + n) q a (omega arith));
-          stamps = same_trans a zs us us' b.stamps (set_same us (a + n) x.stamp a (omega arith));
-          long_extents = length-set ys (a + n) q ∙ b.long_extents;
-          long_stamps = length-set us (a + n) x.stamp ∙ b.long_stamps;
+          extents = same_trans a xs ys ys' b.extents (set_same ys (a + n) a q (omega arith));
+          long = length-set ys (a + n) q ∙ b.long;
         })
 
   -- ---- the end
-  module _ (t : Tail) (most : ℕ) (v : Walk) (o : v ≡ walk_from s t most) (ys us : List ℕ) (w : Walk) (n : ℕ) (b : ReadTo v ys us w n) where
-    whole : rest v ≡ journal y s d c t most
-    unfolding walk_from journal
-    whole = rw o
-
-    first : v.number ≡ t.number
-    unfolding walk_from
-    first = rw o
-
-    ended : rest w ≡ [] → JournalRead y s d c t most a xs zs ys us n
+  module _ (l : InRange s) (ys : List Extent) (w : Walk) (n : ℕ) (b : ReadTo ys w n) where
+    ended : rest (most - n) w ≡ [] → JournalRead y s d c t most a xs ys n
     unfolding IsJournal
     ended h =
         record {
-          journal =
-              ap (λ (k : ℕ). run_in ys us c k a n) (sym first) ∙ sym (append-nil (run_in ys us c v.number a n)) ∙ (rw h at b.same) ∙ whole;
-          few = omega (arith, b.left, b.short);
+          journal = sym (append-nil (run_in ys c t.number a n)) ∙ (rw h at b.same);
+          few = omega (arith, b.left, l.short);
           extents = b.extents;
-          stamps = b.stamps;
-          long_extents = b.long_extents;
-          long_stamps = b.long_stamps;
         }
 
-    pub read_counted : w.most ≤ 0 → JournalRead y s d c t most a xs zs ys us n
+    pub read_counted : most ≤ n → n ≤ most → JournalRead y s d c t most a xs ys most
     unfolding records_from
-    read_counted h = let z : w.most ≡ 0 = omega arith in ended (rw (z, records_from))
+    read_counted h g =
+        let z : most - n ≡ 0 = omega arith in
+        let q : n ≡ most = omega arith in
+        subst (λ (m : ℕ). JournalRead y s d c t most a xs ys m) q (ended (rw (z, records_from)))
 
-    pub read_full : w.left < 2 → JournalRead y s d c t most a xs zs ys us n
-    read_full h = ended (records_miss y s d c w.number w.at w.left w.most (no_room y s d c w.number w.at w.left h))
+    pub read_full : w.left < 2 → JournalRead y s d c t most a xs ys n
+    read_full h = ended (records_miss y s d c w.number w.at w.left (most - n) (no_room y s d c w.number w.at w.left h))
 
-    pub read_end : (r : RecordRead) → r ≡ read_record y s d c w.number w.at w.left → found_by r ≡ Miss → JournalRead y s d c t most a xs zs ys us n
-    read_end r e h = ended (records_miss y s d c w.number w.at w.left w.most (sym (found_as y s d c w.number w.at w.left r e) ∙ h))
+    pub read_end : (r : Result Committed JournalEnd) → r ≡ read_record y s d c w.number w.at w.left → (x : JournalEnd) → r ≡ Err x
+        → JournalRead y s d c t most a xs ys n
+    unfolding found_by
+    read_end r e x h =
+        ended (records_miss y s d c w.number w.at w.left (most - n) (sym (found_as y s d c w.number w.at w.left r e) ∙ ap found_by h))
 
 -- ---- core by core
 total_set : (xs : List ℕ) (c x n : ℕ) → n ≤ c → total (λ (b : ℕ). get_or (set xs c x) b 0) (below n) ≡ total (λ (b : ℕ). get_or xs b 0) (below n)
@@ -201,21 +155,19 @@ total_set xs c x n h =
 
 module _ (y : CommitLayout) (s : Shape) (d : Bytes) (ts : List Tail) (most : List ℕ) where
   -- the journals of the cores below c, all records in the first n places
-  pub record AllRead (xs zs start count : List ℕ) (n c : ℕ) : Type 0 where
-    pub journals : (b : ℕ) → b < c → IsJournal y s d b (tail_for ts b) (get_or most b 0) xs zs (get_or start b 0) (get_or count b 0)
+  pub record AllRead (xs : List Extent) (start count : List ℕ) (n c : ℕ) : Type 0 where
+    pub journals : (b : ℕ) → b < c → IsJournal y s d b (tail_for ts b) (get_or most b 0) xs (get_or start b 0) (get_or count b 0)
     pub behind : (b : ℕ) → b < c → get_or start b 0 ≡ total (λ (i : ℕ). get_or count i 0) (below b)
     pub few : (b : ℕ) → b < c → get_or count b 0 ≤ 12
     pub within : (b : ℕ) → b < c → get_or start b 0 + get_or count b 0 ≤ n
     pub all : n ≡ total (λ (i : ℕ). get_or count i 0) (below c)
     pub cores : c ≤ s.cores
-    pub extents : length xs ≡ 96
-    pub stamps : length zs ≡ 96
     pub starts : length start ≡ 8
     pub counts : length count ≡ 8
 
-  pub all_none : (xs zs start count : List ℕ) → length xs ≡ 96 → length zs ≡ 96 → length start ≡ 8 → length count ≡ 8 → AllRead xs zs start count 0 0
+  pub all_none : (xs : List Extent) (start count : List ℕ) → length start ≡ 8 → length count ≡ 8 → AllRead xs start count 0 0
   unfolding total below
-  all_none xs zs start count p q f g =
+  all_none xs start count f g =
       record {
         journals = λ b h. absurd (omega arith);
         behind = λ b h. absurd (omega arith);
@@ -223,24 +175,22 @@ module _ (y : CommitLayout) (s : Shape) (d : Bytes) (ts : List Tail) (most : Lis
         within = λ b h. absurd (omega arith);
         all = refl;
         cores = omega arith;
-        extents = p;
-        stamps = q;
         starts = f;
         counts = g;
       }
 
-  module _ (l : InRange s) (xs zs start count : List ℕ) (n c : ℕ) (v : AllRead xs zs start count n c) where
+  module _ (l : InRange s) (xs : List Extent) (start count : List ℕ) (n c : ℕ) (v : AllRead xs start count n c) where
     all_low : n ≤ 12 * c
     all_low = omega (arith, v.all, total_few (λ (i : ℕ). get_or count i 0) c v.few)
 
     pub all_room : c < s.cores → n ≤ 84
     all_room h = omega (arith, all_low, l.few_cores)
 
-    module _ (h : c < s.cores) (t : Tail) (e : t ≡ tail_for ts c) (ys us : List ℕ) (m : ℕ) (r : JournalRead y s d c t (get_or most c 0) n xs zs ys us m) where
+    module _ (h : c < s.cores) (t : Tail) (e : t ≡ tail_for ts c) (ys : List Extent) (m : ℕ) (r : JournalRead y s d c t (get_or most c 0) n xs ys m) where
       pub all_sum : n + m < 256
       all_sum = omega (arith, all_room h, r.few)
 
-      pub all_more : AllRead ys us (set start c n) (set count c m) (n + m) (c + 1)
+      pub all_more : AllRead ys (set start c n) (set count c m) (n + m) (c + 1)
       unfolding IsJournal below
       all_more =
           let in_start : c < length start = omega (arith, v.starts, l.few_cores) in
@@ -254,7 +204,7 @@ module _ (y : CommitLayout) (s : Shape) (d : Bytes) (ts : List Tail) (most : Lis
                 λ b g.
                 elim (dec_lt b c) [
                   | yes lt ↦ rw (other_start b lt, other_count b lt)
-                      (run_same xs zs ys us n r.extents r.stamps b (tail_for ts b).number (get_or start b 0) (get_or count b 0) (v.within b lt) ∙ v.journals b lt)
+                      (run_same xs ys n r.extents b (tail_for ts b).number (get_or start b 0) (get_or count b 0) (v.within b lt) ∙ v.journals b lt)
                   | no ge ↦ let z : b ≡ c = omega arith in rw (z, at_start, at_count) (rw e at r.journal)
                 ];
             behind =
@@ -279,14 +229,12 @@ module _ (y : CommitLayout) (s : Shape) (d : Bytes) (ts : List Tail) (most : Lis
                 rw (add-one, below, total_last (λ (i : ℕ). get_or (set count c m) i 0) (below c) c, at_count, total_set count c m c (omega arith))
                 (ap (λ (i : ℕ). i + m) v.all);
             cores = omega arith;
-            extents = r.long_extents;
-            stamps = r.long_stamps;
             starts = length-set start c n ∙ v.starts;
             counts = length-set count c m ∙ v.counts;
           }
 
     module _ (h : s.cores ≤ c) where
-      pub all_reads : Reads y s d ts most xs zs start count
+      pub all_reads : Reads y s d ts most xs start count
       unfolding Behind
       all_reads =
           let z : c ≡ s.cores = omega (arith, v.cores) in
@@ -297,21 +245,21 @@ module _ (y : CommitLayout) (s : Shape) (d : Bytes) (ts : List Tail) (most : Lis
           }
 
       pub all_tested : RunsTested s d xs start count
-      all_tested = reads_tested y s d ts most xs zs start count all_reads l
+      all_tested = reads_tested y s d ts most xs start count all_reads l
 
 -- ---- the records read are the journals
 pub number_at : (ts : List Tail) (c : ℕ) → c < 8 → get_or (numbers_of ts) c 0 ≡ (tail_for ts c).number
 unfolding numbers_of
 number_at ts c h = get_or_map_below (λ (c : ℕ). (tail_for ts c).number) 8 c 0 h
 
-module _ (y : CommitLayout) (s : Shape) (d : Bytes) (ts : List Tail) (most xs zs start count : List ℕ) (r : Reads y s d ts most xs zs start count) where
-  pub reads_journals : InRange s → records_in s xs zs (numbers_of ts) start count ≡ journals y s d (tail_for ts) (λ (c : ℕ). get_or most c 0)
+module _ (y : CommitLayout) (s : Shape) (d : Bytes) (ts : List Tail) (most : List ℕ) (xs : List Extent) (start count : List ℕ) (r : Reads y s d ts most xs start count) where
+  pub reads_journals : InRange s → records_in s xs (numbers_of ts) start count ≡ journals y s d (tail_for ts) (λ (c : ℕ). get_or most c 0)
   unfolding records_in journals IsJournal
   reads_journals l =
-      flat_map_below (λ (c : ℕ). run_in xs zs c (get_or (numbers_of ts) c 0) (get_or start c 0) (get_or count c 0)) (λ (c : ℕ). journal y s d c (tail_for ts c) (get_or most c 0)) s.cores
-      (λ c h. ap (λ (k : ℕ). run_in xs zs c k (get_or start c 0) (get_or count c 0)) (number_at ts c (omega (arith, l.few_cores))) ∙ r.journals c h)
+      flat_map_below (λ (c : ℕ). run_in xs c (get_or (numbers_of ts) c 0) (get_or start c 0) (get_or count c 0)) (λ (c : ℕ). journal y s d c (tail_for ts c) (get_or most c 0)) s.cores
+      (λ c h. ap (λ (k : ℕ). run_in xs c k (get_or start c 0) (get_or count c 0)) (number_at ts c (omega (arith, l.few_cores))) ∙ r.journals c h)
 
   -- a core's count is that of its records
   pub reads_count : (c : ℕ) → c < s.cores → get_or count c 0 ≡ length (journal y s d c (tail_for ts c) (get_or most c 0))
   unfolding IsJournal
-  reads_count c h = sym (run_length xs zs c (tail_for ts c).number (get_or start c 0) (get_or count c 0)) ∙ ap length (r.journals c h)
+  reads_count c h = sym (run_length xs c (tail_for ts c).number (get_or start c 0) (get_or count c 0)) ∙ ap length (r.journals c h)

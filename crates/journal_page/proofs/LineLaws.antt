@@ -1,18 +1,24 @@
 -- Any line: digits and letters by their places, the columns of a field, the first field that has a column.
 use native.Mathlib.Nat.{pow-zero, pow-suc, pow-succ', div-one, div-div-eq-div-mul}
 use Rattle.model.proofs.Base.{ℕ, zero, suc, ◌+◌, ◌-◌, ◌/◌, ◌%◌, ◌^◌, ◌≤◌, ◌<◌, arith, dec_lt, add-one, ◌≡◌, refl, sym, ap, ◌∙◌, Bool, true, false}
-use Rattle.model.proofs.Base.{cond, ◌&&◌, List, [], ◌∷◌, length, get_or, get_or_at, length-map, list_get_or_append, eqb, ltb, leb}
-use Rattle.model.proofs.Base.{eqb-true, lt-ltb, le-ltb, ltb-true, le-leb, lt-leb, leb-true, below, select, Bytes}
+use Rattle.model.proofs.Base.{cond, ◌&&◌, List, [], ◌∷◌, length, get_or, get_or_at, length-map, list_get_or_append, ltb, leb}
+use Rattle.model.proofs.Base.{lt-ltb, le-ltb, ltb-true, le-leb, lt-leb, leb-true, below, Bytes}
 use Rattle.model.specs.Bytes.{bytes}
 use Rattle.model.specs.JournalPage.{space, line_feed, digit_at, numeral, covers, shown_at, byte_at, line_bytes, lay_number, laid}
 use Rattle.model.specs.JournalPage as page
-use Rattle.model.proofs.Lists.{cases, length_below, get_or_map_below, and_left, and_right}
+use Rattle.model.proofs.Lists.{length_below, get_or_map_below, and_left, and_right}
 use Rattle.model.proofs.Words.{length_bytes}
 use Rattle.journal_page.proofs.Numerals.{digit_blank, digit_left, digit_last}
 use Rattle.journal_page.proofs.PageLaws.{lay_done, lay_refused}
-use Rattle.layout.proofs.Loops.{Missed, missed_more, some_not, Filled, filled_all}
+use Rattle.layout.proofs.Loops.{Filled, filled_all}
+use Rattle.std.specs.Prelude.{Option, None, Some}
+use Rattle.model.proofs.Base.{drop}
+use lib.Seq.{drop-cons}
+use lib.ListN.{drop_of_length-le}
 use Rattle.journal_page.specs.declared.line.Field.{Field}
-use Rattle.journal_page.specs.Fields.{no_field, field_in, fields_in, field_byte}
+use Rattle.journal_page.specs.declared.line.Shown.{Shown}
+use Rattle.journal_page.specs.declared.line.Shown.TheVariants.{Number, Word}
+use Rattle.journal_page.specs.Fields.{new_field, field_in, fields_in, field_byte}
 
 -- ---- a number without its lowest places
 pub shift_none : (n b : ℕ) → n ≡ n / b ^ 0
@@ -57,17 +63,22 @@ letter (suc w) n i d h =
     ]
 
 -- ---- the columns of a field
+width_of : (a w : ℕ) (s : Shown) → length (field_in (new_field a w s)).text ≡ w
+unfolding field_in numeral
+width_of a w (Number n) = length-map (below w) _ ∙ length_below w
+width_of a w (Word n) = length_bytes w n
+
+first_of : (a w : ℕ) (s : Shown) → (field_in (new_field a w s)).first ≡ a
+unfolding field_in numeral
+first_of a w (Number n) = refl
+first_of a w (Word n) = refl
+
 module _ (f : Field) where
   width_is : length (field_in f).text ≡ f.width
-  unfolding field_in numeral
-  width_is =
-      cases f.word
-      (λ t. rw t (length_bytes f.width f.value))
-      (λ t. rw t (length-map (below f.width) _ ∙ length_below f.width))
+  width_is = width_of f.first f.width f.shown
 
   first_is : (field_in f).first ≡ f.first
-  unfolding field_in numeral
-  first_is = cases f.word (λ t. rw t) (λ t. rw t)
+  first_is = first_of f.first f.width f.shown
 
   module _ (k : ℕ) where
     columns : covers (field_in f) k ≡ (leb f.first k && ltb k (f.first + f.width))
@@ -105,65 +116,51 @@ module _ (f : Field) where
         same_place : place ≡ f.width - (k - f.first + 1)
         same_place = omega arith
 
-        pub shows_letter : f.word ≡ true → (r : ℕ) → r ≡ f.value / 256 ^ place % 256 → r ≡ field_byte (field_in f) k
+        pub shows_letter : (v : ℕ) → f.shown ≡ Word v → (r : ℕ) → r ≡ v / 256 ^ place % 256 → r ≡ field_byte (field_in f) k
         unfolding field_byte field_in
-        shows_letter t r q =
-            rw t
-            (q ∙ ap (λ (x : ℕ). f.value / 256 ^ x % 256) same_place
-            ∙ sym (letter f.width f.value (k - f.first) space (omega (arith, covered_from, covered_to))))
+        shows_letter v t r q =
+            q ∙ ap (λ (x : ℕ). v / 256 ^ x % 256) same_place
+            ∙ sym (letter f.width v (k - f.first) space (omega (arith, covered_from, covered_to)))
+            ∙ ap (λ (s : Shown). field_byte (field_in (new_field f.first f.width s)) k) (sym t)
 
-        pub shows_digit : f.word ≡ false → (r : ℕ) → r ≡ digit_at f.value place → r ≡ field_byte (field_in f) k
+        pub shows_digit : (v : ℕ) → f.shown ≡ Number v → (r : ℕ) → r ≡ digit_at v place → r ≡ field_byte (field_in f) k
         unfolding field_byte field_in numeral
-        shows_digit t r q =
-            rw t
-            (q ∙ ap (digit_at f.value) same_place
-            ∙ sym (get_or_map_below (λ (i : ℕ). digit_at f.value (f.width - (i + 1))) f.width (k - f.first) space (omega (arith, covered_from, covered_to))))
+        shows_digit v t r q =
+            q ∙ ap (digit_at v) same_place
+            ∙ sym (get_or_map_below (λ (i : ℕ). digit_at v (f.width - (i + 1))) f.width (k - f.first) space (omega (arith, covered_from, covered_to)))
+            ∙ ap (λ (s : Shown). field_byte (field_in (new_field f.first f.width s)) k) (sym t)
 
 -- ---- the first field that has a column
--- column k is one of the i-th field's
-unfoldable pub covers_at : List Field → ℕ → ℕ → Bool
-covers_at fs k i = covers (field_in (get_or fs i no_field)) k
+-- those from the i-th on show what all show
+pub record ShownFrom (fs : List (Option Field)) (k i : ℕ) : Type 0 where
+  pub same : shown_at (fields_in fs) k ≡ shown_at (fields_in (drop i fs)) k
 
-shown_cons : (f : Field) (fs : List Field) (k : ℕ)
-    → shown_at (fields_in (f ∷ fs)) k ≡ cond (covers (field_in f) k) (field_byte (field_in f) k) (shown_at (fields_in fs) k)
-unfolding fields_in select shown_at field_byte
-shown_cons f fs k =
-    cases (eqb f.width 0)
-    (λ t. rw (t, columns f k, empty (eqb-true _ _ t)))
-    (λ t. rw t)
-  where
-    empty : f.width ≡ 0 → (leb f.first k && ltb k (f.first + f.width)) ≡ false
-    empty z =
-        elim (dec_lt k f.first) [
-          | yes l ↦ rw (lt-leb f.first k l)
-          | no g ↦ (let p : f.first ≤ k = omega arith in rw (le-leb f.first k p) (le-ltb k (f.first + f.width) (omega arith)))
-        ]
+pub shown_start : (fs : List (Option Field)) (k : ℕ) → ShownFrom fs k 0
+shown_start fs k = record { same = refl }
 
-first_shown : (fs : List Field) (k i : ℕ) → i < length fs → ((j : ℕ) → j < i → covers_at fs k j ≡ false) → covers_at fs k i ≡ true
-    → field_byte (field_in (get_or fs i no_field)) k ≡ shown_at (fields_in fs) k
-unfolding covers_at
-first_shown [] k i l p h = absurd (omega arith)
-first_shown (f ∷ fs) k zero l p h = sym (shown_cons f fs k ∙ rw h)
-first_shown (f ∷ fs) k (suc i) l p h =
-    first_shown fs k i (omega arith) (λ j q. p (suc j) (omega arith)) h ∙ sym (shown_cons f fs k ∙ rw (p 0 (omega arith)))
+module _ (fs : List (Option Field)) (size : length fs ≡ 6) (k i : ℕ) (w : ShownFrom fs k i) where
+  module _ (l : i < 6) (o : Option Field) (e : get_or fs i None ≡ o) where
+    here : shown_at (fields_in fs) k ≡ shown_at (fields_in (o ∷ drop (suc i) fs)) k
+    here = w.same ∙ ap (λ (gs : List (Option Field)). shown_at (fields_in gs) k) (drop-cons fs i None (omega arith) ∙ ap (λ (p : Option Field). p ∷ drop (suc i) fs) e)
 
-none_shown : (fs : List Field) (k : ℕ) → ((j : ℕ) → j < length fs → covers_at fs k j ≡ false) → space ≡ shown_at (fields_in fs) k
-unfolding covers_at fields_in select shown_at
-none_shown [] k p = refl
-none_shown (f ∷ fs) k p = none_shown fs k (λ j q. p (suc j) (omega arith)) ∙ sym (shown_cons f fs k ∙ rw (p 0 (omega arith)))
+  pub shown_none : i < 6 → get_or fs i None ≡ None → ShownFrom fs k (i + 1)
+  unfolding fields_in
+  shown_none l e = record { same = rw add-one (here l None e) }
 
-module _ (fs : List Field) (l : length fs ≡ 6) (k i : ℕ) (w : Missed (covers_at fs k) 6 i) where
-  pub shown_hit : (r : Bool) → r ≡ covers (field_in (get_or fs i no_field)) k → r ≡ true → i < 6 → (x : ℕ)
-      → x ≡ field_byte (field_in (get_or fs i no_field)) k → x ≡ shown_at (fields_in fs) k
-  shown_hit r e h q x y =
-      y ∙ first_shown fs k i (omega arith) (λ j z. some_not (covers_at fs k) i w.fails j z) (unfold covers_at in sym e ∙ h)
+  module _ (l : i < 6) (f : Field) (e : get_or fs i None ≡ Some f) (r : Bool) (c : r ≡ covers (field_in f) k) where
+    first_here : shown_at (fields_in fs) k ≡ cond (covers (field_in f) k) (field_byte (field_in f) k) (shown_at (fields_in (drop (suc i) fs)) k)
+    unfolding fields_in shown_at field_byte
+    first_here = here l (Some f) e
 
-  pub shown_more : (r : Bool) → r ≡ covers (field_in (get_or fs i no_field)) k → r ≡ false → i < 6 → Missed (covers_at fs k) 6 (i + 1)
-  unfolding covers_at
-  shown_more r e h q = missed_more (covers_at fs k) 6 i r w e h q
+    pub shown_hit : r ≡ true → (x : ℕ) → x ≡ field_byte (field_in f) k → x ≡ shown_at (fields_in fs) k
+    shown_hit g x q = q ∙ sym (first_here ∙ rw (← c, g))
+
+    pub shown_missed : r ≡ false → ShownFrom fs k (i + 1)
+    shown_missed g = record { same = rw add-one (first_here ∙ rw (← c, g)) }
 
   pub shown_end : 6 ≤ i → space ≡ shown_at (fields_in fs) k
-  shown_end h = none_shown fs k (λ j z. some_not (covers_at fs k) i w.fails j (omega arith))
+  unfolding fields_in shown_at
+  shown_end h = sym (w.same ∙ ap (λ (gs : List (Option Field)). shown_at (fields_in gs) k) (drop_of_length-le fs {i = i} (omega arith)))
 
 -- ---- the byte at a column, and the line laid
 module _ (fs : List page.Field) where

@@ -1,6 +1,5 @@
--- The fields of a line as the code holds them: six, of which those of no columns are none; and the records of a disk, of which the n-th is shown.
-use Rattle.std.specs.Prelude.{ℕ, ◌+◌, ◌-◌, ◌≤◌, ◌<◌, ◌≡◌, List, [], ◌∷◌, map, Bool, false, cond, not, get_or, eqb}
-use Rattle.model.specs.Lists.{select}
+-- The fields of a line as the code holds them: six at most; and the records of a disk, of which the n-th is shown.
+use Rattle.std.specs.Prelude.{ℕ, ◌+◌, ◌-◌, ◌≤◌, ◌<◌, ◌≡◌, List, [], ◌∷◌, Bool, cond, get_or, Option, None, Some, MatchOption}
 use Rattle.model.specs.Bytes.{Bytes, bytes}
 use Rattle.model.specs.Layout.{cores_named}
 use Rattle.model.specs.Journal.{names_of}
@@ -14,24 +13,24 @@ use Rattle.model.specs.declared.Committed.{Committed}
 use Rattle.journal.specs.Records.{tail_for}
 use Rattle.valid.specs.Sets.{total_count}
 use Rattle.journal_page.specs.declared.line.Field.{Field}
+use Rattle.journal_page.specs.declared.line.Shown.{Shown}
+use Rattle.journal_page.specs.declared.line.Shown.TheVariants.{Number, Word}
 
 -- the lines of the longest page: the head, twelve transactions and an end of each of eight cores
 abbrev pub max_lines : ℕ
 max_lines = 105
 
-abbrev pub new_field : ℕ → ℕ → Bool → ℕ → Field
-new_field first width word value = record { first = first; width = width; word = word; value = value }
-
--- a place of the six that holds no field, and what stands past the end of an array
-abbrev pub no_field : Field
-no_field = new_field 0 0 false 0
+abbrev pub new_field : ℕ → ℕ → Shown → Field
+new_field first width shown = record { first = first; width = width; shown = shown }
 
 -- a number set right, or a word: the letters are the bytes of the value
 unfoldable pub field_in : Field → page.Field
-field_in f = cond f.word (word f.first (bytes f.width f.value)) (numeral f.first f.width f.value)
+field_in f = elim f.shown [ Number n ↦ numeral f.first f.width n | Word n ↦ word f.first (bytes f.width n) ]
 
-unfoldable pub fields_in : List Field → List page.Field
-fields_in fs = map field_in (select (λ (f : Field). not (eqb f.width 0)) fs)
+unfoldable pub fields_in : List (Option Field) → List page.Field
+fields_in [] = []
+fields_in (None ∷ fs) = fields_in fs
+fields_in (Some f ∷ fs) = field_in f ∷ fields_in fs
 
 -- what a field shows at one of its columns
 unfoldable pub field_byte : page.Field → ℕ → ℕ
@@ -58,8 +57,6 @@ refused_line n i = get_or (refusal_fields n ∷ []) i []
 unfoldable pub TailsOn : Shape → Bytes → List Tail → Type 0
 TailsOn s d ts = (c : ℕ) → c < s.cores → tail_for ts c ≡ tail_on d c
 
--- the n-th of them, from 0, is one of core c; where there are not so many, c is none of the cores
-pub record IsNth (s : Shape) (start count : List ℕ) (n c : ℕ) : Type 0 where
-  pub from : c < s.cores → get_or start c 0 ≤ n
-  pub to : c < s.cores → n < get_or start c 0 + get_or count c 0
-  pub past : s.cores ≤ c → total_count s count ≤ n
+-- the n-th of them, from 0, is one of core c; none where there are not so many
+abbrev pub IsNth : Shape → List ℕ → List ℕ → ℕ → Option ℕ → Type 0
+IsNth s start count n r = MatchOption r (total_count s count ≤ n) (λ c. (c < s.cores) × (get_or start c 0 ≤ n) × (n < get_or start c 0 + get_or count c 0))

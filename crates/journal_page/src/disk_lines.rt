@@ -1,50 +1,49 @@
 // The page of a disk, whose journals are read as recovery reads them: how many lines it has, and each of them.
 ghost use Rattle.std.specs.Prelude.{◌+◌, ◌-◌, ◌≤◌, ◌<◌, ◌≡◌, [], map, length, get_or, ltb};
 ghost use Rattle.model.proofs.Limits.{InRange};
-ghost use Rattle.model.specs.Limits.{disk_size};
 ghost use Rattle.model.specs.Lists.{below};
 ghost use Rattle.model.specs.Recovery.{layout_on};
+ghost use Rattle.model.specs.Refusal.{answer_of, number_of};
 ghost use Rattle.model.specs.JournalPage.{page_refusal, end_line, body_lines, page_of, line_at, lay_number, laid};
 ghost use Rattle.model.specs.Layout.{cores_named};
 ghost use Rattle.model.specs.Journal.{names_of};
-ghost use Rattle.journal.specs.Records.{record_in, SizedCommitted, ExtentTested};
+ghost use Rattle.journal.specs.Records.{extent_at, record_in, SizedCommitted, ExtentTested};
 ghost use Rattle.journal.specs.Walk.{Behind};
 ghost use Rattle.recovery.specs.Recovering.{Shaped, OnDisk};
 ghost use Rattle.journal_page.specs.Fields.{max_lines, fields_in, fields_of, refused_line, TailsOn, IsNth};
 
 use crate::fields::{end_fields, head_fields, no_fields, refusal_fields, transaction_fields};
 use crate::line::{Field, lay_line};
-use journal::{end_number, journal_end, journal_part, record_in};
-use model::{CommitLayout, Committed, Shape, Tail};
-use recovery::{Journals, disk_shape, master_refusal, read_disk};
+use journal::{Disk, Extent, Records, end_number};
+use model::{CommitLayout, Committed, Refusal, Shape, Tail};
+use recovery::{Journals, check_master, disk_shape, read_disk};
 use valid::{total_count, valid_runs};
 
 // The lines of the longest page: the head, twelve transactions and an end of each of eight cores.
 pub const MAX_LINES: usize = 105;
 
-// The number that recovery would refuse the disk with, 0 for none.
-fn page_refusal(disk: &[u8]) -> u8
-    ensures { result ≡ page_refusal disk.now }
+// What recovery would refuse the disk with.
+fn check_page(disk: &[u8]) -> Result<(), Refusal>
+    ensures { answer_of result ≡ page_refusal disk.now }
 {
     if disk.len() != Shape::DISK_SIZE {
-        return 1;
+        return Err(Refusal::WrongLength);
     }
-    master_refusal(disk)
+    check_master(disk)
 }
 
 // How many lines the page has.
 pub fn page_lines(disk: &[u8]) -> usize
     ensures { (result ≡ length (page_of disk.now)) × (result ≤ max_lines) }
 {
-    if page_refusal(disk) != 0 {
+    if check_page(disk).is_err() {
         return 1;
     }
     let s = disk_shape(disk);
-    let mut extents = [0u16; 96];
-    let mut stamps = [0u64; 96];
-    let all = read_disk(s, disk, &mut extents, &mut stamps);
-    let runs = all.runs;
-    let count = runs.count;
+    let whole = Disk::new(s, disk);
+    let mut extents = [Extent::NONE; 96];
+    let all = read_disk(whole, &mut extents);
+    let count = all.runs.count;
     1 + total_count(s, &count) + s.cores as usize
 }
 
@@ -55,132 +54,124 @@ fn is_before_end(first: u8, count: u8, n: usize) -> bool
     n < first as usize + count as usize
 }
 
-// The core of the n-th transaction, from 0: its records stand behind those of the cores before it. C where there are not so many.
-fn nth_core(s: Shape, start: [u8; 8], count: [u8; 8], n: usize) -> u8
+// The core of the n-th transaction, from 0: its records stand behind those of the cores before it. None where there are not so many.
+fn nth_core(s: Shape, start: [u8; 8], count: [u8; 8], n: usize) -> Option<u8>
     requires { InRange s × Behind s start count }
     ensures { IsNth s start count n result }
 {
-    let mut c: u8 = 0;
-    while c < s.cores {
+    for c in 0..s.cores {
         let i = c as usize;
         if is_before_end(start[i], count[i], n) {
-            return c;
+            return Some(c);
         }
-        c += 1;
     }
-    c
+    None
 }
 
 // How many cores a transaction names.
-fn cores_named(y: CommitLayout, s: Shape, disk: &[u8], e: Committed) -> u8
-    requires { InRange s × (length disk.now ≡ disk_size) × SizedCommitted s e }
-    ensures { result ≡ cores_named (names_of y s disk.now e) }
+fn cores_named(y: CommitLayout, disk: Disk, e: Committed) -> u8
+    requires { SizedCommitted disk.shape e }
+    ensures { result ≡ cores_named (names_of y disk.entry.shape disk.entry.bytes.now e) }
 {
     let at = e.position as usize + (e.count as usize + 1);
-    layout::cores_named(y, journal_part(s, disk, e.core, at))
+    layout::cores_named(y, disk.block(e.core, at))
 }
 
 // The fields of core c's transaction at place n: its records begin at the first one, and so many of them are in the valid set.
 fn record_line(
     y: CommitLayout,
-    s: Shape,
-    disk: &[u8],
-    extents: &[u16; 96],
-    stamps: &[u64; 96],
+    disk: Disk,
+    extents: &[Extent; 96],
     c: u8,
     t: Tail,
     first: u8,
     valid: u8,
     n: usize,
-) -> [Field; 6]
-    requires { InRange s × (length disk.now ≡ disk_size) × (c < s.cores) × (n < 96) × (first ≤ n)
-        × ExtentTested s disk.now c (get_or extents.now n 0) }
-    ensures { fields_in result ≡ fields_of y s disk.now (ltb (n - first) valid)
-        (record_in extents.now stamps.now c (t.number + (n - first)) n) }
+) -> [Option<Field>; 6]
+    requires { (c < disk.shape.cores) × (n < 96) × (first ≤ n)
+        × ExtentTested disk.shape disk.bytes.now c (extent_at extents.now n) }
+    ensures { fields_in result ≡ fields_of y disk.entry.shape disk.entry.bytes.now (ltb (n - first) valid)
+        (record_in extents.now c (t.number + (n - first)) n) }
 {
     let j = n - first as usize;
-    let e = record_in(extents, stamps, c, 0, n);
-    let named = cores_named(y, s, disk, e);
+    let e = extents[n].committed(c, 0);
+    let named = cores_named(y, disk, e);
     transaction_fields(e, t.number as u64 + j as u64, named, j < valid as usize)
 }
 
 // The fields of the end of core c's journal; none for a core that the disk has not.
-fn end_line(y: CommitLayout, s: Shape, disk: &[u8], tails: [Tail; 8], c: usize) -> [Field; 6]
-    requires { Shaped s disk.now × (y ≡ layout_on disk.now) × TailsOn s disk.now tails }
-    ensures { fields_in result ≡ get_or (map (end_line disk.now) (below s.cores)) c [] }
+fn end_line(y: CommitLayout, disk: Disk, tails: [Tail; 8], c: usize) -> [Option<Field>; 6]
+    requires { Shaped disk.shape disk.bytes.now × (y ≡ layout_on disk.bytes.now) × TailsOn disk.shape disk.bytes.now tails }
+    ensures { fields_in result ≡ get_or (map (end_line disk.entry.bytes.now) (below disk.entry.shape.cores)) c [] }
 {
-    if s.cores as usize <= c {
+    if disk.shape.cores as usize <= c {
         return no_fields();
     }
     let t = tails[c];
-    let read = journal_end(y, s, disk, c as u8, t);
+    let read = disk.journal_end(y, c as u8, t);
     let end = end_number(read);
     end_fields(c as u8, end)
 }
 
 // The fields of the n-th line behind the head, from 0, from all journals of the disk: the transactions, then the ends; none past the last.
-fn body_line(
-    s: Shape,
-    disk: &[u8],
-    extents: &[u16; 96],
-    stamps: &[u64; 96],
-    all: Journals,
-    n: usize,
-) -> [Field; 6]
-    requires { Shaped s disk.now
-        × OnDisk s disk.now all.layout all.tails extents.now stamps.now all.runs.start all.runs.count }
-    ensures { fields_in result ≡ get_or (body_lines disk.now) n [] }
+fn body_line(disk: Disk, extents: &[Extent; 96], all: Journals, n: usize) -> [Option<Field>; 6]
+    requires { Shaped disk.shape disk.bytes.now
+        × OnDisk disk.shape disk.bytes.now all.layout all.tails extents.now all.runs.start all.runs.count }
+    ensures { fields_in result ≡ get_or (body_lines disk.entry.bytes.now) n [] }
 {
     let y = all.layout;
     let tails = all.tails;
     let runs = all.runs;
+    let s = disk.shape;
     let start = runs.start;
     let count = runs.count;
-    let c = nth_core(s, start, count, n);
-    if s.cores <= c {
-        return end_line(y, s, disk, tails, n - total_count(s, &count));
-    }
-    let valid = valid_runs(y, s, disk, tails, extents, runs);
+    let Some(c) = nth_core(s, start, count, n) else {
+        return end_line(y, disk, tails, n - total_count(s, &count));
+    };
+    let records = Records {
+        disk,
+        extents,
+        runs,
+    };
+    let valid = valid_runs(y, tails, records);
     let i = c as usize;
     let kept = valid.count;
     let t = tails[i];
-    record_line(y, s, disk, extents, stamps, c, t, start[i], kept[i], n)
+    record_line(y, disk, extents, c, t, start[i], kept[i], n)
 }
 
 // The fields of the n-th line behind the head.
-fn nth_line(s: Shape, disk: &[u8], n: usize) -> [Field; 6]
-    requires { Shaped s disk.now }
-    ensures { fields_in result ≡ get_or (body_lines disk.now) n [] }
+fn nth_line(disk: Disk, n: usize) -> [Option<Field>; 6]
+    requires { Shaped disk.shape disk.bytes.now }
+    ensures { fields_in result ≡ get_or (body_lines disk.entry.bytes.now) n [] }
 {
-    let mut extents = [0u16; 96];
-    let mut stamps = [0u64; 96];
-    let all = read_disk(s, disk, &mut extents, &mut stamps);
-    body_line(s, disk, &extents, &stamps, all, n)
+    let mut extents = [Extent::NONE; 96];
+    let all = read_disk(disk, &mut extents);
+    body_line(disk, &extents, all, n)
 }
 
-// The fields of line i where recovery would refuse the disk with n: none past the first.
-fn refused_line(n: u8, i: usize) -> [Field; 6]
-    ensures { fields_in result ≡ refused_line n i }
+// The fields of line i where recovery would refuse the disk: none past the first.
+fn refused_line(e: Refusal, i: usize) -> [Option<Field>; 6]
+    ensures { fields_in result ≡ refused_line (number_of e) i }
 {
     if i == 0 {
-        return refusal_fields(n);
+        return refusal_fields(u8::from(e));
     }
     no_fields()
 }
 
 // The fields of line i.
-fn fields_of(disk: &[u8], i: usize) -> [Field; 6]
+fn fields_of(disk: &[u8], i: usize) -> [Option<Field>; 6]
     ensures { fields_in result ≡ line_at disk.now i }
 {
-    let n = page_refusal(disk);
-    if n != 0 {
-        return refused_line(n, i);
+    if let Err(e) = check_page(disk) {
+        return refused_line(e, i);
     }
     let s = disk_shape(disk);
     if i == 0 {
         return head_fields(s);
     }
-    nth_line(s, disk, i - 1)
+    nth_line(Disk::new(s, disk), i - 1)
 }
 
 // Line i of the page laid into the buffer. Any length but 65 bytes is answered with 1, and no byte is touched.

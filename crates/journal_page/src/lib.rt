@@ -7,5 +7,5 @@ mod line; // any line: the byte at each column
 mod page_text; // the whole page, line behind line
 
 pub use disk_lines::{MAX_LINES, page_line, page_lines};
-pub use line::{Field, LINE_SIZE, lay_line};
+pub use line::{Field, LINE_SIZE, Shown, lay_line};
 pub use page_text::lay_page;

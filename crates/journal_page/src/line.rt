@@ -3,14 +3,40 @@ ghost use Rattle.std.specs.Prelude.{◌+◌, ◌/◌, ◌%◌, ◌^◌, ◌≤�
 ghost use Rattle.model.specs.JournalPage.{digit_at, covers, shown_at, byte_at, lay_number, laid};
 ghost use Rattle.journal_page.specs.Fields.{field_in, fields_in, field_byte};
 
-// A field of a line: its first column, counted from 1, how many it has, and what stands there: a number set right, or a word whose
-// letters are the bytes of the value. A field of no columns is none.
+// What a field shows: a number set right, or a word, whose letters are the bytes of a number.
+#[derive(Clone, Copy)]
+pub enum Shown {
+    Number(u64),
+    Word(u64),
+}
+
+// A field of a line: its first column, counted from 1, how many it has, and what stands there.
 #[derive(Clone, Copy)]
 pub struct Field {
     pub first: u8,
     pub width: u8,
-    pub word: bool,
-    pub value: u64,
+    pub shown: Shown,
+}
+
+impl Field {
+    // Whether a column is one of the field's.
+    fn covers(&self, column: u8) -> bool
+        ensures { result ≡ covers (field_in self.now) column }
+    {
+        self.first <= column && column - self.first < self.width
+    }
+
+    // What the field shows at one of its columns.
+    fn byte_at(&self, column: u8) -> u8
+        requires { covers (field_in self.now) column ≡ true }
+        ensures { result ≡ field_byte (field_in self.now) column }
+    {
+        let place = self.width - 1 - (column - self.first);
+        match self.shown {
+            Shown::Number(value) => digit_at(value, place),
+            Shown::Word(letters) => letter_at(letters, place),
+        }
+    }
 }
 
 // The columns of a line; a line feed stands behind them.
@@ -27,10 +53,8 @@ fn shifted(n: u64, base: u64, places: u8) -> u64
     ensures { result ≡ n / base ^ places }
 {
     let mut left = n;
-    let mut i: u8 = 0;
-    while i < places {
-        left = left / base;
-        i += 1;
+    for _ in 0..places {
+        left /= base;
     }
     left
 }
@@ -47,10 +71,7 @@ fn digit_at(n: u64, place: u8) -> u8
     ensures { result ≡ digit_at n place }
 {
     let left = shifted(n, 10, place);
-    if place == 0 {
-        return digit(left);
-    }
-    if left == 0 {
+    if left == 0 && place != 0 {
         return SPACE;
     }
     digit(left)
@@ -64,45 +85,22 @@ fn letter_at(n: u64, place: u8) -> u8
     (left % 256) as u8
 }
 
-// Whether a column is one of the field's.
-fn is_covered(f: Field, column: u8) -> bool
-    ensures { result ≡ covers (field_in f) column }
-{
-    if column < f.first {
-        return false;
-    }
-    column - f.first < f.width
-}
-
-// What a field shows at one of its columns.
-fn field_byte(f: Field, column: u8) -> u8
-    requires { covers (field_in f) column ≡ true }
-    ensures { result ≡ field_byte (field_in f) column }
-{
-    let place = f.width - 1 - (column - f.first);
-    if f.word {
-        return letter_at(f.value, place);
-    }
-    digit_at(f.value, place)
-}
-
 // What the fields show at a column, a blank where none has it.
-fn shown_at(fields: [Field; 6], column: u8) -> u8
+fn shown_at(fields: [Option<Field>; 6], column: u8) -> u8
     ensures { result ≡ shown_at (fields_in fields) column }
 {
-    let mut i: usize = 0;
-    while i < 6 {
-        let f = fields[i];
-        if is_covered(f, column) {
-            return field_byte(f, column);
+    for field in fields {
+        if let Some(f) = field
+            && f.covers(column)
+        {
+            return f.byte_at(column);
         }
-        i += 1;
     }
     SPACE
 }
 
 // The byte at a column.
-fn byte_at(fields: [Field; 6], column: u8) -> u8
+fn byte_at(fields: [Option<Field>; 6], column: u8) -> u8
     ensures { result ≡ byte_at (fields_in fields) column }
 {
     if COLUMNS < column {
@@ -112,16 +110,14 @@ fn byte_at(fields: [Field; 6], column: u8) -> u8
 }
 
 // A line of these fields laid into the buffer, column by column. Any length but 65 bytes is answered with 1, and no byte is touched.
-pub fn lay_line(fields: [Field; 6], buffer: &mut [u8]) -> u8
+pub fn lay_line(fields: [Option<Field>; 6], buffer: &mut [u8]) -> u8
     ensures { (result ≡ lay_number buffer.old) × (buffer.new ≡ laid (fields_in fields) buffer.old) }
 {
     if buffer.len() != LINE_SIZE {
         return 1;
     }
-    let mut i: usize = 0;
-    while i < LINE_SIZE {
+    for i in 0..LINE_SIZE {
         buffer[i] = byte_at(fields, i as u8 + 1);
-        i += 1;
     }
     0
 }

@@ -6,4 +6,6 @@ pub mod Pairs
 pub mod Readers
 pub mod Narrow
 pub mod Counting
+pub mod Ranges
+pub mod Wholes
 pub mod DiskLaws

@@ -1,7 +1,7 @@
 -- What the readers answer is what the definitions ask: all pairs of a descriptor in range and distinct, the stamp of a commit of its
 -- two words, all that it names in range, in either layout.
 use Rattle.model.proofs.Base.{ℕ, zero, suc, ◌+◌, ◌*◌, ◌≤◌, ◌<◌, min, arith, ◌≡◌, refl, sym, ap, ap₂, ◌∙◌, Bool, true, false, false≢true, not, ◌&&◌, List}
-use Rattle.model.proofs.Base.{[], ◌∷◌, ◌++◌, map-append, eqb, leb, eq-eqb, ne_eqb, lt-ltb, le-ltb, le-leb, lt-leb, not-true, not-false, below, all, Bytes}
+use Rattle.model.proofs.Base.{[], ◌∷◌, ◌++◌, map-append, eqb, leb, lt-ltb, le-ltb, le-leb, lt-leb, not-true, not-false, below, all, Bytes}
 use native.Mathlib.Decide.{dec_lt}
 use borrow.Author.Tests.{eqb-true}
 use Rattle.model.specs.Bytes.{be4}
@@ -18,7 +18,7 @@ use Rattle.model.proofs.Named.{numbers_listable, listable_numbers}
 use Rattle.layout.specs.Loops.{every}
 use Rattle.layout.specs.Distinct.{tag_at, is_other, is_new}
 use Rattle.layout.specs.Named.{number_fits}
-use Rattle.layout.proofs.Loops.{every_none, every_map, every_step, every_no, Passed, passed_more, passed_end}
+use Rattle.layout.proofs.Loops.{every_none, every_map, every_step}
 
 -- ---- descriptor
 -- the blocks are distinct where each is none of those before it
@@ -79,19 +79,6 @@ module _ (s : Shape) (b : Bytes) (n : ℕ) (l : n ≡ block_count b) where
     bad_twice z q y =
         let w : q ≡ distinct (tags_in b (block_count b)) = y ∙ sym (distinct_every b n) ∙ ap (λ (k : ℕ). distinct (tags_in b k)) l in
         rw (le-ltb max_taken (block_count b) (omega arith), ← tags_same, not-false r z, w)
-
-module _ (b : Bytes) (i j x y : ℕ) (e : x ≡ (pair_at new_tag b 16 i).block) (q : y ≡ (pair_at new_tag b 16 j).block) where
-  pub new_no : y ≡ x → j < i → false ≡ is_new b i
-  unfolding is_new is_other
-  new_no h l = every_no (is_other b i) j i l (ap not (eq-eqb _ _ (sym q ∙ h ∙ e)))
-
-  pub new_more : (y ≡ x → ⊥) → Passed (is_other b i) i j → j < i → Passed (is_other b i) i (j + 1)
-  unfolding is_other
-  new_more h w l = passed_more (is_other b i) i j true w (sym (ap not (ne_eqb _ _ (λ z. h (q ∙ z ∙ sym e))))) refl l
-
-pub new_yes : (b : Bytes) (i j : ℕ) → Passed (is_other b i) i j → i ≤ j → true ≡ is_new b i
-unfolding is_new
-new_yes b i j w h = passed_end (is_other b i) i j w h
 
 -- ---- commit
 pub stamp_is : (b : Bytes) (x y : ℕ) → x ≡ be4 b 12 → y ≡ be4 b 16 → x * 4294967296 + y ≡ stamp_in b

@@ -4,3 +4,4 @@ pub mod Words
 pub mod Distinct
 pub mod Narrow
 pub mod Named
+pub mod Kinds

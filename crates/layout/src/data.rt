@@ -5,42 +5,27 @@ ghost use Rattle.model.specs.Layout.{flag_of, escaped, unescaped};
 ghost use Rattle.model.specs.Limits.{block_size};
 
 use crate::words::{MARK, get_word, put_word};
-use model::Shape;
+use model::{Block, Shape};
 
-// One block from another.
-pub fn copy_block(to: &mut [u8], from: &[u8])
-    requires { (length to.old ≡ block_size) × (length from.now ≡ block_size) }
-    ensures { to.new ≡ from.now }
+// Block k of a slice, lent.
+pub fn block_at(s: &[u8], k: usize) -> &Block
+    requires { block_size * k + block_size ≤ length s.now }
+    ensures { result.now ≡ block_at s.now k }
 {
-    let mut i: usize = 0;
-    while i < Shape::BLOCK_SIZE {
-        to[i] = from[i];
-        i += 1;
-    }
+    let start = Shape::BLOCK_SIZE * k;
+    s[start..start + Shape::BLOCK_SIZE].try_into().unwrap()
 }
 
 // Block k of a slice, as a value: two parts of one slice cannot be lent at once.
-pub fn load_block(s: &[u8], k: usize) -> [u8; Shape::BLOCK_SIZE]
+pub fn load_block(s: &[u8], k: usize) -> Block
     requires { block_size * k + block_size ≤ length s.now }
     ensures { result ≡ block_at s.now k }
 {
-    let mut image = [0u8; Shape::BLOCK_SIZE];
-    let start = Shape::BLOCK_SIZE * k;
-    let end = start + Shape::BLOCK_SIZE;
-    copy_block(&mut image, &s[start..end]);
-    image
-}
-
-// The block becomes the image.
-pub fn write_image(block: &mut [u8], image: [u8; Shape::BLOCK_SIZE])
-    requires { length block.old ≡ block_size }
-    ensures { block.new ≡ image }
-{
-    copy_block(block, &image);
+    *block_at(s, k)
 }
 
 // The image with another number as its first four bytes.
-fn with_first(image: [u8; Shape::BLOCK_SIZE], w: u32) -> [u8; Shape::BLOCK_SIZE]
+fn with_first(image: Block, w: u32) -> Block
     ensures { result ≡ bytes 4 w ++ drop 4 image }
 {
     let mut changed = image;
@@ -49,39 +34,38 @@ fn with_first(image: [u8; Shape::BLOCK_SIZE], w: u32) -> [u8; Shape::BLOCK_SIZE]
 }
 
 // Whether the image has to be escaped: 1 if it begins with the mark.
-pub fn flag_of(image: [u8; Shape::BLOCK_SIZE]) -> u8
+// stays: a number and no bool, since it is a word of the descriptor, and what is read back from there is one.
+pub fn flag_of(image: Block) -> u8
     ensures { result ≡ flag_of image }
 {
-    if get_word(&image, 0) == MARK {
-        return 1;
-    }
-    0
+    u8::from(get_word(&image, 0) == MARK)
 }
 
 // The image as the journal holds it: never beginning with the mark, so that no data is taken for a record.
-fn escape(image: [u8; Shape::BLOCK_SIZE]) -> [u8; Shape::BLOCK_SIZE]
+fn escape(image: Block) -> Block
     ensures { result ≡ escaped image }
 {
     if get_word(&image, 0) == MARK {
-        return with_first(image, 0);
+        with_first(image, 0)
+    } else {
+        image
     }
-    image
 }
 
 // The image that a block of the journal with this flag holds.
-pub fn unescape(flag: u32, image: [u8; Shape::BLOCK_SIZE]) -> [u8; Shape::BLOCK_SIZE]
+pub fn unescape(flag: u32, image: Block) -> Block
     ensures { result ≡ unescaped flag image }
 {
     if flag == 1 {
-        return with_first(image, MARK);
+        with_first(image, MARK)
+    } else {
+        image
     }
-    image
 }
 
 // A data block of the journal.
-pub fn write_data(block: &mut [u8], image: [u8; Shape::BLOCK_SIZE])
-    requires { length block.old ≡ block_size }
+pub fn write_data(block: &mut Block, image: Block)
     ensures { block.new ≡ escaped image }
 {
-    write_image(block, escape(image));
+    *block = escape(image);
 }

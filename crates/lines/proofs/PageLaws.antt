@@ -5,46 +5,31 @@ use native.Mathlib.Omega.{arith}
 use mathlib.Core.Path.{◌≡◌, refl, sym, ap, ◌∙◌}
 use mathlib.Core.Bool.{Bool, true, false, cond, not}
 use mathlib.Core.List.{List, [], ◌∷◌, ◌++◌, map}
-use lib.ListN.{length, take, drop, get_or, set}
-use lib.Seq.{take-suc, take_all, take-take, take-set-le, take-suc-set}
+use lib.ListN.{length, take, drop, set}
+use lib.Seq.{take-take, take-suc-set}
 use lib.Dec.{eqb}
-use borrow.Author.Tests.{eqb-true}
+use borrow.Author.Tests.{eqb-true, eqb-false, eq-eqb, ne_eqb}
+use Rattle.std.specs.List.{list_any}
 use Rattle.model.specs.Lists.{below, all, select}
 use Rattle.model.specs.Bytes.{Bytes, part, block_at}
 use Rattle.model.specs.Shape.{home_block}
 use Rattle.model.specs.declared.Card.{Card}
 use Rattle.cells.specs.Cells.{world}
 use Rattle.model.specs.Printing.{is_zero, home_count, home_lines}
-use Rattle.model.proofs.Lists.{cases, all_append, all_mem, get_or_mem}
+use Rattle.model.proofs.Lists.{cases}
 use Rattle.lines.specs.Lines.{is_printed, home_line}
 
 -- ---- all zero
-module _ (b : Bytes) where
-  pub zero_none : all (eqb 0) (take 0 b) ≡ true
-  unfolding all
-  zero_none = refl
-
-  module _ (i : ℕ) (h : i < length b) where
-    pub zero_more : all (eqb 0) (take i b) ≡ true → get_or b i 0 ≡ 0 → all (eqb 0) (take (i + 1) b) ≡ true
-    unfolding all
-    zero_more q e = rw (add-one, take-suc b i 0 h, all_append, q, e)
-
-    pub zero_missed : (get_or b i 0 ≡ 0 → ⊥) → false ≡ is_zero b
-    unfolding is_zero
-    zero_missed n = cases (all (eqb 0) b) (λ q. absurd (n (sym (eqb-true 0 (get_or b i 0) (all_mem (eqb 0) b q (get_or_mem b i 0 h)))))) (λ q. sym q)
-
-  pub zero_all : (i : ℕ) → all (eqb 0) (take i b) ≡ true → length b ≤ i → true ≡ is_zero b
-  unfolding is_zero
-  zero_all i q h = sym (ap (all (eqb 0)) (sym (take_all i b h)) ∙ q)
+-- a byte is not zero, or all are
+pub some_not_zero : (b : Bytes) → list_any (λ (x : ℕ). not (eqb x 0)) b ≡ not (is_zero b)
+unfolding is_zero all
+some_not_zero [] = refl
+some_not_zero (x ∷ xs) =
+    cases (eqb 0 x)
+    (λ h. rw (h, eq-eqb x 0 (sym (eqb-true 0 x h))) (some_not_zero xs))
+    (λ h. rw (h, ne_eqb x 0 (λ e. eqb-false 0 x h (sym e))))
 
 -- ---- which home blocks have a line
-module _ (n : ℕ) (g : Bool) where
-  pub grown_more : g ≡ true → n + 1 ≡ cond g (n + 1) n
-  grown_more h = rw h
-
-  pub grown_same : g ≡ false → n ≡ cond g (n + 1) n
-  grown_same h = rw h
-
 -- the bytes of home block b are a part of the disk
 block_part : (d : Bytes) (b n : ℕ) → n ≤ 128 → take n (drop (128 * b + 128) d) ≡ take n (block_at d (home_block b))
 unfolding block_at part
@@ -55,12 +40,13 @@ block_part d b n h =
 pub first_part : (d : Bytes) (b : ℕ) → take (128 * b + 128 + 8 - (128 * b + 128)) (drop (128 * b + 128) d) ≡ take 8 (block_at d (home_block b))
 first_part d b = let e : 128 * b + 128 + 8 - (128 * b + 128) ≡ 8 = omega arith in ap (λ (n : ℕ). take n (drop (128 * b + 128) d)) e ∙ block_part d b 8 (omega arith)
 
-pub printed_part : (d : Bytes) (b : ℕ) (z : Bool) → z ≡ is_zero (take (128 * b + 128 + 128 - (128 * b + 128)) (drop (128 * b + 128) d)) → not z ≡ is_printed d b
+pub printed_part : (d : Bytes) (b : ℕ) (g : Bool) → g ≡ list_any (λ (x : ℕ). not (eqb x 0)) (take (128 * b + 128 + 128 - (128 * b + 128)) (drop (128 * b + 128) d))
+    → g ≡ is_printed d b
 unfolding is_printed block_at part
-printed_part d b z h =
+printed_part d b g h =
     let e : 128 * b + 128 + 128 - (128 * b + 128) ≡ 128 = omega arith in
     let f : 128 * b + 128 ≡ 128 * (1 + b) = omega arith in
-    ap not (h ∙ ap (λ (n : ℕ). is_zero (take n (drop (128 * b + 128) d))) e ∙ ap (λ (i : ℕ). is_zero (take 128 (drop i d))) f)
+    h ∙ some_not_zero _ ∙ ap (λ (n : ℕ). not (is_zero (take n (drop (128 * b + 128) d)))) e ∙ ap (λ (i : ℕ). not (is_zero (take 128 (drop i d)))) f
 
 -- ---- those below a count
 into_both : (g : Bool) (x : ℕ) (xs ys : List ℕ) → x ∷ cond g xs ys ≡ cond g (x ∷ xs) (x ∷ ys)
@@ -75,23 +61,21 @@ select_last p (x ∷ xs) b =
     (λ h. rw h (ap (λ (l : List ℕ). x ∷ l) (select_last p xs b) ∙ into_both (p b) x (select p xs ++ (b ∷ [])) (select p xs)))
     (λ h. rw h (select_last p xs b))
 
-put_last : (l : Bytes) (n b : ℕ) → n < length l → (g : Bool) → take (cond g (n + 1) n) (set l n b) ≡ cond g (take n l ++ (b ∷ [])) (take n l)
-put_last l n b h true = rw add-one (take-suc-set l n b h)
-put_last l n b h false = take-set-le n l n b (omega arith)
-
 module _ (d : Bytes) where
-  pub printed_none : (l : Bytes) → take 0 l ≡ select (is_printed d) (below 0)
+  pub printed_none : [] ≡ select (is_printed d) (below 0)
   unfolding select below
-  printed_none l = refl
+  printed_none = refl
 
-  -- the number is put at n, and there is one more where it has a line
-  pub printed_more : (l : Bytes) (n b : ℕ) → take n l ≡ select (is_printed d) (below b) → n < length l → (g : Bool) → g ≡ is_printed d b → (k : ℕ) → k ≡ cond g (n + 1) n
-      → take k (set l n b) ≡ select (is_printed d) (below (b + 1))
-  unfolding below
-  printed_more l n b q h g e k f =
-      let r : select (is_printed d) (below (b + 1)) ≡ cond g (select (is_printed d) (below b) ++ (b ∷ [])) (select (is_printed d) (below b)) =
-      rw (add-one, e) (select_last (is_printed d) (below b) b) in
-      ap (λ (i : ℕ). take i (set l n b)) f ∙ put_last l n b h g ∙ ap (λ (z : List ℕ). cond g (z ++ (b ∷ [])) z) q ∙ sym r
+  module _ (l : Bytes) (n b : ℕ) (q : take n l ≡ select (is_printed d) (below b)) where
+    -- its number is put at n
+    pub printed_more : n < length l → is_printed d b ≡ true → take (n + 1) (set l n b) ≡ select (is_printed d) (below (b + 1))
+    unfolding below
+    printed_more h e = rw (add-one n, add-one b, select_last (is_printed d) (below b) b, e, ← q) (take-suc-set l n b h)
+
+    -- it has no line
+    pub printed_same : is_printed d b ≡ false → take n l ≡ select (is_printed d) (below (b + 1))
+    unfolding below
+    printed_same e = rw (add-one, select_last (is_printed d) (below b) b, e) q
 
   pub printed_end : (l : Bytes) (n b : ℕ) → take n l ≡ select (is_printed d) (below b) → (c : ℕ) → b ≤ c → c ≤ b → take n l ≡ select (is_printed d) (below c)
   printed_end l n b q c h k = let e : b ≡ c = omega arith in q ∙ ap (λ (i : ℕ). select (is_printed d) (below i)) e
@@ -101,7 +85,3 @@ module _ (d : Bytes) where
       → map (home_line d) (take n l) ≡ home_lines (world x d m)
   unfolding home_lines is_printed
   printed_lines l n c q x m e = ap (map (home_line d)) (q ∙ ap (λ (i : ℕ). select (is_printed d) (below i)) e)
-
-pub grown_few : (n b k : ℕ) (g : Bool) → k ≡ cond g (n + 1) n → n ≤ b → k ≤ b + 1
-grown_few n b k true e h = omega arith
-grown_few n b k false e h = omega arith

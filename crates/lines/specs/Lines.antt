@@ -1,5 +1,5 @@
 -- What the program does with one command of a tape, and which home blocks have a line.
-use Rattle.std.specs.Prelude.{ℕ, ◌+◌, ◌≤◌, ◌<◌, min, ◌≡◌, List, Bool, true, false, not, length, take}
+use Rattle.std.specs.Prelude.{ℕ, ◌+◌, ◌≤◌, ◌<◌, min, ◌≡◌, List, Bool, true, false, not, Some, None, length, take}
 use Rattle.model.specs.Bytes.{Bytes, block_at}
 use Rattle.model.specs.Shape.{home_block}
 use Rattle.model.specs.Tape.{Read, whole, unknown, early, next_offset}
@@ -27,11 +27,11 @@ pub record Turned (t : Bytes) (at : ℕ) (v : List ℕ) (d m : Bytes) (u : List 
   pub performs : Performs (step_at t at (world_in v d m)) v u e k r.answer
   pub line : stores_in v + (step_at t at (world_in v d m)).stores < 18446744073709551616
       → line_in r ≡ line_of (point_at step_at t at (stores_in v) (world_in v d m))
-  pub goes_on : r.more ≡ true → length t < 18446744073709551616 → r.next ≡ next_offset t at
-  pub ends : r.more ≡ false → length t ≤ next_offset t at
+  pub goes_on : (n : ℕ) → r.next ≡ Some n → length t < 18446744073709551616 → n ≡ next_offset t at
+  pub ends : r.next ≡ None → length t ≤ next_offset t at
 
 -- the offset behind a command, up to the largest number of eight bytes
-unfoldable pub advanced : ℕ → ℕ → ℕ
+abbrev pub advanced : ℕ → ℕ → ℕ
 advanced at n = min (at + n) 18446744073709551615
 
 -- home block b is not all zero

@@ -3,39 +3,24 @@ ghost use Rattle.std.specs.Prelude.{◌≤◌, ◌≡◌, length};
 ghost use Rattle.model.specs.Bytes.{Bytes};
 ghost use Rattle.model.specs.Tape.{read_at, next_offset};
 ghost use Rattle.model.proofs.OwnBytes.{own_bytes};
-ghost use Rattle.lines.specs.Lines.{is_whole, advanced, Turned};
+ghost use Rattle.lines.specs.Lines.{is_whole, Turned};
 
-// The four numbers of a command's line; the offset of the next command, how many of the bytes read this one took, and whether the
-// tape goes on.
+// The four numbers of a command's line; how many of the bytes read it took; and, if the tape goes on, the offset of the next command.
 #[derive(Clone, Copy)]
 pub struct Turn {
     pub offset: u64,
     pub byte: u32,
     pub answer: u32,
     pub stores: u64,
-    pub next: u64,
     pub taken: usize,
-    pub more: bool,
+    pub next: Option<u64>,
 }
 
 // Whether a known command begins here and all its operands are there: after any other the tape ends.
 fn is_whole(read: &[u8]) -> bool
     ensures { result ≡ is_whole (read_at read.now 0) }
 {
-    if operands::is_unknown(read, 0) {
-        return false;
-    }
-    !operands::ends_early(read, 0)
-}
-
-// The offset behind a command; no input is long enough to reach the largest.
-fn advanced(offset: u64, size: u64) -> u64
-    ensures { result ≡ advanced offset size }
-{
-    if u64::MAX - offset < size {
-        return u64::MAX;
-    }
-    offset + size
+    !operands::is_unknown(read, 0) && !operands::ends_early(read, 0)
 }
 
 // The command at an offset of the tape, whose bytes come first in what was read.
@@ -54,14 +39,14 @@ pub fn run_command(
     let more = is_whole(read);
     let done = firmware::session::command(w, read, 0, disk, memory);
     let stores = firmware::session::stores(w);
-    let next = advanced(offset, done.next);
+    // no input is long enough to reach the largest offset
+    let behind = offset.saturating_add(done.next);
     Turn {
         offset,
         byte: done.byte,
         answer: done.number,
         stores,
-        next,
         taken: done.next as usize,
-        more,
+        next: more.then_some(behind),
     }
 }

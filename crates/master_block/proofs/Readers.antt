@@ -2,13 +2,12 @@
 -- tail decides. A tail of a core that the disk has is the one in the block, and its position fits a byte.
 use Rattle.model.proofs.Base.{ℕ, ◌+◌, ◌*◌, ◌≤◌, ◌<◌, arith, ◌≡◌, refl, sym, ap, ◌∙◌, Bool, true, false, cond, ◌&&◌, eqb, eq-eqb}
 use Rattle.model.proofs.Base.{lt-ltb, le-ltb, below, all, Bytes}
+use Rattle.std.specs.Prelude.{Option, Some, None}
 use Rattle.model.specs.Bytes.{be4}
 use Rattle.model.specs.Shape.{in_range, checked}
 use Rattle.model.specs.Card.{new_tail}
 use Rattle.model.specs.Layout.{mark, shape_in, tail_in, is_tail, has_master_fields, is_master, pair_at}
 use Rattle.model.specs.declared.Shape.{Shape}
-use Rattle.model.specs.declared.Checked.{Checked}
-use Rattle.model.specs.declared.Checked.TheVariants.{Fits, OutOfRange}
 use Rattle.model.proofs.Lists.{and_both, and_left, and_right, all_mem, below_mem}
 use Rattle.model.proofs.Limits.{InRange, range_test}
 use Rattle.model.proofs.Encoding.{tail_limits}
@@ -18,7 +17,7 @@ use Rattle.layout.proofs.Tests.{fails, and_last, and_here, and_before}
 use Rattle.master_block.specs.Tails.{tail_or_none}
 
 -- ---- shape and test
-pub shape_read : (m : Bytes) (r : Checked) (c b j : ℕ) → r ≡ checked c b j → c ≡ be4 m 12 → b ≡ be4 m 16 → j ≡ be4 m 20 → r ≡ checked (be4 m 12) (be4 m 16) (be4 m 20)
+pub shape_read : (m : Bytes) (r : Option Shape) (c b j : ℕ) → r ≡ checked c b j → c ≡ be4 m 12 → b ≡ be4 m 16 → j ≡ be4 m 20 → r ≡ checked (be4 m 12) (be4 m 16) (be4 m 20)
 shape_read m r c b j e p q h = e ∙ rw (p, q, h)
 
 is_marked : Bytes → Bool
@@ -27,23 +26,23 @@ is_marked m = eqb (be4 m 0) mark && eqb (be4 m 4) 4
 all_tails : Bytes → Bool
 all_tails m = let s = shape_in m in all (λ (c : ℕ). is_tail s (tail_in m c)) (below s.cores)
 
-no_shape : (t : Bool) (s : Shape) → cond t (Fits s) OutOfRange ≡ OutOfRange → t ≡ false
+no_shape : (t : Bool) (s : Shape) → cond t (Some s) None ≡ None → t ≡ false
 no_shape true s e = let z : ◌≡◌ {A = ℕ} 0 1 = cc in absurd (omega arith)
 no_shape false s e = refl
 
-a_shape : (t : Bool) (s z : Shape) → cond t (Fits s) OutOfRange ≡ Fits z → (t ≡ true) × (s ≡ z)
+a_shape : (t : Bool) (s z : Shape) → cond t (Some s) None ≡ Some z → (t ≡ true) × (s ≡ z)
 a_shape true s z e = (refl, (cc))
 a_shape false s z e = let y : ◌≡◌ {A = ℕ} 0 1 = cc in absurd (omega arith)
 
-module _ (m : Bytes) (f : Checked) (e : f ≡ checked (be4 m 12) (be4 m 16) (be4 m 20)) where
-  pub master_no : f ≡ OutOfRange → false ≡ has_master_fields m
+module _ (m : Bytes) (f : Option Shape) (e : f ≡ checked (be4 m 12) (be4 m 16) (be4 m 20)) where
+  pub master_no : f ≡ None → false ≡ has_master_fields m
   unfolding has_master_fields checked shape_in is_marked all_tails
   master_no h =
       let t = in_range (be4 m 12) (be4 m 16) (be4 m 20) in
       let n : t ≡ false = no_shape t (shape_in m) (sym e ∙ h) in
       fails (has_master_fields m) (and_before (is_marked m && t) (all_tails m) (and_here (is_marked m) t n))
 
-  module _ (s : Shape) (h : f ≡ Fits s) where
+  module _ (s : Shape) (h : f ≡ Some s) where
     in_range_lem : (in_range (be4 m 12) (be4 m 16) (be4 m 20) ≡ true) × (shape_in m ≡ s)
     unfolding checked shape_in
     in_range_lem = a_shape _ _ s (sym e ∙ h)
@@ -52,12 +51,12 @@ module _ (m : Bytes) (f : Checked) (e : f ≡ checked (be4 m 12) (be4 m 16) (be4
     unfolding shape_in
     master_few = let r : InRange (shape_in m) = range_test (shape_in m) in_range_lem.0 in omega (arith, r.few_cores, ap (λ (z : Shape). z.cores) in_range_lem.1)
 
-    pub master_yes : (x y : ℕ) (r : Bool) → x ≡ be4 m 0 → x ≡ mark → y ≡ be4 m 4 → y ≡ 4 → r ≡ every s.cores (λ (c : ℕ). is_tail s (tail_in m c)) → r ≡ has_master_fields m
+    pub master_yes : (x y k : ℕ) (r : Bool) → x ≡ be4 m 0 → x ≡ mark → y ≡ be4 m 4 → y ≡ k → k ≡ 4 → r ≡ every s.cores (λ (c : ℕ). is_tail s (tail_in m c)) → r ≡ has_master_fields m
     unfolding has_master_fields shape_in every
-    master_yes x y r p a q b t =
+    master_yes x y k r p a q b o t =
         t
         ∙ rw (← in_range_lem.1)
-        (and_last _ _ _ (and_both (and_both (eq-eqb (be4 m 0) mark (sym p ∙ a)) (eq-eqb (be4 m 4) 4 (sym q ∙ b))) in_range_lem.0) refl)
+        (and_last _ _ _ (and_both (and_both (eq-eqb (be4 m 0) mark (sym p ∙ a)) (eq-eqb (be4 m 4) 4 (sym q ∙ b ∙ o))) in_range_lem.0) refl)
 
 -- ---- tails
 module _ (m : Bytes) (c x : ℕ) (e : x ≡ be4 m 12) where

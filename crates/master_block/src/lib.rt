@@ -8,14 +8,14 @@ ghost use Rattle.model.specs.Lists.{below};
 ghost use Rattle.model.specs.Shape.{checked, clamped};
 ghost use Rattle.model.specs.Card.{new_tail};
 ghost use Rattle.model.specs.Layout.{master_block, layout_in, tail_in, is_tail, has_master_fields, is_master};
-ghost use Rattle.model.specs.Limits.{block_size, disk_size};
+ghost use Rattle.model.specs.Limits.{disk_size};
 ghost use Rattle.model.specs.declared.CommitLayout.TheVariants.{Numbers};
 ghost use Rattle.layout.specs.Words.{pair_word};
 ghost use Rattle.layout.specs.Loops.{every};
 ghost use Rattle.master_block.specs.Tails.{master_from, tail_or_none};
 
-use layout::{MARK, get_word, pair_word, put_word};
-use model::{Checked, CommitLayout, Shape, Tail};
+use layout::{BlockKind, MARK, get_word, pair_word, write_words};
+use model::{Block, CommitLayout, Shape, Tail};
 
 fn tail_word(t: Tail, k: usize) -> u32
     ensures { result ≡ pair_word t.number t.position k }
@@ -31,7 +31,7 @@ fn master_word(s: Shape, tails: [Tail; 8], i: usize) -> u32
     if i < 6 {
         let head = [
             MARK,
-            4,
+            BlockKind::Master.number(),
             1,
             near.cores as u32,
             near.blocks as u32,
@@ -48,16 +48,10 @@ fn master_word(s: Shape, tails: [Tail; 8], i: usize) -> u32
 }
 
 // The master of this shape and these tails, for commits with numbers.
-fn write_master(block: &mut [u8], s: Shape, tails: [Tail; 8])
-    requires { length block.old ≡ block_size }
+fn write_master(block: &mut Block, s: Shape, tails: [Tail; 8])
     ensures { block.new ≡ master_block Numbers (clamped s) (λ (c : ℕ). get_or tails c (new_tail 0 0)) }
 {
-    let mut i: usize = 0;
-    while i < 32 {
-        let w = master_word(s, tails, i);
-        put_word(block, 4 * i, w);
-        i += 1;
-    }
+    write_words(block, |i| master_word(s, tails, i));
 }
 
 // The master stored, with these tails.
@@ -65,12 +59,11 @@ pub fn store_master(s: Shape, tails: [Tail; 8], disk: &mut [u8])
     requires { length disk.old ≡ disk_size }
     ensures { disk.new ≡ store disk.old 0 (master_block Numbers (clamped s) (λ (c : ℕ). get_or tails c (new_tail 0 0))) }
 {
-    write_master(&mut disk[0..Shape::BLOCK_SIZE], s, tails);
+    write_master(disk.first_chunk_mut().unwrap(), s, tails);
 }
 
 // The shape that a master gives, if its numbers are within the limits.
-pub fn read_shape(block: &[u8]) -> Checked
-    requires { length block.now ≡ block_size }
+pub fn read_shape(block: &Block) -> Option<Shape>
     ensures { result ≡ checked (be4 block.now 12) (be4 block.now 16) (be4 block.now 20) }
 {
     let cores = get_word(block, 12);
@@ -80,77 +73,56 @@ pub fn read_shape(block: &[u8]) -> Checked
 }
 
 // The tail of core c is within its limits.
-fn is_tail(s: Shape, block: &[u8], c: usize) -> bool
-    requires { (length block.now ≡ block_size) × (c < 8) }
+fn is_tail(s: Shape, block: &Block, c: usize) -> bool
+    requires { c < 8 }
     ensures { result ≡ is_tail s (tail_in block.now c) }
 {
     let number = get_word(block, 24 + 8 * c);
-    if number < 1 {
-        return false;
-    }
-    if Shape::MAX_NUMBER + 1 < number {
-        return false;
-    }
-    get_word(block, 24 + 8 * c + 4) < s.journal as u32
+    1 <= number
+        && number <= Shape::MAX_NUMBER + 1
+        && get_word(block, 24 + 8 * c + 4) < s.journal as u32
 }
 
-fn are_tails(s: Shape, block: &[u8], cores: usize) -> bool
-    requires { (length block.now ≡ block_size) × (cores ≤ 8) }
+fn are_tails(s: Shape, block: &Block, cores: usize) -> bool
+    requires { cores ≤ 8 }
     ensures { result ≡ every cores (λ (c : ℕ). is_tail s (tail_in block.now c)) }
 {
-    let mut c: usize = 0;
-    while c < cores {
-        if !is_tail(s, block, c) {
-            return false;
-        }
-        c += 1;
-    }
-    true
+    (0..cores).all(|c| is_tail(s, block, c))
 }
 
 // The block has all that a master had before request (d).
-fn has_master_fields(block: &[u8]) -> bool
-    requires { length block.now ≡ block_size }
+fn has_master_fields(block: &Block) -> bool
     ensures { result ≡ has_master_fields block.now }
 {
-    if get_word(block, 0) != MARK {
+    if get_word(block, 0) != MARK || get_word(block, 4) != BlockKind::Master.number() {
         return false;
     }
-    if get_word(block, 4) != 4 {
-        return false;
-    }
-    let shape = read_shape(block);
-    let Checked::Fits(s) = shape else {
+    let Some(s) = read_shape(block) else {
         return false;
     };
     are_tails(s, block, s.cores as usize)
 }
 
 // The block is a master that RECOVER takes: with it, bytes 8 to 11 hold 0 or 1.
-pub fn is_master(block: &[u8]) -> bool
-    requires { length block.now ≡ block_size }
+pub fn is_master(block: &Block) -> bool
     ensures { result ≡ is_master block.now }
 {
-    if !has_master_fields(block) {
-        return false;
-    }
-    get_word(block, 8) <= 1
+    has_master_fields(block) && get_word(block, 8) <= 1
 }
 
 // How the commits of the master's disk name transactions.
-pub fn read_layout(block: &[u8]) -> CommitLayout
-    requires { length block.now ≡ block_size }
+pub fn read_layout(block: &Block) -> CommitLayout
     ensures { result ≡ layout_in block.now }
 {
-    if get_word(block, 8) == 0 {
-        return CommitLayout::Lists;
+    match get_word(block, 8) {
+        0 => CommitLayout::Lists,
+        _ => CommitLayout::Numbers,
     }
-    CommitLayout::Numbers
 }
 
 // The tail of core c, and the empty one for a core that the disk has not.
-fn read_tail(block: &[u8], c: usize) -> Tail
-    requires { (length block.now ≡ block_size) × (is_master block.now ≡ true) × (c < 8) }
+fn read_tail(block: &Block, c: usize) -> Tail
+    requires { (is_master block.now ≡ true) × (c < 8) }
     ensures { result ≡ tail_or_none block.now c }
 {
     if get_word(block, 12) <= c as u32 {
@@ -168,18 +140,16 @@ fn read_tail(block: &[u8], c: usize) -> Tail
 }
 
 // The tails of a master: recovery reads them only after it took the block for one, so each position fits a byte.
-pub fn read_tails(block: &[u8]) -> [Tail; 8]
-    requires { (length block.now ≡ block_size) × (is_master block.now ≡ true) }
+pub fn read_tails(block: &Block) -> [Tail; 8]
+    requires { is_master block.now ≡ true }
     ensures { result ≡ map (tail_or_none block.now) (below 8) }
 {
     let mut tails = [Tail {
         number: 0,
         position: 0,
     }; 8];
-    let mut c: usize = 0;
-    while c < 8 {
+    for c in 0..8 {
         tails[c] = read_tail(block, c);
-        c += 1;
     }
     tails
 }

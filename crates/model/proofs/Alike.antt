@@ -11,8 +11,7 @@ use Rattle.model.specs.declared.Shape.{Shape}
 use Rattle.model.specs.declared.Tail.{Tail}
 use Rattle.model.specs.declared.CommitLayout.{CommitLayout}
 use Rattle.model.specs.declared.Committed.{Committed}
-use Rattle.model.specs.declared.Found.{Found}
-use Rattle.model.specs.declared.Found.TheVariants.{Whole, Miss}
+use Rattle.std.specs.Prelude.{Option, Some, None}
 use Rattle.model.proofs.Limits.{InRange}
 use Rattle.model.proofs.Lists.{flat_map_same, flat_map_below}
 use Rattle.model.proofs.Store.{block_other}
@@ -94,12 +93,12 @@ module _ {s : Shape} {d e : Bytes} (same : SameJournals s d e) where
       ap (λ (bs : List ℕ). select (λ (b : ℕ). any (eqb b) bs) (below s.blocks))
       (flat_map_same (blocks_of s d) (blocks_of s e) es (λ x m. blocks_alike x (low x m)))
 
-  pub newest_alike : (b : ℕ) (best : Found) (es : List Committed) → InJournals s es → newest s d b best es ≡ newest s e b best es
+  pub newest_alike : (b : ℕ) (best : Option Committed) (es : List Committed) → InJournals s es → newest s d b best es ≡ newest s e b best es
   unfolding newest
   newest_alike b best [] low = refl
   newest_alike b best (x ∷ es) low =
       rw (took_alike x (low x (mem_head refl)) b)
-      (newest_alike b (cond (took s e b x) (Whole (later best x)) best) es (λ y m. low y (mem_tail m)))
+      (newest_alike b (cond (took s e b x) (Some (later best x)) best) es (λ y m. low y (mem_tail m)))
 
 -- ---- whole disks
 pub record ReadAlike (d e : Bytes) : Type 0 where
@@ -140,13 +139,13 @@ module _ {d e : Bytes} (a : ReadAlike d e) where
       ∙ ap (blocks_held (shape_on d) e) (valid_on_alike o y)
       ∙ ap (λ (s : Shape). blocks_held s e (valid_on_by o y e)) shapes_alike
 
-  pub newest_on_alike : (o : Order) (y : CommitLayout) (b : ℕ) → newest (shape_on d) d b Miss (valid_on_by o y d) ≡ newest (shape_on e) e b Miss (valid_on_by o y e)
+  pub newest_on_alike : (o : Order) (y : CommitLayout) (b : ℕ) → newest (shape_on d) d b None (valid_on_by o y d) ≡ newest (shape_on e) e b None (valid_on_by o y e)
   newest_on_alike o y b =
-      newest_alike a.journals b Miss (valid_on_by o y d) (valid_cores o y d)
-      ∙ ap (newest (shape_on d) e b Miss) (valid_on_alike o y)
-      ∙ ap (λ (s : Shape). newest s e b Miss (valid_on_by o y e)) shapes_alike
+      newest_alike a.journals b None (valid_on_by o y d) (valid_cores o y d)
+      ∙ ap (newest (shape_on d) e b None) (valid_on_alike o y)
+      ∙ ap (λ (s : Shape). newest s e b None (valid_on_by o y e)) shapes_alike
 
-  pub found_alike : (b : ℕ) (x : Committed) → x.core < (shape_on d).cores → image_found d b (Whole x) ≡ image_found e b (Whole x)
+  pub found_alike : (b : ℕ) (x : Committed) → x.core < (shape_on d).cores → image_found d b (Some x) ≡ image_found e b (Some x)
   unfolding image_found
   found_alike b x h =
       image_alike a.journals x h (place_of b (blocks_of (shape_on d) d x))

@@ -6,7 +6,7 @@ use mathlib.Core.List.{List, [], ◌∷◌, map}
 use lib.ListN.{length, get_or, set, replicate, length-set, length-map, length-replicate}
 use lib.Dec.{leb}
 use Rattle.model.specs.Lists.{below, Each}
-use Rattle.model.specs.Card.{new_tail, no_holder, no_transaction, taken, with_block, with_name, fresh_core, with_running, fresh_card, empty_card, down_card, core_of, holder_of, with_core}
+use Rattle.model.specs.Card.{new_tail, no_holder, no_transaction, taken, with_block, with_name, fresh_core, with_running, fresh_card, empty_card, down_card, core_of, holder_of, with_core, holder_name}
 use Rattle.model.specs.Valid.{Order}
 use Rattle.model.specs.Command.{World}
 use Rattle.model.specs.Format.{formatted}
@@ -108,7 +108,7 @@ written_arrays : (x : Card) → Arrays x → (c b : ℕ) → Arrays (written_car
 unfolding written_card
 written_arrays x a c b =
     let r = rule_for x c b in
-    let u = (holder_of x b).name.core in
+    let u = (holder_name (holder_of x b)).core in
     let x₁ = cond (is_named_back r) (with_core x u (with_running (core_of x u) (with_name (core_of x u).running (writer_name x c)))) x in
     let a₁ : Arrays x₁ =
     of_cond Arrays (is_named_back r)

@@ -7,15 +7,15 @@ use Rattle.model.specs.Limits.{max_taken, max_number}
 use Rattle.model.specs.Card.{new_name}
 use Rattle.model.specs.Layout.{Tag, new_tag, has_head, pair_at, pairs_in, block_count, tags_in, distinct, is_tag, is_commit, stamp_in, name_count, number_named, names_in, few_names, is_listable}
 use Rattle.model.specs.Journal.{journal_at, record_at, records_from, journal}
-use Rattle.model.specs.JournalEnds.{lacks_descriptor, has_bad_field, read_record, record_answer, end_from, journal_end}
+use Rattle.model.specs.JournalEnds.{lacks_descriptor, has_bad_field, read_record, end_number, record_answer, end_from, journal_end}
 use Rattle.model.specs.declared.Shape.{Shape}
 use Rattle.model.specs.declared.Tail.{Tail}
 use Rattle.model.specs.declared.CommitLayout.{CommitLayout}
 use Rattle.model.specs.declared.CommitLayout.TheVariants.{Lists, Numbers}
 use Rattle.model.specs.declared.Committed.{Committed}
-use Rattle.model.specs.declared.Found.TheVariants.{Miss}
-use Rattle.model.specs.declared.RecordRead.{RecordRead}
-use Rattle.model.specs.declared.RecordRead.TheVariants.{Read, NoDescriptor, BadDescriptor, TooFewBlocks, NoCommit}
+use Rattle.std.specs.Prelude.{None, Result, Ok, Err}
+use Rattle.model.specs.declared.JournalEnd.{JournalEnd}
+use Rattle.model.specs.declared.JournalEnd.TheVariants.{NoDescriptor, BadDescriptor, TooFewBlocks, NoCommit}
 use Rattle.model.proofs.Lists.{cases, and_both, and_left, and_right, or_left, or_right, or_cases, or_none, all_mem, mem_all, get_or_mem, mem_get_or, length_below, get_or_map_below}
 use Rattle.model.proofs.Named.{numbers_listable, listable_numbers}
 use Rattle.model.proofs.Journal.{records_miss, records_hit, record_known, no_room, found_cases}
@@ -202,12 +202,12 @@ module _ (y : CommitLayout) (s : Shape) (d : Bytes) (c k p left : ℕ) where
   last = journal_at s d c (p + (count + 1))
 
   -- 'The first that fits is answered.': its sentence, and none before it
-  unfoldable pub Reason : RecordRead → Type 0
-  Reason NoDescriptor = Lacks k left first
-  Reason BadDescriptor = (Lacks k left first → ⊥) × (FieldsFit s first → ⊥)
-  Reason TooFewBlocks = (Lacks k left first → ⊥) × FieldsFit s first × (left < count + 2)
-  Reason NoCommit = (Lacks k left first → ⊥) × FieldsFit s first × (count + 2 ≤ left) × (CommitFits y s k last → ⊥)
-  Reason (Read e) =
+  unfoldable pub Reason : Result Committed JournalEnd → Type 0
+  Reason (Err NoDescriptor) = Lacks k left first
+  Reason (Err BadDescriptor) = (Lacks k left first → ⊥) × (FieldsFit s first → ⊥)
+  Reason (Err TooFewBlocks) = (Lacks k left first → ⊥) × FieldsFit s first × (left < count + 2)
+  Reason (Err NoCommit) = (Lacks k left first → ⊥) × FieldsFit s first × (count + 2 ≤ left) × (CommitFits y s k last → ⊥)
+  Reason (Ok e) =
       (Lacks k left first → ⊥) × FieldsFit s first × (count + 2 ≤ left) × CommitFits y s k last
       × (record { core = c; number = k; position = p; count = count; stamp = stamp_in last } ≡ e)
 
@@ -232,48 +232,49 @@ module _ (y : CommitLayout) (s : Shape) (d : Bytes) (c k p left : ℕ) where
       (λ w. rw (h, g, m, w) (lacks_none h, fields_say s first g, ltb-false left (count + 2) m, commit_says y s k last w, refl))
       (λ w. rw (h, g, m, w) (lacks_none h, fields_say s first g, ltb-false left (count + 2) m, λ f. true≢false (sym (commit_asks y s k last f) ∙ w))))))
 
-  pub answered : (r : RecordRead) → Reason r → read_record y s d c k p left ≡ r
+  pub answered : (r : Result Committed JournalEnd) → Reason r → read_record y s d c k p left ≡ r
   unfolding read_record Reason
-  answered NoDescriptor h = rw (lacks_asks k left first h)
-  answered BadDescriptor h =
+  answered (Err NoDescriptor) h = rw (lacks_asks k left first h)
+  answered (Err BadDescriptor) h =
       let g : has_bad_field s first ≡ true = cases (has_bad_field s first) (λ t. t) (λ f. absurd (h.1 (fields_say s first f))) in
       rw (none_lacks h.0, g)
-  answered TooFewBlocks h = rw (none_lacks h.0, fields_ask s first h.1, lt-ltb left (count + 2) h.2)
-  answered NoCommit h =
+  answered (Err TooFewBlocks) h = rw (none_lacks h.0, fields_ask s first h.1, lt-ltb left (count + 2) h.2)
+  answered (Err NoCommit) h =
       let w : is_commit y s k last ≡ false = cases (is_commit y s k last) (λ t. absurd (h.3 (commit_says y s k last t))) (λ f. f) in
       rw (none_lacks h.0, fields_ask s first h.1, le-ltb left (count + 2) h.2, w)
-  answered (Read e) h =
-      rw (none_lacks h.0, fields_ask s first h.1, le-ltb left (count + 2) h.2, commit_asks y s k last h.3) (ap Read h.4)
+  answered (Ok e) h =
+      rw (none_lacks h.0, fields_ask s first h.1, le-ltb left (count + 2) h.2, commit_asks y s k last h.3) (ap Ok h.4)
 
 -- ---- the end of a journal
 -- records read one after another from a place, then an end: the answer where none is read
-unfoldable pub ReadTo : CommitLayout → Shape → Bytes → ℕ → ℕ → ℕ → ℕ → List Committed → RecordRead → Type 0
+unfoldable pub ReadTo : CommitLayout → Shape → Bytes → ℕ → ℕ → ℕ → ℕ → List Committed → Result Committed JournalEnd → Type 0
 ReadTo y s d c k p left [] r = (read_record y s d c k p left ≡ r) × (1 ≤ (record_answer r).0)
 ReadTo y s d c k p left (e ∷ es) r =
-    (read_record y s d c k p left ≡ Read e) × ReadTo y s d c (k + 1) ((p + (e.count + 2)) % s.journal) (left - (e.count + 2)) es r
+    (read_record y s d c k p left ≡ Ok e) × ReadTo y s d c (k + 1) ((p + (e.count + 2)) % s.journal) (left - (e.count + 2)) es r
 
-is_end : (r : RecordRead) → found_by r ≡ Miss → 1 ≤ (record_answer r).0
+end_numbered : (x : JournalEnd) → (1 ≤ end_number x) × (end_number x ≤ 4)
+unfolding end_number
+end_numbered NoDescriptor = (omega arith, omega arith)
+end_numbered BadDescriptor = (omega arith, omega arith)
+end_numbered TooFewBlocks = (omega arith, omega arith)
+end_numbered NoCommit = (omega arith, omega arith)
+
+is_end : (r : Result Committed JournalEnd) → found_by r ≡ None → 1 ≤ (record_answer r).0
 unfolding found_by record_answer
-is_end (Read e) h = let z : ◌≡◌ {A = ℕ} 0 1 = cc in absurd (omega arith)
-is_end NoDescriptor h = omega arith
-is_end BadDescriptor h = omega arith
-is_end TooFewBlocks h = omega arith
-is_end NoCommit h = omega arith
+is_end (Ok e) h = cc
+is_end (Err x) h = (end_numbered x).0
 
-no_fifth : (r : RecordRead) → (record_answer r).0 ≤ 4
+no_fifth : (r : Result Committed JournalEnd) → (record_answer r).0 ≤ 4
 unfolding record_answer
-no_fifth (Read e) = omega arith
-no_fifth NoDescriptor = omega arith
-no_fifth BadDescriptor = omega arith
-no_fifth TooFewBlocks = omega arith
-no_fifth NoCommit = omega arith
+no_fifth (Ok e) = omega arith
+no_fifth (Err x) = (end_numbered x).1
 
-not_record : (r : RecordRead) (e : Committed) → r ≡ Read e → 1 ≤ (record_answer r).0 → ⊥
+not_record : (r : Result Committed JournalEnd) (e : Committed) → r ≡ Ok e → 1 ≤ (record_answer r).0 → ⊥
 unfolding record_answer
-not_record r e h l = let z : (record_answer r).0 ≡ 0 = ap (λ (x : RecordRead). (record_answer x).0) h in omega arith
+not_record r e h l = let z : (record_answer r).0 ≡ 0 = ap (λ (x : Result Committed JournalEnd). (record_answer x).0) h in omega arith
 
 module _ (y : CommitLayout) (s : Shape) (d : Bytes) (c : ℕ) where
-  ended : (k p left : ℕ) → record_at y s d c k p left ≡ Miss → ReadTo y s d c k p left [] (read_record y s d c k p left)
+  ended : (k p left : ℕ) → record_at y s d c k p left ≡ None → ReadTo y s d c k p left [] (read_record y s d c k p left)
   unfolding ReadTo
   ended k p left h = (refl, is_end (read_record y s d c k p left) (same_found y s d c k p left ∙ h))
 
@@ -297,7 +298,7 @@ module _ (y : CommitLayout) (s : Shape) (d : Bytes) (c : ℕ) where
   unfolding journal journal_end
   journal_ends t = reads_to s.journal t.number t.position s.journal (omega arith)
 
-  some_end : (k p left : ℕ) (es : List Committed) (r : RecordRead) → ReadTo y s d c k p left es r → 1 ≤ (record_answer r).0
+  some_end : (k p left : ℕ) (es : List Committed) (r : Result Committed JournalEnd) → ReadTo y s d c k p left es r → 1 ≤ (record_answer r).0
   unfolding ReadTo
   some_end k p left [] r h = h.1
   some_end k p left (e ∷ es) r h = some_end (k + 1) ((p + (e.count + 2)) % s.journal) (left - (e.count + 2)) es r h.1
@@ -307,13 +308,13 @@ module _ (y : CommitLayout) (s : Shape) (d : Bytes) (c : ℕ) where
   end_known t = (some_end _ _ _ _ _ (journal_ends t), no_fifth (journal_end y s d c t))
 
   -- there is no other reading
-  pub read_once : (k p left : ℕ) (es fs : List Committed) (q r : RecordRead) → ReadTo y s d c k p left es q → ReadTo y s d c k p left fs r → (es ≡ fs) × (q ≡ r)
+  pub read_once : (k p left : ℕ) (es fs : List Committed) (q r : Result Committed JournalEnd) → ReadTo y s d c k p left es q → ReadTo y s d c k p left fs r → (es ≡ fs) × (q ≡ r)
   unfolding ReadTo
   read_once k p left [] [] q r a b = (refl, sym a.0 ∙ b.0)
   read_once k p left [] (f ∷ fs) q r a b = absurd (not_record q f (sym a.0 ∙ b.0) a.1)
   read_once k p left (e ∷ es) [] q r a b = absurd (not_record r e (sym b.0 ∙ a.0) b.1)
   read_once k p left (e ∷ es) (f ∷ fs) q r a b =
-      let z : Read e ≡ Read f = sym a.0 ∙ b.0 in
+      let z : Ok e ≡ Ok f = sym a.0 ∙ b.0 in
       let y : e ≡ f = cc in
       let w = read_once (k + 1) ((p + (e.count + 2)) % s.journal) (left - (e.count + 2)) es fs q r a.1 (rw (← y) at b.1) in
       (ap₂ ◌∷◌ y w.0, w.1)

@@ -21,8 +21,7 @@ use Rattle.model.specs.declared.Shape.{Shape}
 use Rattle.model.specs.declared.CommitLayout.{CommitLayout}
 use Rattle.model.specs.declared.CommitLayout.TheVariants.{Numbers}
 use Rattle.model.specs.declared.Committed.{Committed}
-use Rattle.model.specs.declared.Found.{Found}
-use Rattle.model.specs.declared.Found.TheVariants.{Whole, Miss}
+use Rattle.std.specs.Prelude.{Option, Some, None}
 use Rattle.model.specs.Lists.{Each}
 use Rattle.model.specs.Limits.{max_number}
 use Rattle.model.proofs.Lists.{cases, and_left, and_right, each_append, each_get_or}
@@ -200,7 +199,7 @@ as_read c p k hs stamp = record { core = c; number = k; position = p; count = le
 
 module _ {s : Shape} {d : Bytes} {c p k : ℕ} {hs : List Tag} {stamp : ℕ} {named : ℕ → ℕ} {images : List Bytes} (g : Encodable s k hs stamp named)
     (st : Stands s d c p k hs stamp named images) where
-  pub record_read : (left : ℕ) → length hs + 2 ≤ left → record_at Numbers s d c k p left ≡ Whole (as_read c p k hs stamp)
+  pub record_read : (left : ℕ) → length hs + 2 ≤ left → record_at Numbers s d c k p left ≡ Some (as_read c p k hs stamp)
   unfolding record_at
   record_read left h =
       simp (st.descriptor, descriptor_count g, st.commit, descriptor_read g, le-leb (length hs + 2) left h, commit_read g, commit_stamp g)
@@ -222,18 +221,18 @@ module _ {s : Shape} {d : Bytes} {c p k : ℕ} {hs : List Tag} {stamp : ℕ} {na
 
 -- ---- a step of the reading
 module _ (y : CommitLayout) (s : Shape) (d : Bytes) (c k p left : ℕ) where
-  pub records_miss : (most : ℕ) → record_at y s d c k p left ≡ Miss → records_from most y s d c k p left ≡ []
+  pub records_miss : (most : ℕ) → record_at y s d c k p left ≡ None → records_from most y s d c k p left ≡ []
   unfolding records_from
   records_miss zero h = refl
   records_miss (suc most) h = rw (h, records_from)
 
-  pub records_hit : (most : ℕ) (e : Committed) → record_at y s d c k p left ≡ Whole e
+  pub records_hit : (most : ℕ) (e : Committed) → record_at y s d c k p left ≡ Some e
       → records_from (suc most) y s d c k p left ≡ e ∷ records_from most y s d c (k + 1) ((p + (e.count + 2)) % s.journal) (left - (e.count + 2))
   unfolding records_from
   records_hit most e h = rw (h, records_from)
 
   -- a commit that is not its own: a torn record, or a stale one
-  pub miss_commit : is_commit y s k (journal_at s d c (p + (block_count (journal_at s d c p) + 1))) ≡ false → record_at y s d c k p left ≡ Miss
+  pub miss_commit : is_commit y s k (journal_at s d c (p + (block_count (journal_at s d c p) + 1))) ≡ false → record_at y s d c k p left ≡ None
   unfolding record_at
   miss_commit h = rw (h, and-false) refl
 
@@ -257,12 +256,12 @@ pub descriptor_number : (s : Shape) (k : ℕ) (b : Bytes) → is_descriptor s k 
 unfolding is_descriptor
 descriptor_number s k b h = leb-true k max_number (and_right (has_head 1 k b) _ (and_left _ _ (and_left _ _ (and_left _ _ h))))
 
-pub found_cases : {A : Type 0} (r : Found) → (r ≡ Miss → A) → ((e : Committed) → r ≡ Whole e → A) → A
-found_cases (Whole e) f g = g e refl
-found_cases Miss f g = f refl
+pub found_cases : {A : Type 0} (r : Option Committed) → (r ≡ None → A) → ((e : Committed) → r ≡ Some e → A) → A
+found_cases (Some e) f g = g e refl
+found_cases None f g = f refl
 
 module _ (y : CommitLayout) (s : Shape) (d : Bytes) (c : ℕ) where
-  pub record_known : (k p left : ℕ) (e : Committed) → record_at y s d c k p left ≡ Whole e → KnownRecord y s d c k e × (e.position ≡ p) × (e.count + 2 ≤ left)
+  pub record_known : (k p left : ℕ) (e : Committed) → record_at y s d c k p left ≡ Some e → KnownRecord y s d c k e × (e.position ≡ p) × (e.count + 2 ≤ left)
   unfolding record_at
   record_known k p left e h =
       let b = journal_at s d c p in
@@ -275,8 +274,8 @@ module _ (y : CommitLayout) (s : Shape) (d : Bytes) (c : ℕ) where
       let dl = and_left (is_descriptor s k b && leb (n + 2) left) (is_commit y s k f) a in
       let ed = and_left (is_descriptor s k b) (leb (n + 2) left) dl in
       let ec = and_right (is_descriptor s k b && leb (n + 2) left) (is_commit y s k f) a in
-      let w : cond t (Whole x) Miss ≡ Whole x = rw a in
-      let q : Whole x ≡ Whole e = sym w ∙ h in
+      let w : cond t (Some x) None ≡ Some x = rw a in
+      let q : Some x ≡ Some e = sym w ∙ h in
       let same : x ≡ e = cc in
       let size : n + 2 ≤ left = leb-true (n + 2) left (and_right (is_descriptor s k b) (leb (n + 2) left) dl) in
       let known : KnownRecord y s d c k x =
@@ -291,13 +290,13 @@ module _ (y : CommitLayout) (s : Shape) (d : Bytes) (c : ℕ) where
       } in
       subst (λ (r : Committed). KnownRecord y s d c k r × (r.position ≡ p) × (r.count + 2 ≤ left)) same (known, refl, size))
       (λ a.
-      let w : cond t (Whole x) Miss ≡ Miss = rw a in
-      let q : Whole e ≡ Miss = sym h ∙ w in
+      let w : cond t (Some x) None ≡ None = rw a in
+      let q : Some e ≡ None = sym h ∙ w in
       let z : ◌≡◌ {A = ℕ} 0 1 = cc in
       absurd (omega arith))
 
   -- a record has two blocks or more
-  pub no_room : (k p left : ℕ) → left < 2 → record_at y s d c k p left ≡ Miss
+  pub no_room : (k p left : ℕ) → left < 2 → record_at y s d c k p left ≡ None
   no_room k p left h = found_cases (record_at y s d c k p left) (λ m. m) (λ e w. absurd (omega (arith, (record_known k p left e w).2)))
 
   -- every record read is a whole one, their numbers follow one another, and they stand at positions below J

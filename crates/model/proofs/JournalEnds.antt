@@ -1,4 +1,4 @@
--- The reader with four ends finds what the reading was defined by before: a record exactly where `record_at` is `Whole`, and the same one.
+-- The reader with four ends finds what the reading was defined by before: a record exactly where `record_at` is `Some`, and the same one.
 use Rattle.model.proofs.Base.{ℕ, zero, suc, ◌+◌, ◌-◌, ◌%◌, ◌≤◌, arith, dec_lt, ◌≡◌, refl, sym, ap, ◌∙◌, Bool, true, false, cond, not}
 use Rattle.model.proofs.Base.{◌&&◌, ◌||◌, eqb, ltb, leb, eqb-true, lt-leb, le-leb, lt-ltb, le-ltb, all, Bytes}
 use mathlib.Core.Bool.{and-false}
@@ -9,37 +9,27 @@ use Rattle.model.specs.JournalEnds.{lacks_descriptor, has_bad_field, read_record
 use Rattle.model.specs.declared.Shape.{Shape}
 use Rattle.model.specs.declared.CommitLayout.{CommitLayout}
 use Rattle.model.specs.declared.Committed.{Committed}
-use Rattle.model.specs.declared.Found.{Found}
-use Rattle.model.specs.declared.Found.TheVariants.{Whole, Miss}
-use Rattle.model.specs.declared.RecordRead.{RecordRead}
-use Rattle.model.specs.declared.RecordRead.TheVariants.{Read, NoDescriptor, BadDescriptor, TooFewBlocks, NoCommit}
+use Rattle.std.specs.Prelude.{Option, Some, None, Result, Ok, Err}
+use Rattle.model.specs.declared.JournalEnd.{JournalEnd}
+use Rattle.model.specs.declared.JournalEnd.TheVariants.{NoDescriptor, BadDescriptor, TooFewBlocks, NoCommit}
 
 -- ---- the same records
 -- what an answer finds: the record, or none whatever the end
-unfoldable pub found_by : RecordRead → Found
-found_by (Read e) = Whole e
-found_by NoDescriptor = Miss
-found_by BadDescriptor = Miss
-found_by TooFewBlocks = Miss
-found_by NoCommit = Miss
+unfoldable pub found_by : Result Committed JournalEnd → Option Committed
+found_by (Ok e) = Some e
+found_by (Err x) = None
 
-found_whole : (r : RecordRead) (e : Committed) → found_by r ≡ Whole e → r ≡ Read e
+found_whole : (r : Result Committed JournalEnd) (e : Committed) → found_by r ≡ Some e → r ≡ Ok e
 unfolding found_by
-found_whole (Read x) e h = let z : x ≡ e = cc in ap Read z
-found_whole NoDescriptor e h = let z : ◌≡◌ {A = ℕ} 0 1 = cc in absurd (omega arith)
-found_whole BadDescriptor e h = let z : ◌≡◌ {A = ℕ} 0 1 = cc in absurd (omega arith)
-found_whole TooFewBlocks e h = let z : ◌≡◌ {A = ℕ} 0 1 = cc in absurd (omega arith)
-found_whole NoCommit e h = let z : ◌≡◌ {A = ℕ} 0 1 = cc in absurd (omega arith)
+found_whole (Ok x) e h = cc
+found_whole (Err x) e h = cc
 
 -- the reading goes on behind a record alone
-stops : (r : RecordRead) (f : Committed → RecordRead) → found_by r ≡ Miss
-    → ◌≡◌ {A = RecordRead} (elim r [ Read e ↦ f e | NoDescriptor ↦ NoDescriptor | BadDescriptor ↦ BadDescriptor | TooFewBlocks ↦ TooFewBlocks | NoCommit ↦ NoCommit ]) r
+stops : (r : Result Committed JournalEnd) (f : Committed → Result Committed JournalEnd) → found_by r ≡ None
+    → ◌≡◌ {A = Result Committed JournalEnd} (elim r [ Ok e ↦ f e | Err x ↦ Err x ]) r
 unfolding found_by
-stops (Read e) f h = let z : ◌≡◌ {A = ℕ} 0 1 = cc in absurd (omega arith)
-stops NoDescriptor f h = refl
-stops BadDescriptor f h = refl
-stops TooFewBlocks f h = refl
-stops NoCommit f h = refl
+stops (Ok e) f h = cc
+stops (Err x) f h = refl
 
 leb_not : (m n : ℕ) → leb m n ≡ not (ltb n m)
 leb_not m n = elim (dec_lt n m) [ yes h ↦ rw (lt-leb m n h, lt-ltb n m h) | no h ↦ let g : m ≤ n = omega arith in rw (le-leb m n g, le-ltb n m g) ]
@@ -62,8 +52,8 @@ descriptor_parts s k b =
 
 -- where no block is left there are too few
 chosen : (z x y g m w : Bool) (e : Committed) → (z ≡ true → m ≡ true)
-    → found_by (cond (z || x || y) NoDescriptor (cond g BadDescriptor (cond m TooFewBlocks (cond (not w) NoCommit (Read e)))))
-    ≡ cond (not (x || y) && not g && not m && w) (Whole e) Miss
+    → found_by (cond (z || x || y) (Err NoDescriptor) (cond g (Err BadDescriptor) (cond m (Err TooFewBlocks) (cond (not w) (Err NoCommit) (Ok e)))))
+    ≡ cond (not (x || y) && not g && not m && w) (Some e) None
 unfolding found_by
 chosen true x y g m w e h = rw (h refl, and-false)
 chosen false true y g m w e h = refl
@@ -85,23 +75,23 @@ same_found y s d c k p left =
 
 module _ (y : CommitLayout) (s : Shape) (d : Bytes) (c k p left : ℕ) where
   -- of an answer that a call gave
-  pub found_as : (r : RecordRead) → r ≡ read_record y s d c k p left → found_by r ≡ record_at y s d c k p left
+  pub found_as : (r : Result Committed JournalEnd) → r ≡ read_record y s d c k p left → found_by r ≡ record_at y s d c k p left
   found_as r e = ap found_by e ∙ same_found y s d c k p left
 
-  pub read_whole : (e : Committed) → read_record y s d c k p left ≡ Read e → record_at y s d c k p left ≡ Whole e
+  pub read_whole : (e : Committed) → read_record y s d c k p left ≡ Ok e → record_at y s d c k p left ≡ Some e
   unfolding found_by
   read_whole e h = sym (same_found y s d c k p left) ∙ ap found_by h
 
-  pub whole_read : (e : Committed) → record_at y s d c k p left ≡ Whole e → read_record y s d c k p left ≡ Read e
+  pub whole_read : (e : Committed) → record_at y s d c k p left ≡ Some e → read_record y s d c k p left ≡ Ok e
   whole_read e h = found_whole (read_record y s d c k p left) e (same_found y s d c k p left ∙ h)
 
   -- a step of the reading on
-  pub end_here : (most : ℕ) → record_at y s d c k p left ≡ Miss → end_from most y s d c k p left ≡ read_record y s d c k p left
+  pub end_here : (most : ℕ) → record_at y s d c k p left ≡ None → end_from most y s d c k p left ≡ read_record y s d c k p left
   unfolding end_from
   end_here zero h = refl
   end_here (suc most) h = stops (read_record y s d c k p left) (λ e. end_from most y s d c (k + 1) ((p + (e.count + 2)) % s.journal) (left - (e.count + 2))) (same_found y s d c k p left ∙ h)
 
-  pub end_on : (most : ℕ) (e : Committed) → record_at y s d c k p left ≡ Whole e
+  pub end_on : (most : ℕ) (e : Committed) → record_at y s d c k p left ≡ Some e
       → end_from (suc most) y s d c k p left ≡ end_from most y s d c (k + 1) ((p + (e.count + 2)) % s.journal) (left - (e.count + 2))
   unfolding end_from
   end_on most e h = rw (end_from, whole_read e h)

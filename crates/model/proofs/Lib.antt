@@ -24,6 +24,7 @@ pub mod Valid
 pub mod Sequence
 pub mod HighestValid
 pub mod Command
+pub mod RefusalNumbers
 pub mod NoRefusal24
 pub mod Tape
 pub mod Encoded

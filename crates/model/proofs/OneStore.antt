@@ -39,8 +39,7 @@ use Rattle.model.specs.declared.Card.{Card}
 use Rattle.model.specs.declared.CommitLayout.{CommitLayout}
 use Rattle.model.specs.declared.CommitLayout.TheVariants.{Numbers}
 use Rattle.model.specs.declared.Committed.{Committed}
-use Rattle.model.specs.declared.Found.{Found}
-use Rattle.model.specs.declared.Found.TheVariants.{Whole, Miss}
+use Rattle.std.specs.Prelude.{Option, Some, None}
 
 -- ---- shapes within the limits
 pub shape_limits : (x : Card) → InRange (shape_of x)
@@ -150,10 +149,10 @@ master_fits s x = one_stored master (length_master Numbers (shape_limits x) (tai
 
 -- ---- RECOVER
 module _ (d : Bytes) (l : InRange (shape_on d)) (n : length d ≡ 32896) where
-  length_image_found : (b : ℕ) (f : Found) → b < (shape_on d).blocks → IfFound (λ (e : Committed). e.core < (shape_on d).cores) f → length (image_found d b f) ≡ 128
+  length_image_found : (b : ℕ) (f : Option Committed) → b < (shape_on d).blocks → IfFound (λ (e : Committed). e.core < (shape_on d).cores) f → length (image_found d b f) ≡ 128
   unfolding image_found
-  length_image_found b Miss h p = length_block_at 257 d n (home_block b) (omega (arith, l.few_blocks))
-  length_image_found b (Whole e) h p = length_image_of l d n e _ p
+  length_image_found b None h p = length_block_at 257 d n (home_block b) (omega (arith, l.few_blocks))
+  length_image_found b (Some e) h p = length_image_of l d n e _ p
 
 -- what is read is of a core below C
 pub committed_cores : (y : CommitLayout) (d : Bytes) (e : Committed) → Memᴰ e (committed_by y d) → e.core < (shape_on d).cores
@@ -165,8 +164,8 @@ module _ (o : Order) (y : CommitLayout) (d : Bytes) where
   unfolding valid_on_by
   valid_cores e m = committed_cores y d e (valid_within o y (shape_on d) d (tail_on d) (committed_by y d) e m)
 
-  pub newest_core : (b : ℕ) → IfFound (λ (e : Committed). e.core < (shape_on d).cores) (newest (shape_on d) d b Miss (valid_on_by o y d))
-  newest_core b = newest_holds _ (shape_on d) d b (valid_on_by o y d) Miss tt (mem_each _ (valid_on_by o y d) valid_cores)
+  pub newest_core : (b : ℕ) → IfFound (λ (e : Committed). e.core < (shape_on d).cores) (newest (shape_on d) d b None (valid_on_by o y d))
+  newest_core b = newest_holds _ (shape_on d) d b (valid_on_by o y d) None tt (mem_each _ (valid_on_by o y d) valid_cores)
 
   pub length_newest_image : InRange (shape_on d) → length d ≡ 32896 → (b : ℕ) → b < (shape_on d).blocks → length (newest_image o y d b) ≡ 128
   unfolding newest_image

@@ -22,8 +22,7 @@ use Rattle.model.specs.declared.Tail.{Tail}
 use Rattle.model.specs.declared.Name.{Name}
 use Rattle.model.specs.declared.CommitLayout.{CommitLayout}
 use Rattle.model.specs.declared.Committed.{Committed}
-use Rattle.model.specs.declared.Found.{Found}
-use Rattle.model.specs.declared.Found.TheVariants.{Whole, Miss}
+use Rattle.std.specs.Prelude.{Option, Some, None}
 use Rattle.model.proofs.Limits.{InRange}
 use Rattle.model.proofs.Lists.{and_left, and_right, all_mem, get_or_mem, mem_get_or, mem_flat_map, mem_below, length_below}
 use Rattle.model.proofs.Store.{length_block_at}
@@ -112,18 +111,18 @@ journals_distinct y s d tail_at most t u m n e =
         sym x.2 ∙ (rw (g, i) z.2)
 
 -- ---- the newest
-abbrev pub IfFound : (Committed → Type 0) → Found → Type 0
-IfFound P Miss = Unit {0}
-IfFound P (Whole e) = P e
+abbrev pub IfFound : (Committed → Type 0) → Option Committed → Type 0
+IfFound P None = Unit {0}
+IfFound P (Some e) = P e
 
 -- the newest of some is one of them
 module _ (P : Committed → Type 0) where
-  later_holds : (best : Found) (e : Committed) → IfFound P best → P e → P (later best e)
+  later_holds : (best : Option Committed) (e : Committed) → IfFound P best → P e → P (later best e)
   unfolding later
-  later_holds Miss e f p = p
-  later_holds (Whole a) e f p = of_cond P (leb a.stamp e.stamp) p f
+  later_holds None e f p = p
+  later_holds (Some a) e f p = of_cond P (leb a.stamp e.stamp) p f
 
-  pub newest_holds : (s : Shape) (d : Bytes) (b : ℕ) (es : List Committed) (best : Found) → IfFound P best → Each P es → IfFound P (newest s d b best es)
+  pub newest_holds : (s : Shape) (d : Bytes) (b : ℕ) (es : List Committed) (best : Option Committed) → IfFound P best → Each P es → IfFound P (newest s d b best es)
   unfolding newest
   newest_holds s d b [] best f p = f
   newest_holds s d b (e ∷ es) best f p = newest_holds s d b es _ (of_cond (IfFound P) (took s d b e) (later_holds best e f p.0) f) p.1

@@ -19,8 +19,7 @@ use Rattle.model.specs.declared.Shape.{Shape}
 use Rattle.model.specs.declared.CommitLayout.{CommitLayout}
 use Rattle.model.specs.declared.CommitLayout.TheVariants.{Numbers}
 use Rattle.model.specs.declared.Committed.{Committed}
-use Rattle.model.specs.declared.Found.{Found}
-use Rattle.model.specs.declared.Found.TheVariants.{Whole, Miss}
+use Rattle.std.specs.Prelude.{Option, Some, None}
 use Rattle.model.proofs.Limits.{InRange}
 use Rattle.model.proofs.Lists.{cases, or_none, any_append, mem_any, below_mem, flat_map_append, flat_map_below}
 use Rattle.model.proofs.Select.{select_same, mem_select}
@@ -46,7 +45,7 @@ area_blocks d (suc n) =
     (ap (λ (x : Bytes). x ++ take 128 (drop (128 * (1 + n)) d)) (area_blocks d n))
 
 -- ---- a block that the valid set does not hold is at home
-newest_none : (s : Shape) (d : Bytes) (b : ℕ) (best : Found) (es : List Committed) → any (eqb b) (flat_map (blocks_of s d) es) ≡ false → newest s d b best es ≡ best
+newest_none : (s : Shape) (d : Bytes) (b : ℕ) (best : Option Committed) (es : List Committed) → any (eqb b) (flat_map (blocks_of s d) es) ≡ false → newest s d b best es ≡ best
 unfolding newest flat_map took
 newest_none s d b best [] h = refl
 newest_none s d b best (x ∷ es) h =
@@ -57,11 +56,11 @@ newest_none s d b best (x ∷ es) h =
 abbrev pub image_on : Bytes → ℕ → Bytes
 image_on d b = newest_image in_sequence (layout_on d) d b
 
-found_none : (d : Bytes) (b : ℕ) → image_found d b Miss ≡ block_at d (home_block b)
+found_none : (d : Bytes) (b : ℕ) → image_found d b None ≡ block_at d (home_block b)
 unfolding image_found
 found_none d b = refl
 
-image_none : (d : Bytes) (b : ℕ) → newest (shape_on d) d b Miss (valid_on_by in_sequence (layout_on d) d) ≡ Miss → image_on d b ≡ block_at d (home_block b)
+image_none : (d : Bytes) (b : ℕ) → newest (shape_on d) d b None (valid_on_by in_sequence (layout_on d) d) ≡ None → image_on d b ≡ block_at d (home_block b)
 unfolding newest_image
 image_none d b m = ap (image_found d b) m ∙ found_none d b
 
@@ -74,19 +73,19 @@ not_held d b h n =
     cases (any (eqb b) bs)
     (λ t. absurd (true≢false (sym (mem_any (eqb b) (mem_select (λ (i : ℕ). any (eqb i) bs) (below (shape_on d).blocks) b (below_mem _ b h) t) (eq-eqb b b refl)) ∙ n)))
     (λ f. f) in
-    image_none d b (newest_none (shape_on d) d b Miss es free)
+    image_none d b (newest_none (shape_on d) d b None es free)
 
 -- ---- a home store of what recovery gives
-image_kept : {d e : Bytes} → ReadAlike d e → (b : ℕ) → (newest (shape_on d) d b Miss (valid_on_by in_sequence (layout_on d) d) ≡ Miss → block_at e (home_block b) ≡ block_at d (home_block b)) → image_on e b ≡ image_on d b
+image_kept : {d e : Bytes} → ReadAlike d e → (b : ℕ) → (newest (shape_on d) d b None (valid_on_by in_sequence (layout_on d) d) ≡ None → block_at e (home_block b) ≡ block_at d (home_block b)) → image_on e b ≡ image_on d b
 unfolding newest_image
 image_kept {d} {e} a b home =
     let y = layout_on d in
-    let same : newest (shape_on e) e b Miss (valid_on_by in_sequence (layout_on e) e) ≡ newest (shape_on d) d b Miss (valid_on_by in_sequence y d) =
-    ap (λ (z : CommitLayout). newest (shape_on e) e b Miss (valid_on_by in_sequence z e)) (sym (layouts_alike a)) ∙ sym (newest_on_alike a in_sequence y b) in
-    let low : (x : Committed) → newest (shape_on d) d b Miss (valid_on_by in_sequence y d) ≡ Whole x → x.core < (shape_on d).cores =
+    let same : newest (shape_on e) e b None (valid_on_by in_sequence (layout_on e) e) ≡ newest (shape_on d) d b None (valid_on_by in_sequence y d) =
+    ap (λ (z : CommitLayout). newest (shape_on e) e b None (valid_on_by in_sequence z e)) (sym (layouts_alike a)) ∙ sym (newest_on_alike a in_sequence y b) in
+    let low : (x : Committed) → newest (shape_on d) d b None (valid_on_by in_sequence y d) ≡ Some x → x.core < (shape_on d).cores =
     λ x m. subst (IfFound (λ (z : Committed). z.core < (shape_on d).cores)) m (newest_core in_sequence y d b) in
     ap (image_found e b) same
-    ∙ found_cases (newest (shape_on d) d b Miss (valid_on_by in_sequence y d))
+    ∙ found_cases (newest (shape_on d) d b None (valid_on_by in_sequence y d))
     (λ m. ap (image_found e b) m ∙ found_none e b ∙ home m ∙ sym (found_none d b) ∙ sym (ap (image_found d b) m))
     (λ x m. ap (image_found e b) m ∙ sym (found_alike a b x (low x m)) ∙ sym (ap (image_found d b) m))
 
@@ -119,7 +118,7 @@ module _ (d : Bytes) (n : length d ≡ 32896) (l : InRange (shape_on d)) (b : �
       (λ m.
       elim (ℕ_discrete i b) [
         | yes q ↦ subst (λ (j : ℕ). block_at stored_there (home_block j) ≡ block_at d (home_block j)) (sym q)
-            (stored_at ∙ image_none d b (subst (λ (j : ℕ). newest (shape_on d) d j Miss (valid_on_by in_sequence (layout_on d) d) ≡ Miss) q m))
+            (stored_at ∙ image_none d b (subst (λ (j : ℕ). newest (shape_on d) d j None (valid_on_by in_sequence (layout_on d) d) ≡ None) q m))
         | no ne ↦ stored_else i ne
       ])
 

@@ -1,6 +1,7 @@
 -- The card's state: empty values, what is read of it, and parts of it replaced.
 -- Reading past the end of an array gives the empty value; replacing there changes nothing.
-use Rattle.std.specs.Prelude.{ℕ, ◌+◌, ◌-◌, max, List, map, Bool, true, false, cond, ◌&&◌, take, length, get_or, set, replicate, eqb}
+use Rattle.std.specs.Prelude.{ℕ, ◌+◌, ◌-◌, max, List, map, Bool, true, false, cond, ◌&&◌, take, length, get_or, set, replicate, eqb, Option, Some, None}
+use Rattle.std.specs.Option.{is_some, unwrap_or}
 use Rattle.model.specs.Limits.{max_cores, max_blocks, max_taken}
 use Rattle.model.specs.Shape.{clamped}
 use Rattle.model.specs.declared.Phase.{Phase}
@@ -10,7 +11,6 @@ use Rattle.model.specs.declared.Tail.{Tail}
 use Rattle.model.specs.declared.Name.{Name}
 use Rattle.model.specs.declared.Transaction.{Transaction}
 use Rattle.model.specs.declared.Core.{Core}
-use Rattle.model.specs.declared.Holder.{Holder}
 use Rattle.model.specs.declared.Card.{Card}
 
 -- 'The card is blank, up or down.'
@@ -85,12 +85,22 @@ unfoldable pub record_size : Transaction → ℕ
 record_size t = length (taken t) + 2
 
 -- ---- the card
--- a block's holder: none, and the transaction of this name
+-- a block's holder: the name of the transaction that holds it, if one does
+abbrev pub Holder : Type 0
+Holder = Option Name
+
 abbrev pub no_holder : Holder
-no_holder = record { held = false; name = new_name 0 0 }
+no_holder = None
 
 abbrev pub new_holder : Name → Holder
-new_holder n = record { held = true; name = n }
+new_holder n = Some n
+
+abbrev pub is_held : Holder → Bool
+is_held h = is_some h
+
+-- the holder's name, all zero for none
+abbrev pub holder_name : Holder → Name
+holder_name h = unwrap_or h (new_name 0 0)
 
 -- a card with empty journals
 unfoldable pub fresh_card : Phase → Shape → List Tail → Card

@@ -3,7 +3,7 @@
 use Rattle.std.specs.Prelude.{ℕ, ◌+◌, ◌-◌, ◌%◌, List, [], ◌∷◌, map, Bool, cond, not, ◌&&◌, ◌||◌, length, get_or, set, ltb, eqb}
 use Rattle.model.specs.Lists.{below, any}
 use Rattle.model.specs.Shape.{home_block}
-use Rattle.model.specs.Card.{new_tail, same_name, no_holder, taken, shape_of, tail_of, core_of, committed_count, with_arrays, with_core}
+use Rattle.model.specs.Card.{new_tail, same_name, no_holder, taken, shape_of, tail_of, core_of, committed_count, with_arrays, with_core, is_held, holder_name}
 use Rattle.model.specs.Layout.{master_block}
 use Rattle.model.specs.Journal.{journal, journals, name_of, blocks_of, image_of}
 use Rattle.model.specs.Valid.{Order, is_in, valid_set}
@@ -13,7 +13,7 @@ use Rattle.model.specs.declared.Tail.{Tail}
 use Rattle.model.specs.declared.Name.{Name}
 use Rattle.model.specs.declared.Transaction.{Transaction}
 use Rattle.model.specs.declared.Core.{Core}
-use Rattle.model.specs.declared.Holder.{Holder}
+use Rattle.model.specs.Card.{Holder}
 use Rattle.model.specs.declared.Card.{Card}
 use Rattle.model.specs.declared.CommitLayout.TheVariants.{Numbers}
 use Rattle.model.specs.declared.Committed.{Committed}
@@ -91,7 +91,7 @@ stored_home c e w = storing_block w (with_core w.card c (homed_core (core_of w.c
 
 -- 'until that one is retired': its blocks have no holder any more
 abbrev pub freed : Name → Holder → Holder
-freed n h = cond (h.held && same_name h.name n) no_holder h
+freed n h = cond (is_held h && same_name (holder_name h) n) no_holder h
 
 unfoldable pub released : Name → List Holder → List Holder
 released n hs = map (freed n) hs

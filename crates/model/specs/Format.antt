@@ -1,5 +1,5 @@
 -- FORMAT: 'disk slice zeroed, master written with tail number 1 and position 0 for each core, card up'.
-use Rattle.std.specs.Prelude.{ℕ, List, [], ◌∷◌, Bool, not, replicate}
+use Rattle.std.specs.Prelude.{ℕ, List, [], ◌∷◌, Bool, not, replicate, None}
 use Rattle.model.specs.Limits.{max_cores}
 use Rattle.model.specs.Bytes.{Bytes, store, zero_disk, zero_memory}
 use Rattle.model.specs.Shape.{new_shape, in_range, checked_answer}
@@ -8,12 +8,11 @@ use Rattle.model.specs.Layout.{master_block}
 use Rattle.model.specs.Command.{World, Outcome, unless, wrong_length}
 use Rattle.model.specs.declared.Phase.TheVariants.{Up}
 use Rattle.model.specs.declared.Shape.{Shape}
-use Rattle.model.specs.declared.Checked.TheVariants.{OutOfRange}
 use Rattle.model.specs.declared.CommitLayout.{CommitLayout}
 use Rattle.model.specs.declared.CommitLayout.TheVariants.{Numbers}
 
 unfoldable pub format_conditions : ℕ → ℕ → ℕ → World → List (Bool × ℕ)
-format_conditions c b j w = (wrong_length w, 1) ∷ (not (is_blank w.card.phase), 21) ∷ (not (in_range c b j), checked_answer OutOfRange) ∷ []
+format_conditions c b j w = (wrong_length w, 1) ∷ (not (is_blank w.card.phase), 21) ∷ (not (in_range c b j), checked_answer None) ∷ []
 
 -- the disk as FORMAT leaves it, its master for this layout: 'Bytes 8 to 11 of a new master hold 1.'
 unfoldable pub formatted_disk : CommitLayout → Shape → Bytes

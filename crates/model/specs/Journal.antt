@@ -11,8 +11,7 @@ use Rattle.model.specs.declared.Tail.{Tail}
 use Rattle.model.specs.declared.Name.{Name}
 use Rattle.model.specs.declared.CommitLayout.{CommitLayout}
 use Rattle.model.specs.declared.Committed.{Committed}
-use Rattle.model.specs.declared.Found.{Found}
-use Rattle.model.specs.declared.Found.TheVariants.{Whole, Miss}
+use Rattle.std.specs.Prelude.{Option, Some, None}
 
 -- the block at a position of core c's journal
 unfoldable pub journal_at : Shape → Bytes → ℕ → ℕ → Bytes
@@ -20,21 +19,21 @@ journal_at s d c p = block_at d (journal_block s c p)
 
 -- 'a descriptor with the expected number ..; then at n + 1 a commit with that number ..; all records within J':
 -- the record at position p, of no more blocks than are left
-unfoldable pub record_at : CommitLayout → Shape → Bytes → ℕ → ℕ → ℕ → ℕ → Found
+unfoldable pub record_at : CommitLayout → Shape → Bytes → ℕ → ℕ → ℕ → ℕ → Option Committed
 record_at y s d c k p left =
     let e = journal_at s d c p in
     let n = block_count e in
     let f = journal_at s d c (p + (n + 1)) in
     cond (is_descriptor s k e && leb (n + 2) left && is_commit y s k f)
-    (Whole (record { core = c; number = k; position = p; count = n; stamp = stamp_in f }))
-    Miss
+    (Some (record { core = c; number = k; position = p; count = n; stamp = stamp_in f }))
+    None
 
 -- 'Records follow one another from the tail.' 'At the first miss it ends.': at most so many from a position on
 unfoldable pub records_from : ℕ → CommitLayout → Shape → Bytes → ℕ → ℕ → ℕ → ℕ → List Committed
 records_from zero y s d c k p left = []
 records_from (suc most) y s d c k p left =
     elim (record_at y s d c k p left)
-    [ Miss ↦ [] | Whole e ↦ e ∷ records_from most y s d c (k + 1) ((p + (e.count + 2)) % s.journal) (left - (e.count + 2)) ]
+    [ None ↦ [] | Some e ↦ e ∷ records_from most y s d c (k + 1) ((p + (e.count + 2)) % s.journal) (left - (e.count + 2)) ]
 
 -- core c's journal from its tail, at most so many of its transactions
 unfoldable pub journal : CommitLayout → Shape → Bytes → ℕ → Tail → ℕ → List Committed

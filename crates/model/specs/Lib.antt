@@ -9,6 +9,7 @@ pub mod Journal
 pub mod Shrink
 pub mod Valid
 pub mod Command
+pub mod Refusal
 pub mod Tape
 pub mod Format
 pub mod Write

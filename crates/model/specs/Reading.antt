@@ -2,7 +2,7 @@
 use Rattle.std.specs.Prelude.{ℕ, List, [], ◌∷◌, Bool, cond, eqb}
 use Rattle.model.specs.Bytes.{Bytes, block_at}
 use Rattle.model.specs.Shape.{home_block}
-use Rattle.model.specs.Card.{holder_of}
+use Rattle.model.specs.Card.{holder_of, is_held}
 use Rattle.model.specs.Command.{World, refusal, not_up, no_block}
 
 -- a reader: the number that it answers for a block, and the bytes that it hands back
@@ -21,7 +21,7 @@ read_number b w = refusal (read_conditions b w)
 -- the disk. A refused reading hands back a part of no bytes'
 unfoldable pub read_block : ℕ → World → Bytes
 read_block b w =
-    cond (eqb (read_number b w) 0) (cond (holder_of w.card b).held (block_at w.memory b) (block_at w.disk (home_block b))) []
+    cond (eqb (read_number b w) 0) (cond (is_held (holder_of w.card b)) (block_at w.memory b) (block_at w.disk (home_block b))) []
 
 abbrev pub block_reader : Reader
 block_reader = record { number = read_number; bytes = read_block }

@@ -17,8 +17,7 @@ use Rattle.model.specs.declared.Card.{Card}
 use Rattle.model.specs.declared.CommitLayout.{CommitLayout}
 use Rattle.model.specs.declared.CommitLayout.TheVariants.{Lists, Numbers}
 use Rattle.model.specs.declared.Committed.{Committed}
-use Rattle.model.specs.declared.Found.{Found}
-use Rattle.model.specs.declared.Found.TheVariants.{Whole, Miss}
+use Rattle.std.specs.Prelude.{Option, Some, None}
 
 -- ---- CUT
 unfoldable pub cut_conditions : World → List (Bool × ℕ)
@@ -72,12 +71,12 @@ place_of b [] = 0
 place_of b (x ∷ xs) = cond (eqb b x) 0 (suc (place_of b xs))
 
 -- 'Each block held in the valid set gets the image of highest stamp'
-unfoldable pub image_found : Bytes → ℕ → Found → Bytes
-image_found d b Miss = block_at d (home_block b)
-image_found d b (Whole e) = image_of (shape_on d) d e (place_of b (blocks_of (shape_on d) d e))
+unfoldable pub image_found : Bytes → ℕ → Option Committed → Bytes
+image_found d b None = block_at d (home_block b)
+image_found d b (Some e) = image_of (shape_on d) d e (place_of b (blocks_of (shape_on d) d e))
 
 unfoldable pub newest_image : Order → CommitLayout → Bytes → ℕ → Bytes
-newest_image o y d b = image_found d b (newest (shape_on d) d b Miss (valid_on_by o y d))
+newest_image o y d b = image_found d b (newest (shape_on d) d b None (valid_on_by o y d))
 
 abbrev pub recovered_to : Card → ℕ → Card
 recovered_to x b =

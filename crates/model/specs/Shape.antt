@@ -1,9 +1,7 @@
 -- Section 'The card': the disk's shape, its limits, and where blocks stand.
-use Rattle.std.specs.Prelude.{ℕ, ◌+◌, ◌*◌, ◌%◌, Bool, cond, ◌&&◌, ltb, leb}
+use Rattle.std.specs.Prelude.{ℕ, ◌+◌, ◌*◌, ◌%◌, Bool, cond, ◌&&◌, ltb, leb, Option, Some, None}
 use Rattle.model.specs.Limits.{max_cores, max_blocks, min_journal, max_journal}
 use Rattle.model.specs.declared.Shape.{Shape}
-use Rattle.model.specs.declared.Checked.{Checked}
-use Rattle.model.specs.declared.Checked.TheVariants.{Fits, OutOfRange}
 
 abbrev pub new_shape : ℕ → ℕ → ℕ → Shape
 new_shape c b j = record { cores = c; blocks = b; journal = j }
@@ -16,13 +14,13 @@ unfoldable pub in_range : ℕ → ℕ → ℕ → Bool
 in_range c b j = between 1 c max_cores && between 1 b max_blocks && between min_journal j max_journal
 
 -- what the constructor of a shape answers
-unfoldable pub checked : ℕ → ℕ → ℕ → Checked
-checked c b j = cond (in_range c b j) (Fits (new_shape c b j)) OutOfRange
+unfoldable pub checked : ℕ → ℕ → ℕ → Option Shape
+checked c b j = cond (in_range c b j) (Some (new_shape c b j)) None
 
 -- its refusal: '4 C, B or J out of range'; 0 for none
-abbrev pub checked_answer : Checked → ℕ
-checked_answer (Fits s) = 0
-checked_answer OutOfRange = 4
+abbrev pub checked_answer : Option Shape → ℕ
+checked_answer (Some s) = 0
+checked_answer None = 4
 
 -- 'home block b is disk block 1 + b'
 abbrev pub home_block : ℕ → ℕ

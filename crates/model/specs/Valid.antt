@@ -11,8 +11,7 @@ use Rattle.model.specs.declared.Tail.{Tail}
 use Rattle.model.specs.declared.Name.{Name}
 use Rattle.model.specs.declared.CommitLayout.{CommitLayout}
 use Rattle.model.specs.declared.Committed.{Committed}
-use Rattle.model.specs.declared.Found.{Found}
-use Rattle.model.specs.declared.Found.TheVariants.{Whole, Miss}
+use Rattle.std.specs.Prelude.{Option, Some, None}
 
 -- ---- what a transaction requires: one of two rules
 -- 'A transaction depends on those its list names', 'No order is implied between transactions of one core'; or paper 02, (c): 'every
@@ -57,11 +56,11 @@ unfoldable pub blocks_held : Shape → Bytes → List Committed → List ℕ
 blocks_held s d es = let bs = flat_map (blocks_of s d) es in select (λ (b : ℕ). any (eqb b) bs) (below s.blocks)
 
 -- 'the image of highest stamp (equal stamps ..: the last in order of core and number)': of two, the later
-unfoldable pub later : Found → Committed → Committed
-later Miss e = e
-later (Whole a) e = cond (leb a.stamp e.stamp) e a
+unfoldable pub later : Option Committed → Committed → Committed
+later None e = e
+later (Some a) e = cond (leb a.stamp e.stamp) e a
 
 -- of those that took block b, in their order, the one of highest stamp
-unfoldable pub newest : Shape → Bytes → ℕ → Found → List Committed → Found
+unfoldable pub newest : Shape → Bytes → ℕ → Option Committed → List Committed → Option Committed
 newest s d b best [] = best
-newest s d b best (e ∷ es) = newest s d b (cond (took s d b e) (Whole (later best e)) best) es
+newest s d b best (e ∷ es) = newest s d b (cond (took s d b e) (Some (later best e)) best) es

@@ -3,7 +3,7 @@ use Rattle.std.specs.Prelude.{ℕ, ◌+◌, ◌*◌, List, [], ◌∷◌, Bool, 
 use Rattle.model.specs.Limits.{block_size, max_taken, max_number, max_offset}
 use Rattle.model.specs.Bytes.{Bytes, block_at, store, replaced}
 use Rattle.model.specs.Shape.{home_block}
-use Rattle.model.specs.Card.{new_name, same_name, opened, with_block, with_name, with_running, record_size, shape_of, core_of, holder_of, new_holder, with_core, with_holder}
+use Rattle.model.specs.Card.{new_name, same_name, opened, with_block, with_name, with_running, record_size, shape_of, core_of, holder_of, new_holder, with_core, with_holder, is_held, holder_name}
 use Rattle.model.specs.Command.{World, Outcome, unstored, unless, not_up, no_core, no_block}
 use Rattle.model.specs.declared.Name.{Name}
 use Rattle.model.specs.declared.Transaction.{Transaction}
@@ -27,9 +27,9 @@ is_running_in x n = (core_of x n.core).running.live && eqb (core_of x n.core).ne
 unfoldable pub rule_for : Card → ℕ → ℕ → Rule
 rule_for x c b =
     let h = holder_of x b in
-    cond (not h.held) Free
-    (cond (same_name h.name (writer_name x c)) Own
-    (cond (is_running_in x h.name) Running Closed))
+    cond (not (is_held h)) Free
+    (cond (same_name (holder_name h) (writer_name x c)) Own
+    (cond (is_running_in x (holder_name h)) Running Closed))
 
 -- T takes the block: 'no holder', 'a closed U holds it'
 abbrev pub takes_block : Rule → Bool
@@ -63,7 +63,7 @@ loads_image Closed = false
 unfoldable pub writer_after : Card → ℕ → ℕ → Transaction
 writer_after x c b =
     let r = rule_for x c b in
-    let t = cond (names_holder r) (with_name (writer x c) (holder_of x b).name) (writer x c) in
+    let t = cond (names_holder r) (with_name (writer x c) (holder_name (holder_of x b))) (writer x c) in
     cond (takes_block r) (with_block t b) t
 
 -- '26 journal full: blocks of the records of closed unretired transactions, stored yet or not,
@@ -98,7 +98,7 @@ write_conditions limit c b o w =
 unfoldable pub written_card : Card → ℕ → ℕ → Card
 written_card x c b =
     let r = rule_for x c b in
-    let u = (holder_of x b).name.core in
+    let u = (holder_name (holder_of x b)).core in
     let x₁ = cond (is_named_back r) (with_core x u (with_running (core_of x u) (with_name (core_of x u).running (writer_name x c)))) x in
     let x₂ = with_core x₁ c (with_running (core_of x₁ c) (writer_after x c b)) in
     cond (takes_block r) (with_holder x₂ b (new_holder (writer_name x c))) x₂

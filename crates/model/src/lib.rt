@@ -3,40 +3,89 @@
 #![tactic(auto)]
 
 ghost use Rattle.std.specs.Prelude.{◌%◌, ◌≡◌};
-ghost use Rattle.model.specs.Shape.{checked, nearest, clamped, home_block, journal_block};
+ghost use Rattle.model.specs.Shape.{checked, clamped, home_block, journal_block};
+ghost use Rattle.model.specs.Refusal.{number_of, answer_of};
 
-// Blank until FORMAT; up while it takes writes; down from a cut until recovery is done.
-#[derive(Clone, Copy)]
+// What the card refuses with. Each has its number in the table of refusals; 24 can no longer occur and has none here.
+#[derive(Clone, Copy, Debug, PartialEq, Eq)]
+pub enum Refusal {
+    WrongLength = 1,
+    UnknownCommand = 2,
+    EarlyEnd = 3,
+    OutOfRange = 4,
+    NoCore = 5,
+    NoBlock = 6,
+    OffsetPast = 7,
+    UnfitMaster = 8,
+    CardBlank = 20,
+    CardNotBlank = 21,
+    CardDown = 22,
+    CardUp = 23,
+    NinthBlock = 25,
+    JournalFull = 26,
+    NumbersEnd = 27,
+    NoneRunning = 28,
+    PreviousNotStored = 29,
+    NothingToStore = 30,
+    NoneCommitted = 31,
+    OldestNotValid = 32,
+    SharedBlock = 33,
+    HomeStoresLeft = 34,
+    AllStoredHome = 35,
+    ReportLimit = 36,
+}
+
+// Its number in the table.
+impl From<Refusal> for u8 {
+    ghost from_gives = { λ e n. n ≡ number_of e };
+
+    fn from(e: Refusal) -> u8 {
+        e as u8
+    }
+}
+
+// The number that a card answers for what was refused, 0 for what was done.
+pub fn answer_number<T: Drop>(answer: Result<T, Refusal>) -> u8
+    ensures { result ≡ answer_of answer }
+{
+    match answer {
+        Ok(_) => 0,
+        Err(e) => u8::from(e),
+    }
+}
+
+// Blank until FORMAT; up while it takes writes; down from a cut until recovery is done. The numbers are those of the lent cells.
+#[derive(Clone, Copy, Debug, PartialEq, Eq)]
 pub enum Phase {
-    Blank,
-    Up,
-    Down,
+    Blank = 0,
+    Up = 1,
+    Down = 2,
 }
 
 // The disk's shape: C cores, B home blocks, J journal blocks for each core.
-#[derive(Clone, Copy)]
+#[derive(Clone, Copy, Debug, PartialEq, Eq)]
 pub struct Shape {
     pub cores: u8,
     pub blocks: u8,
     pub journal: u8,
 }
 
-// What the constructor of a shape answers.
-#[derive(Clone, Copy)]
-pub enum Checked {
-    Fits(Shape),
-    OutOfRange,
-}
+// A block of the disk or of memory, and the whole of either.
+pub type Block = [u8; Shape::BLOCK_SIZE];
+
+pub type DiskBytes = [u8; Shape::DISK_SIZE];
+
+pub type Memory = [u8; Shape::MEMORY_SIZE];
 
 // Where a core's journal begins: the number and the position of its oldest unretired record, or of the next one.
-#[derive(Clone, Copy)]
+#[derive(Clone, Copy, Debug, PartialEq, Eq)]
 pub struct Tail {
     pub number: u32,
     pub position: u8,
 }
 
 // The name of a transaction: a core and a number.
-#[derive(Clone, Copy)]
+#[derive(Clone, Copy, Debug, PartialEq, Eq)]
 pub struct Name {
     pub core: u8,
     pub number: u32,
@@ -65,15 +114,8 @@ pub struct Core {
     pub closed: Transaction,
 }
 
-// The transaction that holds a block, if one does.
-#[derive(Drop)]
-pub struct Holder {
-    pub held: bool,
-    pub name: Name,
-}
-
 // Which of the four rules a WRITE meets at a block: no holder, its own transaction, another running one, a closed one.
-#[derive(Clone, Copy)]
+#[derive(Clone, Copy, Debug, PartialEq, Eq)]
 pub enum Rule {
     Free,
     Own,
@@ -82,7 +124,7 @@ pub enum Rule {
 }
 
 // The card's state, as the definitions speak of it; the code has it in lent cells (crate `cells`). `closes` counts the closes since
-// the card came up; recovery has passed the home blocks below `recovered`. What is committed stands on the disk alone.
+// the card came up; recovery has passed the home blocks below `recovered`; a block's holder is the transaction that holds it, if one does. What is committed stands on the disk alone.
 #[derive(Drop)]
 pub struct Card {
     pub phase: Phase,
@@ -91,11 +133,11 @@ pub struct Card {
     pub recovered: u8,
     pub tails: [Tail; 8],
     pub cores: [Core; 8],
-    pub holders: [Holder; 64],
+    pub holders: [Option<Name>; 64],
 }
 
 // How the commits of a disk name transactions: by a list of names, as before request (d), or by one number for each core.
-#[derive(Clone, Copy)]
+#[derive(Clone, Copy, Debug, PartialEq, Eq)]
 pub enum CommitLayout {
     Lists,
     Numbers,
@@ -103,7 +145,7 @@ pub enum CommitLayout {
 
 // A committed transaction as its record gives it: its name, where its descriptor stands, how many blocks it took, and its
 // stamp.
-#[derive(Clone, Copy)]
+#[derive(Clone, Copy, Debug, PartialEq, Eq)]
 pub struct Committed {
     pub core: u8,
     pub number: u32,
@@ -112,22 +154,14 @@ pub struct Committed {
     pub stamp: u64,
 }
 
-// What reading one record finds.
-#[derive(Clone, Copy)]
-pub enum Found {
-    Whole(Committed),
-    Miss,
-}
-
-// What the reader of one record answers: the record, or the first of paper 02's four ends that fits: no descriptor of the expected
-// number, a field of it out of range or a block twice, too few blocks left for data and commit, no commit.
-#[derive(Clone, Copy)]
-pub enum RecordRead {
-    Read(Committed),
-    NoDescriptor,
-    BadDescriptor,
-    TooFewBlocks,
-    NoCommit,
+// Why no record is read at a place, the first of paper 02's four ends that fits: no descriptor of the expected number, a field of it
+// out of range or a block twice, too few blocks left for data and commit, no commit.
+#[derive(Clone, Copy, Debug, PartialEq, Eq)]
+pub enum JournalEnd {
+    NoDescriptor = 1,
+    BadDescriptor = 2,
+    TooFewBlocks = 3,
+    NoCommit = 4,
 }
 
 impl Shape {
@@ -163,32 +197,20 @@ impl Shape {
     pub const MAX_OFFSET: u8 = 124;
 
     // The shape of these numbers, if each is within its limits.
-    pub fn new(cores: u32, blocks: u32, journal: u32) -> Checked
+    pub fn new(cores: u32, blocks: u32, journal: u32) -> Option<Shape>
         ensures { result ≡ checked cores blocks journal }
     {
-        if cores < Self::MIN_CORES {
-            return Checked::OutOfRange;
+        if (Self::MIN_CORES..=Self::MAX_CORES).contains(&cores)
+            && (Self::MIN_BLOCKS..=Self::MAX_BLOCKS).contains(&blocks)
+            && (Self::MIN_JOURNAL..=Self::MAX_JOURNAL).contains(&journal)
+        {
+            return Some(Shape {
+                cores: cores as u8,
+                blocks: blocks as u8,
+                journal: journal as u8,
+            });
         }
-        if Self::MAX_CORES < cores {
-            return Checked::OutOfRange;
-        }
-        if blocks < Self::MIN_BLOCKS {
-            return Checked::OutOfRange;
-        }
-        if Self::MAX_BLOCKS < blocks {
-            return Checked::OutOfRange;
-        }
-        if journal < Self::MIN_JOURNAL {
-            return Checked::OutOfRange;
-        }
-        if Self::MAX_JOURNAL < journal {
-            return Checked::OutOfRange;
-        }
-        Checked::Fits(Shape {
-            cores: cores as u8,
-            blocks: blocks as u8,
-            journal: journal as u8,
-        })
+        None
     }
 
     // The nearest shape within the limits: a card that no run made may hold any numbers.
@@ -196,13 +218,15 @@ impl Shape {
         ensures { result ≡ clamped self }
     {
         Shape {
-            cores: within(Self::MIN_CORES as u8, self.cores, Self::MAX_CORES as u8),
-            blocks: within(Self::MIN_BLOCKS as u8, self.blocks, Self::MAX_BLOCKS as u8),
-            journal: within(
-                Self::MIN_JOURNAL as u8,
-                self.journal,
-                Self::MAX_JOURNAL as u8,
-            ),
+            cores: self
+                .cores
+                .clamp(Self::MIN_CORES as u8, Self::MAX_CORES as u8),
+            blocks: self
+                .blocks
+                .clamp(Self::MIN_BLOCKS as u8, Self::MAX_BLOCKS as u8),
+            journal: self
+                .journal
+                .clamp(Self::MIN_JOURNAL as u8, Self::MAX_JOURNAL as u8),
         }
     }
 
@@ -224,6 +248,7 @@ impl Shape {
 }
 
 // A position that counts round modulo j. In a journal it goes round at most once, and then nothing is divided.
+// stays: `p % j` alone would divide at every step of a journal.
 pub fn around(p: usize, j: usize) -> usize
     ensures { result ≡ p % j }
 {
@@ -237,17 +262,4 @@ pub fn around(p: usize, j: usize) -> usize
         return p - j;
     }
     p % j
-}
-
-// The number between the limits that is nearest to x.
-fn within(low: u8, x: u8, high: u8) -> u8
-    ensures { result ≡ nearest low x high }
-{
-    if x < low {
-        return low;
-    }
-    if high < x {
-        return high;
-    }
-    x
 }

@@ -1,6 +1,6 @@
 -- What CHECKPOINT and RETIRE both ask, stage by stage: 31 where none is committed, then what is asked of the oldest transaction. A command
 -- that asks one condition more is refused by that number, by its own, or carried out.
-use Rattle.model.proofs.Base.{ℕ, suc, ◌+◌, ◌-◌, ◌%◌, ◌≤◌, ◌<◌, min, arith, ◌≡◌, refl, sym, ap, ◌∙◌, Bool, true, false, cond}
+use Rattle.model.proofs.Base.{ℕ, suc, ◌+◌, ◌-◌, ◌%◌, ◌≤◌, ◌<◌, min, arith, ◌≡◌, refl, sym, ap, subst, ◌∙◌, Bool, true, false, cond}
 use Rattle.model.proofs.Base.{List, [], ◌∷◌, length, ltb, eqb, ne_eqb, eq-eqb, eqb-true, eqb-false, Bytes}
 use Rattle.model.specs.Card.{shape_of, tail_of, core_of, committed_count}
 use Rattle.model.specs.Journal.{records_from, journal}
@@ -10,12 +10,13 @@ use Rattle.model.specs.Checkpoint.{committed_of, oldest, found_conditions, commi
 use Rattle.model.specs.Limits.{max_number}
 use Rattle.model.proofs.Lists.{cases}
 use Rattle.model.proofs.Journal.{records_miss, records_hit, descriptor_number}
-use Rattle.cells.specs.Answer.{new_answer, first_of, outcome_in, Meets}
+use Rattle.cells.specs.Answer.{first_of, outcome_in, Meets}
 use Rattle.cells.specs.Cells.{world, world_in}
 use Rattle.cells.specs.Changes.{Frame}
 use Rattle.cells.proofs.RefusalLaws.{first_hit, first_pass, refusal_joined, refusal_next, refusal_one}
 use Rattle.cells.proofs.EntryLaws.{entry, entry_hit, entry_pass, Entered, entered}
-use Rattle.cells.proofs.MeetLaws.{meets_refused, meets_done}
+use Rattle.cells.proofs.MeetLaws.{meets_refused, meets_handed, meets_done}
+use Rattle.journal.specs.declared.extents.Extent.{Extent}
 use Rattle.oldest.specs.Oldest.{count_at, oldest_at, ReadNow, oldest_in, IsRead, IsOldest, OldestFound, OldestAsked}
 use Rattle.oldest.proofs.CardLaws.{core_low}
 use Rattle.oldest.proofs.CountLaws.{oldest_same}
@@ -23,16 +24,18 @@ use Rattle.oldest.proofs.OldestLaws.{whole_known, at_tail, at_tail_lem, tail_kno
 use Rattle.model.specs.declared.Card.{Card}
 use Rattle.model.specs.declared.CommitLayout.TheVariants.{Numbers}
 use Rattle.model.specs.declared.Committed.{Committed}
-use Rattle.model.specs.declared.Found.{Found}
-use Rattle.model.specs.declared.Found.TheVariants.{Whole, Miss}
-use Rattle.oldest.specs.declared.asked.Asked.{Asked}
+use Rattle.std.specs.Prelude.{Option, Some, None, Result, Ok, Err}
+use Rattle.model.specs.Refusal.{number_of}
+use Rattle.model.specs.declared.Refusal.{Refusal}
+use Rattle.model.specs.declared.Refusal.TheVariants.{NoneCommitted}
+use Rattle.model.proofs.RefusalNumbers.{number_not_0}
 
 -- ---- the oldest transaction
 some_there : (e : Committed) (es : List Committed) → eqb (length (e ∷ es)) 0 ≡ false
 some_there e es = ne_eqb (suc (length es)) 0 (omega arith)
 
 module _ (x : Card) (d : Bytes) (c : ℕ) where
-  module _ (e : Committed) (h : oldest_at x d c ≡ Whole e) where
+  module _ (e : Committed) (h : oldest_at x d c ≡ Some e) where
     counted_one : eqb (count_at x c) 0 ≡ false
     unfolding oldest_at
     counted_one = (whole_known (eqb (count_at x c) 0) (at_tail x d c) e h).0
@@ -64,7 +67,7 @@ module _ (x : Card) (d : Bytes) (c : ℕ) where
     found_there : length d ≡ 32896 → c < (shape_of x).cores → (m : Bytes) → OldestFound c (world x d m) e
     found_there n l m = record { core = core_low x c l; first = is_oldest m; read = was_read x d c e h n l; number = low_number }
 
-  no_oldest : oldest_at x d c ≡ Miss → (m : Bytes) → committed_of (world x d m) c ≡ []
+  no_oldest : oldest_at x d c ≡ None → (m : Bytes) → committed_of (world x d m) c ≡ []
   unfolding committed_of journal oldest_at count_at records_from
   no_oldest h m =
       cases (eqb (min (committed_count x c) 12) 0)
@@ -74,9 +77,12 @@ module _ (x : Card) (d : Bytes) (c : ℕ) where
       rw (z, records_from))
       (λ t. records_miss Numbers (shape_of x) d c (tail_of x c).number (tail_of x c).position (shape_of x).journal (committed_count x c) (rw t at h))
 
--- ---- a number that refuses
-number_asked : (n c : ℕ) (w : World) (r : Asked) (k : ℕ) → r.number ≡ k → k ≡ n → (k ≡ 0 → ⊥) → OldestAsked n c w r
-number_asked n c w r k e q h = record { number = e ∙ q; found = λ z. absurd (h (sym e ∙ z)) }
+-- ---- a refusal, and one that `?` hands on
+refused_asked : (n c : ℕ) (w : World) (e : Refusal) → number_of e ≡ n → OldestAsked n c w (Err e)
+refused_asked n c w e q = record { number = q; found = λ t z. absurd (cc) }
+
+handed_asked : (n c : ℕ) (w : World) (e : Refusal) → number_of e ≡ n → (r : Result Committed Refusal) → r ≡ Err e → OldestAsked n c w r
+handed_asked n c w e q r h = subst (OldestAsked n c w) (sym h) (refused_asked n c w e q)
 
 -- ---- once the core is known
 stages : (c : ℕ) (w : World)
@@ -84,24 +90,24 @@ stages : (c : ℕ) (w : World)
 unfolding committed_conditions
 stages c w = refusal_next (eqb (length (committed_of w c)) 0) 31 (found_conditions in_sequence (oldest (committed_of w c)) w []) (omega arith)
 
-none_refuses : (x : Card) (d : Bytes) (c : ℕ) → oldest_at x d c ≡ Miss → (m : Bytes) → 31 ≡ refusal (committed_conditions in_sequence c (world x d m) [])
+none_refuses : (x : Card) (d : Bytes) (c : ℕ) → oldest_at x d c ≡ None → (m : Bytes) → 31 ≡ refusal (committed_conditions in_sequence c (world x d m) [])
 none_refuses x d c z m =
     let k : ◌≡◌ {A = ℕ} 31 (cond (eqb (length (committed_of (world x d m) c)) 0) 31 0) = rw (no_oldest x d c z m) in
     first_hit 31 (cond (eqb (length (committed_of (world x d m) c)) 0) 31 0) _ k (omega arith) ∙ sym (stages c (world x d m))
 
-module _ (x : Card) (d : Bytes) (c : ℕ) (h : c < (shape_of x).cores) (xs zs start count : List ℕ) (r : ReadNow x d xs zs start count)
-    (f : Found) (q : f ≡ oldest_in x xs zs start count c) where
+module _ (x : Card) (d : Bytes) (c : ℕ) (h : c < (shape_of x).cores) (xs : List Extent) (start count : List ℕ) (r : ReadNow x d xs start count)
+    (f : Option Committed) (q : f ≡ oldest_in x xs start count c) where
   at_first : f ≡ oldest_at x d c
-  at_first = q ∙ oldest_same x xs zs start count c d r h
+  at_first = q ∙ oldest_same x xs start count c d r h
 
-  pub none_asked : f ≡ Miss → (a : Asked) → a.number ≡ 31 → (m : Bytes) → OldestAsked (refusal (committed_conditions in_sequence c (world x d m) [])) c (world x d m) a
-  none_asked z a e m = number_asked _ c (world x d m) a 31 e (none_refuses x d c (sym at_first ∙ z) m) (omega arith)
+  pub none_asked : f ≡ None → (m : Bytes) → OldestAsked (refusal (committed_conditions in_sequence c (world x d m) [])) c (world x d m) (Err NoneCommitted)
+  none_asked z m = refused_asked _ c (world x d m) NoneCommitted (none_refuses x d c (sym at_first ∙ z) m)
 
-  module _ (t : Committed) (z : f ≡ Whole t) (long : length d ≡ 32896) where
-    first_whole : oldest_at x d c ≡ Whole t
+  module _ (t : Committed) (z : f ≡ Some t) (long : length d ≡ 32896) where
+    first_whole : oldest_at x d c ≡ Some t
     first_whole = sym at_first ∙ z
 
-    pub oldest_found : IsOldest x d c xs zs start count t
+    pub oldest_found : IsOldest x d c xs start count t
     oldest_found = record { long = long; core = h; read = r; first = first_whole }
 
     last_stages : (m : Bytes) → refusal (found_conditions in_sequence t (world x d m) []) ≡ refusal (committed_conditions in_sequence c (world x d m) [])
@@ -111,21 +117,31 @@ module _ (x : Card) (d : Bytes) (c : ℕ) (h : c < (shape_of x).cores) (xs zs st
         rw (is_oldest x d c t first_whole m) in
         first_pass 0 _ (cond (eqb (length (committed_of (world x d m) c)) 0) 31 0) _ u refl a ∙ sym (stages c (world x d m))
 
-    pub found_asked : (n : ℕ) → ((m : Bytes) → n ≡ refusal (found_conditions in_sequence t (world x d m) []))
-        → (m : Bytes) → OldestAsked (refusal (committed_conditions in_sequence c (world x d m) [])) c (world x d m) (record { number = n; oldest = t })
-    found_asked n e m = record { number = e m ∙ last_stages m; found = λ k. found_there x d c t first_whole long h m }
+    pub found_refused : (e : Refusal) → ((m : Bytes) → number_of e ≡ refusal (found_conditions in_sequence t (world x d m) []))
+        → (a : Result Committed Refusal) → a ≡ Err e
+        → (m : Bytes) → OldestAsked (refusal (committed_conditions in_sequence c (world x d m) [])) c (world x d m) a
+    found_refused e q a y m = handed_asked _ c (world x d m) e (q m ∙ last_stages m) a y
+
+    pub found_asked : ((m : Bytes) → 0 ≡ refusal (found_conditions in_sequence t (world x d m) []))
+        → (m : Bytes) → OldestAsked (refusal (committed_conditions in_sequence c (world x d m) [])) c (world x d m) (Ok t)
+    found_asked e m =
+        record {
+          number = e m ∙ last_stages m;
+          found = λ u q. let y : t ≡ u = cc in subst (OldestFound c (world x d m)) y (found_there x d c t first_whole long h m);
+        }
 
 -- ---- of any core
-module _ (x : Card) (c : ℕ) (d m : Bytes) (n : ℕ) (e : n ≡ refusal (entry c (world x d m))) where
+module _ (x : Card) (c : ℕ) (d m : Bytes) where
   abbrev asked_all : ℕ
   asked_all = refusal (oldest_conditions in_sequence c (world x d m) [])
 
-  pub first_asked : (n ≡ 0 → ⊥) → (a : Asked) → a.number ≡ n → OldestAsked asked_all c (world x d m) a
-  first_asked h a q = number_asked _ c (world x d m) a n q (entry_hit c (world x d m) _ n e h) h
+  pub first_asked : (e : Refusal) → number_of e ≡ refusal (entry c (world x d m)) → (a : Result Committed Refusal) → a ≡ Err e
+      → OldestAsked asked_all c (world x d m) a
+  first_asked e q a h = handed_asked _ c (world x d m) e (entry_hit c (world x d m) _ {A = Committed} (Err e) e q refl) a h
 
-  module _ (h : n ≡ 0) where
+  module _ (e : 0 ≡ refusal (entry c (world x d m))) where
     first_passed : Entered x c d m
-    first_passed = entered x c d m [] tt (sym e ∙ h)
+    first_passed = entered x c d m [] tt (sym e)
 
     pub passed_few : c < 8
     passed_few = first_passed.few
@@ -137,57 +153,68 @@ module _ (x : Card) (c : ℕ) (d m : Bytes) (n : ℕ) (e : n ≡ refusal (entry 
     passed_long = first_passed.disk
 
     passed_stages : refusal (committed_conditions in_sequence c (world x d m) []) ≡ asked_all
-    passed_stages = entry_pass c (world x d m) (committed_conditions in_sequence c (world x d m) []) n e h _ refl
+    passed_stages = entry_pass c (world x d m) (committed_conditions in_sequence c (world x d m) []) e _ refl
 
-    pub read_asked : (a : Asked) → ((m : Bytes) → OldestAsked (refusal (committed_conditions in_sequence c (world x d m) [])) c (world x d m) a) → OldestAsked asked_all c (world x d m) a
-    read_asked a o = record { number = (o m).number ∙ passed_stages; found = (o m).found }
+    -- b is the disk, as it was lent on
+    pub read_asked : (b : Bytes) → b ≡ d → (a : Result Committed Refusal) → ((m : Bytes) → OldestAsked (refusal (committed_conditions in_sequence c (world x b m) [])) c (world x b m) a)
+        → OldestAsked asked_all c (world x d m) a
+    read_asked b q a o =
+        let r = subst (λ (d : Bytes). OldestAsked (refusal (committed_conditions in_sequence c (world x d m) [])) c (world x d m) a) q (o m) in
+        record { number = r.number ∙ passed_stages; found = r.found }
 
     -- where the card counts none, there is none
-    pub counted_none : (k : ℕ) → k ≡ count_at x c → k ≡ 0 → (a : Asked) → a.number ≡ 31 → OldestAsked asked_all c (world x d m) a
+    pub counted_none : (k : ℕ) → k ≡ count_at x c → k ≡ 0 → OldestAsked asked_all c (world x d m) (Err NoneCommitted)
     unfolding oldest_at
-    counted_none k q z a b = number_asked _ c (world x d m) a 31 b (none_refuses x d c (rw (eq-eqb (count_at x c) 0 (sym q ∙ z))) m ∙ passed_stages) (omega arith)
+    counted_none k q z = refused_asked _ c (world x d m) NoneCommitted (none_refuses x d c (rw (eq-eqb (count_at x c) 0 (sym q ∙ z))) m ∙ passed_stages)
 
--- ---- a command that asks one condition more
-module _ (v : List ℕ) (c : ℕ) (d m : Bytes) (size : length v ≡ 423) (a : Asked) (r : OldestAsked (refusal (oldest_conditions in_sequence c (world_in v d m) [])) c (world_in v d m) a)
-    (t : Bool) (n : ℕ) (pos : 0 < n) (done : Outcome World) where
+-- ---- a command that asks one condition more, for the refusal p
+module _ (v : List ℕ) (c : ℕ) (d m : Bytes) (size : length v ≡ 423) (t : Bool) (p : Refusal) (done : Outcome World) where
+  abbrev asked_both : ℕ
+  asked_both = refusal (oldest_conditions in_sequence c (world_in v d m) [])
+
   abbrev asked_then : List (Bool × ℕ)
-  asked_then = oldest_conditions in_sequence c (world_in v d m) ((t, n) ∷ [])
+  asked_then = oldest_conditions in_sequence c (world_in v d m) ((t, number_of p) ∷ [])
 
-  then_stages : refusal asked_then ≡ first_of (refusal (oldest_conditions in_sequence c (world_in v d m) [])) (cond t n 0)
+  then_stages : refusal asked_then ≡ first_of asked_both (cond t (number_of p) 0)
   unfolding committed_conditions found_conditions
   then_stages =
-      refusal_joined (oldest_conditions in_sequence c (world_in v d m) []) ((t, n) ∷ [])
+      refusal_joined (oldest_conditions in_sequence c (world_in v d m) []) ((t, number_of p) ∷ [])
       (omega arith, (omega arith, (omega arith, (omega arith, (omega arith, (omega arith, (omega arith, tt)))))))
       ∙ rw refusal_one
 
-  pub both_refused : (a.number ≡ 0 → ⊥) → Meets (unless asked_then (world_in v d m) done) v v d m (new_answer a.number 0)
-  both_refused h = meets_refused asked_then v d m done size a.number (first_hit a.number _ _ r.number h ∙ sym then_stages) h
+  pub both_refused : (e : Refusal) → OldestAsked asked_both c (world_in v d m) (Err e) → (r : Result ℕ Refusal) → r ≡ Err e
+      → Meets (unless asked_then (world_in v d m) done) v v d m r
+  both_refused e a r h =
+      meets_handed asked_then v d m done size e (first_hit (number_of e) _ _ a.number (number_not_0 e) ∙ sym then_stages) r h
 
-  module _ (h : a.number ≡ 0) where
-    own_stage : (k : ℕ) → k ≡ cond t n 0 → k ≡ refusal asked_then
-    own_stage k e = first_pass a.number k _ _ r.number h e ∙ sym then_stages
+  module _ (e : Committed) (a : OldestAsked asked_both c (world_in v d m) (Ok e)) where
+    own_stage : (k : ℕ) → k ≡ cond t (number_of p) 0 → k ≡ refusal asked_then
+    own_stage k q = first_pass 0 k _ _ a.number refl q ∙ sym then_stages
 
-    pub own_refused : t ≡ true → Meets (unless asked_then (world_in v d m) done) v v d m (new_answer n 0)
-    own_refused e = meets_refused asked_then v d m done size n (own_stage n (rw e)) (omega arith)
+    pub own_refused : t ≡ true → Meets (unless asked_then (world_in v d m) done) v v d m (Err p)
+    own_refused q = meets_refused asked_then v d m done size p (own_stage (number_of p) (rw q))
 
-    pub none_refused : t ≡ false → (w : List ℕ) (k : Bytes) → outcome_in (new_answer 0 1) w k m ≡ done → Frame v w 0 423
-        → Meets (unless asked_then (world_in v d m) done) v w k m (new_answer 0 1)
-    none_refused e w k o f = meets_done asked_then v d m done size 0 (own_stage 0 (rw e)) refl w k m 1 o 0 423 f
+    pub none_refused : t ≡ false → (w : List ℕ) (k : Bytes) → outcome_in (Ok 1) w k m ≡ done → Frame v w 0 423
+        → Meets (unless asked_then (world_in v d m) done) v w k m (Ok 1)
+    none_refused q w k o f = meets_done asked_then v d m done size (own_stage 0 (rw q)) w k m 1 o 0 423 f
 
 -- ---- what is found with it
-module _ (n c : ℕ) (x : Card) (d m : Bytes) (a : Asked) (r : OldestAsked n c (world x d m) a) (h : a.number ≡ 0) where
-  pub found_core : c < 8
-  found_core = (r.found h).core
+module _ (n c : ℕ) (x : Card) (d m : Bytes) (e : Committed) (a : OldestAsked n c (world x d m) (Ok e)) where
+  found_with : OldestFound c (world x d m) e
+  found_with = a.found e refl
 
-  pub found_read : IsRead (shape_of x) d a.oldest
-  found_read = (r.found h).read
+  pub found_core : c < 8
+  found_core = found_with.core
+
+  pub found_read : IsRead (shape_of x) d e
+  found_read = found_with.read
 
   pub found_long : length d ≡ 32896
-  found_long = (r.found h).read.long
+  found_long = found_with.read.long
 
-  pub found_number : a.oldest.number ≤ max_number
-  found_number = (r.found h).number
+  pub found_number : e.number ≤ max_number
+  found_number = found_with.number
 
   -- whether its images are left, by the count of those stored home
-  pub found_left : (k : ℕ) → k ≡ (core_of x c).homed → images_left c (world x d m) ≡ ltb k a.oldest.count
-  found_left k q = rw ((r.found h).first, q)
+  pub found_left : (k : ℕ) → k ≡ (core_of x c).homed → images_left c (world x d m) ≡ ltb k e.count
+  found_left k q = rw (found_with.first, q)

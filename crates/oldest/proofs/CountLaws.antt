@@ -9,13 +9,13 @@ use Rattle.model.specs.declared.Tail.{Tail}
 use Rattle.model.specs.declared.Card.{Card}
 use Rattle.model.specs.declared.CommitLayout.TheVariants.{Numbers}
 use Rattle.model.specs.declared.Committed.{Committed}
-use Rattle.model.specs.declared.Found.{Found}
-use Rattle.model.specs.declared.Found.TheVariants.{Whole, Miss}
+use Rattle.std.specs.Prelude.{Option, Some, None}
 use Rattle.model.proofs.Lists.{get_or_map_below}
 use Rattle.model.proofs.OneStore.{shape_limits}
 use Rattle.model.proofs.Journal.{found_cases}
 use Rattle.layout.proofs.Loops.{Filled, filled_more}
-use Rattle.journal.specs.Records.{tail_for, record_in, run_in, RunsTested}
+use Rattle.journal.specs.declared.extents.Extent.{Extent}
+use Rattle.journal.specs.Records.{tail_for, committed_in, extent_at, record_in, run_in, RunsTested}
 use Rattle.journal.specs.Walk.{IsJournal, Reads}
 use Rattle.journal.proofs.Tested.{reads_low}
 use Rattle.cells.specs.Cells.{number_in, transaction_in, card_in, core_place, closed_place}
@@ -71,11 +71,11 @@ unfolding counts
 count_in x c h = get_or_map_below (count_at x) 8 c 0 h
 
 -- ---- read
-module _ (x : Card) (d : Bytes) (s : Shape) (p : s ≡ shape_of x) (ts : List Tail) (y : ts ≡ x.tails) (most : List ℕ) (q : Counts x most) (xs zs start count : List ℕ) where
-  reads_card : Reads Numbers s d ts most xs zs start count → Reads Numbers (shape_of x) d x.tails (counts x) xs zs start count
+module _ (x : Card) (d : Bytes) (s : Shape) (p : s ≡ shape_of x) (ts : List Tail) (y : ts ≡ x.tails) (most : List ℕ) (q : Counts x most) (xs : List Extent) (start count : List ℕ) where
+  reads_card : Reads Numbers s d ts most xs start count → Reads Numbers (shape_of x) d x.tails (counts x) xs start count
   unfolding Counts IsJournal
   reads_card r =
-      let r' : Reads Numbers (shape_of x) d x.tails most xs zs start count = rw (p, y) at r in
+      let r' : Reads Numbers (shape_of x) d x.tails most xs start count = rw (p, y) at r in
       record {
         journals =
             λ c h.
@@ -85,32 +85,35 @@ module _ (x : Card) (d : Bytes) (s : Shape) (p : s ≡ shape_of x) (ts : List Ta
         few = r'.few;
       }
 
-  pub read_now : Reads Numbers s d ts most xs zs start count → RunsTested s d xs start count → ReadNow x d xs zs start count
+  pub read_now : Reads Numbers s d ts most xs start count → RunsTested s d xs start count → ReadNow x d xs start count
   read_now r t = record { reads = reads_card r; tested = rw p at t }
+
+pub read_tested : (x : Card) (s : Shape) → s ≡ shape_of x → (d : Bytes) (xs : List Extent) (start count : List ℕ) → ReadNow x d xs start count → RunsTested s d xs start count
+read_tested x s e d xs start count r = rw e r.tested
 
 -- ---- the oldest
 -- the first of a list
-unfoldable head_of : List Committed → Found
-head_of [] = Miss
-head_of (e ∷ es) = Whole e
+unfoldable head_of : List Committed → Option Committed
+head_of [] = None
+head_of (e ∷ es) = Some e
 
-head_append : (es fs : List Committed) (e : Committed) → head_of es ≡ Whole e → head_of (es ++ fs) ≡ Whole e
+head_append : (es fs : List Committed) (e : Committed) → head_of es ≡ Some e → head_of (es ++ fs) ≡ Some e
 unfolding head_of
 head_append [] fs e h = let z : ◌≡◌ {A = ℕ} 0 1 = cc in absurd (omega arith)
 head_append (x ∷ es) fs e h = h
 
-head_map : (f : ℕ → Committed) (n : ℕ) → head_of (map f (below (suc n))) ≡ Whole (f 0)
+head_map : (f : ℕ → Committed) (n : ℕ) → head_of (map f (below (suc n))) ≡ Some (f 0)
 unfolding head_of below
 head_map f zero = refl
 head_map f (suc n) = rw (map-append) (head_append (map f (below (suc n))) (f (suc n) ∷ []) (f 0) (head_map f n))
 
-first_run : (xs zs : List ℕ) (c k a n : ℕ) → head_of (run_in xs zs c k a n) ≡ cond (eqb n 0) Miss (Whole (record_in xs zs c k a))
+first_run : (xs : List Extent) (c k a n : ℕ) → head_of (run_in xs c k a n) ≡ cond (eqb n 0) None (Some (record_in xs c k a))
 unfolding head_of run_in below
-first_run xs zs c k a zero = refl
-first_run xs zs c k a (suc n) = rw (ne_eqb (suc n) 0 (omega arith)) (head_map (λ (j : ℕ). record_in xs zs c (k + j) (a + j)) n ∙ rw (add-zero k, add-zero a))
+first_run xs c k a zero = refl
+first_run xs c k a (suc n) = rw (ne_eqb (suc n) 0 (omega arith)) (head_map (λ (j : ℕ). record_in xs c (k + j) (a + j)) n ∙ rw (add-zero k, add-zero a))
 
 first_record : (s : Shape) (d : Bytes) (c : ℕ) (t : Tail) (most : ℕ)
-    → head_of (journal Numbers s d c t most) ≡ cond (eqb most 0) Miss (record_at Numbers s d c t.number t.position s.journal)
+    → head_of (journal Numbers s d c t most) ≡ cond (eqb most 0) None (record_at Numbers s d c t.number t.position s.journal)
 unfolding head_of journal records_from
 first_record s d c t zero = refl
 first_record s d c t (suc n) =
@@ -118,25 +121,25 @@ first_record s d c t (suc n) =
     (λ m. rw (m, records_from, ne_eqb (suc n) 0 (omega arith)))
     (λ e w. rw (w, records_from, ne_eqb (suc n) 0 (omega arith)))
 
-module _ (x : Card) (xs zs start count : List ℕ) (c : ℕ) where
-  pub none_counted : get_or count c 0 ≡ 0 → Miss ≡ oldest_in x xs zs start count c
+module _ (x : Card) (xs : List Extent) (start count : List ℕ) (c : ℕ) where
+  pub none_counted : get_or count c 0 ≡ 0 → None ≡ oldest_in x xs start count c
   unfolding oldest_in
   none_counted h = rw (eq-eqb (get_or count c 0) 0 h)
 
-  pub first_counted : (get_or count c 0 ≡ 0 → ⊥) → (t : Tail) → t ≡ tail_of x c → (a : ℕ) → a ≡ get_or start c 0 → (e : Committed) → e ≡ record_in xs zs c t.number a
-      → Whole e ≡ oldest_in x xs zs start count c
-  unfolding oldest_in
+  pub first_counted : (get_or count c 0 ≡ 0 → ⊥) → (t : Tail) → t ≡ tail_of x c → (a : ℕ) → a ≡ get_or start c 0 → (e : Committed) → e ≡ committed_in c t.number (extent_at xs a)
+      → Some e ≡ oldest_in x xs start count c
+  unfolding oldest_in record_in
   first_counted h t q a b e p = rw (ne_eqb (get_or count c 0) 0 h, p, q, b)
 
-  module _ (d : Bytes) (r : ReadNow x d xs zs start count) (h : c < (shape_of x).cores) where
+  module _ (d : Bytes) (r : ReadNow x d xs start count) (h : c < (shape_of x).cores) where
     -- the first record of a core is the one at its tail
-    pub oldest_same : oldest_in x xs zs start count c ≡ oldest_at x d c
+    pub oldest_same : oldest_in x xs start count c ≡ oldest_at x d c
     unfolding oldest_in oldest_at IsJournal tail_of
     oldest_same =
-        sym (first_run xs zs c (tail_of x c).number (get_or start c 0) (get_or count c 0))
+        sym (first_run xs c (tail_of x c).number (get_or start c 0) (get_or count c 0))
         ∙ ap head_of (r.reads.journals c h)
         ∙ first_record (shape_of x) d c (tail_of x c) (get_or (counts x) c 0)
         ∙ rw (count_in x c (core_low x c h))
 
     pub start_low : get_or start c 0 < 96
-    start_low = omega (arith, reads_low Numbers (shape_of x) d x.tails (counts x) xs zs start count r.reads (shape_limits x) c h)
+    start_low = omega (arith, reads_low Numbers (shape_of x) d x.tails (counts x) xs start count r.reads (shape_limits x) c h)

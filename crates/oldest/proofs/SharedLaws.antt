@@ -1,8 +1,12 @@
 -- The blocks of a transaction read from its record; whether a transaction in cells took one; two that share one, asked block by
 -- block. One of lower stamp shares a block: a committed one of the records read, or a core's closed one.
 use Rattle.model.proofs.Base.{ℕ, ◌+◌, ◌≤◌, ◌<◌, arith, ◌≡◌, sym, ap, subst, ◌∙◌, Bool, true, false, not, List, length}
-use Rattle.model.proofs.Base.{take, get_or, eqb, eq-eqb, ne_eqb, lt-ltb, le-ltb, not-true, not-false, below, any}
-use Rattle.model.proofs.Base.{Bytes}
+use Rattle.model.proofs.Base.{get_or, eqb, lt-ltb, le-ltb, not-true, not-false, below, any}
+use Rattle.model.proofs.Base.{Bytes, map, length-map, length-take}
+use Rattle.std.proofs.lemmas.List.{same_lists}
+use lib.Seq.{get_or-take}
+use Rattle.model.proofs.Lists.{length_below, get_or_map_below}
+use Rattle.layout.proofs.Loops.{some_map}
 use Rattle.model.specs.Card.{taken, shape_of}
 use Rattle.model.specs.Layout.{new_tag, pair_at}
 use Rattle.model.specs.Journal.{journal_at, tags_of, blocks_of}
@@ -15,14 +19,13 @@ use Rattle.model.proofs.Lists.{any_mem, mem_any, get_or_mem, mem_get_or, mem_bel
 use Rattle.model.proofs.Limits.{InRange}
 use Rattle.model.proofs.Records.{length_blocks_of, known_below}
 use Rattle.layout.specs.Loops.{some}
-use Rattle.layout.proofs.Loops.{some_none, some_no, some_in, some_out}
 use Rattle.layout.proofs.Narrow.{block_below}
+use Rattle.journal.specs.declared.extents.Extent.{Extent}
 use Rattle.journal.specs.Records.{numbers_of, records_in, SizedCommitted, RangeTested, descriptor_blocks}
 use Rattle.journal.proofs.Blocks.{block_at}
 use Rattle.journal.proofs.Tested.{known_tested, tested_bytes}
 use Rattle.images.specs.Newest.{shares_below}
 use Rattle.cells.specs.Cells.{transaction_size, block_place, byte_in, transaction_in, card_in, closed_place}
-use Rattle.cells.proofs.Parts.{any_hit, any_more, any_none, any_all}
 use Rattle.cells.proofs.ReadLaws.{stamp_read, block_read, closed_read}
 use Rattle.oldest.specs.Oldest.{IsRead, lower_closed, closed_lower, lower_shares}
 
@@ -50,38 +53,27 @@ module _ (x : Card) (s : Shape) (q : s ≡ shape_of x) where
   read_shape d e r = subst (λ (s : Shape). IsRead s d e) (sym q) r
 
 -- ---- block b among those that the transaction at a place took
-module _ (w : List ℕ) (a b : ℕ) where
-  pub none_taken : any (eqb b) (take 0 (taken (transaction_in w a))) ≡ false
-  none_taken = any_none (eqb b) (taken (transaction_in w a))
+module _ (w : List ℕ) (a : ℕ) where
+  blocks_taken : (n : ℕ) → n ≡ length (taken (transaction_in w a)) → n ≤ 8 → map (λ (i : ℕ). byte_in w (block_place a i)) (below n) ≡ taken (transaction_in w a)
+  unfolding taken
+  blocks_taken n e l =
+      let long : length (map (λ (i : ℕ). byte_in w (block_place a i)) (below n)) ≡ n = length-map (below n) _ ∙ length_below n in
+      same_lists _ _ (long ∙ e) (λ k d h.
+      let q : k < n = omega (arith, long) in
+      get_or_map_below _ n k d q
+      ∙ sym (block_read w a k d (omega arith))
+      ∙ sym (get_or-take (transaction_in w a).count (transaction_in w a).blocks k d (omega (arith, length-take (transaction_in w a).count (transaction_in w a).blocks, e))))
 
-  module _ (i count : ℕ) (e : count ≡ length (taken (transaction_in w a))) where
-    pub not_taken : any (eqb b) (take i (taken (transaction_in w a))) ≡ false → count ≤ i → false ≡ any (eqb b) (taken (transaction_in w a))
-    not_taken u h = sym (any_all (eqb b) (taken (transaction_in w a)) i u (omega arith))
-
-    module _ (l : count ≤ 8) (h : i < count) (g : ℕ) (q : g ≡ byte_in w (block_place a i)) where
-      here : get_or (transaction_in w a).blocks i 0 ≡ g
-      here = block_read w a i 0 (omega arith) ∙ sym q
-
-      pub block_hit : g ≡ b → true ≡ any (eqb b) (taken (transaction_in w a))
-      unfolding taken
-      block_hit z =
-          sym
-          (any_hit (eqb b) (transaction_in w a).blocks (transaction_in w a).count i (omega arith) 0
-          (eq-eqb b (get_or (transaction_in w a).blocks i 0) (sym (here ∙ z))))
-
-      pub block_missed : any (eqb b) (take i (taken (transaction_in w a))) ≡ false → (g ≡ b → ⊥) → any (eqb b) (take (i + 1) (taken (transaction_in w a))) ≡ false
-      unfolding taken
-      block_missed u z =
-          any_more (eqb b) (transaction_in w a).blocks (transaction_in w a).count i (omega arith) 0 u
-          (ne_eqb b (get_or (transaction_in w a).blocks i 0) (λ y. z (sym (y ∙ here))))
+  pub block_among : (b n : ℕ) → n ≡ length (taken (transaction_in w a)) → n ≤ 8 → some n (λ (i : ℕ). eqb b (byte_in w (block_place a i))) ≡ any (eqb b) (taken (transaction_in w a))
+  block_among b n e l = some_map (eqb b) (λ (i : ℕ). byte_in w (block_place a i)) n ∙ ap (any (eqb b)) (blocks_taken n e l)
 
 -- ---- blocks shared
 -- the block at place i is one of those
-unfoldable pub shares_at : List ℕ → List ℕ → ℕ → Bool
+abbrev pub shares_at : List ℕ → List ℕ → ℕ → Bool
 shares_at bs cs i = any (eqb (get_or bs i 0)) cs
 
 some_share : (bs cs : List ℕ) → some (length bs) (shares_at bs cs) ≡ share bs cs
-unfolding some share shares_at
+unfolding some share
 some_share bs cs =
     bool_ext
     (λ h.
@@ -92,26 +84,8 @@ some_share bs cs =
     let i = mem_get_or m.1 0 in
     mem_any (λ (i : ℕ). any (eqb (get_or bs i 0)) cs) (below_mem (length bs) i.0 i.1) (ap (λ (b : ℕ). any (eqb b) cs) i.2 ∙ m.2))
 
-module _ (s : Shape) (d : Bytes) (e : Committed) (cs : List ℕ) where
-  shares_all : some e.count (shares_at (blocks_of s d e) cs) ≡ share (blocks_of s d e) cs
-  shares_all = ap (λ (n : ℕ). some n (shares_at (blocks_of s d e) cs)) (sym (length_blocks_of s d e)) ∙ some_share (blocks_of s d e) cs
-
-  pub none_shared : some 0 (shares_at (blocks_of s d e) cs) ≡ false
-  none_shared = some_none _
-
-  pub end_shared : (i : ℕ) → some i (shares_at (blocks_of s d e) cs) ≡ false → i ≤ e.count → e.count ≤ i → false ≡ share (blocks_of s d e) cs
-  end_shared i h p q = some_no (shares_at (blocks_of s d e) cs) i e.count h p q ∙ shares_all
-
-  module _ (i b : ℕ) (p : b ≡ get_or (blocks_of s d e) i 0) (r : Bool) (q : r ≡ any (eqb b) cs) where
-    answered : r ≡ shares_at (blocks_of s d e) cs i
-    unfolding shares_at
-    answered = q ∙ rw p
-
-    pub one_shared : r ≡ true → i < e.count → true ≡ share (blocks_of s d e) cs
-    one_shared h l = some_in (shares_at (blocks_of s d e) cs) i r answered e.count h l ∙ shares_all
-
-    pub more_unshared : some i (shares_at (blocks_of s d e) cs) ≡ false → r ≡ false → some (i + 1) (shares_at (blocks_of s d e) cs) ≡ false
-    more_unshared h n = some_out (shares_at (blocks_of s d e) cs) i r answered h n
+pub shares_all : (s : Shape) (d : Bytes) (e : Committed) (cs : List ℕ) → some e.count (shares_at (blocks_of s d e) cs) ≡ share (blocks_of s d e) cs
+shares_all s d e cs = ap (λ (n : ℕ). some n (shares_at (blocks_of s d e) cs)) (sym (length_blocks_of s d e)) ∙ some_share (blocks_of s d e) cs
 
 -- ---- those of lower stamp
 module _ (s : Shape) (d : Bytes) (e : Committed) (w : List ℕ) (a : ℕ) (g : Bool) (q : g ≡ (transaction_in w a).live) where
@@ -137,12 +111,12 @@ module _ (s : Shape) (c at : ℕ) (p : at ≡ closed_place c) (l : InRange s) (h
   is_lower w d e r q = q ∙ rw p (rw (closed_read w c (omega (arith, l.few_cores))))
 
 -- a committed one, then a closed one; the numbers of those committed play no part
-module _ (x : Card) (s : Shape) (d : Bytes) (xs zs start count : List ℕ) (e : Committed) (g : Bool)
-    (q : (ks : List ℕ) → g ≡ any (shares_below s d e) (records_in s xs zs ks start count)) where
-  pub lower_committed : g ≡ true → true ≡ lower_shares x s d xs zs start count e
+module _ (x : Card) (s : Shape) (d : Bytes) (xs : List Extent) (start count : List ℕ) (e : Committed) (g : Bool)
+    (q : (ks : List ℕ) → g ≡ any (shares_below s d e) (records_in s xs ks start count)) where
+  pub lower_committed : g ≡ true → true ≡ lower_shares x s d xs start count e
   unfolding lower_shares
   lower_committed t = rw (← q (numbers_of x.tails), t)
 
-  pub lower_closed_lem : g ≡ false → (r : Bool) → r ≡ some s.cores (closed_lower x s d e) → r ≡ lower_shares x s d xs zs start count e
+  pub lower_closed_lem : g ≡ false → (r : Bool) → r ≡ some s.cores (closed_lower x s d e) → r ≡ lower_shares x s d xs start count e
   unfolding lower_shares
   lower_closed_lem t r z = z ∙ rw (← q (numbers_of x.tails), t)

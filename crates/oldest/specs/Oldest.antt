@@ -13,12 +13,13 @@ use Rattle.model.specs.declared.Transaction.{Transaction}
 use Rattle.model.specs.declared.Card.{Card}
 use Rattle.model.specs.declared.CommitLayout.TheVariants.{Numbers}
 use Rattle.model.specs.declared.Committed.{Committed}
-use Rattle.model.specs.declared.Found.{Found}
-use Rattle.model.specs.declared.Found.TheVariants.{Whole, Miss}
-use Rattle.oldest.specs.declared.asked.Asked.{Asked}
+use Rattle.std.specs.Prelude.{Option, Some, None, Result, Ok}
+use Rattle.model.specs.Refusal.{answer_of}
+use Rattle.model.specs.declared.Refusal.{Refusal}
 use Rattle.model.proofs.Limits.{InRange}
 use Rattle.model.proofs.Journal.{KnownRecord}
 use Rattle.layout.specs.Loops.{some}
+use Rattle.journal.specs.declared.extents.Extent.{Extent}
 use Rattle.journal.specs.Records.{numbers_of, record_in, records_in, RunsTested}
 use Rattle.journal.specs.Walk.{Reads}
 use Rattle.images.specs.Newest.{shares_below}
@@ -36,18 +37,18 @@ unfoldable pub Counts : Card → List ℕ → Type 0
 Counts x most = (c : ℕ) → c < (shape_of x).cores → get_or most c 0 ≡ count_at x c
 
 -- core c's oldest transaction, if the card counts one
-unfoldable pub oldest_at : Card → Bytes → ℕ → Found
+unfoldable pub oldest_at : Card → Bytes → ℕ → Option Committed
 oldest_at x d c =
-    cond (eqb (count_at x c) 0) Miss (record_at Numbers (shape_of x) d c (tail_of x c).number (tail_of x c).position (shape_of x).journal)
+    cond (eqb (count_at x c) 0) None (record_at Numbers (shape_of x) d c (tail_of x c).number (tail_of x c).position (shape_of x).journal)
 
 -- the committed transactions of a card that is up, as they were read: of each journal as many as the card counts
-pub record ReadNow (x : Card) (d : Bytes) (xs zs start count : List ℕ) : Type 0 where
-  pub reads : Reads Numbers (shape_of x) d x.tails (counts x) xs zs start count
+pub record ReadNow (x : Card) (d : Bytes) (xs : List Extent) (start count : List ℕ) : Type 0 where
+  pub reads : Reads Numbers (shape_of x) d x.tails (counts x) xs start count
   pub tested : RunsTested (shape_of x) d xs start count
 
 -- core c's oldest among them, the first of its records
-unfoldable pub oldest_in : Card → List ℕ → List ℕ → List ℕ → List ℕ → ℕ → Found
-oldest_in x xs zs start count c = cond (eqb (get_or count c 0) 0) Miss (Whole (record_in xs zs c (tail_of x c).number (get_or start c 0)))
+unfoldable pub oldest_in : Card → List Extent → List ℕ → List ℕ → ℕ → Option Committed
+oldest_in x xs start count c = cond (eqb (get_or count c 0) 0) None (Some (record_in xs c (tail_of x c).number (get_or start c 0)))
 
 -- a transaction that was read from its record, on a whole disk of this shape
 pub record IsRead (s : Shape) (d : Bytes) (e : Committed) : Type 0 where
@@ -57,11 +58,11 @@ pub record IsRead (s : Shape) (d : Bytes) (e : Committed) : Type 0 where
   pub known : KnownRecord Numbers s d e.core e.number e
 
 -- core c's oldest transaction, found among those that were read
-pub record IsOldest (x : Card) (d : Bytes) (c : ℕ) (xs zs start count : List ℕ) (e : Committed) : Type 0 where
+pub record IsOldest (x : Card) (d : Bytes) (c : ℕ) (xs : List Extent) (start count : List ℕ) (e : Committed) : Type 0 where
   pub long : length d ≡ 32896
   pub core : c < (shape_of x).cores
-  pub read : ReadNow x d xs zs start count
-  pub first : oldest_at x d c ≡ Whole e
+  pub read : ReadNow x d xs start count
+  pub first : oldest_at x d c ≡ Some e
 
 -- ---- those closed, of lower stamp, that share a block with e
 unfoldable pub lower_closed : Shape → Bytes → Committed → Transaction → Bool
@@ -72,9 +73,9 @@ unfoldable pub closed_lower : Card → Shape → Bytes → Committed → ℕ →
 closed_lower x s d e i = lower_closed s d e (core_of x i).closed
 
 -- one of those, or a committed one, of the records read
-unfoldable pub lower_shares : Card → Shape → Bytes → List ℕ → List ℕ → List ℕ → List ℕ → Committed → Bool
-lower_shares x s d xs zs start count e =
-    any (shares_below s d e) (records_in s xs zs (numbers_of x.tails) start count) || some s.cores (closed_lower x s d e)
+unfoldable pub lower_shares : Card → Shape → Bytes → List Extent → List ℕ → List ℕ → Committed → Bool
+lower_shares x s d xs start count e =
+    any (shares_below s d e) (records_in s xs (numbers_of x.tails) start count) || some s.cores (closed_lower x s d e)
 
 -- ---- asked
 -- core c's oldest transaction: it was read from its record, and its number is one that a descriptor may have
@@ -85,6 +86,6 @@ pub record OldestFound (c : ℕ) (w : World) (e : Committed) : Type 0 where
   pub number : e.number ≤ max_number
 
 -- what is answered to what both ask: the number n, and where it is 0 the oldest transaction
-pub record OldestAsked (n c : ℕ) (w : World) (r : Asked) : Type 0 where
-  pub number : r.number ≡ n
-  pub found : r.number ≡ 0 → OldestFound c w r.oldest
+pub record OldestAsked (n c : ℕ) (w : World) (r : Result Committed Refusal) : Type 0 where
+  pub number : answer_of r ≡ n
+  pub found : (e : Committed) → r ≡ Ok e → OldestFound c w e

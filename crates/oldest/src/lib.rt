@@ -7,6 +7,6 @@ mod shared; // others that share a block with it
 mod refusals; // whether it may be stored home and retired
 mod asked; // what CHECKPOINT and RETIRE both ask
 
-pub use asked::{Asked, ask_oldest, homed};
+pub use asked::{ask_oldest, homed};
 pub use committed::read_committed;
 pub use shared::block_at;

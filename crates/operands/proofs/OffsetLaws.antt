@@ -5,9 +5,12 @@ use native.Mathlib.Nat.{le-max_left, max-le}
 use mathlib.Core.Path.{◌≡◌, refl, sym, ap, ◌∙◌}
 use mathlib.Core.Logic.{inl, inr}
 use mathlib.Core.Bool.{Bool, true, false, not}
+use native.Mathlib.Decide.{dec_lt}
+use Rattle.std.proofs.Common.{cond, ◌&&◌, is_le, is_lt, nat_cmp}
+use Rattle.std.proofs.lemmas.Bool.Decides.{nat_tests}
 use lib.ListN.{length, get_or, get_or-eq_default}
-use lib.Dec.{leb, ltb}
-use borrow.Author.Tests.{leb-true, leb-false, ltb-true, ltb-false, le-leb, lt-leb, lt-ltb, le-ltb}
+use lib.Dec.{leb}
+use borrow.Author.Tests.{leb-true, leb-false, lt-ltb, le-ltb}
 use Rattle.model.specs.Lists.{all}
 use Rattle.model.specs.Bytes.{Bytes}
 use Rattle.model.specs.Shape.{between}
@@ -15,18 +18,16 @@ use Rattle.model.specs.Tape.{operand_lengths, operand_length, command_byte, is_u
 use Rattle.model.proofs.Lists.{cases, all_mem, get_or_mem}
 use Rattle.model.proofs.Tape.{early_is, next_ends, next_known, read_past, unknown_is}
 
--- past the end of a slice stands 0
-pub byte_past : (s : Bytes) (i : ℕ) → length s ≤ i → 0 ≡ get_or s i 0
-byte_past s i h = sym (get_or-eq_default s 0 h)
-
 -- ---- the table of operand lengths
-pub length_past : (k : ℕ) → 10 ≤ k → 0 ≡ operand_length k
-unfolding operand_length operand_lengths
-length_past k h = sym (get_or-eq_default operand_lengths 0 h)
-
-pub length_few : (k : ℕ) → k < 10 → operand_length k ≤ 8
-unfolding operand_length operand_lengths all
-length_few k h = leb-true _ 8 (all_mem (λ (x : ℕ). leb x 8) operand_lengths refl (get_or_mem operand_lengths k 0 h))
+pub length_few : (k : ℕ) → get_or operand_lengths k 0 ≤ 8
+unfolding operand_lengths all
+length_few k =
+    elim (dec_lt k 10) [
+      | yes h ↦ leb-true _ 8 (all_mem (λ (x : ℕ). leb x 8) operand_lengths refl (get_or_mem operand_lengths k 0 h))
+      | no h ↦
+          let long : length operand_lengths ≤ k = omega arith in
+          rw (get_or-eq_default operand_lengths 0 long) (omega arith)
+    ]
 
 -- ---- refusals 2 and 3
 module _ (t : Bytes) (at : ℕ) where
@@ -41,16 +42,11 @@ module _ (t : Bytes) (at : ℕ) where
     unfolding command_byte
     byte_known = unknown_is t at ∙ rw (lt-ltb at (length t) h, ← e) refl
 
-    pub unknown_zero : k < 1 → true ≡ is_unknown (read_at t at)
+    -- by what a range answers that has not been gone over
+    pub unknown_rest : (r x : Bool) (low high : ℕ) → low ≡ 1 → high ≡ 9 → x ≡ false → r ≡ (is_le (nat_cmp low k) && cond x (is_lt (nat_cmp k high)) (is_le (nat_cmp k high)))
+        → not r ≡ is_unknown (read_at t at)
     unfolding between
-    unknown_zero l = sym (byte_known ∙ simp (lt-leb 1 k l))
-
-    pub unknown_rest : 1 ≤ k → ltb 9 k ≡ is_unknown (read_at t at)
-    unfolding between
-    unknown_rest l =
-        cases (ltb 9 k)
-        (λ q. rw q (sym (byte_known ∙ simp (le-leb 1 k l, lt-leb k 9 (ltb-true 9 k q)))))
-        (λ q. rw q (sym (byte_known ∙ simp (le-leb 1 k l, le-leb k 9 (ltb-false 9 k q)))))
+    unknown_rest r x low high a b c q = ap not (q ∙ rw (a, b, c) (grind (arith, nat_tests))) ∙ sym byte_known
 
     pub early_rest : (n : ℕ) → n ≡ operand_length k → leb (length t - at) n ≡ is_early (read_at t at)
     unfolding command_byte

@@ -1,9 +1,13 @@
-// A tape's commands by their offsets: a command's byte, how many bytes of operands it has, the refusals 2 and 3, and where the next one
-// stands. Offsets are compared by subtraction: past the tape's end a sum could pass the largest offset.
+// A tape's commands by their offsets: a command's byte, how many bytes of operands it has, the refusals 2 and 3, the command itself, and
+// where the next one stands. Offsets are compared by subtraction: past the tape's end a sum could pass the largest offset.
 #![tactic(auto)]
+
+mod decoding; // which command it is, with its operands
 
 ghost use Rattle.std.specs.Prelude.{◌≡◌, ◌≤◌, get_or};
 ghost use Rattle.model.specs.Tape.{operand_length, is_unknown, is_early, read_at, next_offset};
+
+pub use decoding::{Command, Task, read_command};
 
 // The bytes of the operands of commands 1 to 9; there is no command 0.
 const OPERAND_LENGTHS: [u8; 10] = [0, 3, 8, 1, 1, 1, 0, 0, 1, 8];
@@ -12,22 +16,14 @@ const OPERAND_LENGTHS: [u8; 10] = [0, 3, 8, 1, 1, 1, 0, 0, 1, 8];
 pub fn byte_at(s: &[u8], i: usize) -> u8
     ensures { result ≡ get_or s.now i 0 }
 {
-    if s.len() <= i {
-        return 0;
-    }
-    s[i]
+    s.get(i).copied().unwrap_or(0)
 }
 
 // How many bytes of operands command k has; none where there is no such command.
 pub fn operand_length(k: u8) -> usize
     ensures { (result ≡ operand_length k) × (result ≤ 8) }
 {
-    let i = k as usize;
-    if 10 <= i {
-        return 0;
-    }
-    let n = OPERAND_LENGTHS[i];
-    n as usize
+    byte_at(&OPERAND_LENGTHS, k as usize) as usize
 }
 
 // Refusal 2, a byte that is no command.
@@ -37,22 +33,14 @@ pub fn is_unknown(tape: &[u8], at: usize) -> bool
     if tape.len() <= at {
         return false;
     }
-    let k = byte_at(tape, at);
-    if k < 1 {
-        return true;
-    }
-    9 < k
+    !(1..=9).contains(&byte_at(tape, at))
 }
 
 // Refusal 3, operands that end early.
 pub fn ends_early(tape: &[u8], at: usize) -> bool
     ensures { result ≡ is_early (read_at tape.now at) }
 {
-    if tape.len() <= at {
-        return true;
-    }
-    let n = operand_length(byte_at(tape, at));
-    tape.len() - at <= n
+    tape.len() <= at || tape.len() - at <= operand_length(byte_at(tape, at))
 }
 
 // Where the next command stands: behind this one, or at the tape's end where this one is unknown or ends early.
@@ -62,12 +50,8 @@ pub fn next_offset(tape: &[u8], at: usize) -> usize
     if tape.len() <= at {
         return at;
     }
-    if is_unknown(tape, at) {
+    if is_unknown(tape, at) || ends_early(tape, at) {
         return tape.len();
     }
-    if ends_early(tape, at) {
-        return tape.len();
-    }
-    let n = operand_length(byte_at(tape, at));
-    at + 1 + n
+    at + 1 + operand_length(byte_at(tape, at))
 }

@@ -12,13 +12,14 @@ use Rattle.model.specs.Card.{new_tail}
 use Rattle.model.specs.Layout.{descriptor_block}
 use Rattle.model.specs.Journal.{journal_at, journal}
 use Rattle.model.specs.Command.{refusal}
-use Rattle.model.specs.JournalEnds.{lacks_descriptor, has_bad_field, read_record, record_answer, journal_end}
+use Rattle.model.specs.JournalEnds.{lacks_descriptor, has_bad_field, read_record, end_number, record_answer, journal_end}
 use Rattle.model.specs.declared.Shape.{Shape}
 use Rattle.model.specs.declared.CommitLayout.{CommitLayout}
 use Rattle.model.specs.declared.CommitLayout.TheVariants.{Lists, Numbers}
 use Rattle.model.specs.declared.Committed.{Committed}
-use Rattle.model.specs.declared.RecordRead.{RecordRead}
-use Rattle.model.specs.declared.RecordRead.TheVariants.{NoDescriptor, BadDescriptor}
+use Rattle.std.specs.Prelude.{Result, Err}
+use Rattle.model.specs.declared.JournalEnd.{JournalEnd}
+use Rattle.model.specs.declared.JournalEnd.TheVariants.{NoDescriptor, BadDescriptor}
 use Rattle.page.proofs.EndCases.{journal_of, plain, record_of, number_on, Row, row, Answers, records_compute}
 
 -- ---- whole records, with B = 9
@@ -68,9 +69,9 @@ wide_limits = refl
 unfoldable pub descriptor_end : Shape → ℕ → ℕ → Bytes → ℕ
 descriptor_end s k left e = refusal ((lacks_descriptor k left e, 1) ∷ (has_bad_field s e, 2) ∷ [])
 
-two_tests : (a b : Bool) (r : RecordRead) →
-    refusal ((a, 1) ∷ (b, 2) ∷ []) ≡ 2 → (record_answer (cond a NoDescriptor (cond b BadDescriptor r))).0 ≡ 2
-unfolding record_answer refusal
+two_tests : (a b : Bool) (r : Result Committed JournalEnd) →
+    refusal ((a, 1) ∷ (b, 2) ∷ []) ≡ 2 → (record_answer (cond a (Err NoDescriptor) (cond b (Err BadDescriptor) r))).0 ≡ 2
+unfolding record_answer end_number refusal
 two_tests true b r h = omega (arith, h)
 two_tests false true r h = refl
 two_tests false false r h = omega (arith, h)

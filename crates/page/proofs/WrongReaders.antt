@@ -11,11 +11,12 @@ use Rattle.model.specs.Bytes.{Bytes, block}
 use Rattle.model.specs.Layout.{mark, Tag, new_tag, descriptor_block, has_head, block_count, tags_in, is_tag, distinct, stamp_in, name_count, is_commit}
 use Rattle.model.specs.Journal.{journal_at, blocks_of}
 use Rattle.model.specs.Command.{refusal}
-use Rattle.model.specs.JournalEnds.{lacks_descriptor, has_bad_field, read_record, record_answer}
+use Rattle.model.specs.JournalEnds.{lacks_descriptor, has_bad_field, read_record, end_number, record_answer}
 use Rattle.model.specs.declared.CommitLayout.{CommitLayout}
 use Rattle.model.specs.declared.CommitLayout.TheVariants.{Lists, Numbers}
 use Rattle.model.specs.declared.Committed.{Committed}
-use Rattle.model.specs.declared.RecordRead.TheVariants.{Read, NoDescriptor, BadDescriptor, TooFewBlocks, NoCommit}
+use Rattle.std.specs.Prelude.{Ok, Err}
+use Rattle.model.specs.declared.JournalEnd.TheVariants.{NoDescriptor, BadDescriptor, TooFewBlocks, NoCommit}
 use Rattle.page.proofs.EndCases.{journal_of, nine_blocks, plain, record_of, ended_by, numbering, number_on, number_read, records_compute}
 
 -- ---- readers by what they ask of number expected, blocks left, descriptor and commit (n + 1 past position 0), with the end for each, in their
@@ -35,9 +36,9 @@ asks_in_order y k left e f =
     (lacks_descriptor k left e, 1) ∷ (has_bad_field nine_blocks e, 2) ∷ (ltb left (block_count e + 2), 3) ∷ (not (is_commit y nine_blocks k f), 4) ∷ []
 
 four_tests : (a b c d : Bool) (e : Committed) →
-    (record_answer (cond a NoDescriptor (cond b BadDescriptor (cond c TooFewBlocks (cond d NoCommit (Read e)))))).0
+    (record_answer (cond a (Err NoDescriptor) (cond b (Err BadDescriptor) (cond c (Err TooFewBlocks) (cond d (Err NoCommit) (Ok e)))))).0
     ≡ refusal ((a, 1) ∷ (b, 2) ∷ (c, 3) ∷ (d, 4) ∷ [])
-unfolding record_answer refusal
+unfolding record_answer end_number refusal
 four_tests true b c d e = refl
 four_tests false true c d e = refl
 four_tests false false true d e = refl

@@ -9,30 +9,30 @@ mod buffer; // the plan in a lent buffer
 pub use buffer::lay_plan;
 pub use planning::plan;
 
-// What is left of one transaction, if there is one: whether it runs, its name (8 * number + core), its stamp, and the stores to do.
+// What is left of one transaction: its name (8 * number + core), its stamp, which a running one gets at its CLOSE, and the stores to do.
 #[derive(Clone, Copy)]
 pub struct Work {
-    pub live: bool,
-    pub runs: bool,
     pub name: u64,
-    pub stamp: u64,
+    pub stamp: Option<u64>,
     pub stores: usize,
 }
 
-// What was counted of those found: commands and stores left, how many have a stamp, how many there are.
-#[derive(Clone, Copy)]
-pub struct Tally {
+// The works found so far: commands and stores left of them, how many have a stamp, how many there are; their stamps, ascending; and their
+// names in that order, with those of the running ones behind them. Places not used are zero.
+#[derive(Drop)]
+pub struct Found {
     pub commands: usize,
     pub stores: usize,
     pub stamped: usize,
     pub count: usize,
+    pub stamps: [u64; 112],
+    pub names: [u64; 112],
 }
 
-// What the planner answers: the number of a refusal, 0 for none; how many commands will empty every journal, and how many of them
-// store; how many transactions they retire, and their names in order, each 8 * number + core. Places not used are zero.
+// A plan: how many commands will empty every journal, and how many of them store; how many transactions they retire, and their names in
+// order, each 8 * number + core. Places not used are zero.
 #[derive(Drop)]
-pub struct PlanAnswer {
-    pub number: u8,
+pub struct PlannedWork {
     pub commands: usize,
     pub stores: usize,
     pub count: usize,

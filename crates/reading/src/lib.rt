@@ -2,77 +2,77 @@
 #![tactic(auto)]
 
 ghost use Rattle.std.specs.Prelude.{◌≡◌, length};
+ghost use Rattle.model.specs.Refusal.{answer_of};
 ghost use Rattle.model.specs.Reading.{read_number, read_block};
 ghost use Rattle.cells.specs.Cells.{world_in};
-ghost use Rattle.reading.specs.Part.{part_of};
+ghost use Rattle.reading.specs.Part.{slice_number, answered, part_of};
 
-use cells::{block_refusal, is_held, shape_of, state_refusal};
-use model::Shape;
+use cells::{State, check_block, check_up, is_held, shape_of};
+use model::{Refusal, Shape};
 
-// Where the bytes of a block stand: in no slice (0), the disk (1) or memory (2), from where on, and how many. A refused reading has
-// its number and 0 of each.
+// The lent slice in which the bytes of a block stand.
+#[derive(Clone, Copy, Debug, PartialEq, Eq)]
+pub enum Slice {
+    Disk = 1,
+    Memory = 2,
+}
+
+// Its number where a part is told by numbers alone.
+impl From<Slice> for u32 {
+    ghost from_gives = { λ s n. n ≡ slice_number s };
+
+    fn from(s: Slice) -> u32 {
+        s as u32
+    }
+}
+
+// Where the bytes of a block stand: in which slice, from where on, and how many.
 #[derive(Clone, Copy)]
 pub struct BlockPart {
-    pub number: u8,
-    pub slice: u8,
+    pub slice: Slice,
     pub from: usize,
     pub length: usize,
 }
 
-// The number of the refusal that reading block b meets, 0 for none.
-pub fn read_number(w: &[u64], b: u16, disk: &[u8], memory: &[u8]) -> u8
-    requires { length w.now ≡ 423 }
-    ensures { result ≡ read_number b (world_in w.now disk.now memory.now) }
+// What reading block b is refused with.
+pub fn check_read(w: &State, b: u16, disk: &[u8], memory: &[u8]) -> Result<(), Refusal>
+    ensures { answer_of result ≡ read_number b (world_in w.now disk.now memory.now) }
 {
-    let n = state_refusal(w, disk, memory);
-    if n != 0 {
-        return n;
-    }
-    block_refusal(w, b)
+    check_up(w, disk, memory)?;
+    check_block(w, b)
 }
 
 // Where the 128 bytes of block b stand: in memory while a transaction holds it, otherwise on the disk.
-pub fn read_part(w: &[u64], b: u16, disk: &[u8], memory: &[u8]) -> BlockPart
-    requires { length w.now ≡ 423 }
-    ensures { result ≡ part_of b (world_in w.now disk.now memory.now) }
+pub fn read_part(w: &State, b: u16, disk: &[u8], memory: &[u8]) -> Result<BlockPart, Refusal>
+    ensures { answered result ≡ part_of b (world_in w.now disk.now memory.now) }
 {
-    let n = read_number(w, b, disk, memory);
-    if n != 0 {
-        return BlockPart {
-            number: n,
-            slice: 0,
-            from: 0,
-            length: 0,
-        };
-    }
+    check_read(w, b, disk, memory)?;
     let block = b as u8;
     if is_held(w, block) {
-        return BlockPart {
-            number: 0,
-            slice: 2,
+        return Ok(BlockPart {
+            slice: Slice::Memory,
             from: Shape::BLOCK_SIZE * block as usize,
             length: Shape::BLOCK_SIZE,
-        };
+        });
     }
     let s = shape_of(w);
-    BlockPart {
-        number: 0,
-        slice: 1,
+    Ok(BlockPart {
+        slice: Slice::Disk,
         from: Shape::BLOCK_SIZE * s.home_block(block),
         length: Shape::BLOCK_SIZE,
-    }
+    })
 }
 
 // Those bytes, as a part of the slice. A refused reading hands back a part of no bytes.
-pub fn read_block<'a>(w: &[u64], b: u16, disk: &'a [u8], memory: &'a [u8]) -> &'a [u8]
-    requires { length w.now ≡ 423 }
+pub fn read_block<'a>(w: &State, b: u16, disk: &'a [u8], memory: &'a [u8]) -> &'a [u8]
     ensures { result.now ≡ read_block b (world_in w.now disk.now memory.now) }
 {
-    let p = read_part(w, b, disk, memory);
-    let from = p.from;
-    let to = from + p.length;
-    if p.slice == 2 {
-        return &memory[from..to];
+    let Ok(p) = read_part(w, b, disk, memory) else {
+        return &[];
+    };
+    let to = p.from + p.length;
+    match p.slice {
+        Slice::Disk => &disk[p.from..to],
+        Slice::Memory => &memory[p.from..to],
     }
-    &disk[from..to]
 }

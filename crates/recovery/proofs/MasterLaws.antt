@@ -1,6 +1,7 @@
 -- The first block is a master or RECOVER answers 8; its shape is the disk's, as is the layout that it gives. A card counts no home blocks while blank, its own
 -- while up, while down those of a master that is fit.
-use Rattle.model.proofs.Base.{ℕ, arith, ◌≡◌, sym, ap, subst, ◌∙◌, Bool, true, false, cond, not, ◌&&◌, length, take, eqb, Bytes}
+use Rattle.model.proofs.Base.{ℕ, arith, ◌≡◌, sym, ap, subst, ◌∙◌, Bool, true, false, cond, not, ◌&&◌, length, eqb, Bytes}
+use Rattle.std.specs.Prelude.{Option, Some, None}
 use Rattle.model.specs.Bytes.{be4, part, block_at}
 use Rattle.model.specs.Shape.{checked}
 use Rattle.model.specs.Card.{shape_of}
@@ -12,18 +13,15 @@ use Rattle.model.specs.declared.Phase.{Phase}
 use Rattle.model.specs.declared.Phase.TheVariants.{Blank, Up, Down}
 use Rattle.model.specs.declared.Shape.{Shape}
 use Rattle.model.specs.declared.CommitLayout.{CommitLayout}
-use Rattle.model.specs.declared.Checked.{Checked}
-use Rattle.model.specs.declared.Checked.TheVariants.{Fits, OutOfRange}
 use Rattle.model.proofs.Lists.{and_left, and_right}
 use Rattle.model.proofs.Limits.{InRange}
 use Rattle.model.proofs.OneStore.{master_limits}
 use Rattle.cells.specs.Cells.{world}
 use Rattle.recovery.specs.Recovering.{Shaped}
 
-module _ (d : Bytes) (r : Bool) (e : r ≡ is_master (take 128 d)) where
+module _ (d b : Bytes) (q : b ≡ block_at d 0) (r : Bool) (e : r ≡ is_master b) where
   first_block : r ≡ is_master (block_at d 0)
-  unfolding block_at part
-  first_block = e
+  first_block = e ∙ ap is_master q
 
   pub is_master_lem : r ≡ true → ◌≡◌ {A = ℕ} 0 (cond (not (is_master (block_at d 0))) 8 0)
   is_master_lem h = rw (← first_block, h)
@@ -42,36 +40,35 @@ module _ (d : Bytes) (r : Bool) (e : r ≡ is_master (take 128 d)) where
   count_fit h s f = ap (λ (s : Shape). s.blocks) f.shape ∙ rw (is_fit h)
 
 module _ (d : Bytes) (h : is_master (block_at d 0) ≡ true) where
-  pub master_part : is_master (take 128 d) ≡ true
-  unfolding block_at part
-  master_part = h
+  pub master_part : (b : Bytes) → b ≡ block_at d 0 → is_master b ≡ true
+  master_part b e = rw e h
 
   -- its shape is within the limits
-  shape_fits : checked (be4 (take 128 d) 12) (be4 (take 128 d) 16) (be4 (take 128 d) 20) ≡ Fits (shape_on d)
+  shape_fits : checked (be4 (block_at d 0) 12) (be4 (block_at d 0) 16) (be4 (block_at d 0) 20) ≡ Some (shape_on d)
   unfolding block_at part is_master has_master_fields checked shape_on shape_in
-  shape_fits = rw (and_right (eqb (be4 (take 128 d) 0) mark && eqb (be4 (take 128 d) 4) 4) _ (and_left _ _ (and_left _ _ h)))
+  shape_fits = rw (and_right (eqb (be4 (block_at d 0) 0) mark && eqb (be4 (block_at d 0) 4) 4) _ (and_left _ _ (and_left _ _ h)))
 
   disk_range : InRange (shape_on d)
   unfolding shape_on
   disk_range = master_limits (block_at d 0) h
 
-  module _ (l : length d ≡ 32896) (made : Checked) (e : made ≡ checked (be4 (take 128 d) 12) (be4 (take 128 d) 16) (be4 (take 128 d) 20)) where
-    pub shape_made : (s : Shape) → made ≡ Fits s → Shaped s d
+  module _ (l : length d ≡ 32896) (b : Bytes) (q : b ≡ block_at d 0) (made : Option Shape) (e : made ≡ checked (be4 b 12) (be4 b 16) (be4 b 20)) where
+    pub shape_made : (s : Shape) → made ≡ Some s → Shaped s d
     shape_made s f =
-        let q : Fits s ≡ Fits (shape_on d) = sym f ∙ e ∙ shape_fits in
+        let n : Some s ≡ Some (shape_on d) = sym f ∙ e ∙ rw q shape_fits in
         let z : s ≡ shape_on d = cc in
         record { long = l; master = h; shape = z; range = subst InRange (sym z) disk_range }
 
-    pub shape_missed : made ≡ OutOfRange → (y : Shape) → Shaped y d
+    pub shape_missed : made ≡ None → (y : Shape) → Shaped y d
     shape_missed f y =
-        let q : Fits (shape_on d) ≡ OutOfRange = sym shape_fits ∙ sym e ∙ f in
+        let n : Some (shape_on d) ≡ None = sym (rw q shape_fits) ∙ (sym e ∙ f) in
         let z : ◌≡◌ {A = ℕ} 0 1 = cc in
         absurd (omega arith)
 
 -- the layout of the disk's commits
-pub layout_read : (d : Bytes) (y : CommitLayout) → y ≡ layout_in (take 128 d) → y ≡ layout_on d
-unfolding layout_on block_at part
-layout_read d y e = e
+pub layout_read : (d b : Bytes) (y : CommitLayout) → b ≡ block_at d 0 → y ≡ layout_in b → y ≡ layout_on d
+unfolding layout_on
+layout_read d b y q e = e ∙ ap layout_in q
 
 -- ---- the home blocks of a card, by its phase
 module _ (x : Card) (d : Bytes) (p : Phase) (e : p ≡ x.phase) where

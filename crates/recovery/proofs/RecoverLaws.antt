@@ -1,6 +1,6 @@
 -- RECOVER stores the newest image of the lowest block left and counts on, or, with none left, stores the master with all
 -- journals emptied and comes up. Refused, or carried out, it meets its contract.
-use Rattle.model.proofs.Base.{ℕ, ◌+◌, ◌%◌, ◌≤◌, ◌<◌, arith, ◌≡◌, refl, sym, ap, ◌∙◌, true, List, [], ◌∷◌, map, Memᴰ}
+use Rattle.model.proofs.Base.{ℕ, ◌+◌, ◌%◌, ◌<◌, arith, ◌≡◌, refl, sym, ap, ◌∙◌, true, List, [], ◌∷◌, map}
 use Rattle.model.proofs.Base.{mem_head, length, get_or, set, get_or-set_same, not-false, below, Bytes}
 use Rattle.model.specs.Bytes.{block_at, store}
 use Rattle.model.specs.Shape.{home_block, clamped}
@@ -18,25 +18,30 @@ use Rattle.model.proofs.Lists.{map_below, get_or_map_below}
 use Rattle.model.proofs.Limits.{clamped_same}
 use Rattle.model.proofs.OneStore.{right_lengths, left_below}
 use Rattle.model.proofs.Encoding.{master_same}
+use Rattle.journal.specs.declared.extents.Extent.{Extent}
 use Rattle.journal.specs.Records.{records_in}
-use Rattle.images.specs.Newest.{first_or, held_from}
+use Rattle.std.specs.Prelude.{Option, Some, None}
+use Rattle.images.specs.Newest.{first_of, held_from}
 use Rattle.cells.specs.Cells.{byte_in, card_in, world, world_in}
 use Rattle.cells.specs.Changes.{Frame}
-use Rattle.cells.specs.Answer.{new_answer, Meets, Stores}
+use Rattle.cells.specs.Answer.{Meets, Stores}
 use Rattle.cells.proofs.RefusalLaws.{none_held}
-use Rattle.cells.proofs.MeetLaws.{meets_refused, meets_done}
+use Rattle.cells.proofs.MeetLaws.{meets_handed, meets_done}
+use Rattle.std.specs.Prelude.{Result, Ok, Err}
+use Rattle.model.specs.Refusal.{number_of}
+use Rattle.model.specs.declared.Refusal.{Refusal}
 use Rattle.cells.proofs.FitsLaws.{fits_field, frame_set, frame_wider}
 use Rattle.cells.proofs.CoreLaws.{recovered_put}
 use Rattle.recovery.specs.Recovering.{numbers_on, tail_after, Shaped, Emptying, IsValid}
 use Rattle.recovery.proofs.JournalLaws.{left_first}
 
 -- ---- the command
-module _ (v : List ℕ) (d m : Bytes) (n : ℕ) (e : n ≡ refusal (recover_conditions (world_in v d m))) where
+module _ (v : List ℕ) (d m : Bytes) where
   -- no refusal met
-  module _ (h : n ≡ 0) where
+  module _ (e : 0 ≡ refusal (recover_conditions (world_in v d m))) where
     none_met : Clear (recover_conditions (world_in v d m))
     unfolding recover_conditions_by
-    none_met = none_held (recover_conditions (world_in v d m)) (world_in v d m) (recovered in_sequence (world_in v d m)) n e h (omega arith, (omega arith, (omega arith, (omega arith, tt))))
+    none_met = none_held (recover_conditions (world_in v d m)) (world_in v d m) (recovered in_sequence (world_in v d m)) 0 e refl (omega arith, (omega arith, (omega arith, (omega arith, tt))))
 
     pub disk_long : length d ≡ 32896
     unfolding recover_conditions_by
@@ -47,14 +52,16 @@ module _ (v : List ℕ) (d m : Bytes) (n : ℕ) (e : n ≡ refusal (recover_cond
     first_master = not-false (is_master (block_at d 0)) none_met.1.1.1.0
 
   module _ (l : length v ≡ 423) where
-    pub recover_refused : (n ≡ 0 → ⊥) → Meets (recover in_sequence (world_in v d m)) v v d m (new_answer n 0)
+    pub recover_refused : (e : Refusal) → number_of e ≡ refusal (recover_conditions (world_in v d m)) → (r : Result ℕ Refusal) → r ≡ Err e
+        → Meets (recover in_sequence (world_in v d m)) v v d m r
     unfolding recover
-    recover_refused h = meets_refused (recover_conditions (world_in v d m)) v d m _ l n e h
+    recover_refused e q r h = meets_handed (recover_conditions (world_in v d m)) v d m _ l e q r h
 
-    pub recover_done : n ≡ 0 → (w : List ℕ) (k : Bytes) → Stores (recovered in_sequence) v w d k → Meets (recover in_sequence (world_in v d m)) v w k m (new_answer 0 1)
+    pub recover_done : 0 ≡ refusal (recover_conditions (world_in v d m)) → (w : List ℕ) (k : Bytes) → Stores (recovered in_sequence) v w d k
+        → Meets (recover in_sequence (world_in v d m)) v w k m (Ok 1)
     unfolding recover
-    recover_done h w k s =
-        meets_done (recover_conditions (world_in v d m)) v d m (recovered in_sequence (world_in v d m)) l n e h w k m 1 (s.outcome m) 0 423 s.frame
+    recover_done e w k s =
+        meets_done (recover_conditions (world_in v d m)) v d m (recovered in_sequence (world_in v d m)) l e w k m 1 (s.outcome m) 0 423 s.frame
 
 -- ---- the master store
 module _ (d : Bytes) (s : Shape) (g : Shaped s d) (ts : List Tail) (e : ts ≡ map (emptied_tail (layout_on d) d) (below 8)) where
@@ -107,41 +114,50 @@ pub home_stored : (v : List ℕ) → length v ≡ 423 → (s : Shape) (d : Bytes
 home_stored v l s d g b h = home_passed v l b (omega (arith, g.range.few_blocks)) d
 
 -- ---- which of the two comes next
-first_some : (n b : ℕ) (xs : List ℕ) → b ≡ first_or n xs → b < n → (bs : List ℕ) × (xs ≡ b ∷ bs)
-unfolding first_or
-first_some n b [] e h = absurd (omega arith)
-first_some n b (x ∷ xs) e h = (xs, rw e)
+first_some : (b : ℕ) (xs : List ℕ) → Some b ≡ first_of xs → (bs : List ℕ) × (xs ≡ b ∷ bs)
+unfolding first_of
+first_some b [] e = cc
+first_some b (x ∷ xs) e = let z : b ≡ x = cc in (xs, rw z)
 
-first_none : (n b : ℕ) (xs : List ℕ) → b ≡ first_or n xs → n ≤ b → ((x : ℕ) → Memᴰ x xs → x < n) → xs ≡ []
-unfolding first_or
-first_none n b [] e h f = refl
-first_none n b (x ∷ xs) e h f = let g : x < n = f x (mem_head refl) in absurd (omega arith)
+first_none : (xs : List ℕ) → None ≡ first_of xs → xs ≡ []
+unfolding first_of
+first_none [] e = refl
+first_none (x ∷ xs) e = cc
 
 recovered_read : (v : List ℕ) → byte_in v 5 ≡ (card_in v).recovered
 unfolding card_in
 recovered_read v = refl
 
-module _ (v : List ℕ) (d : Bytes) (s : Shape) (g : Shaped s d) (xs zs start count : List ℕ) (q : IsValid s d xs zs start count) (from : ℕ) (f : from ≡ byte_in v 5) (b : ℕ)
-    (e : (us ks : List ℕ) → b ≡ held_from s d (records_in s xs us ks start count) from) where
-  next_left : (m : Bytes) → b ≡ first_or s.blocks (blocks_left in_sequence (layout_on d) (world_in v d m))
-  next_left m = left_first d s g xs zs start count q (card_in v) m b (e zs (numbers_on d) ∙ ap (held_from s d (records_in s xs zs (numbers_on d) start count)) (f ∙ recovered_read v))
+module _ (v : List ℕ) (d : Bytes) (s : Shape) (g : Shaped s d) (xs : List Extent) (start count : List ℕ) (q : IsValid s d xs start count) (from : ℕ) (f : from ≡ byte_in v 5)
+    (r : Option ℕ) (e : (ks : List ℕ) → r ≡ held_from s d (records_in s xs ks start count) from) where
+  next_left : (m : Bytes) → r ≡ first_of (blocks_left in_sequence (layout_on d) (world_in v d m))
+  next_left m = left_first d s g xs start count q (card_in v) m r (e (numbers_on d) ∙ ap (held_from s d (records_in s xs (numbers_on d) start count)) (f ∙ recovered_read v))
 
-  pub recovered_home : b < s.blocks → (w : List ℕ) (k : Bytes) → ((bs : List ℕ) → Stores (recover_step in_sequence (layout_on d) Numbers (b ∷ bs)) v w d k) → Stores (recovered in_sequence) v w d k
-  unfolding recovered recovered_by
-  recovered_home h w k t =
-      record {
-        outcome = λ m.
-            let r = first_some s.blocks b (blocks_left in_sequence (layout_on d) (world_in v d m)) (next_left m) h in
-            (t r.0).outcome m ∙ ap (λ (bs : List ℕ). recover_step in_sequence (layout_on d) Numbers bs (world_in v d m)) (sym r.1);
-        frame = (t []).frame;
-      }
+  module _ (b : ℕ) (h : r ≡ Some b) where
+    next_some : (m : Bytes) → (bs : List ℕ) × (blocks_left in_sequence (layout_on d) (world_in v d m) ≡ b ∷ bs)
+    next_some m = first_some b _ (sym h ∙ next_left m)
 
-  pub recovered_up : s.blocks ≤ b → (w : List ℕ) (k : Bytes) → Stores (recover_step in_sequence (layout_on d) Numbers []) v w d k → Stores (recovered in_sequence) v w d k
+    pub recovered_below : b < s.blocks
+    recovered_below =
+        let n = next_some [] in
+        rw g.shape (left_below in_sequence (layout_on d) (world_in v d []) (rw n.1 (mem_head refl)))
+
+    pub recovered_home : (w : List ℕ) (k : Bytes) → ((bs : List ℕ) → Stores (recover_step in_sequence (layout_on d) Numbers (b ∷ bs)) v w d k) → Stores (recovered in_sequence) v w d k
+    unfolding recovered recovered_by
+    recovered_home w k t =
+        record {
+          outcome = λ m.
+              let n = next_some m in
+              (t n.0).outcome m ∙ ap (λ (bs : List ℕ). recover_step in_sequence (layout_on d) Numbers bs (world_in v d m)) (sym n.1);
+          frame = (t []).frame;
+        }
+
+  pub recovered_up : r ≡ None → (w : List ℕ) (k : Bytes) → Stores (recover_step in_sequence (layout_on d) Numbers []) v w d k → Stores (recovered in_sequence) v w d k
   unfolding recovered recovered_by
   recovered_up h w k t =
       record {
         outcome = λ m.
-            let r = first_none s.blocks b (blocks_left in_sequence (layout_on d) (world_in v d m)) (next_left m) h (λ i k. rw g.shape (left_below in_sequence (layout_on d) (world_in v d m) k)) in
-            t.outcome m ∙ ap (λ (bs : List ℕ). recover_step in_sequence (layout_on d) Numbers bs (world_in v d m)) (sym r);
+            let n = first_none (blocks_left in_sequence (layout_on d) (world_in v d m)) (sym h ∙ next_left m) in
+            t.outcome m ∙ ap (λ (bs : List ℕ). recover_step in_sequence (layout_on d) Numbers bs (world_in v d m)) (sym n);
         frame = t.frame;
       }

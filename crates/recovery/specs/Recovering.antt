@@ -10,6 +10,7 @@ use Rattle.model.specs.declared.Tail.{Tail}
 use Rattle.model.specs.declared.CommitLayout.{CommitLayout}
 use Rattle.model.proofs.Limits.{InRange}
 use Rattle.master_block.specs.Tails.{tail_or_none}
+use Rattle.journal.specs.declared.extents.Extent.{Extent}
 use Rattle.journal.specs.Records.{tail_for, numbers_of, records_in, RunsTested}
 use Rattle.journal.specs.Walk.{Reads}
 
@@ -31,10 +32,10 @@ pub record Shaped (s : Shape) (d : Bytes) : Type 0 where
   pub range : InRange s
 
 -- the layout of a disk's commits, the tails of its master, and all its journals read whole
-pub record OnDisk (s : Shape) (d : Bytes) (y : CommitLayout) (ts : List Tail) (xs zs start count : List ℕ) : Type 0 where
+pub record OnDisk (s : Shape) (d : Bytes) (y : CommitLayout) (ts : List Tail) (xs : List Extent) (start count : List ℕ) : Type 0 where
   pub layout : y ≡ layout_on d
   pub tails : ts ≡ map (tail_or_none (block_at d 0)) (below 8)
-  pub records : Reads y s d ts (replicate 8 s.journal) xs zs start count
+  pub records : Reads y s d ts (replicate 8 s.journal) xs start count
   pub tested : RunsTested s d xs start count
 
 -- tails and counts from which the journals of a disk are emptied
@@ -42,6 +43,6 @@ unfoldable pub Emptying : Shape → Bytes → List Tail → List ℕ → Type 0
 Emptying s d ts count = (c : ℕ) → c < 8 → tail_after s ts count c ≡ emptied_tail (layout_on d) d c
 
 -- records that are the valid set of a disk; their descriptors have passed the range test
-pub record IsValid (s : Shape) (d : Bytes) (xs zs start count : List ℕ) : Type 0 where
-  pub valid : records_in s xs zs (numbers_on d) start count ≡ valid_on d
+pub record IsValid (s : Shape) (d : Bytes) (xs : List Extent) (start count : List ℕ) : Type 0 where
+  pub valid : records_in s xs (numbers_on d) start count ≡ valid_on d
   pub tested : RunsTested s d xs start count

@@ -8,6 +8,7 @@ ghost use Rattle.model.specs.Limits.{disk_size};
 ghost use Rattle.cells.specs.Cells.{world_in};
 
 use crate::master::disk_shape;
+use cells::State;
 use model::{Phase, Shape};
 
 // The home blocks that the disk's master counts, none where it is unfit.
@@ -15,7 +16,7 @@ fn master_count(disk: &[u8]) -> u8
     requires { length disk.now ≡ disk_size }
     ensures { result ≡ cond (is_master (block_at disk.now 0)) (shape_on disk.now).blocks 0 }
 {
-    if !master_block::is_master(&disk[0..Shape::BLOCK_SIZE]) {
+    if !master_block::is_master(layout::block_at(disk, 0)) {
         return 0;
     }
     let s = disk_shape(disk);
@@ -23,8 +24,8 @@ fn master_count(disk: &[u8]) -> u8
 }
 
 // A blank card has none, one that is down as many as its disk says.
-pub fn home_count(w: &[u64], disk: &[u8]) -> u8
-    requires { (length w.now ≡ 423) × (length disk.now ≡ disk_size) }
+pub fn home_count(w: &State, disk: &[u8]) -> u8
+    requires { length disk.now ≡ disk_size }
     ensures { (m : Bytes) → result ≡ home_count (world_in w.now disk.now m) }
 {
     let p = cells::phase_of(w);

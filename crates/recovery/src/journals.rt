@@ -1,14 +1,15 @@
 // All journals of a disk: the layout of their commits, the tails of its master, the records of its committed transactions, and what
 // recovery makes of them.
-ghost use Rattle.std.specs.Prelude.{◌≡◌, map, ◌<◌, length};
+ghost use Rattle.std.specs.Prelude.{◌≡◌, map, ◌<◌};
 ghost use Rattle.model.specs.Lists.{below};
 ghost use Rattle.model.specs.Valid.{in_sequence};
 ghost use Rattle.model.specs.Recovery.{tail_past, layout_on, newest_image};
 ghost use Rattle.recovery.specs.Recovering.{tail_after, Shaped, OnDisk, IsValid};
 
 use crate::master::disk_layout;
-use journal::Runs;
-use model::{CommitLayout, Shape, Tail};
+use journal::{Disk, Extent, Records, Runs};
+use model::{Block, CommitLayout, Shape, Tail};
+use std::array;
 
 // All journals of a disk, read whole: the layout of their commits, the tails of its master, and the records of each core.
 #[derive(Drop)]
@@ -53,25 +54,19 @@ fn emptied_tail(s: Shape, tails: [Tail; 8], count: [u8; 8], c: usize) -> Tail
 pub fn emptied_tails(s: Shape, tails: [Tail; 8], count: [u8; 8]) -> [Tail; 8]
     ensures { result ≡ map (tail_after s tails count) (below 8) }
 {
-    let mut out = [Tail {
-        number: 0,
-        position: 0,
-    }; 8];
-    let mut c: usize = 0;
-    while c < 8 {
-        out[c] = emptied_tail(s, tails, count, c);
-        c += 1;
-    }
-    out
+    array::from_fn(|c| emptied_tail(s, tails, count, c))
 }
 
-pub fn read_disk(s: Shape, disk: &[u8], extents: &mut [u16], stamps: &mut [u64]) -> Journals
-    requires { Shaped s disk.now × (length extents.old ≡ 96) × (length stamps.old ≡ 96) }
-    ensures { OnDisk s disk.now result.layout result.tails extents.new stamps.new result.runs.start result.runs.count }
+// All journals of a disk whose first block is a master, read into a lent array.
+pub fn read_disk(disk: Disk, extents: &mut [Extent; 96]) -> Journals
+    requires { Shaped disk.shape disk.bytes.now }
+    ensures { OnDisk disk.entry.shape disk.entry.bytes.now result.layout result.tails extents.new
+        result.runs.start result.runs.count }
 {
-    let layout = disk_layout(disk);
-    let tails = master_block::read_tails(&disk[0..Shape::BLOCK_SIZE]);
-    let runs = journal::read_journals(layout, s, disk, tails, [s.journal; 8], extents, stamps);
+    let bytes = disk.bytes;
+    let layout = disk_layout(bytes);
+    let tails = master_block::read_tails(layout::block_at(bytes, 0));
+    let runs = disk.read_journals(layout, tails, [disk.shape.journal; 8], extents);
     Journals {
         layout,
         tails,
@@ -80,18 +75,13 @@ pub fn read_disk(s: Shape, disk: &[u8], extents: &mut [u16], stamps: &mut [u64])
 }
 
 // The newest image of block b in the valid set.
-pub fn newest_block(
-    s: Shape,
-    disk: &[u8],
-    extents: &[u16; 96],
-    stamps: &[u64; 96],
-    valid: Runs,
-    b: u8,
-) -> [u8; Shape::BLOCK_SIZE]
-    requires { Shaped s disk.now × IsValid s disk.now extents.now stamps.now valid.start valid.count }
-    ensures { result ≡ newest_image in_sequence (layout_on disk.now) disk.now b }
+pub fn newest_block(valid: Records, b: u8) -> Block
+    requires { Shaped valid.disk.shape valid.disk.bytes.now
+        × IsValid valid.disk.shape valid.disk.bytes.now valid.extents.now valid.runs.start valid.runs.count }
+    ensures { result ≡ newest_image in_sequence (layout_on valid.entry.disk.bytes.now) valid.entry.disk.bytes.now b }
 {
-    let at = images::newest_image(s, disk, extents, stamps, valid, b);
-    let image = layout::load_block(disk, at.block);
+    let at = images::newest_image(valid, b);
+    let bytes = valid.disk.bytes;
+    let image = layout::load_block(bytes, at.block);
     layout::unescape(at.flag, image)
 }

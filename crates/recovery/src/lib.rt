@@ -8,5 +8,5 @@ mod restoring; // RECOVER
 
 pub use home::home_count;
 pub use journals::{Journals, read_disk};
-pub use master::{disk_shape, master_refusal};
+pub use master::{check_master, disk_shape};
 pub use restoring::recover;

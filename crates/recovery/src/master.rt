@@ -2,21 +2,22 @@
 ghost use Rattle.std.specs.Prelude.{◌≡◌, true, cond, not, length};
 ghost use Rattle.model.specs.Bytes.{block_at};
 ghost use Rattle.model.specs.Layout.{is_master};
+ghost use Rattle.model.specs.Refusal.{answer_of};
 ghost use Rattle.model.specs.Recovery.{layout_on};
 ghost use Rattle.model.specs.Limits.{disk_size};
 ghost use Rattle.recovery.specs.Recovering.{Shaped};
 
-use model::{Checked, CommitLayout, Shape};
+use model::{CommitLayout, Refusal, Shape};
 
 // Refusal 8, a first block that is no master.
-pub fn master_refusal(disk: &[u8]) -> u8
+pub fn check_master(disk: &[u8]) -> Result<(), Refusal>
     requires { length disk.now ≡ disk_size }
-    ensures { result ≡ cond (not (is_master (block_at disk.now 0))) 8 0 }
+    ensures { answer_of result ≡ cond (not (is_master (block_at disk.now 0))) 8 0 }
 {
-    if master_block::is_master(&disk[0..Shape::BLOCK_SIZE]) {
-        return 0;
+    if master_block::is_master(layout::block_at(disk, 0)) {
+        return Ok(());
     }
-    8
+    Err(Refusal::UnfitMaster)
 }
 
 // The shape that the disk's master gives: one that was taken for a master has it within the limits.
@@ -24,8 +25,7 @@ pub fn disk_shape(disk: &[u8]) -> Shape
     requires { (length disk.now ≡ disk_size) × (is_master (block_at disk.now 0) ≡ true) }
     ensures { Shaped result disk.now }
 {
-    let made = master_block::read_shape(&disk[0..Shape::BLOCK_SIZE]);
-    let Checked::Fits(s) = made else {
+    let Some(s) = master_block::read_shape(layout::block_at(disk, 0)) else {
         return Shape {
             cores: 1,
             blocks: 1,
@@ -40,5 +40,5 @@ pub fn disk_layout(disk: &[u8]) -> CommitLayout
     requires { length disk.now ≡ disk_size }
     ensures { result ≡ layout_on disk.now }
 {
-    master_block::read_layout(&disk[0..Shape::BLOCK_SIZE])
+    master_block::read_layout(layout::block_at(disk, 0))
 }

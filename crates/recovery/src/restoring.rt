@@ -4,8 +4,9 @@ ghost use Rattle.std.specs.Prelude.{◌≡◌, true, List, [], ◌∷◌, ℕ, �
 ghost use Rattle.model.specs.Bytes.{block_at};
 ghost use Rattle.model.specs.Layout.{is_master};
 ghost use Rattle.model.specs.Command.{refusal};
+ghost use Rattle.model.specs.Refusal.{answer_of};
 ghost use Rattle.model.specs.Valid.{in_sequence};
-ghost use Rattle.model.specs.Recovery.{layout_on, recover_conditions, recover_step, recovered, recover};
+ghost use Rattle.model.specs.Recovery.{layout_on, newest_image, recover_conditions, recover_step, recovered, recover};
 ghost use Rattle.model.specs.Limits.{disk_size};
 ghost use Rattle.model.specs.declared.CommitLayout.TheVariants.{Numbers};
 ghost use Rattle.cells.specs.Answer.{Meets, Stores};
@@ -13,28 +14,31 @@ ghost use Rattle.cells.specs.Cells.{world_in};
 ghost use Rattle.recovery.specs.Recovering.{Shaped, Emptying, IsValid};
 
 use crate::journals::{emptied_tails, newest_block, read_disk};
-use crate::master::{disk_shape, master_refusal};
-use cells::{Answer, RECOVERED, byte_in, come_up, phase_refusal};
-use journal::Runs;
+use crate::master::{check_master, disk_shape};
+use cells::{RECOVERED, State, byte_in, check_phase, come_up};
+use journal::{Disk, Extent, Records, Runs};
 use layout::store_home;
 use master_block::store_master;
-use model::{Shape, Tail};
+use model::{Block, Refusal, Shape, Tail};
 
 // The first block is looked at once the slices have their lengths and the card is down.
-fn recover_refusal(w: &[u64], disk: &[u8], memory: &[u8]) -> u8
-    requires { length w.now ≡ 423 }
-    ensures { result ≡ refusal (recover_conditions (world_in w.now disk.now memory.now)) }
+fn check_recover(w: &State, disk: &[u8], memory: &[u8]) -> Result<(), Refusal>
+    ensures { answer_of result ≡ refusal (recover_conditions (world_in w.now disk.now memory.now)) }
 {
-    let n = phase_refusal(w, disk, memory, 20, 23, 0);
-    if n != 0 {
-        return n;
-    }
-    master_refusal(disk)
+    check_phase(
+        w,
+        disk,
+        memory,
+        Err(Refusal::CardBlank),
+        Err(Refusal::CardUp),
+        Ok(()),
+    )?;
+    check_master(disk)
 }
 
 // The last store of recovery: one master with all journals empty, for commits with numbers. The card is up.
-fn bring_up(w: &mut [u64], s: Shape, before: [Tail; 8], count: [u8; 8], disk: &mut [u8])
-    requires { (length w.old ≡ 423) × Shaped s disk.old × Emptying s disk.old before count }
+fn bring_up(w: &mut State, s: Shape, before: [Tail; 8], count: [u8; 8], disk: &mut [u8])
+    requires { Shaped s disk.old × Emptying s disk.old before count }
     ensures { Stores (recover_step in_sequence (layout_on disk.old) Numbers [])
         w.old w.new disk.old disk.new }
 {
@@ -43,83 +47,74 @@ fn bring_up(w: &mut [u64], s: Shape, before: [Tail; 8], count: [u8; 8], disk: &m
     come_up(w, s, tails);
 }
 
-// A home store of recovery, of the lowest block left; recovery has then passed it.
-fn restore_block(
-    w: &mut [u64],
-    s: Shape,
-    disk: &mut [u8],
-    extents: &[u16; 96],
-    stamps: &[u64; 96],
-    valid: Runs,
-    b: u8,
-)
-    requires { (length w.old ≡ 423) × Shaped s disk.old
-        × IsValid s disk.old extents.now stamps.now valid.start valid.count × (b < s.blocks) }
+// A home store of recovery, of the lowest block left, with its newest image; recovery has then passed it.
+fn restore_block(w: &mut State, s: Shape, disk: &mut [u8], b: u8, image: Block)
+    requires { Shaped s disk.old × (b < s.blocks)
+        × (image ≡ newest_image in_sequence (layout_on disk.old) disk.old b) }
     ensures { (bs : List ℕ) → Stores (recover_step in_sequence (layout_on disk.old) Numbers (b ∷ bs))
         w.old w.new disk.old disk.new }
 {
-    let image = newest_block(s, disk, extents, stamps, valid, b);
     store_home(s, b, image, disk);
     w[RECOVERED] = b as u64 + 1;
 }
 
 // The next store of recovery: the lowest block left of the valid set, or with none the master.
 fn next_store(
-    w: &mut [u64],
+    w: &mut State,
     s: Shape,
     disk: &mut [u8],
-    extents: &[u16; 96],
-    stamps: &[u64; 96],
-    valid: Runs,
+    extents: &[Extent; 96],
+    runs: Runs,
     tails: [Tail; 8],
     count: [u8; 8],
 )
-    requires { (length w.old ≡ 423) × Shaped s disk.old
-        × IsValid s disk.old extents.now stamps.now valid.start valid.count × Emptying s disk.old tails count }
+    requires { Shaped s disk.old
+        × IsValid s disk.old extents.now runs.start runs.count × Emptying s disk.old tails count }
     ensures { Stores (recovered in_sequence) w.old w.new disk.old disk.new }
 {
     let from = byte_in(w, RECOVERED);
-    let b = images::next_held(s, disk, extents, valid, from);
-    if b < s.blocks {
-        restore_block(w, s, disk, extents, stamps, valid, b);
+    let whole = Disk::new(s, disk);
+    let valid = Records {
+        disk: whole,
+        extents,
+        runs,
+    };
+    let Some(b) = images::next_held(valid, from) else {
+        bring_up(w, s, tails, count, disk);
         return;
-    }
-    bring_up(w, s, tails, count, disk);
+    };
+    let image = newest_block(valid, b);
+    restore_block(w, s, disk, b, image);
 }
 
 // The next store of recovery over a disk whose first block is a master.
-fn recovered(w: &mut [u64], disk: &mut [u8])
-    requires { (length w.old ≡ 423) × (length disk.old ≡ disk_size) × (is_master (block_at disk.old 0) ≡ true) }
+fn recovered(w: &mut State, disk: &mut [u8])
+    requires { (length disk.old ≡ disk_size) × (is_master (block_at disk.old 0) ≡ true) }
     ensures { Stores (recovered in_sequence) w.old w.new disk.old disk.new }
 {
     let s = disk_shape(disk);
-    let mut extents = [0u16; 96];
-    let mut stamps = [0u64; 96];
-    let all = read_disk(s, disk, &mut extents, &mut stamps);
+    let whole = Disk::new(s, disk);
+    let mut extents = [Extent::NONE; 96];
+    let all = read_disk(whole, &mut extents);
     let layout = all.layout;
     let tails = all.tails;
     let runs = all.runs;
-    let valid = valid::valid_runs(layout, s, disk, tails, &extents, runs);
-    let count = runs.count;
-    next_store(w, s, disk, &extents, &stamps, valid, tails, count);
+    let extents = &extents;
+    let records = Records {
+        disk: whole,
+        extents,
+        runs,
+    };
+    let valid = valid::valid_runs(layout, tails, records);
+    next_store(w, s, disk, extents, valid, tails, runs.count);
 }
 
 // RECOVER. Memory takes no part: only its length is asked for.
-pub fn recover(w: &mut [u64], disk: &mut [u8], memory: &[u8]) -> Answer
-    requires { length w.old ≡ 423 }
+pub fn recover(w: &mut State, disk: &mut [u8], memory: &[u8]) -> Result<u8, Refusal>
     ensures { Meets (recover in_sequence (world_in w.old disk.old memory.now))
         w.old w.new disk.new memory.now result }
 {
-    let n = recover_refusal(w, disk, memory);
-    if n != 0 {
-        return Answer {
-            number: n,
-            stores: 0,
-        };
-    }
+    check_recover(w, disk, memory)?;
     recovered(w, disk);
-    Answer {
-        number: 0,
-        stores: 1,
-    }
+    Ok(1)
 }

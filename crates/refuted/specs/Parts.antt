@@ -4,7 +4,7 @@ use Rattle.std.specs.Prelude.{ℕ, ◌+◌, List, [], ◌∷◌, map, Bool, fals
 use Rattle.model.specs.Lists.{below, select}
 use Rattle.model.specs.Bytes.{Bytes}
 use Rattle.model.specs.Shape.{home_block, new_shape}
-use Rattle.model.specs.Card.{new_tail, new_holder, fresh_card, shape_of, tail_of, core_of, holder_of, with_block, with_core, with_holder, with_running}
+use Rattle.model.specs.Card.{new_tail, new_holder, fresh_card, shape_of, tail_of, core_of, holder_of, with_block, with_core, with_holder, with_running, holder_name}
 use Rattle.model.specs.Layout.{master_block}
 use Rattle.model.specs.Journal.{journal, name_of}
 use Rattle.model.specs.Valid.{Order, in_sequence, is_in, blocks_held, newest}
@@ -17,7 +17,7 @@ use Rattle.model.specs.Recovery.{shape_on, tail_on, layout_on, committed_on, rec
 use Rattle.model.specs.Tape.{Task, lamp_task, report_task, block_limit, Command, FORMAT, WRITE, CLOSE, STORE, CHECKPOINT, CUT, RECOVER, RETIRE, Step, TapeStep, read_at, command_at}
 use Rattle.model.specs.Step.{conditions_of, done_by, step, step_by, conditions_on, done_on}
 use Rattle.model.specs.declared.Phase.TheVariants.{Up}
-use Rattle.model.specs.declared.Found.TheVariants.{Miss}
+use Rattle.std.specs.Prelude.{None}
 use Rattle.model.specs.declared.Shape.{Shape}
 use Rattle.model.specs.declared.Tail.{Tail}
 use Rattle.model.specs.declared.Name.{Name}
@@ -216,7 +216,7 @@ own_tail d = emptied_tail (layout_on d) d
 abbrev pub recover_set : (Bytes → List Committed) → Step World
 recover_set set =
     recover_by (λ (w : World). select (leb w.card.recovered) (blocks_held (shape_on w.disk) w.disk (set w.disk)))
-    (λ (d : Bytes) (b : ℕ). image_found d b (newest (shape_on d) d b Miss (set d))) own_tail
+    (λ (d : Bytes) (b : ℕ). image_found d b (newest (shape_on d) d b None (set d))) own_tail
 
 -- by the new tail number, from the old one and the count of transactions read
 abbrev pub tail_by : (ℕ → ℕ → ℕ) → Bytes → ℕ → Tail
@@ -265,13 +265,13 @@ always_numbers d = Numbers
 abbrev pub writer_naming : (Transaction → Name → Transaction) → Card → ℕ → ℕ → Transaction
 writer_naming name x c b =
     let r = rule_for x c b in
-    let t = cond (names_holder r) (name (writer x c) (holder_of x b).name) (writer x c) in
+    let t = cond (names_holder r) (name (writer x c) (holder_name (holder_of x b))) (writer x c) in
     cond (takes_block r) (with_block t b) t
 
 abbrev pub card_naming : (Transaction → Name → Transaction) → Card → ℕ → ℕ → Card
 card_naming name x c b =
     let r = rule_for x c b in
-    let u = (holder_of x b).name.core in
+    let u = (holder_name (holder_of x b)).core in
     let x₁ = cond (is_named_back r) (with_core x u (with_running (core_of x u) (name (core_of x u).running (writer_name x c)))) x in
     let x₂ = with_core x₁ c (with_running (core_of x₁ c) (writer_naming name x c b)) in
     cond (takes_block r) (with_holder x₂ b (new_holder (writer_name x c))) x₂

@@ -4,7 +4,7 @@ use Rattle.std.specs.Prelude.{ℕ, suc, ◌+◌, ◌*◌, ◌-◌, max, min, Lis
 use Rattle.model.specs.Lists.{below, select, any}
 use Rattle.model.specs.Bytes.{Bytes, block_at, replaced}
 use Rattle.model.specs.Shape.{home_block, journal_block}
-use Rattle.model.specs.Card.{taken, stamped, with_block, new_holder, with_holder, record_size, fresh_card, shape_of, tail_of, core_of, holder_of, is_down}
+use Rattle.model.specs.Card.{taken, stamped, with_block, new_holder, with_holder, record_size, fresh_card, shape_of, tail_of, core_of, holder_of, is_down, is_held, holder_name}
 use Rattle.model.specs.Layout.{master_block, new_tag, descriptor_block}
 use Rattle.model.specs.Journal.{journal_at, blocks_of}
 use Rattle.model.specs.Shrink.{strike}
@@ -19,8 +19,7 @@ use Rattle.model.specs.Step.{step}
 use Rattle.model.specs.Reading.{read_number, Reader, read_block}
 use Rattle.model.specs.Limits.{max_number}
 use Rattle.model.specs.declared.Phase.TheVariants.{Up}
-use Rattle.model.specs.declared.Found.{Found}
-use Rattle.model.specs.declared.Found.TheVariants.{Whole, Miss}
+use Rattle.std.specs.Prelude.{Option, Some, None}
 use Rattle.model.specs.declared.Tail.{Tail}
 use Rattle.model.specs.declared.Name.{Name}
 use Rattle.model.specs.declared.Transaction.{Transaction}
@@ -49,7 +48,7 @@ abbrev pub no_name_for_committed : Step World
 no_name_for_committed =
     unnamed_where (λ x c b.
     let r = rule_for x c b in
-    takes_block r && names_holder r && not (is_closed_now x (holder_of x b).name))
+    takes_block r && names_holder r && not (is_closed_now x (holder_name (holder_of x b))))
 
 -- 'Trusting that a block cannot be in both of two tied transactions .. The stamp decides.': the last in order of core
 -- and number decides
@@ -57,7 +56,7 @@ abbrev unstamped : Committed → Committed
 unstamped e = record { core = e.core; number = e.number; position = e.position; count = e.count; stamp = 0 }
 
 abbrev pub newest_by_order : Step World
-newest_by_order = recover_by own_left (λ (d : Bytes) (b : ℕ). image_found d b (newest (shape_on d) d b Miss (map unstamped (valid_on d)))) own_tail
+newest_by_order = recover_by own_left (λ (d : Bytes) (b : ℕ). image_found d b (newest (shape_on d) d b None (map unstamped (valid_on d)))) own_tail
 
 -- 'Tails emptied core by core': one master store each, in the places after the last home block's
 abbrev by_core : List ℕ → World → Outcome World
@@ -164,12 +163,12 @@ highest_first =
     own_image own_tail
 
 -- 'wherever the flag is 1, the image read has the mark as its first four bytes': the flag is not looked at
-abbrev bare_image : Bytes → ℕ → Found → Bytes
-bare_image d b Miss = block_at d (home_block b)
-bare_image d b (Whole e) = let s = shape_on d in journal_at s d e.core (e.position + (place_of b (blocks_of s d e) + 1))
+abbrev bare_image : Bytes → ℕ → Option Committed → Bytes
+bare_image d b None = block_at d (home_block b)
+bare_image d b (Some e) = let s = shape_on d in journal_at s d e.core (e.position + (place_of b (blocks_of s d e) + 1))
 
 abbrev pub flag_ignored : Step World
-flag_ignored = recover_by own_left (λ (d : Bytes) (b : ℕ). bare_image d b (newest (shape_on d) d b Miss (valid_on d))) own_tail
+flag_ignored = recover_by own_left (λ (d : Bytes) (b : ℕ). bare_image d b (newest (shape_on d) d b None (valid_on d))) own_tail
 
 -- CUT: 'a recovery under way starts over': it goes on where it was
 abbrev pub cut_keeps_place : Step World
@@ -194,7 +193,7 @@ abbrev pub only_writer_names : Step World
 only_writer_names =
     other_write step (λ task c b o v w.
     let x = w.card in
-    let u = (holder_of x b).name.core in
+    let u = (holder_name (holder_of x b)).core in
     let done = step (WRITE task c b o v) w in
     cond (is_named_back (rule_for x c b)) (patched (on_running u (with_names_of (core_of x u).running)) done) done)
 
@@ -317,7 +316,7 @@ abbrev pub from_memory : Reader
 from_memory = handing_back memory_bytes
 
 abbrev pub exchanged : Reader
-exchanged = handing_back (λ (b : ℕ) (w : World). cond (holder_of w.card b).held (home_bytes b w) (memory_bytes b w))
+exchanged = handing_back (λ (b : ℕ) (w : World). cond (is_held (holder_of w.card b)) (home_bytes b w) (memory_bytes b w))
 
 -- 'A refused reading hands back a part of no bytes': a card that is down hands back a part of the disk
 abbrev pub hands_while_down : Reader

@@ -10,12 +10,12 @@ use Rattle.model.specs.declared.Tail.{Tail}
 use Rattle.model.specs.declared.Card.{Card}
 use Rattle.model.specs.declared.Committed.{Committed}
 use Rattle.model.proofs.Lists.{cases, map_below}
-use Rattle.cells.specs.Cells.{first_holder, byte_in, number_in, name_in, holder_in, card_in, tail_place, holder_place, core_place}
-use Rattle.cells.specs.Changes.{fits_at, AllFit, Frame, with_numbers, with_tail}
+use Rattle.cells.specs.Cells.{first_holder, name_in, holder_in, card_in, tail_place, holder_place, core_place}
+use Rattle.model.specs.declared.Core.{Core}
+use Rattle.cells.specs.declared.cores.CoreNumbers.{CoreNumbers}
+use Rattle.cells.specs.Changes.{fits_at, AllFit, Frame, numbers_of, with_numbers, with_tail}
 use Rattle.cells.proofs.FitsLaws.{fits_zero, fits_set, frame_then, frame_same, frame_wider}
-use Rattle.cells.proofs.ReadLaws.{next_there, used_there, stored_there}
 use Rattle.cells.proofs.CoreLaws.{holders_put}
-use Rattle.oldest.proofs.CardLaws.{same_numbers}
 use Rattle.retire.specs.Released.{with_released, Freed}
 
 -- ---- a holder's cell
@@ -92,14 +92,8 @@ module _ (n : Name) (v : List ℕ) where
           }
 
 -- ---- a core's numbers
-module _ (v : List ℕ) (c : ℕ) (h : c < 8) (p : ℕ) (q : p ≡ core_place c) (next : ℕ) (n : next ≡ number_in v p) (b : ℕ) (u : b ≡ byte_in v (p + 1)) where
-  pub core_retired : (e : Committed) (used : ℕ) → used ≡ b - (e.count + 2) → (stored : ℕ) → stored ≡ byte_in v (p + 2)
-      → (x : Card) → x ≡ with_core (card_in v) c (with_numbers (core_of (card_in v) c) next used stored 0) → x ≡ with_core (card_in v) c (retired_core (core_of (card_in v) c) e)
-  core_retired e used r stored s x z =
-      z
-      ∙ ap (with_core (card_in v) c)
-      (same_numbers (core_of (card_in v) c) _ _ _ _ _ _ 0 0 (next_there v c h p q next n)
-      (r ∙ ap (λ (i : ℕ). i - (e.count + 2)) (used_there v c h p q b u)) (stored_there v c h p q stored s) refl)
+pub core_retired : (k : Core) (n : CoreNumbers) → n ≡ numbers_of k → (e : Committed) (used : ℕ) → used ≡ n.used - (e.count + 2) → with_numbers k n.next used n.stored 0 ≡ retired_core k e
+core_retired k n i e used r = rw (r, i)
 
 -- ---- the card
 made_retired : (c : ℕ) (e : Committed) (x : Card) (t : Tail) → t ≡ moved_tail (shape_of x) e

@@ -11,13 +11,13 @@ ghost use Rattle.cells.specs.Answer.{Meets, Stores};
 ghost use Rattle.cells.specs.Cells.{world_in};
 
 use crate::retired::{moved_tail, retire_card};
-use cells::{Answer, shape_of, tails_of};
-use model::Committed;
+use cells::{State, shape_of, tails_of};
+use model::{Committed, Refusal};
 use oldest::{ask_oldest, homed};
 
 // The master with the tail moved past the transaction, then the cells.
-fn stored_master(w: &mut [u64], c: u8, e: Committed, disk: &mut [u8])
-    requires { (length w.old ≡ 423) × (length disk.old ≡ disk_size) × (c < 8) × (e.number ≤ max_number) }
+fn stored_master(w: &mut State, c: u8, e: Committed, disk: &mut [u8])
+    requires { (length disk.old ≡ disk_size) × (c < 8) × (e.number ≤ max_number) }
     ensures { Stores (stored_master c e) w.old w.new disk.old disk.new }
 {
     let s = shape_of(w);
@@ -29,28 +29,14 @@ fn stored_master(w: &mut [u64], c: u8, e: Committed, disk: &mut [u8])
 }
 
 // RETIRE. While images are left to be stored home it answers 34.
-pub fn retire(w: &mut [u64], c: u8, disk: &mut [u8], memory: &[u8]) -> Answer
-    requires { length w.old ≡ 423 }
+pub fn retire(w: &mut State, c: u8, disk: &mut [u8], memory: &[u8]) -> Result<u8, Refusal>
     ensures { Meets (retire in_sequence c (world_in w.old disk.old memory.now))
         w.old w.new disk.new memory.now result }
 {
-    let asked = ask_oldest(w, c, disk, memory);
-    if asked.number != 0 {
-        return Answer {
-            number: asked.number,
-            stores: 0,
-        };
-    }
-    let e = asked.oldest;
+    let e = ask_oldest(w, c, disk, memory)?;
     if homed(w, c) < e.count {
-        return Answer {
-            number: 34,
-            stores: 0,
-        };
+        return Err(Refusal::HomeStoresLeft);
     }
     stored_master(w, c, e, disk);
-    Answer {
-        number: 0,
-        stores: 1,
-    }
+    Ok(1)
 }

@@ -9,10 +9,7 @@ ghost use Rattle.cells.specs.Cells.{first_holder, card_in, core_place};
 ghost use Rattle.cells.specs.Changes.{Changed};
 ghost use Rattle.retire.specs.Released.{with_released, Freed};
 
-use cells::{
-    HOLDERS, STORED, USED, byte_in, core_place, name_of, number_in, put_numbers, put_tail,
-    same_name,
-};
+use cells::{CoreNumbers, HOLDERS, State, name_of, numbers_at, put_numbers, put_tail};
 use model::{Committed, Name, Shape, Tail, around};
 
 // A holder's cell after the transaction of this name is retired.
@@ -22,22 +19,19 @@ fn freed_cell(x: u64, n: Name) -> u64
     if x == 0 {
         return 0;
     }
-    if same_name(name_of(x - 1), n) {
+    if name_of(x - 1) == n {
         return 0;
     }
     x
 }
 
 // No block held by the transaction of this name any more.
-fn release(w: &mut [u64], n: Name)
-    requires { length w.old ≡ 423 }
+fn release(w: &mut State, n: Name)
     ensures { Changed (λ (x : Card). with_released x n) w.old w.new first_holder 64 }
 {
-    let mut b: usize = 0;
-    while b < 64 {
+    for b in 0..64 {
         let x = w[HOLDERS + b];
         w[HOLDERS + b] = freed_cell(x, n);
-        b += 1;
     }
 }
 
@@ -58,29 +52,31 @@ pub fn moved_tail(s: Shape, e: Committed) -> Tail
 fn blocks_left(used: u8, n: usize) -> u8
     ensures { result ≡ used - n }
 {
-    let before = used as usize;
-    if before < n {
-        return 0;
-    }
-    (before - n) as u8
+    usize::from(used).saturating_sub(n) as u8
 }
 
 // Core c's numbers after its oldest transaction is retired.
-fn retire_core(w: &mut [u64], c: u8, e: Committed)
-    requires { (length w.old ≡ 423) × (c < 8) }
+fn retire_core(w: &mut State, c: u8, e: Committed)
+    requires { c < 8 }
     ensures { Changed (λ (x : Card). with_core x c (retired_core (core_of x c) e))
         w.old w.new (core_place c) 4 }
 {
-    let at = core_place(c);
-    let next = number_in(w, at);
-    let used = blocks_left(byte_in(w, at + USED), e.count as usize + 2);
-    let stored = byte_in(w, at + STORED);
-    put_numbers(w, c, next, used, stored, 0);
+    let k = numbers_at(w, c);
+    let used = blocks_left(k.used, e.count as usize + 2);
+    put_numbers(
+        w,
+        c,
+        CoreNumbers {
+            used,
+            homed: 0,
+            ..k
+        },
+    );
 }
 
 // The card after core c's oldest transaction is retired, with the tail moved past it.
-pub fn retire_card(w: &mut [u64], c: u8, t: Tail, e: Committed)
-    requires { (length w.old ≡ 423) × (c < 8) × (t ≡ moved_tail (shape_of (card_in w.old)) e) }
+pub fn retire_card(w: &mut State, c: u8, t: Tail, e: Committed)
+    requires { (c < 8) × (t ≡ moved_tail (shape_of (card_in w.old)) e) }
     ensures { Changed (retired_card c e) w.old w.new 0 423 }
 {
     let n = Name {

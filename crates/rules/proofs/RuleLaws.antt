@@ -4,7 +4,9 @@ use Rattle.model.proofs.Base.{ℕ, ◌<◌, ◌≡◌, ap, ◌∙◌, Bool, true
 use Rattle.model.specs.Card.{new_name, same_name, core_of, holder_of}
 use Rattle.model.specs.Write.{writer_name, is_running_in, rule_for}
 use Rattle.model.specs.declared.Name.{Name}
-use Rattle.model.specs.declared.Holder.{Holder}
+use mathlib.Core.Path.{refl}
+use Rattle.std.specs.Prelude.{Some, None}
+use Rattle.model.specs.Card.{Holder, holder_name}
 use Rattle.model.specs.declared.Card.{Card}
 use Rattle.model.specs.declared.Rule.{Rule}
 use Rattle.model.specs.declared.Rule.TheVariants.{Free, Own, Running, Closed}
@@ -44,17 +46,21 @@ module _ (w : List ℕ) (n : Name) (g : Bool) (q : g ≡ (core_of (card_in w) n.
   is_running_in_yes h p e k s z = and_test g _ q _ _ (ap (λ (m : ℕ). eqb m n.number) (next_there w n.core h p e k s)) z
 
 -- ---- the rule
-module _ (x : Card) (h : Holder) (own : Name) where
-  pub rule_free : not h.held ≡ true → (c b : ℕ) → h ≡ holder_of x b → own ≡ writer_name x c → Free ≡ rule_for x c b
-  unfolding rule_for
-  rule_free p c b e i = rw (← e, p)
+none_left : (h : Holder) → ((n : Name) → h ≡ Some n → ⊥) → h ≡ None
+none_left None f = refl
+none_left (Some n) f = absurd (f n refl)
 
-  module _ (g : Bool) (s : g ≡ same_name h.name own) (p : not h.held ≡ false) where
+module _ (x : Card) (h : Holder) (own : Name) where
+  pub rule_free : ((n : Name) → h ≡ Some n → ⊥) → (c b : ℕ) → h ≡ holder_of x b → own ≡ writer_name x c → Free ≡ rule_for x c b
+  unfolding rule_for
+  rule_free p c b e i = rw (← e, none_left h p)
+
+  module _ (n : Name) (p : h ≡ Some n) (g : Bool) (s : g ≡ same_name n own) where
     pub rule_own : g ≡ true → (c b : ℕ) → h ≡ holder_of x b → own ≡ writer_name x c → Own ≡ rule_for x c b
     unfolding rule_for
     rule_own z c b e i = rw (← e, ← i, p, ← s, z)
 
-    module _ (f : Bool) (q : f ≡ is_running_in x h.name) (z : g ≡ false) where
+    module _ (f : Bool) (q : f ≡ is_running_in x n) (z : g ≡ false) where
       pub rule_closed : not f ≡ true → (c b : ℕ) → h ≡ holder_of x b → own ≡ writer_name x c → Closed ≡ rule_for x c b
       unfolding rule_for
       rule_closed v c b e i = rw (← e, ← i, p, ← s, z, ← q, not-true f v)
@@ -65,5 +71,5 @@ module _ (x : Card) (h : Holder) (own : Name) where
 
 -- ---- what a WRITE of core c to block b finds
 pub rule_met_found : (x : Card) (c b : ℕ) (h : Holder) → h ≡ holder_of x b → (own : Name) → own ≡ writer_name x c → (r : Rule) → ((a d : ℕ) → h ≡ holder_of x d → own ≡ writer_name x a → r ≡ rule_for x a d)
-    → record { core = c; block = b; rule = r; holder = h.name; own = own } ≡ rule_met x c b
+    → record { core = c; block = b; rule = r; holder = holder_name h; own = own } ≡ rule_met x c b
 rule_met_found x c b h p own q r e = rw (e c b p q, q, p)

@@ -1,6 +1,6 @@
 -- What a WRITE finds at a block, what its rule makes of the writer, and the conditions 25, 36, 26 and 27 over both.
 use Rattle.std.specs.Prelude.{ℕ, ◌+◌, ◌<◌, Bool, cond, not, ◌&&◌, List, [], ◌∷◌, ltb}
-use Rattle.model.specs.Card.{record_size, shape_of, core_of, holder_of, with_block, with_name}
+use Rattle.model.specs.Card.{record_size, shape_of, core_of, holder_of, with_block, with_name, holder_name}
 use Rattle.model.specs.Write.{writer, writer_name, rule_for, takes_block, takes_past, names_holder, closed_blocks}
 use Rattle.model.specs.Limits.{max_taken, max_number}
 use Rattle.model.specs.declared.Name.{Name}
@@ -12,7 +12,7 @@ use Rattle.rules.specs.declared.RuleMet.{RuleMet}
 -- ---- what a WRITE finds
 -- that of core c to block b
 abbrev pub rule_met : Card → ℕ → ℕ → RuleMet
-rule_met x c b = record { core = c; block = b; rule = rule_for x c b; holder = (holder_of x b).name; own = writer_name x c }
+rule_met x c b = record { core = c; block = b; rule = rule_for x c b; holder = holder_name (holder_of x b); own = writer_name x c }
 
 pub record Bounded (f : RuleMet) : Type 0 where
   pub core : f.core < 8

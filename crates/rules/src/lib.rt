@@ -5,14 +5,14 @@
 mod room; // whether there is room
 
 ghost use Rattle.std.specs.Prelude.{◌≡◌, ℕ, ◌<◌, length};
-ghost use Rattle.model.specs.Card.{core_of, holder_of};
+ghost use Rattle.model.specs.Card.{core_of, holder_name, holder_of};
 ghost use Rattle.model.specs.Write.{writer_name, is_running_in, rule_for, takes_block, names_holder, is_named_back, loads_image};
 ghost use Rattle.cells.specs.Cells.{card_in};
 ghost use Rattle.rules.specs.Conditions.{rule_met, Bounded};
 
-use cells::{core_place, holder_at, is_live, number_in, running_place, same_name};
-use model::{Holder, Name, Rule};
-pub use room::room_refusal;
+use cells::{State, core_place, holder_at, is_live, number_in, running_place};
+use model::{Name, Rule};
+pub use room::check_room;
 
 // A WRITE as its core, its block and what it meets there: the rule, the name of the block's holder, the writer's own name.
 #[derive(Clone, Copy)]
@@ -25,16 +25,16 @@ pub struct RuleMet {
 }
 
 // Whether core c has a running transaction.
-fn has_running(w: &[u64], c: u8) -> bool
-    requires { (length w.now ≡ 423) × (c < 8) }
+fn has_running(w: &State, c: u8) -> bool
+    requires { c < 8 }
     ensures { result ≡ (core_of (card_in w.now) c).running.live }
 {
     is_live(w, running_place(c))
 }
 
 // The name of the transaction that writes, of core c.
-fn writer_name(w: &[u64], c: u8) -> Name
-    requires { (length w.now ≡ 423) × (c < 8) }
+fn writer_name(w: &State, c: u8) -> Name
+    requires { c < 8 }
     ensures { (result ≡ writer_name (card_in w.now) c) × (result.core < 8) }
 {
     Name {
@@ -44,8 +44,8 @@ fn writer_name(w: &[u64], c: u8) -> Name
 }
 
 // Whether the transaction of this name is running.
-fn is_running(w: &[u64], n: Name) -> bool
-    requires { (length w.now ≡ 423) × (n.core < 8) }
+fn is_running(w: &State, n: Name) -> bool
+    requires { n.core < 8 }
     ensures { result ≡ is_running_in (card_in w.now) n }
 {
     if !has_running(w, n.core) {
@@ -56,31 +56,31 @@ fn is_running(w: &[u64], n: Name) -> bool
 }
 
 // Which rule the writer of the name own meets at a block b whose holder is h.
-fn rule_for(w: &[u64], h: Holder, own: Name) -> Rule
-    requires { (length w.now ≡ 423) × (h.name.core < 8) }
+fn rule_for(w: &State, h: Option<Name>, own: Name) -> Rule
+    requires { (holder_name h).core < 8 }
     ensures { (c b : ℕ) → h ≡ holder_of (card_in w.now) b → own ≡ writer_name (card_in w.now) c
         → result ≡ rule_for (card_in w.now) c b }
 {
-    if !h.held {
+    let Some(holder) = h else {
         return Rule::Free;
-    }
-    if same_name(h.name, own) {
+    };
+    if holder == own {
         return Rule::Own;
     }
-    if !is_running(w, h.name) {
+    if !is_running(w, holder) {
         return Rule::Closed;
     }
     Rule::Running
 }
 
 // What a WRITE of core c to block b meets.
-pub fn find(w: &[u64], c: u8, b: u8) -> RuleMet
-    requires { (length w.now ≡ 423) × (c < 8) × (b < 64) }
+pub fn find(w: &State, c: u8, b: u8) -> RuleMet
+    requires { (c < 8) × (b < 64) }
     ensures { (result ≡ rule_met (card_in w.now) c b) × Bounded result }
 {
     let h = holder_at(w, b);
     let own = writer_name(w, c);
-    let holder = h.name;
+    let holder = h.unwrap_or(Name { core: 0, number: 0 });
     RuleMet {
         core: c,
         block: b,
@@ -94,46 +94,26 @@ pub fn find(w: &[u64], c: u8, b: u8) -> RuleMet
 pub fn takes_block(r: Rule) -> bool
     ensures { result ≡ takes_block r }
 {
-    match r {
-        Rule::Free => true,
-        Rule::Own => false,
-        Rule::Running => false,
-        Rule::Closed => true,
-    }
+    matches!(r, Rule::Free | Rule::Closed)
 }
 
 // Whether the writer names the holder.
 pub fn names_holder(r: Rule) -> bool
     ensures { result ≡ names_holder r }
 {
-    match r {
-        Rule::Free => false,
-        Rule::Own => false,
-        Rule::Running => true,
-        Rule::Closed => true,
-    }
+    matches!(r, Rule::Running | Rule::Closed)
 }
 
 // Whether the holder names the writer.
 pub fn is_named_back(r: Rule) -> bool
     ensures { result ≡ is_named_back r }
 {
-    match r {
-        Rule::Free => false,
-        Rule::Own => false,
-        Rule::Running => true,
-        Rule::Closed => false,
-    }
+    matches!(r, Rule::Running)
 }
 
 // Whether the image is loaded from home.
 pub fn loads_image(r: Rule) -> bool
     ensures { result ≡ loads_image r }
 {
-    match r {
-        Rule::Free => true,
-        Rule::Own => false,
-        Rule::Running => false,
-        Rule::Closed => false,
-    }
+    matches!(r, Rule::Free)
 }

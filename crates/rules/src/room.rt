@@ -2,18 +2,19 @@
 ghost use Rattle.std.specs.Prelude.{◌≡◌, not, ◌&&◌, ◌+◌, ◌<◌, ◌≤◌, ltb, leb, length};
 ghost use Rattle.model.specs.Card.{taken, core_of, shape_of};
 ghost use Rattle.model.specs.Command.{refusal};
+ghost use Rattle.model.specs.Refusal.{answer_of};
 ghost use Rattle.model.specs.Write.{writer, takes_block, closed_blocks};
 ghost use Rattle.model.specs.Limits.{max_taken, max_number};
 ghost use Rattle.cells.specs.Cells.{card_in};
 ghost use Rattle.rules.specs.Conditions.{Bounded, size_after, room_conditions};
 
 use crate::{RuleMet, has_running, takes_block};
-use cells::{USED, block_count, byte_in, closed_place, core_place, is_live, running_place};
-use model::{Name, Shape};
+use cells::{State, USED, block_count, byte_in, closed_place, core_place, is_live, running_place};
+use model::{Name, Refusal, Shape};
 
 // How many blocks the writer of core c has; one that opens has none. live: whether its core has a running transaction.
-fn writer_count(w: &[u64], c: u8, live: bool) -> usize
-    requires { (length w.now ≡ 423) × (c < 8) × (live ≡ (core_of (card_in w.now) c).running.live) }
+fn writer_count(w: &State, c: u8, live: bool) -> usize
+    requires { (c < 8) × (live ≡ (core_of (card_in w.now) c).running.live) }
     ensures { (result ≡ length (taken (writer (card_in w.now) c))) × (result ≤ max_taken) }
 {
     if !live {
@@ -34,8 +35,8 @@ fn takes_past(f: RuleMet, limit: usize, count: usize) -> bool
 }
 
 // The blocks of the records of a core's closed unretired transactions, stored yet or not.
-fn closed_blocks(w: &[u64], c: u8) -> usize
-    requires { (length w.now ≡ 423) × (c < 8) }
+fn closed_blocks(w: &State, c: u8) -> usize
+    requires { c < 8 }
     ensures { (result ≡ closed_blocks (core_of (card_in w.now) c)) × (result ≤ 265) }
 {
     let used = byte_in(w, core_place(c) + USED) as usize;
@@ -59,8 +60,8 @@ fn size_after(f: RuleMet, count: usize) -> usize
 }
 
 // Refusal 26.
-fn journal_full(w: &[u64], s: Shape, f: RuleMet, count: usize) -> bool
-    requires { (length w.now ≡ 423) × Bounded f × (count ≤ max_taken) }
+fn journal_full(w: &State, s: Shape, f: RuleMet, count: usize) -> bool
+    requires { Bounded f × (count ≤ max_taken) }
     ensures { result ≡ ltb s.journal (closed_blocks (core_of (card_in w.now) f.core) + size_after f.rule count) }
 {
     let used = closed_blocks(w, f.core);
@@ -79,24 +80,24 @@ fn numbers_end(own: Name, live: bool) -> bool
     Shape::MAX_NUMBER < own.number
 }
 
-// The number of the refusal, 0 for none. limit: with so many blocks the task of this WRITE takes no further one.
-pub fn room_refusal(w: &[u64], s: Shape, limit: usize, f: RuleMet) -> u8
-    requires { (length w.now ≡ 423) × (s ≡ shape_of (card_in w.now)) × Bounded f }
-    ensures { result ≡ refusal (room_conditions (card_in w.now) limit f) }
+// What a WRITE for which there is no room is refused with. limit: with so many blocks its task takes no further one.
+pub fn check_room(w: &State, s: Shape, limit: usize, f: RuleMet) -> Result<(), Refusal>
+    requires { (s ≡ shape_of (card_in w.now)) × Bounded f }
+    ensures { answer_of result ≡ refusal (room_conditions (card_in w.now) limit f) }
 {
     let live = has_running(w, f.core);
     let count = writer_count(w, f.core, live);
     if takes_past(f, Shape::MAX_TAKEN, count) {
-        return 25;
+        return Err(Refusal::NinthBlock);
     }
     if takes_past(f, limit, count) {
-        return 36;
+        return Err(Refusal::ReportLimit);
     }
     if journal_full(w, s, f, count) {
-        return 26;
+        return Err(Refusal::JournalFull);
     }
     if numbers_end(f.own, live) {
-        return 27;
+        return Err(Refusal::NumbersEnd);
     }
-    0
+    Ok(())
 }

@@ -103,8 +103,11 @@ module _ (w : List ℕ) (a i : ℕ) (size : length w ≡ 423) (from : 87 ≤ a) 
     low_count : i < 8
     low_count = omega (arith, count_read w a)
 
-    pub block_in : a + 3 + i < length w
+    pub block_in : a + 3 + i < 423
     block_in = omega (arith, low_count)
+
+    within : a + 3 + i < length w
+    within = omega (arith, low_count)
 
     module _ (x : ℕ) (h : x < 256) where
       abbrev put : List ℕ
@@ -114,7 +117,7 @@ module _ (w : List ℕ) (a i : ℕ) (size : length w ≡ 423) (from : 87 ≤ a) 
       beside m f g = get_or-set_other (set w (a + 3 + i) x) (a + 2) m (i + 1) 0 g ∙ get_or-set_other w (a + 3 + i) m x 0 f
 
       first : get_or put (a + 3 + i) 0 ≡ x
-      first = get_or-set_other (set w (a + 3 + i) x) (a + 2) (a + 3 + i) (i + 1) 0 (omega arith) ∙ get_or-set_same w (a + 3 + i) x 0 block_in
+      first = get_or-set_other (set w (a + 3 + i) x) (a + 2) (a + 3 + i) (i + 1) 0 (omega arith) ∙ get_or-set_same w (a + 3 + i) x 0 within
 
       second : get_or put (a + 2) 0 ≡ i + 1
       second = get_or-set_same (set w (a + 3 + i) x) (a + 2) (i + 1) 0 (count_in (a + 3 + i) x)

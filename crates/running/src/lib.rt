@@ -9,12 +9,12 @@ ghost use Rattle.model.specs.Limits.{max_taken};
 ghost use Rattle.cells.specs.Cells.{transaction_in};
 ghost use Rattle.cells.specs.Changes.{opened_or, IsPlace, ChangedAt};
 
-use cells::{BLOCKS, COUNT, HIGHEST, byte_in, clear, is_live, number_in};
+use cells::{BLOCKS, COUNT, HIGHEST, State, byte_in, clear, is_live, number_in};
 use model::Name;
 
 // The transaction at a place, or one that opens.
-pub fn open_at(w: &mut [u64], at: usize)
-    requires { (length w.old ≡ 423) × IsPlace at }
+pub fn open_at(w: &mut State, at: usize)
+    requires { IsPlace at }
     ensures { ChangedAt at opened_or w.old w.new }
 {
     if is_live(w, at) {
@@ -25,8 +25,8 @@ pub fn open_at(w: &mut [u64], at: usize)
 }
 
 // It names n: the number of n's core raised to n's, where that is higher.
-pub fn raise_number(w: &mut [u64], at: usize, n: Name)
-    requires { (length w.old ≡ 423) × IsPlace at × (n.core < 8) }
+pub fn raise_number(w: &mut State, at: usize, n: Name)
+    requires { IsPlace at × (n.core < 8) }
     ensures { ChangedAt at (λ (t : Transaction). with_name t n) w.old w.new }
 {
     let i = at + HIGHEST + n.core as usize;
@@ -37,8 +37,8 @@ pub fn raise_number(w: &mut [u64], at: usize, n: Name)
 }
 
 // The block taken.
-pub fn add_block(w: &mut [u64], at: usize, b: u8)
-    requires { (length w.old ≡ 423) × IsPlace at × ((transaction_in w.old at).count < max_taken) }
+pub fn add_block(w: &mut State, at: usize, b: u8)
+    requires { IsPlace at × ((transaction_in w.old at).count < max_taken) }
     ensures { ChangedAt at (λ (t : Transaction). with_block t b) w.old w.new }
 {
     let i = byte_in(w, at + COUNT);

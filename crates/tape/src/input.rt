@@ -1,54 +1,58 @@
-// Bytes read. A read hands over what is there, so the program waits only where nothing is.
-ghost use Rattle.std.specs.Prelude.{◌+◌, ◌≤◌, ◌≡◌, length};
+// What was read of the tape and is not run yet. A read hands over what is there, so the program waits only where nothing is.
+ghost use Rattle.std.specs.Prelude.{◌-◌, ◌≤◌, ◌≡◌, List, [], ℕ, drop, length, take};
 
 use std::io::Read;
+use std::marker::Model;
+use streams::Failure;
 
-// How many bytes are there, and whether the read failed.
-#[derive(Clone, Copy)]
-pub struct Got {
-    pub size: usize,
-    pub failed: bool,
+// The bytes between two places of a buffer: to a contract it is these bytes.
+#[derive(Drop)]
+pub struct Unrun {
+    bytes: [u8; 65536],
+    from: usize,
+    to: usize,
 }
 
-// The bytes from a place on moved to the front: how many they are.
-pub fn move_down(bytes: &mut [u8], from: usize, to: usize) -> usize
-    requires { (from ≤ to) × (to ≤ length bytes.old) }
-    ensures { result + from ≡ to }
-{
-    let left = to - from;
-    let mut i: usize = 0;
-    while i < left {
-        let x = bytes[from + i];
-        bytes[i] = x;
-        i += 1;
+impl Model for Unrun {
+    ghost Value = { List ℕ };
+
+    ghost view = { λ u. take (u.to - u.from) (drop u.from u.bytes) };
+
+    ghost invariant = { λ u. (u.from ≤ u.to) × (u.to ≤ 65536) };
+}
+
+impl Unrun {
+    pub fn new() -> Unrun
+        ensures { result ≡ [] }
+    {
+        Unrun {
+            bytes: [0u8; 65536],
+            from: 0,
+            to: 0,
+        }
     }
-    left
-}
 
-// What is there read into the slice: how many bytes, 0 at the end of the input.
-fn read_into<R: Read>(input: &mut R, bytes: &mut [u8]) -> Got
-    ensures { result.size ≤ length bytes.old }
-{
-    match input.read(bytes) {
-        Ok(size) => Got {
-            size,
-            failed: false,
-        },
-        Err(_) => Got {
-            size: 0,
-            failed: true,
-        },
+    pub fn as_slice(&self) -> &[u8]
+        ensures { result.now ≡ self.now }
+    {
+        &self.bytes[self.from..self.to]
     }
-}
 
-// The same behind the first bytes: how many there are then.
-pub fn read_behind<R: Read>(input: &mut R, bytes: &mut [u8], size: usize) -> Got
-    requires { size ≤ length bytes.old }
-    ensures { result.size ≤ length bytes.old }
-{
-    let got = read_into(input, &mut bytes[size..]);
-    Got {
-        size: size + got.size,
-        failed: got.failed,
+    // The first n were run.
+    pub fn pass(&mut self, n: usize)
+        requires { n ≤ length self.old }
+        ensures { self.new ≡ drop n self.old }
+    {
+        self.from += n;
+    }
+
+    // What is there read behind the others, which come to the front: how many bytes, 0 at the end of the input.
+    pub fn read<R: Read>(&mut self, input: &mut R) -> Result<usize, Failure> {
+        self.bytes.copy_within(self.from..self.to, 0);
+        self.to -= self.from;
+        self.from = 0;
+        let more = streams::read(input, &mut self.bytes[self.to..])?;
+        self.to += more;
+        Ok(more)
     }
 }

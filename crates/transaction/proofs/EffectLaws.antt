@@ -2,7 +2,7 @@
 -- and the block, the holder of the block. Together they are the card after WRITE; room for the block asked before is room at its step.
 use Rattle.model.proofs.Base.{ℕ, ◌-◌, ◌%◌, ◌<◌, arith, ◌≡◌, refl, sym, ap, ◌∙◌, Bool, true, false, not, false≢true, List}
 use Rattle.model.proofs.Base.{get_or-set_other, eqb, eq-eqb, eqb-true, leb-false, not-false}
-use Rattle.model.specs.Card.{new_name, same_name, fresh_core, with_name, with_running, with_core, core_of, holder_of}
+use Rattle.model.specs.Card.{new_name, same_name, fresh_core, with_name, with_running, with_core, core_of, holder_of, is_held, holder_name}
 use Rattle.model.specs.Write.{writer, writer_name, is_running_in, rule_for, takes_block, takes_past, is_named_back, writer_after, written_card}
 use Rattle.model.specs.Limits.{max_taken}
 use Rattle.model.specs.declared.Name.{Name}
@@ -81,22 +81,22 @@ runs_number : (x : Card) (n : Name) (c : ℕ) → n.core ≡ c → is_running_in
 unfolding is_running_in
 runs_number x n c e i = sym (eqb-true _ _ (and_right (core_of x n.core).running.live (eqb (core_of x n.core).next n.number) i)) ∙ ap (λ (k : ℕ). (core_of x k).next) e
 
-other_core : (x : Card) (c b : ℕ) → is_named_back (rule_for x c b) ≡ true → (holder_of x b).name.core ≡ c → ⊥
+other_core : (x : Card) (c b : ℕ) → is_named_back (rule_for x c b) ≡ true → (holder_name (holder_of x b)).core ≡ c → ⊥
 unfolding rule_for is_running_in writer_name
 other_core x c b h e =
-    cases (not (holder_of x b).held)
+    cases (not (is_held (holder_of x b)))
     (λ t. false≢true (rw t at h))
-    (λ t. cases (same_name (holder_of x b).name (writer_name x c))
+    (λ t. cases (same_name (holder_name (holder_of x b)) (writer_name x c))
     (λ s. false≢true (rw (t, s) at h))
-    (λ s. cases (is_running_in x (holder_of x b).name)
-    (λ i. false≢true (sym s ∙ same_parts (holder_of x b).name c (core_of x c).next e (runs_number x (holder_of x b).name c e i)))
+    (λ s. cases (is_running_in x (holder_name (holder_of x b)))
+    (λ i. false≢true (sym s ∙ same_parts (holder_name (holder_of x b)) c (core_of x c).next e (runs_number x (holder_name (holder_of x b)) c e i)))
     (λ i. false≢true (rw (t, s, i) at h))))
 
 module _ (x : Card) (f : RuleMet) (e : f ≡ rule_met x f.core f.block) where
   rule_is : f.rule ≡ rule_for x f.core f.block
   rule_is = ap (λ (a : RuleMet). a.rule) e
 
-  holder_is : f.holder ≡ (holder_of x f.block).name
+  holder_is : f.holder ≡ holder_name (holder_of x f.block)
   holder_is = ap (λ (a : RuleMet). a.holder) e
 
   own_is : f.own ≡ writer_name x f.core

@@ -19,7 +19,7 @@ fn load_image(s: Shape, rule: Rule, b: u8, disk: &[u8], memory: &mut [u8])
     let to_end = to + Shape::BLOCK_SIZE;
     let from = Shape::BLOCK_SIZE * s.home_block(b);
     let from_end = from + Shape::BLOCK_SIZE;
-    layout::copy_block(&mut memory[to..to_end], &disk[from..from_end]);
+    memory[to..to_end].copy_from_slice(&disk[from..from_end]);
 }
 
 // Four bytes replaced.

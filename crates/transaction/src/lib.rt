@@ -7,6 +7,7 @@ mod image; // memory afterwards
 
 ghost use Rattle.std.specs.Prelude.{◌≡◌, length};
 ghost use Rattle.model.specs.Command.{refusal};
+ghost use Rattle.model.specs.Refusal.{answer_of};
 ghost use Rattle.model.specs.Write.{write};
 ghost use Rattle.cells.specs.Answer.{Meets};
 ghost use Rattle.cells.specs.Cells.{world_in, card_in};
@@ -14,32 +15,32 @@ ghost use Rattle.transaction.specs.Writing.{first_conditions, Unrefused};
 
 use crate::effect::write_state;
 use crate::image::write_memory;
-use cells::{Answer, block_refusal, entry_refusal, shape_of};
-use model::Shape;
-use rules::{find, room_refusal};
+use cells::{State, check_block, check_entry, shape_of};
+use model::{Refusal, Shape};
+use rules::{check_room, find};
 
 // What a WRITE meets before its rule.
-fn first_refusal(w: &[u64], c: u8, b: u16, o: u8, disk: &[u8], memory: &[u8]) -> u8
-    requires { length w.now ≡ 423 }
-    ensures { result ≡ refusal (first_conditions c b o (world_in w.now disk.now memory.now)) }
+fn check_operands(
+    w: &State,
+    c: u8,
+    b: u16,
+    o: u8,
+    disk: &[u8],
+    memory: &[u8],
+) -> Result<(), Refusal>
+    ensures { answer_of result ≡ refusal (first_conditions c b o (world_in w.now disk.now memory.now)) }
 {
-    let n = entry_refusal(w, c, disk, memory);
-    if n != 0 {
-        return n;
-    }
-    let n = block_refusal(w, b);
-    if n != 0 {
-        return n;
-    }
+    check_entry(w, c, disk, memory)?;
+    check_block(w, b)?;
     if Shape::MAX_OFFSET < o {
-        return 7;
+        return Err(Refusal::OffsetPast);
     }
-    0
+    Ok(())
 }
 
 // A WRITE that has passed them: refused for want of room, or done.
 fn write_ruled(
-    w: &mut [u64],
+    w: &mut State,
     limit: usize,
     c: u8,
     b: u8,
@@ -47,32 +48,23 @@ fn write_ruled(
     bytes: [u8; 4],
     disk: &[u8],
     memory: &mut [u8],
-) -> Answer
-    requires { (length w.old ≡ 423) × Unrefused (card_in w.old) c b o disk.now memory.old }
+) -> Result<u8, Refusal>
+    requires { Unrefused (card_in w.old) c b o disk.now memory.old }
     ensures { Meets (write limit c b o bytes (world_in w.old disk.now memory.old))
         w.old w.new disk.now memory.new result }
 {
     let s = shape_of(w);
     let f = find(w, c, b);
-    let n = room_refusal(w, s, limit, f);
-    if n != 0 {
-        return Answer {
-            number: n,
-            stores: 0,
-        };
-    }
+    check_room(w, s, limit, f)?;
     let rule = f.rule;
     write_memory(s, rule, b, o, bytes, disk, memory);
     write_state(w, f);
-    Answer {
-        number: 0,
-        stores: 0,
-    }
+    Ok(0)
 }
 
 // WRITE of a task with this limit.
 pub fn write(
-    w: &mut [u64],
+    w: &mut State,
     limit: usize,
     core: u8,
     block: u16,
@@ -80,17 +72,10 @@ pub fn write(
     bytes: [u8; 4],
     disk: &[u8],
     memory: &mut [u8],
-) -> Answer
-    requires { length w.old ≡ 423 }
+) -> Result<u8, Refusal>
     ensures { Meets (write limit core block offset bytes (world_in w.old disk.now memory.old))
         w.old w.new disk.now memory.new result }
 {
-    let n = first_refusal(w, core, block, offset, disk, memory);
-    if n != 0 {
-        return Answer {
-            number: n,
-            stores: 0,
-        };
-    }
+    check_operands(w, core, block, offset, disk, memory)?;
     write_ruled(w, limit, core, block as u8, offset, bytes, disk, memory)
 }

@@ -1,6 +1,6 @@
 -- Each that a commit names, looked up by the counts: the names of a list, or a number for each core. So a record stays in the model's set
 -- exactly if the one before it and all that its commit names are met.
-use Rattle.model.proofs.Base.{ℕ, ◌+◌, ◌-◌, ◌/◌, ◌%◌, min, ◌≤◌, ◌<◌, arith, ◌≡◌, refl, sym, ap, ap₂, fun_ext, ◌∙◌, Bool, true, false, ◌&&◌, ◌||◌, List, [], ◌∷◌, map}
+use Rattle.model.proofs.Base.{ℕ, ◌+◌, ◌-◌, min, ◌≤◌, ◌<◌, arith, ◌≡◌, refl, sym, ap, ap₂, fun_ext, ◌∙◌, Bool, true, false, ◌&&◌, ◌||◌, List, [], ◌∷◌, map}
 use Rattle.model.proofs.Base.{get_or, eqb, leb, ltb, eq-eqb, ne_eqb, leb-true, leb-false, lt-ltb, le-ltb, below, all, select, Bytes}
 use Rattle.model.specs.Limits.{max_names}
 use Rattle.model.specs.Card.{new_name}
@@ -15,7 +15,8 @@ use Rattle.model.proofs.Lists.{cases, and_both}
 use Rattle.model.proofs.Limits.{InRange}
 use Rattle.layout.specs.Loops.{every}
 use Rattle.layout.proofs.Loops.{every_map}
-use Rattle.journal.specs.Records.{record_in, records_in}
+use Rattle.journal.specs.declared.extents.Extent.{Extent}
+use Rattle.journal.specs.Records.{extent_at, record_in, records_in}
 use Rattle.valid.specs.Sets.{tail_number, numbered, count_met, name_met, number_met, commit_met, record_met}
 use Rattle.valid.proofs.Sets.{record_of, tail_number_lem, met_count}
 
@@ -34,11 +35,11 @@ module _ (f : ℕ → ℕ) (p : Name → Bool) (q : ℕ → Bool) (same : (c : �
   named_every = named_all (below 8)
 
 -- ---- a record
-module _ (s : Shape) (xs zs ks start count : List ℕ) (l : InRange s) where
-  by_count : (ns : List Name) → all (is_met (numbered ks) (records_in s xs zs ks start count)) ns ≡ all (λ (n : Name). count_met s ks count n.core n.number) ns
-  by_count ns = ap (λ (p : Name → Bool). all p ns) (fun_ext (met_count s xs zs ks start count l))
+module _ (s : Shape) (xs : List Extent) (ks start count : List ℕ) (l : InRange s) where
+  by_count : (ns : List Name) → all (is_met (numbered ks) (records_in s xs ks start count)) ns ≡ all (λ (n : Name). count_met s ks count n.core n.number) ns
+  by_count ns = ap (λ (p : Name → Bool). all p ns) (fun_ext (met_count s xs ks start count l))
 
-  commit_met_lem : (y : CommitLayout) (f : Bytes) → all (is_met (numbered ks) (records_in s xs zs ks start count)) (names_in y f) ≡ commit_met y s ks count f
+  commit_met_lem : (y : CommitLayout) (f : Bytes) → all (is_met (numbered ks) (records_in s xs ks start count)) (names_in y f) ≡ commit_met y s ks count f
   unfolding commit_met names_in pairs_in name_met number_met
   commit_met_lem Lists f =
       by_count (names_in Lists f)
@@ -49,13 +50,13 @@ module _ (s : Shape) (xs zs ks start count : List ℕ) (l : InRange s) where
 
   -- all that a record requires: the one before it on its core, and what its commit names
   pub record_stays : (y : CommitLayout) (d : Bytes) (c j : ℕ)
-      → names_met in_sequence y s d (numbered ks) (records_in s xs zs ks start count) (record_of xs zs ks start c j)
-      ≡ (count_met s ks count c (get_or ks c 0 + j - 1) && record_met y s d ks count c (get_or xs (get_or start c 0 + j) 0))
+      → names_met in_sequence y s d (numbered ks) (records_in s xs ks start count) (record_of xs ks start c j)
+      ≡ (count_met s ks count c (get_or ks c 0 + j - 1) && record_met y s d ks count c (extent_at xs (get_or start c 0 + j)))
   unfolding names_met required_of required all names_of record_of record_in record_met
   record_stays y d c j =
       let i = get_or start c 0 + j in
-      ap₂ ◌&&◌ (met_count s xs zs ks start count l (new_name c (get_or ks c 0 + j - 1)))
-      (commit_met_lem y (journal_at s d c (get_or xs i 0 % 256 + (get_or xs i 0 / 256 + 1))))
+      ap₂ ◌&&◌ (met_count s xs ks start count l (new_name c (get_or ks c 0 + j - 1)))
+      (commit_met_lem y (journal_at s d c ((extent_at xs i).position + ((extent_at xs i).count + 1))))
 
   -- the one before a record that counts is met. Before a core's first it lies below the tail number; where that is 0, the number
   -- less one is the record's own.
@@ -111,7 +112,7 @@ module _ (s : Shape) (ks count : List ℕ) (f : Bytes) where
     numbers_are h e = rw (h, commit_met) e
 
 -- as they are read from the commit of a record
-pub record_met_is : (y : CommitLayout) (s : Shape) (d : Bytes) (ks count : List ℕ) (c x p n : ℕ) (f : Bytes) (r : Bool) → p ≡ x % 256 → n ≡ x / 256
-    → f ≡ journal_at s d c (p + (n + 1)) → r ≡ commit_met y s ks count f → r ≡ record_met y s d ks count c x
+pub record_met_is : (y : CommitLayout) (s : Shape) (d : Bytes) (ks count : List ℕ) (c : ℕ) (x : Extent) (f : Bytes) (r : Bool)
+    → f ≡ journal_at s d c (x.position + (x.count + 1)) → r ≡ commit_met y s ks count f → r ≡ record_met y s d ks count c x
 unfolding record_met
-record_met_is y s d ks count c x p n f r ep en ef er = er ∙ rw (ef, ep, en)
+record_met_is y s d ks count c x f r ef er = er ∙ rw ef

@@ -1,6 +1,6 @@
 -- The valid set as a count for each core. By paper 02, (c), it is a beginning of each core's records, so a name is met exactly if its number
 -- less the tail's is below its core's count; a round lowers each count to the first record that is not met.
-use Rattle.std.specs.Prelude.{ℕ, ◌+◌, ◌-◌, ◌/◌, ◌%◌, ◌≤◌, ◌<◌, min, ◌≡◌, List, Bool, true, false, cond, ◌&&◌, ◌||◌, get_or, ltb, eqb}
+use Rattle.std.specs.Prelude.{ℕ, ◌+◌, ◌-◌, ◌≤◌, ◌<◌, min, ◌≡◌, List, Bool, true, false, cond, ◌&&◌, ◌||◌, get_or, ltb, eqb}
 use Rattle.model.specs.Limits.{max_cores, max_names}
 use Rattle.model.specs.Lists.{below, total}
 use Rattle.model.specs.Bytes.{Bytes}
@@ -12,6 +12,8 @@ use Rattle.model.specs.declared.Tail.{Tail}
 use Rattle.model.specs.declared.CommitLayout.{CommitLayout}
 use Rattle.model.specs.declared.CommitLayout.TheVariants.{Lists, Numbers}
 use Rattle.layout.specs.Loops.{every}
+use Rattle.journal.specs.declared.extents.Extent.{Extent}
+use Rattle.journal.specs.Records.{extent_at}
 
 -- core c's tail number, of the eight that ks holds
 unfoldable pub tail_number : List ℕ → ℕ → ℕ
@@ -39,8 +41,8 @@ commit_met Lists s ks count f = every (min (name_count f) max_names) (name_met s
 commit_met Numbers s ks count f = every max_cores (number_met s ks count f)
 
 -- each that core c's record with extent x names is met
-unfoldable pub record_met : CommitLayout → Shape → Bytes → List ℕ → List ℕ → ℕ → ℕ → Bool
-record_met y s d ks count c x = commit_met y s ks count (journal_at s d c (x % 256 + (x / 256 + 1)))
+unfoldable pub record_met : CommitLayout → Shape → Bytes → List ℕ → List ℕ → ℕ → Extent → Bool
+record_met y s d ks count c x = commit_met y s ks count (journal_at s d c (x.position + (x.count + 1)))
 
 -- of n, the first m meet the test, and the next one does not
 pub record Begins (p : ℕ → Bool) (n m : ℕ) : Type 0 where
@@ -49,11 +51,11 @@ pub record Begins (p : ℕ → Bool) (n m : ℕ) : Type 0 where
   pub unmet : m < n → p m ≡ false
 
 -- core c's count after a round, of n records from place a on; xs are the extents
-unfoldable pub LoweredTo : CommitLayout → Shape → Bytes → List ℕ → List ℕ → List ℕ → ℕ → ℕ → ℕ → ℕ → Type 0
-LoweredTo y s d ks xs count c a n m = Begins (λ (j : ℕ). record_met y s d ks count c (get_or xs (a + j) 0)) n m
+unfoldable pub LoweredTo : CommitLayout → Shape → Bytes → List ℕ → List Extent → List ℕ → ℕ → ℕ → ℕ → ℕ → Type 0
+LoweredTo y s d ks xs count c a n m = Begins (λ (j : ℕ). record_met y s d ks count c (extent_at xs (a + j))) n m
 
 -- the counts after a round
-unfoldable pub Lowered : CommitLayout → Shape → Bytes → List ℕ → List ℕ → List ℕ → List ℕ → List ℕ → Type 0
+unfoldable pub Lowered : CommitLayout → Shape → Bytes → List ℕ → List Extent → List ℕ → List ℕ → List ℕ → Type 0
 Lowered y s d ks xs start before after =
     (c : ℕ) → c < s.cores → LoweredTo y s d ks xs before c (get_or start c 0) (get_or before c 0) (get_or after c 0)
 

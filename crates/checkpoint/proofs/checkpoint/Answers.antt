@@ -4,17 +4,17 @@ use Rattle.checkpoint.proofs.CommandLaws.{checkpoint_refused, all_home, home_don
 use borrow.Author.Rules.{rules}
 use Rattle.checkpoint.proofs.checkpoint.Goals as goal
 
-pub returns-then-asked-ne0 : goal.returns-then-asked-ne0
-returns-then-asked-ne0 c = search (rules, checkpoint_refused)
+pub returns-in_err-e : goal.returns-in_err-e
+returns-in_err-e c = search (rules, checkpoint_refused, c.in_err-e.ensures)
 
 pub homed-done-requires : goal.homed-done-requires
-homed-done-requires c = search (rules, found_core)
+homed-done-requires c = search (rules, found_core, c.in_ok-e.ensures)
 
 pub returns-then-e-done : goal.returns-then-e-done
-returns-then-e-done c = search (rules, all_home)
+returns-then-e-done c = search (rules, all_home, c.in_ok-e.ensures)
 
 pub stored_home-requires : goal.stored_home-requires
-stored_home-requires c = (search rules, search (rules, found_core), search (rules, found_read), search rules, search rules)
+stored_home-requires c = (search (rules, found_core, c.in_ok-e.ensures), search (rules, found_read, c.in_ok-e.ensures), search rules, search rules)
 
 pub returns : goal.returns
-returns c = search (rules, home_done)
+returns c = search (rules, home_done, c.in_ok-e.ensures)

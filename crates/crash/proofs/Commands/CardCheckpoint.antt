@@ -7,7 +7,7 @@ use Rattle.model.proofs.Base.{list_get_or_map, get_or-set_same, get_or-set_other
 use Rattle.model.proofs.Base.{Bytes}
 use Rattle.model.specs.Bytes.{store, block_at}
 use Rattle.model.specs.Shape.{home_block}
-use Rattle.model.specs.Card.{new_name, new_tail, no_holder, fresh_core, shape_of, tail_of, core_of, holder_of, with_core}
+use Rattle.model.specs.Card.{new_name, new_tail, no_holder, fresh_core, shape_of, tail_of, core_of, holder_of, with_core, is_held}
 use Rattle.model.specs.Layout.{master_block}
 use Rattle.model.specs.Journal.{journal_at}
 use Rattle.model.specs.Command.{World, Outcome, storing}
@@ -16,7 +16,6 @@ use Rattle.model.specs.declared.Name.{Name}
 use Rattle.model.specs.declared.Tail.{Tail}
 use Rattle.model.specs.declared.CommitLayout.TheVariants.{Numbers}
 use Rattle.model.specs.declared.Core.{Core}
-use Rattle.model.specs.declared.Holder.{Holder}
 use Rattle.model.specs.declared.Card.{Card}
 use Rattle.model.specs.declared.Committed.{Committed}
 use Rattle.model.proofs.Encoding.{master_same}
@@ -244,7 +243,7 @@ module _ {l : Ledger} {w : World} (u : CardUp l w) (c : ℕ) (in_range_lem : c <
               holder_after_lem b
               ∙ ap (released_from t) (u.holders b h)
               ∙ released_holder (one_changed l t retired o₂) b l.book.writes;
-          images = λ b h g. u.images b h (still_held t (holder_of w.card b) (sym (ap (λ (v : Holder). v.held) (holder_after_lem b)) ∙ g));
+          images = λ b h g. u.images b h (still_held t (holder_of w.card b) (sym (ap is_held (holder_after_lem b)) ∙ g));
         }
 
   -- ---- by the book

@@ -6,13 +6,12 @@ use Rattle.model.proofs.Base.{subst, ◌∙◌, ◌≢◌, true, some, List, [],
 use Rattle.model.proofs.Base.{get_or-set_other, Bytes, map, mem_head, mem_tail}
 use native.Mathlib.Nat.{zero-add}
 use Rattle.model.specs.Bytes.{block_at, store}
-use Rattle.model.specs.Card.{new_name, fresh_core, taken, highest_of, tail_of, core_of, holder_of}
+use Rattle.model.specs.Card.{new_name, fresh_core, taken, highest_of, tail_of, core_of, holder_of, is_held}
 use Rattle.model.specs.Command.{World}
 use Rattle.model.specs.Commit.{copy_block, copied, closed as closedOutcome, closed_core, closed_card}
 use Rattle.model.specs.declared.CommitLayout.TheVariants.{Numbers}
 use Rattle.model.specs.declared.Name.{Name}
 use Rattle.model.specs.declared.Core.{Core}
-use Rattle.model.specs.declared.Holder.{Holder}
 use Rattle.model.proofs.Lists.{get_or_mem, get_or_map}
 use Rattle.model.proofs.Store.{length_store, length_block_at, block_stored, block_other}
 use Rattle.model.proofs.Sizes.{length_copied}
@@ -224,7 +223,7 @@ module _ {l : Ledger} {w : World} (u : CardUp l w) (c : ℕ) (in_range_lem : c <
   current_image b m =
       let g : b < l.shape.blocks = (u.well_formed.limits t (running_present _ runs)).blocks b m in
       let e : b % 64 ≡ b = omega (arith, u.well_formed.range.few_blocks) in
-      let held : (holder_of w.card b).held ≡ true = ap (λ (h : Holder). h.held) (u.holders b g ∙ ap holder_as (holds b m)) in
+      let held : is_held (holder_of w.card b) ≡ true = ap is_held (u.holders b g ∙ ap holder_as (holds b m)) in
       rw e (u.images b g held)
 
   copied_image : (i : ℕ) → i < length (l.book.entry t).blocks → block_at m₂ (copy_block c i) ≡ get_or (l₂.images t) i []

@@ -9,7 +9,7 @@ use native.Mathlib.Omega.{max_cases}
 use Rattle.model.specs.Layout.{highest_in}
 use mathlib.Core.Bool.{and-false, and-true}
 use lib.Seq.{take-suc-set}
-use Rattle.model.specs.Card.{new_name, same_name, opened, taken, highest_of, with_block, with_name, new_holder, core_of, holder_of}
+use Rattle.model.specs.Card.{new_name, same_name, opened, taken, highest_of, with_block, with_name, new_holder, core_of, holder_of, is_held, holder_name}
 use Rattle.model.specs.Command.{World}
 use Rattle.model.specs.Write.{writer, writer_name, is_running_in, rule_for, writer_after}
 use Rattle.model.specs.declared.Name.{Name}
@@ -160,14 +160,14 @@ module _ {l : Ledger} {w : World} (u : CardUp l w) where
       -- another that holds the block
       pub record MetHolder (n : Name) : Type 0 where
         pub holder : book_holder l.book b l.book.writes ≡ some n
-        pub name : (holder_of w.card b).name ≡ n
-        pub held : (holder_of w.card b).held ≡ true
+        pub name : holder_name (holder_of w.card b) ≡ n
+        pub held : is_held (holder_of w.card b) ≡ true
         pub other : n ≢ next_name c l.book
         pub core : n.core < l.shape.cores
 
       pub data Met : Type 0 where
         met_none : book_holder l.book b l.book.writes ≡ none → meeting c b l.book ≡ no_holder → rule_for w.card c b ≡ Free → Met
-        met_own : book_holder l.book b l.book.writes ≡ some (next_name c l.book) → (holder_of w.card b).held ≡ true → meeting c b l.book ≡ own → rule_for w.card c b ≡ Own → Met
+        met_own : book_holder l.book b l.book.writes ≡ some (next_name c l.book) → is_held (holder_of w.card b) ≡ true → meeting c b l.book ≡ own → rule_for w.card c b ≡ Own → Met
         met_running : (n : Name) → MetHolder n → (l.book.entry n).stage ≡ running → n ≡ next_name n.core l.book → n.core ≢ c
             → meeting c b l.book ≡ running_holder n → rule_for w.card c b ≡ Running → Met
         met_closed : (n : Name) → MetHolder n → is_closed (l.book.entry n).stage ≡ true → meeting c b l.book ≡ closed_holder n → rule_for w.card c b ≡ Closed → Met

@@ -5,7 +5,7 @@ use Rattle.model.proofs.Base.{ℕ, ◌+◌, ◌-◌, ◌*◌, ◌≤◌, ◌<◌
 use Rattle.model.proofs.Base.{false, cond, none, some, length, length-set, get_or-set_same, get_or-set_other, Bytes}
 use Rattle.model.specs.Bytes.{replaced, block_at, store}
 use Rattle.model.specs.Shape.{home_block}
-use Rattle.model.specs.Card.{new_name, no_holder, new_holder, with_name, with_running, tail_of, core_of, holder_of, with_core, with_holder}
+use Rattle.model.specs.Card.{new_name, no_holder, new_holder, with_name, with_running, tail_of, core_of, holder_of, with_core, with_holder, is_held, holder_name}
 use Rattle.model.specs.Command.{World}
 use Rattle.model.specs.Write.{writer_name, rule_for, takes_block, is_named_back, loads_image, writer_after, written_card, written_memory, written}
 use Rattle.model.specs.Commit.{copy_block}
@@ -25,7 +25,7 @@ use Rattle.crash.proofs.Commands.CardRules.{writer_name_lem, Met, met_none, met_
 use Rattle.model.specs.declared.Name.{Name}
 use Rattle.model.specs.declared.Transaction.{Transaction}
 use Rattle.model.specs.declared.Core.{Core}
-use Rattle.model.specs.declared.Holder.{Holder}
+use Rattle.model.specs.Card.{Holder}
 use Rattle.model.specs.declared.Card.{Card}
 
 -- ---- the card afterwards
@@ -55,7 +55,7 @@ module _ (x : Card) where
   module _ (c b : ℕ) where
     -- the core of the block's holder, and the card after a running holder has named the writer
     abbrev holder_core : ℕ
-    holder_core = (holder_of x b).name.core
+    holder_core = (holder_name (holder_of x b)).core
 
     abbrev named_core : ℕ → Core
     named_core a = with_running (core_of x a) (with_name (core_of x a).running (writer_name x c))
@@ -102,18 +102,18 @@ module _ (x : Card) where
     named_other : (a : ℕ) → (is_named_back (rule_for x c b) ≡ true → a ≢ holder_core) → core_of named_back a ≡ core_of x a
     named_other a apart = cases (is_named_back (rule_for x c b)) (λ e. rw e (core_other x holder_core (named_core holder_core) a (apart e))) (λ e. rw e refl)
 
-    written_writer : c < length x.cores → (is_named_back (rule_for x c b) ≡ true → (holder_of x b).name.core ≢ c)
+    written_writer : c < length x.cores → (is_named_back (rule_for x c b) ≡ true → (holder_name (holder_of x b)).core ≢ c)
         → core_of (written_card x c b) c ≡ with_running (core_of x c) (writer_after x c b)
     written_writer n apart =
         written_cores c
         ∙ core_set named_back c writer_core (omega (arith, named_kept.cores))
         ∙ ap (λ (k : Core). with_running k (writer_after x c b)) (named_other c (λ e q. apart e (sym q)))
 
-    written_holder : (a : ℕ) → (holder_of x b).name.core ≡ a → a < length x.cores → is_named_back (rule_for x c b) ≡ true → a ≢ c
+    written_holder : (a : ℕ) → (holder_name (holder_of x b)).core ≡ a → a < length x.cores → is_named_back (rule_for x c b) ≡ true → a ≢ c
         → core_of (written_card x c b) a ≡ named_core a
     written_holder a q n e ne = written_cores a ∙ core_other named_back c writer_core a ne ∙ rw (e, q) (core_set x a (named_core a) n)
 
-    written_core : (a : ℕ) → a ≢ c → (is_named_back (rule_for x c b) ≡ true → a ≢ (holder_of x b).name.core) → core_of (written_card x c b) a ≡ core_of x a
+    written_core : (a : ℕ) → a ≢ c → (is_named_back (rule_for x c b) ≡ true → a ≢ (holder_name (holder_of x b)).core) → core_of (written_card x c b) a ≡ core_of x a
     written_core a ne apart = written_cores a ∙ core_other named_back c writer_core a ne ∙ named_other a apart
 
 -- ---- WRITE
@@ -153,7 +153,7 @@ module _ {l : Ledger} {w : World} (u : CardUp l w) (c : ℕ) (in_range_lem : c <
   small = omega (arith, u.well_formed.range.few_blocks)
 
   -- a held block has its current image in memory
-  held_loaded : (holder_of x b).held ≡ true → Loaded w.memory
+  held_loaded : is_held (holder_of x b) ≡ true → Loaded w.memory
   held_loaded h = record { size = u.memory; all_bytes = u.memory_bytes; own_image = u.images b low h; others = λ j ne. refl }
 
   -- a free one gets it from home
@@ -260,12 +260,12 @@ module _ {l : Ledger} {w : World} (u : CardUp l w) (c : ℕ) (in_range_lem : c <
   runs_now : is_running (k₂.entry t).stage ≡ true
   runs_now = ap is_running (write_running l.book c current b o v)
 
-  writer_core_lem : (is_named_back (rule_for x c b) ≡ true → (holder_of x b).name.core ≢ c) → CoreUp l₂ m₂ c (core_of (written_card x c b) c)
+  writer_core_lem : (is_named_back (rule_for x c b) ≡ true → (holder_name (holder_of x b)).core ≢ c) → CoreUp l₂ m₂ c (core_of (written_card x c b) c)
   writer_core_lem apart =
       stays c in_range_lem (writer_after x c b) (written_writer x c b eight apart) (λ _. writer_after_lem u c in_range_lem b low opens o v t_limits.few) (clash runs_now)
 
   -- a core that neither writes nor holds
-  other_core_up : (a : ℕ) (h : a < l.shape.cores) → a ≢ c → (is_named_back (rule_for x c b) ≡ true → a ≢ (holder_of x b).name.core)
+  other_core_up : (a : ℕ) (h : a < l.shape.cores) → a ≢ c → (is_named_back (rule_for x c b) ≡ true → a ≢ (holder_name (holder_of x b)).core)
       → meeting c b l.book ≢ running_holder (next_name a l.book) → CoreUp l₂ m₂ a (core_of (written_card x c b) a)
   other_core_up a h ne apart nr =
       let e = write_other l.book c current b o v (next_name a l.book) (other_core (l.book.next a) (l.book.next c) ne) nr in
@@ -336,11 +336,11 @@ module _ {l : Ledger} {w : World} (u : CardUp l w) (c : ℕ) (in_range_lem : c <
       ]
 
   -- the images of held blocks are the current ones
-  images_now : (j : ℕ) → j < l.shape.blocks → (holder_of (written_card x c b) j).held ≡ true → block_at m₂ j ≡ image_now l₂ j
+  images_now : (j : ℕ) → j < l.shape.blocks → is_held (holder_of (written_card x c b) j) ≡ true → block_at m₂ j ≡ image_now l₂ j
   images_now j h held =
       elim (ℕ_discrete j b) [
         | yes e ↦ rw e (memory_own ∙ sym (write_image l c b o v current))
-        | no ne ↦ memory_other j ne ∙ u.images j h (ap (λ (z : Holder). z.held) (sym (written_other x c b j ne)) ∙ held) ∙ sym (write_image_other l c b o v current j ne)
+        | no ne ↦ memory_other j ne ∙ u.images j h (ap is_held (sym (written_other x c b j ne)) ∙ held) ∙ sym (write_image_other l c b o v current j ne)
       ]
 
   pub write_up : CardUp l₂ (written c b o v w).world

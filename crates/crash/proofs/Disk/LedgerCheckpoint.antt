@@ -2,12 +2,12 @@
 -- and a core agree with it under the new tail. After RETIRE, who held a block of the retired transaction holds it no more.
 use Rattle.model.proofs.Base.{ℕ, ◌+◌, ◌-◌, ◌≤◌, ◌<◌, arith, ◌≡◌, refl, sym, ap, ◌∙◌, ◌≢◌, true, cond, ◌&&◌, Option, none, some}
 use Rattle.model.proofs.Base.{List, [], length, get_or, Bytes}
-use Rattle.model.specs.Card.{new_name, same_name, no_holder}
+use Rattle.model.specs.Card.{new_name, same_name, no_holder, is_held, holder_name}
 use Rattle.model.specs.Journal.{journal_at}
 use Rattle.model.specs.declared.Name.{Name}
 use Rattle.model.specs.declared.Tail.{Tail}
 use Rattle.model.specs.declared.Core.{Core}
-use Rattle.model.specs.declared.Holder.{Holder}
+use Rattle.model.specs.Card.{Holder}
 use Rattle.model.proofs.Lists.{cases}
 use Rattle.model.proofs.Valid.{same_name_refl}
 use Rattle.crash.specs.Book.{Stage, committed, retired, Write, Book, book_holder}
@@ -84,7 +84,7 @@ module _ (l : Ledger) (t : Name) (g : Stage) (o : ℕ → ℕ) where
 
 -- ---- who held a block holds it no more
 abbrev pub released_from : Name → Holder → Holder
-released_from t h = cond (h.held && same_name h.name t) no_holder h
+released_from t h = cond (is_held h && same_name (holder_name h) t) no_holder h
 
 pub released_holder : {k k₂ : Book} {t : Name} → Restages k k₂ t retired → (b : ℕ) (ws : List Write)
     → released_from t (holder_as (book_holder k b ws)) ≡ holder_as (book_holder k₂ b ws)
@@ -97,5 +97,5 @@ released_holder {k} {k₂} {t} r b ws = go (book_holder k b ws) refl
         (λ q. rw (q, same_name_refl t, retired_none r b ws (e ∙ ap some q)))
         (λ ne. rw (same_name_false v t ne, retired_other r b ws (λ q. ne (cc)), e))
 
-pub still_held : (t : Name) (h : Holder) → (released_from t h).held ≡ true → h.held ≡ true
-still_held t h e = cases (h.held && same_name h.name t) (λ z. clash (rw z at e) refl) (λ z. rw z at e)
+pub still_held : (t : Name) (h : Holder) → is_held (released_from t h) ≡ true → is_held h ≡ true
+still_held t h e = cases (is_held h && same_name (holder_name h) t) (λ z. clash (rw z at e) refl) (λ z. rw z at e)

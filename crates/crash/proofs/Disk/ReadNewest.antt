@@ -13,8 +13,7 @@ use Rattle.model.specs.declared.Tail.{Tail}
 use Rattle.model.specs.declared.Name.{Name}
 use Rattle.model.specs.declared.CommitLayout.{CommitLayout}
 use Rattle.model.specs.declared.Committed.{Committed}
-use Rattle.model.specs.declared.Found.{Found}
-use Rattle.model.specs.declared.Found.TheVariants.{Whole, Miss}
+use Rattle.std.specs.Prelude.{Option, Some, None}
 use Rattle.model.proofs.Lists.{cases, get_or_mem}
 use Rattle.crash.specs.Book.{is_closed}
 use Rattle.crash.specs.Ledger.{Ledger}
@@ -33,11 +32,11 @@ module _ (s : Shape) (d : Bytes) (b : ℕ) where
     took_it : took s d b top ≡ true
     most : (e : Committed) → Memᴰ e es → took s d b e ≡ true → e.stamp ≤ top.stamp
 
-  newest_later : (best : Found) (x : Committed) (es : List Committed) → took s d b x ≡ true → newest s d b best (x ∷ es) ≡ newest s d b (Whole (later best x)) es
+  newest_later : (best : Option Committed) (x : Committed) (es : List Committed) → took s d b x ≡ true → newest s d b best (x ∷ es) ≡ newest s d b (Some (later best x)) es
   unfolding newest
   newest_later best x es h = rw h
 
-  newest_skip : (best : Found) (x : Committed) (es : List Committed) → took s d b x ≡ false → newest s d b best (x ∷ es) ≡ newest s d b best es
+  newest_skip : (best : Option Committed) (x : Committed) (es : List Committed) → took s d b x ≡ false → newest s d b best (x ∷ es) ≡ newest s d b best es
   unfolding newest
   newest_skip best x es h = rw h
 
@@ -64,7 +63,7 @@ module _ (s : Shape) (d : Bytes) (b : ℕ) where
             ];
       }
 
-  newest_over : (a : Committed) (es : List Committed) → took s d b a ≡ true → (top : Committed) × (newest s d b (Whole a) es ≡ Whole top) × Highest (a ∷ es) top
+  newest_over : (a : Committed) (es : List Committed) → took s d b a ≡ true → (top : Committed) × (newest s d b (Some a) es ≡ Some top) × Highest (a ∷ es) top
   unfolding newest later
   newest_over a [] h = (
     a,
@@ -79,25 +78,25 @@ module _ (s : Shape) (d : Bytes) (b : ℕ) where
       cases (took s d b x)
       (λ k.
       cases (leb a.stamp x.stamp)
-      (λ o. let r = newest_over x es k in (r.0, newest_later (Whole a) x es k ∙ rw o r.1, highest_of es (inr refl) k (leb-true _ _ o) (λ t. omega arith) r.2))
+      (λ o. let r = newest_over x es k in (r.0, newest_later (Some a) x es k ∙ rw o r.1, highest_of es (inr refl) k (leb-true _ _ o) (λ t. omega arith) r.2))
       (λ o.
       let r = newest_over a es h in
       let w : x.stamp < a.stamp = leb-false a.stamp x.stamp o in
-      (r.0, newest_later (Whole a) x es k ∙ rw o r.1, highest_of es (inl refl) h (omega arith) (λ t. omega arith) r.2)))
-      (λ k. let r = newest_over a es h in (r.0, newest_skip (Whole a) x es k ∙ r.1, highest_of es (inl refl) h (omega arith) (λ t. clash t k) r.2))
+      (r.0, newest_later (Some a) x es k ∙ rw o r.1, highest_of es (inl refl) h (omega arith) (λ t. omega arith) r.2)))
+      (λ k. let r = newest_over a es h in (r.0, newest_skip (Some a) x es k ∙ r.1, highest_of es (inl refl) h (omega arith) (λ t. clash t k) r.2))
 
-  newest_highest : (es : List Committed) (e : Committed) → Memᴰ e es → took s d b e ≡ true → (top : Committed) × (newest s d b Miss es ≡ Whole top) × Highest es top
+  newest_highest : (es : List Committed) (e : Committed) → Memᴰ e es → took s d b e ≡ true → (top : Committed) × (newest s d b None es ≡ Some top) × Highest es top
   unfolding later
   newest_highest [] e m h = absurd (mem_not_nil m)
   newest_highest (x ∷ es) e m h =
       cases (took s d b x)
-      (λ k. let r = newest_over x es k in (r.0, newest_later Miss x es k ∙ r.1, r.2))
+      (λ k. let r = newest_over x es k in (r.0, newest_later None x es k ∙ r.1, r.2))
       (λ k.
       elim (mem_cases_cons m) [
         | inl q ↦ clash h (ap (took s d b) q ∙ k)
         | inr n ↦ (let r = newest_highest es e n h in let v = r.2 in (
           r.0,
-          newest_skip Miss x es k ∙ r.1,
+          newest_skip None x es k ∙ r.1,
           record {
             among = mem_tail v.among;
             took_it = v.took_it;
@@ -129,7 +128,7 @@ module _ {y : CommitLayout} {l : Ledger} {d : Bytes} {tail_at : ℕ → Tail} (f
   taken_by = mem_cast (sym n.block) (get_or_mem (l.book.entry n.holder).blocks n.place 0 n.within)
 
   newest_read : (most : ℕ → ℕ) → ((c : ℕ) → c < l.shape.cores → l.book.uncommitted c - l.book.oldest c ≤ most c)
-      → (e : Committed) × (newest l.shape d b Miss (valid_set in_sequence y l.shape d tail_at (journals y l.shape d tail_at most)) ≡ Whole e)
+      → (e : Committed) × (newest l.shape d b None (valid_set in_sequence y l.shape d tail_at (journals y l.shape d tail_at most)) ≡ Some e)
       × Memᴰ e (valid_set in_sequence y l.shape d tail_at (journals y l.shape d tail_at most)) × (name_of e ≡ n.holder)
   newest_read most enough =
       let vs = valid_set in_sequence y l.shape d tail_at (journals y l.shape d tail_at most) in
@@ -150,7 +149,7 @@ module _ {y : CommitLayout} {l : Ledger} {d : Bytes} {tail_at : ℕ → Tail} (f
         f.stamps (name_of e) n.holder a.unretired.is_closed_lem closed (omega (arith, a.stamp, v.most h.0 h.1 t)),
       )
 
-  image_found_lem : (c : ℕ) (e : Committed) → ReadAsLedger y l d c e → name_of e ≡ n.holder → image_found d b (Whole e) ≡ target l b
+  image_found_lem : (c : ℕ) (e : Committed) → ReadAsLedger y l d c e → name_of e ≡ n.holder → image_found d b (Some e) ≡ target l b
   unfolding image_found
   image_found_lem c e r h =
       let bs = (l.book.entry n.holder).blocks in
@@ -170,5 +169,5 @@ newest_image_lem {l = l} {d = d} f z {b} n =
     let own = own_tails f z in
     let few = few_records f z in
     let r = newest_read f own n (λ (c : ℕ). l.shape.journal) few in
-    let g : newest (shape_on d) d b Miss (valid_on_by in_sequence (layout_on d) d) ≡ Whole r.0 = rw (shape_read f z, valid_on f z) r.1 in
+    let g : newest (shape_on d) d b None (valid_on_by in_sequence (layout_on d) d) ≡ Some r.0 = rw (shape_read f z, valid_on f z) r.1 in
     ap (image_found d b) g ∙ image_found_lem f z n r.0.core r.0 (valid_are f own (λ (c : ℕ). l.shape.journal) few r.0 r.2) r.3

@@ -15,7 +15,7 @@ use Rattle.model.specs.declared.Name.{Name}
 use Rattle.model.specs.declared.CommitLayout.{CommitLayout}
 use Rattle.model.specs.declared.CommitLayout.TheVariants.{Numbers}
 use Rattle.model.specs.declared.Committed.{Committed}
-use Rattle.model.specs.declared.Found.TheVariants.{Whole}
+use Rattle.std.specs.Prelude.{Some}
 use Rattle.model.proofs.Lists.{get_or_mem, flat_map_append, length_below, get_or_map_below}
 use Rattle.model.proofs.Journal.{encoded_record as storedBlocks, Stands, as_read, journal_wrap, record_read, tags_read, names_read, image_read, records_miss, records_hit, miss_commit, record_stands}
 use Rattle.model.proofs.Encoding.{no_commit}
@@ -120,9 +120,9 @@ module _ (y : CommitLayout) {l : Ledger} (f : WellFormed l) (d : Bytes) (c : ℕ
       let t = new_name c i in
       let x = z.0 i (omega arith) (omega arith) in
       let e = length_record_tags l t in
-      let hit : record_at y l.shape d c i p left ≡ Whole (read_record l t p) =
-      subst (λ (y : CommitLayout). record_at y l.shape d c i p left ≡ Whole (read_record l t p)) (sym (y_is (omega arith)))
-      (record_read (record_sound f t x) (first_stands i p n z) left (omega arith) ∙ ap Whole (as_read_lem l t p)) in
+      let hit : record_at y l.shape d c i p left ≡ Some (read_record l t p) =
+      subst (λ (y : CommitLayout). record_at y l.shape d c i p left ≡ Some (read_record l t p)) (sym (y_is (omega arith)))
+      (record_read (record_sound f t x) (first_stands i p n z) left (omega arith) ∙ ap Some (as_read_lem l t p)) in
       let s : i + suc n ≡ suc i + n = omega arith in
       records_hit y l.shape d c i p left most (read_record l t p) hit
       ∙ rw add-one

@@ -13,7 +13,7 @@ use lib.Dec.{leb, eqb}
 use Rattle.model.specs.Lists.{below, any, select}
 use Rattle.model.specs.Bytes.{Bytes, block_at}
 use Rattle.model.specs.Shape.{home_block}
-use Rattle.model.specs.Card.{new_name, taken, highest_of, no_holder, new_holder, tail_of, core_of, holder_of}
+use Rattle.model.specs.Card.{new_name, taken, highest_of, no_holder, new_holder, tail_of, core_of, holder_of, is_held}
 use Rattle.model.specs.Layout.{has_head, master_block, highest_in}
 use Rattle.model.specs.Journal.{journal_at}
 use Rattle.model.specs.Command.{World}
@@ -27,7 +27,7 @@ use Rattle.model.specs.Valid.{in_sequence}
 use Rattle.model.specs.declared.Name.{Name}
 use Rattle.model.specs.declared.Transaction.{Transaction}
 use Rattle.model.specs.declared.Core.{Core}
-use Rattle.model.specs.declared.Holder.{Holder}
+use Rattle.model.specs.Card.{Holder}
 use Rattle.model.proofs.Limits.{InRange}
 use Rattle.crash.specs.Book.{absent, running, closed, committed, retired, is_running, is_closed, stage_count, Entry, Write, Book, book_holder}
 use Rattle.crash.specs.Ledger.{record_of, Ledger, image_now, valid_in, blocks_in, record_blocks, kept_image}
@@ -185,7 +185,7 @@ pub record CardUp (l : Ledger) (w : World) : Type 0 where
   pub disk : DiskStands Numbers l w.disk (tail_of w.card)
   pub cores : (c : ℕ) → c < l.shape.cores → CoreUp l w.memory c (core_of w.card c)
   pub holders : (b : ℕ) → b < l.shape.blocks → holder_of w.card b ≡ holder_as (book_holder l.book b l.book.writes)
-  pub images : (b : ℕ) → b < l.shape.blocks → (holder_of w.card b).held ≡ true → block_at w.memory b ≡ image_now l b
+  pub images : (b : ℕ) → b < l.shape.blocks → is_held (holder_of w.card b) ≡ true → block_at w.memory b ≡ image_now l b
 
 -- ---- down: what recovery will give is fixed
 -- the area that the kept writes give

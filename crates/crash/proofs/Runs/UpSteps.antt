@@ -15,7 +15,7 @@ use borrow.Author.Tests.{eqb-true, eqb-false, ltb-true, ltb-false, lt-leb}
 use Rattle.model.specs.Lists.{any}
 use Rattle.model.specs.Bytes.{store, replaced, Bytes, block_at, zero_memory}
 use Rattle.model.specs.Shape.{home_block}
-use Rattle.model.specs.Card.{same_name, down_card, core_of, holder_of, taken, shape_of}
+use Rattle.model.specs.Card.{same_name, down_card, core_of, holder_of, taken, shape_of, is_held}
 use Rattle.model.specs.Command.{World, refusal, unstored, no_block}
 use Rattle.model.specs.Valid.{Order, predecessor}
 use Rattle.model.specs.Write.{written, written_memory}
@@ -47,7 +47,6 @@ use Rattle.crash.specs.Claims.{IsBytes}
 use Rattle.model.specs.Reading.{read_block, read_conditions, read_number}
 use Rattle.crash.proofs.Disk.ReadMaster.{shape_up}
 use Rattle.model.specs.declared.Name.{Name}
-use Rattle.model.specs.declared.Holder.{Holder}
 use Rattle.model.specs.declared.Shape.{Shape}
 
 -- ---- a card that is up: the bytes and the histories of the blocks agree with the ledger
@@ -108,11 +107,11 @@ module _ {l : Ledger} {w : World} (u : RelatedUp l w) where
   unfolding read_block
   up_reads b low =
       rw (up_number b low)
-      (cases (holder_of w.card b).held (λ h. rw h (u.up.images b low h)) (λ h. rw h (from_home_lem (book_holder k b k.writes) refl h)))
+      (cases (is_held (holder_of w.card b)) (λ h. rw h (u.up.images b low h)) (λ h. rw h (from_home_lem (book_holder k b k.writes) refl h)))
     where
-      from_home_lem : (x : Option Name) → book_holder k b k.writes ≡ x → (holder_of w.card b).held ≡ false → block_at w.disk (home_block b) ≡ image_now l b
+      from_home_lem : (x : Option Name) → book_holder k b k.writes ≡ x → is_held (holder_of w.card b) ≡ false → block_at w.disk (home_block b) ≡ image_now l b
       from_home_lem none e h = u.homes b low ∙ home_current u.inv b e
-      from_home_lem (some n) e h = clash (ap (λ (y : Holder). y.held) (u.up.holders b low ∙ ap holder_as e)) h
+      from_home_lem (some n) e h = clash (ap is_held (u.up.holders b low ∙ ap holder_as e)) h
 
   -- WRITE
   module _ (c : ℕ) (in_range_lem : c < l.shape.cores) (b : ℕ) (low : b < l.shape.blocks) (o : ℕ) (inside : o ≤ 124) (v : Bytes) (fits : (length v ≡ 4) × IsBytes v)

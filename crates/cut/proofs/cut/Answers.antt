@@ -3,8 +3,8 @@ use borrow.Author.Rules.{rules}
 use Rattle.cut.proofs.CutLaws.{cut_refused, cut_done}
 use Rattle.cut.proofs.cut.Goals as goal
 
-pub returns-then-n-ne0 : goal.returns-then-n-ne0
-returns-then-n-ne0 c = search (rules, cut_refused)
+pub returns-in_err-check_cut : goal.returns-in_err-check_cut
+returns-in_err-check_cut c = search (rules, cut_refused)
 
 pub returns : goal.returns
-returns c = search (rules, cut_done)
+returns c = let e = c.fill.ensures.after (λ y h. h) in search (rules, cut_done, c.in_ok-check_cut.ensures)

@@ -4,4 +4,7 @@ use borrow.Author.Rules.{rules}
 use Rattle.format.proofs.set_up.Goals as goal
 
 pub returns : goal.returns
-returns c = (search (rules, format_left), search rules)
+returns c =
+    let d = c.fill.ensures.after (λ y h. h) in
+    let m = c.fill-2.ensures.after (λ y h. h) in
+    (search (rules, format_left), search rules)

@@ -1,15 +1,8 @@
--- `master_block::are_tails` meets its contract: each core passed has its tail within the limits.
-use Rattle.layout.proofs.Loops.{passed}
+-- `master_block::are_tails` meets its contract: each tail meets the test.
+use Rattle.std.proofs.Common.{rules, tests}
+use Rattle.model.specs.Layout.{is_tail, tail_in}
+use Rattle.layout.proofs.Ranges.{every_by}
 use Rattle.master_block.proofs.are_tails.Goals as goal
 
-pub loop-c-init : goal.loop-c-init
-loop-c-init c = search passed
-
-pub returns-then-not-is_tail : goal.returns-then-not-is_tail
-returns-then-not-is_tail c = search passed
-
-pub loop-c-preserved : goal.loop-c-preserved
-loop-c-preserved c = search passed
-
 pub returns : goal.returns
-returns c = search passed
+returns c = every_by (λ i. is_tail c.args.s (tail_in c.args.block.now i)) c.all.ensures.ran (λ x b q k. search (rules, tests))

@@ -1,13 +1,13 @@
--- `master_block::read_layout` meets its contract: each return is one case of `layout_in`.
+-- `master_block::read_layout` meets its contract: 0 or not.
 use borrow.Author.Rules.{rules}
 use Rattle.model.specs.Layout.{layout_in}
 use Rattle.layout.proofs.Tests.{tests}
 use Rattle.master_block.proofs.read_layout.Goals as goal
 
-pub returns-then-get_word-eq0 : goal.returns-then-get_word-eq0
+pub returns-in-0 : goal.returns-in-0
 unfolding layout_in
-returns-then-get_word-eq0 c = search (rules, tests)
+returns-in-0 c = search (rules, tests)
 
-pub returns : goal.returns
+pub returns-in_default : goal.returns-in_default
 unfolding layout_in
-returns c = search (rules, tests)
+returns-in_default c = search (rules, tests)

@@ -1,18 +1,13 @@
--- `master_block::write_master` meets its contract: with each turn one more word of the block stands, whatever it held before.
+-- `master_block::write_master` meets its contract: its words are those of the master.
+use Rattle.std.proofs.Common.{rules}
 use Rattle.model.specs.Layout.{master_block}
 use Rattle.master_block.specs.Tails.{master_from}
-use Rattle.layout.proofs.Blocks.{written}
+use Rattle.layout.proofs.Blocks.{words_written}
 use Rattle.master_block.proofs.Writers.{length_master}
 use Rattle.master_block.proofs.write_master.Goals as goal
 
-pub loop-i-init : goal.loop-i-init
-unfolding master_block master_from
-loop-i-init c = search (written, length_master)
-
-pub loop-i-preserved : goal.loop-i-preserved
-unfolding master_block master_from
-loop-i-preserved c = search written
-
 pub returns : goal.returns
 unfolding master_block master_from
-returns c = search written
+returns c =
+    let w = c.write_words.ensures in
+    words_written _ _ (length_master c.args.s c.args.tails) w.0 w.1 w.2 (λ i h. let p = w.3 i h in search rules)

@@ -6,5 +6,5 @@ use Rattle.operands.proofs.ends_early.Goals as goal
 pub returns-then-tape-at : goal.returns-then-tape-at
 returns-then-tape-at c = search (rules, early_past)
 
-pub returns : goal.returns
-returns c = search (rules, early_rest)
+pub returns-else-tape-at : goal.returns-else-tape-at
+returns-else-tape-at c = search (rules, early_rest)

@@ -4,17 +4,17 @@ use Rattle.reading.proofs.ReadLaws.{below_blocks, part_none, part_memory, part_d
 use borrow.Author.Rules.{rules}
 use Rattle.reading.proofs.read_part.Goals as goal
 
-pub returns-then-n-ne0 : goal.returns-then-n-ne0
-returns-then-n-ne0 c = search (rules, part_none)
+pub returns-in_err-check_read : goal.returns-in_err-check_read
+returns-in_err-check_read c = search (rules, part_none)
 
 pub overflow_cast-block : goal.overflow_cast-block
-overflow_cast-block c = omega (arith, below_blocks _ _ _ _ _ c.read_number-n.ensures c.if-n-ne0.false)
+overflow_cast-block c = omega (arith, below_blocks _ _ _ _ c.in_ok-check_read.ensures)
 
 pub is_held-requires : goal.is_held-requires
-is_held-requires c = (search rules, search (rules, below_blocks))
+is_held-requires c = below_blocks _ _ _ _ c.in_ok-check_read.ensures
 
 pub returns-then-is_held : goal.returns-then-is_held
-returns-then-is_held c = search (rules, part_memory)
+returns-then-is_held c = search (rules, part_memory, c.in_ok-check_read.ensures)
 
 pub returns : goal.returns
-returns c = search (rules, part_disk)
+returns c = search (rules, part_disk, c.in_ok-check_read.ensures)

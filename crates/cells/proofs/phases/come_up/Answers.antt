@@ -1,10 +1,9 @@
 -- `cells::phases::come_up` meets its contract: zeroed, then phase and shape, then the tails.
 use Rattle.cells.proofs.PhaseLaws.{up_fresh, up_seen, up_frame}
-use borrow.Author.Rules.{rules}
 use Rattle.cells.proofs.phases.come_up.Goals as goal
 
 pub begin_all-requires : goal.begin_all-requires
-begin_all-requires c = (search rules, up_fresh _ _ _ c.blank.ensures.1 c.put_shape.ensures.0)
+begin_all-requires c = up_fresh _ _ _ c.blank.ensures.1 c.put_shape.ensures.0
 
 pub returns : goal.returns
 returns c = (

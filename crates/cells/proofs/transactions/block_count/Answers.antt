@@ -1,10 +1,7 @@
 -- `cells::transactions::block_count` meets its contract: a count above eight counts as eight.
-use Rattle.cells.proofs.ReadLaws.{count_high, count_low}
-use borrow.Author.Rules.{rules}
+use Rattle.std.proofs.Common.{arith, ◌∙◌}
+use Rattle.cells.proofs.ReadLaws.{count_taken}
 use Rattle.cells.proofs.transactions.block_count.Goals as goal
 
-pub returns-then-n-gt-MAX_TAKEN : goal.returns-then-n-gt-MAX_TAKEN
-returns-then-n-gt-MAX_TAKEN c = (search (rules, count_high), search rules)
-
 pub returns : goal.returns
-returns c = (search (rules, count_low), search rules)
+returns c = (count_taken _ _ _ _ c.min.ensures (c.from.ensures ∙ c.byte_in.ensures), omega (arith, c.min.ensures))

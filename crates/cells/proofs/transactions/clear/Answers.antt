@@ -1,13 +1,9 @@
--- `cells::transactions::clear` meets its contract: one cell after another.
-use Rattle.cells.proofs.TransactionLaws.{cleared_start, cleared_more, cleared_all}
-use borrow.Author.Rules.{rules}
+-- `cells::transactions::clear` meets its contract: its cells filled with zeros.
+use Rattle.std.proofs.Common.{arith}
+use Rattle.cells.proofs.TransactionLaws.{cleared, cleared_frame}
 use Rattle.cells.proofs.transactions.clear.Goals as goal
 
-pub loop-i-init : goal.loop-i-init
-loop-i-init c = cleared_start _ _
-
-pub loop-i-preserved : goal.loop-i-preserved
-loop-i-preserved c = search (rules, cleared_more)
-
 pub returns : goal.returns
-returns c = (search (rules, cleared_all), search rules)
+returns c =
+    let z = c.fill.ensures.after (λ y e. e) in
+    (cleared _ _ _ _ c.told-w c.requires (omega arith) z, cleared_frame _ _ _ _ c.told-w c.requires (omega arith) z)

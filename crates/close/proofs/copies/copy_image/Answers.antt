@@ -12,9 +12,9 @@ pub overflow_add-end : goal.overflow_add-end
 unfolding copy_block
 overflow_add-end c = search rules
 
-pub slice_bounds-write_image-end : goal.slice_bounds-write_image-end
+pub slice_bounds-copy_from_slice-end : goal.slice_bounds-copy_from_slice-end
 unfolding copy_block
-slice_bounds-write_image-end c = search rules
+slice_bounds-copy_from_slice-end c = search rules
 
 pub returns : goal.returns
 returns c = search (rules, copied_image)

@@ -1,14 +1,8 @@
--- `close::copies::flags_of` meets its contract. Invariant: the first i flags are those of their copies.
+-- `close::copies::flags_of` meets its contract: the flag of each copy.
 use Rattle.std.proofs.Common.{rules}
-use Rattle.layout.proofs.Loops.{filled_none, filled_more, filled_all}
-use Rattle.close.proofs.CloseLaws.{flag_read}
+use Rattle.layout.proofs.Ranges.{table_by}
+use Rattle.close.proofs.CloseLaws.{copy_flag}
 use Rattle.close.proofs.copies.flags_of.Goals as goal
 
-pub loop-i-init : goal.loop-i-init
-loop-i-init c = (search rules, search rules, search (rules, filled_none))
-
-pub loop-i-preserved : goal.loop-i-preserved
-loop-i-preserved c = (search rules, search rules, search (rules, flag_read, filled_more))
-
 pub returns : goal.returns
-returns c = search (rules, filled_all)
+returns c = table_by _ (copy_flag c.args.c c.args.memory.now) _ _ _ c.from_fn.ensures.items (λ i y q k. search rules)

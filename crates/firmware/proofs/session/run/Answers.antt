@@ -21,5 +21,5 @@ returns c =
     run_left_end _ _ _ _ _ _ _ _ _ c.loop-at.invariant.2 c.loop-at-test.false (search rules)
     (demands_met _ _
     (are_bytes c.args.tape.now (λ i. omega (arith, c.type_inv.tape i)))
-    (are_bytes c.args.disk.now (λ i. omega (arith, c.slice_known-1.given i)))
-    (are_bytes c.args.memory.now (λ i. omega (arith, c.slice_known-2-1.given i))))
+    (are_bytes c.args.disk.now (λ i. search rules))
+    (are_bytes c.args.memory.now (λ i. search rules)))

@@ -1,4 +1,4 @@
--- `images::record_shares` meets its contract: the two cases of `sharesBelow`.
+-- `images::record_shares` meets its contract: the two cases of `shares_below`.
 use borrow.Author.Rules.{rules}
 use Rattle.journal.proofs.Tested.{tested_bytes}
 use Rattle.images.proofs.Shared.{stamp_not, stamp_shares}

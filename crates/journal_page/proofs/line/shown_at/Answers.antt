@@ -1,20 +1,18 @@
 -- `journal_page::line::shown_at` meets its contract: the first field that has the column.
 use borrow.Author.Rules.{rules}
-use Rattle.layout.proofs.Loops.{missed}
-use Rattle.journal_page.proofs.LineLaws.{is_covered, shown_hit, shown_more, shown_end}
+use Rattle.journal_page.proofs.LineLaws.{shown_none, shown_hit, shown_missed, shown_end}
 use Rattle.journal_page.proofs.line.shown_at.Goals as goal
+use Rattle.journal_page.proofs.line.shown_at.Goals.{in_default-via-in-None-1, in_default-via-in-Some+else-covers}
 
-pub loop-i-init : goal.loop-i-init
-loop-i-init c = search missed
+pub returns-in-loop-field : goal.returns-in-loop-field
+returns-in-loop-field c = search (rules, shown_hit)
 
-pub field_byte-requires : goal.field_byte-requires
-field_byte-requires c = search (rules, is_covered)
-
-pub returns-then-is_covered : goal.returns-then-is_covered
-returns-then-is_covered c = search (rules, shown_hit)
-
-pub loop-i-preserved : goal.loop-i-preserved
-loop-i-preserved c = search (rules, shown_more)
+pub loop-field-preserved : goal.loop-field-preserved
+loop-field-preserved c =
+    elim c.in_default.branch [
+      | in_default-via-in-None-1 w ↦ search (rules, shown_none)
+      | in_default-via-in-Some+else-covers w ↦ search (rules, shown_missed)
+    ]
 
 pub returns : goal.returns
 returns c = search (rules, shown_end)

@@ -1,10 +1,6 @@
 -- `journal_page::page_text::lay_page` meets its contract: line by line.
-use Prim.Native.Nat.{◌-◌}
 use Rattle.journal_page.proofs.PageTextLaws.{LinesLaid}
 use Rattle.journal_page.proofs.page_text.lay_page.Given as goal
 
 abbrev pub invariant-loop-i : goal.invariant-loop-i
 invariant-loop-i l = LinesLaid l.disk l.initial.text l.n l.text l.i
-
-abbrev pub decreases-loop-i : goal.decreases-loop-i
-decreases-loop-i l = l.n - l.i

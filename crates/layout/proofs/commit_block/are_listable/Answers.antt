@@ -1,15 +1,9 @@
--- `layout::are_listable` meets its contract: each name passed meets the test.
-use Rattle.layout.proofs.Loops.{passed}
+-- `layout::are_listable` meets its contract: each name meets the test.
+use Rattle.std.proofs.Common.{rules, tests}
+use Rattle.model.specs.Card.{new_name}
+use Rattle.model.specs.Layout.{is_listable, pair_at}
+use Rattle.layout.proofs.Ranges.{every_by}
 use Rattle.layout.proofs.commit_block.are_listable.Goals as goal
 
-pub loop-i-init : goal.loop-i-init
-loop-i-init c = search passed
-
-pub returns-then-not-is_listable : goal.returns-then-not-is_listable
-returns-then-not-is_listable c = search passed
-
-pub loop-i-preserved : goal.loop-i-preserved
-loop-i-preserved c = search passed
-
 pub returns : goal.returns
-returns c = search passed
+returns c = every_by (λ i. is_listable c.args.s (pair_at new_name c.args.block.now 24 i)) c.all.ensures.ran (λ x b q k. search (rules, tests))

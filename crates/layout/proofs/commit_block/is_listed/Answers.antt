@@ -1,17 +1,9 @@
--- `layout::is_listed` meets its contract: each name passed has another core.
-use borrow.Author.Rules.{rules}
-use Rattle.layout.proofs.Loops.{missed}
-use Rattle.layout.proofs.Counting.{listed_yes, listed_more}
+-- `layout::is_listed` meets its contract: some name is one of the core.
+use Rattle.std.proofs.Common.{rules, tests}
+use Rattle.layout.specs.Named.{is_of_core}
+use Rattle.layout.proofs.Ranges.{some_by}
+use Rattle.layout.proofs.Counting.{core_same}
 use Rattle.layout.proofs.commit_block.is_listed.Goals as goal
 
-pub loop-i-init : goal.loop-i-init
-loop-i-init c = search missed
-
-pub returns-then-name_core-c : goal.returns-then-name_core-c
-returns-then-name_core-c c = search (rules, listed_yes)
-
-pub loop-i-preserved : goal.loop-i-preserved
-loop-i-preserved c = search (rules, listed_more)
-
 pub returns : goal.returns
-returns c = search missed
+returns c = some_by (is_of_core c.args.block.now c.args.c) c.any.ensures.ran (λ x b q k. search (rules, tests, core_same))

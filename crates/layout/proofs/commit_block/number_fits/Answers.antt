@@ -6,5 +6,5 @@ use Rattle.layout.proofs.commit_block.number_fits.Goals as goal
 pub returns-then-c-s : goal.returns-then-c-s
 returns-then-c-s c = search (rules, number_here)
 
-pub returns : goal.returns
-returns c = search (rules, number_none)
+pub returns-else-c-s : goal.returns-else-c-s
+returns-else-c-s c = search (rules, number_none)

@@ -1,15 +1,8 @@
--- `layout::numbers_fit` meets its contract: each number passed meets the test.
-use Rattle.layout.proofs.Loops.{passed}
+-- `layout::numbers_fit` meets its contract: each number meets the test.
+use Rattle.std.proofs.Common.{rules, tests}
+use Rattle.layout.specs.Named.{number_fits}
+use Rattle.layout.proofs.Ranges.{every_by}
 use Rattle.layout.proofs.commit_block.numbers_fit.Goals as goal
 
-pub loop-c-init : goal.loop-c-init
-loop-c-init c = search passed
-
-pub returns-then-not-number_fits : goal.returns-then-not-number_fits
-returns-then-not-number_fits c = search passed
-
-pub loop-c-preserved : goal.loop-c-preserved
-loop-c-preserved c = search passed
-
 pub returns : goal.returns
-returns c = search passed
+returns c = every_by (number_fits c.args.s c.args.block.now) c.all.ensures.ran (λ x b q k. search (rules, tests))

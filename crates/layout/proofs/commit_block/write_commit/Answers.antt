@@ -1,17 +1,12 @@
--- `layout::write_commit` meets its contract: with each turn one more word of the block stands, whatever it held before.
+-- `layout::write_commit` meets its contract: its words are those of the commit.
+use Rattle.std.proofs.Common.{rules}
 use Rattle.model.specs.Layout.{commit_block}
-use Rattle.layout.proofs.Blocks.{written}
+use Rattle.layout.proofs.Blocks.{words_written}
 use Rattle.layout.proofs.Pairs.{length_commit}
 use Rattle.layout.proofs.commit_block.write_commit.Goals as goal
 
-pub loop-i-init : goal.loop-i-init
-unfolding commit_block
-loop-i-init c = search (written, length_commit)
-
-pub loop-i-preserved : goal.loop-i-preserved
-unfolding commit_block
-loop-i-preserved c = search written
-
 pub returns : goal.returns
 unfolding commit_block
-returns c = search written
+returns c =
+    let w = c.write_words.ensures in
+    words_written _ _ (length_commit _ _ _) w.0 w.1 w.2 (λ i h. let p = w.3 i h in search rules)

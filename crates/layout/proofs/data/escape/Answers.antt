@@ -6,5 +6,5 @@ use Rattle.layout.proofs.data.escape.Goals as goal
 pub returns-then-get_word : goal.returns-then-get_word
 returns-then-get_word c = search (rules, escaped_yes)
 
-pub returns : goal.returns
-returns c = search (rules, escaped_no)
+pub returns-else-get_word : goal.returns-else-get_word
+returns-else-get_word c = search (rules, escaped_no)

@@ -8,6 +8,6 @@ pub returns-then-flag-eq1 : goal.returns-then-flag-eq1
 unfolding unescaped
 returns-then-flag-eq1 c = search (rules, tests)
 
-pub returns : goal.returns
+pub returns-else-flag-eq1 : goal.returns-else-flag-eq1
 unfolding unescaped
-returns c = search (rules, tests)
+returns-else-flag-eq1 c = search (rules, tests)

@@ -1,24 +1,17 @@
--- `layout::is_new` meets its contract: each block passed is another one.
-use borrow.Author.Rules.{rules}
-use Rattle.layout.proofs.Loops.{passed}
-use Rattle.layout.proofs.Readers.{new_no, new_more, new_yes}
+-- `layout::is_new` meets its contract: each block before it is another one.
+use Rattle.std.proofs.Common.{rules, tests}
+use Rattle.std.proofs.iter.Serving.{serving}
+use Rattle.layout.specs.Distinct.{is_new, is_other}
 use Rattle.layout.proofs.Narrow.{last_below, earlier_below}
+use Rattle.layout.proofs.Ranges.{every_by}
 use Rattle.layout.proofs.descriptor_block.is_new.Goals as goal
 
 pub block_byte-x-requires : goal.block_byte-x-requires
 block_byte-x-requires c = search (rules, last_below)
 
-pub loop-j-init : goal.loop-j-init
-loop-j-init c = search passed
-
-pub block_byte-requires : goal.block_byte-requires
-block_byte-requires c = search (rules, earlier_below)
-
-pub returns-then-block_byte-x : goal.returns-then-block_byte-x
-returns-then-block_byte-x c = search (rules, new_no)
-
-pub loop-j-preserved : goal.loop-j-preserved
-loop-j-preserved c = search (rules, new_more)
+pub all-requires-clause-callable : goal.all-requires-clause-callable
+all-requires-clause-callable c = grind (serving, earlier_below)
 
 pub returns : goal.returns
-returns c = search (rules, new_yes)
+unfolding is_new is_other
+returns c = every_by (is_other c.args.block.now c.args.i) c.all.ensures.ran (λ x b q k. search (rules, tests))

@@ -1,4 +1,4 @@
--- `layout::is_tag` meets its contract: each return is one condition of `is_tag`.
+-- `layout::is_tag` meets its contract: both conditions of `is_tag`.
 use borrow.Author.Rules.{rules}
 use Rattle.model.specs.Layout.{is_tag}
 use Rattle.layout.proofs.Tests.{tests}
@@ -8,6 +8,6 @@ pub returns-then-tag_block-s : goal.returns-then-tag_block-s
 unfolding is_tag
 returns-then-tag_block-s c = search (rules, tests)
 
-pub returns : goal.returns
+pub returns-else-tag_block-s : goal.returns-else-tag_block-s
 unfolding is_tag
-returns c = search (rules, tests)
+returns-else-tag_block-s c = search (rules, tests)

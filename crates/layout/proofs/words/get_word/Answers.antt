@@ -1,8 +1,7 @@
 -- `layout::get_word` meets its contract: the four bytes in turn are the number, law `be4_get_or`.
-use native.Mathlib.Omega.{arith}
-use mathlib.Core.Path.{◌∙◌, sym}
+use Rattle.std.proofs.Common.{arith}
 use Rattle.model.proofs.Words.{be4_get_or}
 use Rattle.layout.proofs.words.get_word.Goals as goal
 
 pub returns : goal.returns
-returns c = let z : _ = c.before in omega arith ∙ sym (be4_get_or z.args.b.now z.args.at z.requires)
+returns c = omega (arith, be4_get_or c.args.b.now c.args.at c.requires, c.from_be_bytes.ensures)

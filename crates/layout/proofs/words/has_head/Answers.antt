@@ -1,17 +1,13 @@
--- `layout::has_head` meets its contract: each return is one condition of `has_head`.
+-- `layout::has_head` meets its contract: each condition of `has_head` in turn.
 use borrow.Author.Rules.{rules}
 use Rattle.model.specs.Layout.{has_head}
 use Rattle.layout.proofs.Tests.{tests}
 use Rattle.layout.proofs.words.has_head.Goals as goal
 
-pub returns-then-get_word-ne-MARK : goal.returns-then-get_word-ne-MARK
+pub returns-then-get_word-number : goal.returns-then-get_word-number
 unfolding has_head
-returns-then-get_word-ne-MARK c = search (rules, tests)
+returns-then-get_word-number c = search (rules, tests)
 
-pub returns-then-get_word-kind : goal.returns-then-get_word-kind
+pub returns-else-get_word-number : goal.returns-else-get_word-number
 unfolding has_head
-returns-then-get_word-kind c = search (rules, tests)
-
-pub returns : goal.returns
-unfolding has_head
-returns c = search (rules, tests)
+returns-else-get_word-number c = search (rules, tests)

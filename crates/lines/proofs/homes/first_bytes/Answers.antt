@@ -1,9 +1,7 @@
 -- `lines::homes::first_bytes` meets its contract: a part of a part of the disk.
-use native.Mathlib.Omega.{arith}
-use lib.ListN.{length-take, length-drop}
 use Rattle.lines.proofs.PageLaws.{first_part}
 use borrow.Author.Rules.{rules}
 use Rattle.lines.proofs.homes.first_bytes.Goals as goal
 
 pub returns : goal.returns
-returns c = (search (rules, first_part), simp (length-take, length-drop) (omega arith))
+returns c = search (rules, first_part)

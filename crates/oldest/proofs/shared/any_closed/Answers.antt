@@ -1,20 +1,9 @@
--- `oldest::shared::any_closed` meets its contract. Invariant: none of the first c cores has one.
-use Rattle.layout.proofs.Loops.{missed}
-use Rattle.oldest.proofs.SharedLaws.{closed_in, is_lower}
-use borrow.Author.Rules.{rules}
+-- `oldest::shared::any_closed` meets its contract: the test at each core.
+use Rattle.std.proofs.Common.{rules, tests}
+use Rattle.layout.proofs.Ranges.{some_by}
+use Rattle.cells.specs.Cells.{card_in}
+use Rattle.oldest.specs.Oldest.{closed_lower}
 use Rattle.oldest.proofs.shared.any_closed.Goals as goal
 
-pub loop-c-init : goal.loop-c-init
-loop-c-init c = search missed
-
-pub lower_closed-requires : goal.lower_closed-requires
-lower_closed-requires c = search (rules, closed_in)
-
-pub returns-then-lower_closed : goal.returns-then-lower_closed
-returns-then-lower_closed c = search (missed, is_lower)
-
-pub loop-c-preserved : goal.loop-c-preserved
-loop-c-preserved c = search (missed, is_lower)
-
 pub returns : goal.returns
-returns c = search missed
+returns c = some_by (closed_lower (card_in c.args.w.now) c.args.disk.shape c.args.disk.bytes.now c.args.e) c.any.ensures.ran (λ x b q k. search (rules, tests))

@@ -1,16 +1,12 @@
--- `oldest::shared::shares_closed` meets its contract. Invariant: none of the first i blocks is shared.
-use Rattle.oldest.proofs.SharedLaws.{none_shared, one_shared, more_unshared, end_shared}
-use borrow.Author.Rules.{rules}
+-- `oldest::shared::shares_closed` meets its contract: the test at each block.
+use Rattle.std.proofs.Common.{rules, tests}
+use Rattle.std.proofs.Common.{◌∙◌}
+use Rattle.layout.proofs.Ranges.{some_by}
+use Rattle.model.specs.Card.{taken}
+use Rattle.model.specs.Journal.{blocks_of}
+use Rattle.cells.specs.Cells.{transaction_in}
+use Rattle.oldest.proofs.SharedLaws.{shares_at, shares_all}
 use Rattle.oldest.proofs.shared.shares_closed.Goals as goal
 
-pub loop-i-init : goal.loop-i-init
-loop-i-init c = (search rules, search rules, none_shared _ _ _ _)
-
-pub returns-then-takes_block : goal.returns-then-takes_block
-returns-then-takes_block c = search (rules, one_shared)
-
-pub loop-i-preserved : goal.loop-i-preserved
-loop-i-preserved c = (search rules, search rules, search (rules, more_unshared))
-
 pub returns : goal.returns
-returns c = search (rules, end_shared)
+returns c = some_by (shares_at (blocks_of c.args.disk.shape c.args.disk.bytes.now c.args.e) (taken (transaction_in c.args.w.now c.args.at))) c.any.ensures.ran (λ x b q k. search (rules, tests)) ∙ shares_all _ _ _ _

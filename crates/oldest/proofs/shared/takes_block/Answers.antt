@@ -1,16 +1,12 @@
--- `oldest::shared::takes_block` meets its contract. Invariant: none of the first i blocks is the one sought.
-use Rattle.oldest.proofs.SharedLaws.{none_taken, not_taken, block_hit, block_missed}
-use borrow.Author.Rules.{rules}
+-- `oldest::shared::takes_block` meets its contract: some block of those taken is the one sought.
+use Rattle.std.proofs.Common.{rules, tests, ◌∙◌}
+use lib.Dec.{eqb}
+use Rattle.layout.proofs.Ranges.{some_by}
+use Rattle.cells.specs.Cells.{byte_in, block_place}
+use Rattle.oldest.proofs.SharedLaws.{block_among}
 use Rattle.oldest.proofs.shared.takes_block.Goals as goal
 
-pub loop-i-init : goal.loop-i-init
-loop-i-init c = (search rules, search rules, search (rules, none_taken))
-
-pub returns-then-byte_in-b : goal.returns-then-byte_in-b
-returns-then-byte_in-b c = search (rules, block_hit)
-
-pub loop-i-preserved : goal.loop-i-preserved
-loop-i-preserved c = (search rules, search rules, search (rules, block_missed))
-
 pub returns : goal.returns
-returns c = search (rules, not_taken)
+returns c =
+    let n = c.block_count.ensures in
+    some_by (λ i. eqb c.args.b (byte_in c.args.w.now (block_place c.args.at i))) c.any.ensures.ran (λ i y q k. search (rules, tests)) ∙ block_among _ _ _ _ n.0 n.1

@@ -1,12 +1,7 @@
--- `planner::buffer::lay_cells` meets its contract: with each turn one more cell of the order is laid.
-use Rattle.planner.proofs.CodeLaws.BufferLaws.{laid}
+-- `planner::buffer::lay_cells` meets its contract: four stores and a copy.
+use borrow.Author.Rules.{rules}
+use Rattle.planner.proofs.CodeLaws.BufferLaws.{laid_cells}
 use Rattle.planner.proofs.buffer.lay_cells.Goals as goal
 
-pub loop-i-init : goal.loop-i-init
-loop-i-init c = search laid
-
-pub loop-i-preserved : goal.loop-i-preserved
-loop-i-preserved c = search laid
-
 pub returns : goal.returns
-returns c = search laid
+returns c = search (rules, laid_cells)

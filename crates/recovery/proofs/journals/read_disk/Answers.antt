@@ -5,7 +5,7 @@ use Rattle.recovery.proofs.MasterLaws.{master_part}
 use Rattle.recovery.proofs.journals.read_disk.Goals as goal
 
 pub read_tails-tails-requires : goal.read_tails-tails-requires
-read_tails-tails-requires c = (search rules, search (rules, master_part))
+read_tails-tails-requires c = search (rules, master_part)
 
 pub returns : goal.returns
 returns c = search (rules, all_read)

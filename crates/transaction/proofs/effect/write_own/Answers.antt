@@ -11,7 +11,7 @@ pub name_own-requires : goal.name_own-requires
 name_own-requires c = search (rules, same_long, place_of)
 
 pub block_own-requires : goal.block_own-requires
-block_own-requires c = (search (rules, same_long), search (rules, place_of), count_room _ c.args.f c.requires.1.core _ c.running_place-at.ensures _ c.open_at.ensures.0 _ c.name_own.ensures.0 c.requires.2)
+block_own-requires c = (search (rules, place_of), count_room _ c.args.f c.requires.0.core _ c.running_place-at.ensures _ c.open_at.ensures.0 _ c.name_own.ensures.0 c.requires.1)
 
 pub returns : goal.returns
-returns c = own_written _ c.args.f c.requires.1.core _ c.running_place-at.ensures _ c.open_at.ensures.0 _ c.name_own.ensures.0 _ c.block_own.ensures.0 c.open_at.ensures.1 c.name_own.ensures.1 c.block_own.ensures.1
+returns c = own_written _ c.args.f c.requires.0.core _ c.running_place-at.ensures _ c.open_at.ensures.0 _ c.name_own.ensures.0 _ c.block_own.ensures.0 c.open_at.ensures.1 c.name_own.ensures.1 c.block_own.ensures.1

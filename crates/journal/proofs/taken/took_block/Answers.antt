@@ -1,7 +1,0 @@
--- `journal::took_block` meets its contract: it took a block that has a place.
-use Rattle.journal.proofs.Blocks.{took_is}
-use borrow.Author.Rules.{rules}
-use Rattle.journal.proofs.taken.took_block.Goals as goal
-
-pub returns : goal.returns
-returns c = search (rules, took_is)

@@ -1,0 +1,2 @@
+-- Laws that the proofs of the tape program cite.
+pub mod TapeLaws

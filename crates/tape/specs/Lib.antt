@@ -1,0 +1,2 @@
+-- What the contracts of the tape program say.
+pub mod Printed

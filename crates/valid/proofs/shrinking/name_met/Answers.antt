@@ -1,7 +1,0 @@
--- `valid::name_met` meets its contract: the name is the one that the commit lists.
-use Rattle.valid.proofs.Names.{name_is}
-use borrow.Author.Rules.{rules}
-use Rattle.valid.proofs.shrinking.name_met.Goals as goal
-
-pub returns : goal.returns
-returns c = search (rules, name_is)
