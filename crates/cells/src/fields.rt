@@ -1,5 +1,5 @@
 // Where each part of the state stands, and the fields of the header.
-ghost use Rattle.std.specs.Prelude.{◌≡◌, ◌+◌, ◌<◌, length};
+ghost use Rattle.std.specs.Prelude.{◌≡◌, ◌+◌, ◌<◌};
 ghost use Rattle.model.specs.Card.{shape_of};
 ghost use Rattle.cells.specs.Cells.{byte_in, number_in, card_in, core_place, running_place, closed_place};
 
@@ -85,6 +85,7 @@ pub fn shape_of(w: &State) -> Shape
 }
 
 // Blank, up or down.
+// stays: one `match` on the number of a cell, that takes every number.
 pub fn phase_of(w: &State) -> Phase
     ensures { result ≡ (card_in w.now).phase }
 {

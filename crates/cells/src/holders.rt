@@ -1,5 +1,5 @@
 // The transaction that holds a block, by its name in a cell.
-ghost use Rattle.std.specs.Prelude.{◌≡◌, ◌+◌, ◌<◌, length};
+ghost use Rattle.std.specs.Prelude.{◌≡◌, ◌+◌, ◌<◌};
 ghost use Rattle.model.specs.Card.{new_holder, holder_name, is_held, holder_of, with_holder};
 ghost use Rattle.model.specs.declared.Card.{Card};
 ghost use Rattle.cells.specs.Cells.{name_in, card_in, holder_place};

@@ -1,5 +1,5 @@
 // The card as each phase begins: blank, up, down.
-ghost use Rattle.std.specs.Prelude.{◌≡◌, map, length, replicate};
+ghost use Rattle.std.specs.Prelude.{◌≡◌, map, replicate};
 ghost use Rattle.model.specs.Card.{fresh_core, fresh_card, blank_card, down_card, with_arrays};
 ghost use Rattle.model.specs.declared.Phase.TheVariants.{Up};
 ghost use Rattle.model.specs.declared.Card.{Card};

@@ -1,5 +1,5 @@
 // What commands meet first: slices of a wrong length, the card's phase, a core or a block that the disk has not.
-ghost use Rattle.std.specs.Prelude.{◌≡◌, cond, [], ◌∷◌, leb, length};
+ghost use Rattle.std.specs.Prelude.{◌≡◌, cond, [], ◌∷◌, leb};
 ghost use Rattle.model.specs.Card.{shape_of};
 ghost use Rattle.model.specs.Command.{refusal, wrong_length, not_up, no_core};
 ghost use Rattle.model.specs.Refusal.{answer_of};

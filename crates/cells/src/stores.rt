@@ -1,5 +1,5 @@
 // The count of stores, which is no part of the card.
-ghost use Rattle.std.specs.Prelude.{◌≡◌, length, set};
+ghost use Rattle.std.specs.Prelude.{◌≡◌, set};
 ghost use Rattle.cells.specs.Cells.{stores_place, stores_in};
 
 use crate::State;

@@ -3,7 +3,7 @@
 
 mod stores; // a home store
 
-ghost use Rattle.std.specs.Prelude.{◌≡◌, length};
+ghost use Rattle.std.specs.Prelude.{◌≡◌};
 ghost use Rattle.model.specs.Valid.{in_sequence};
 ghost use Rattle.model.specs.Checkpoint.{checkpoint};
 ghost use Rattle.cells.specs.Answer.{Meets};

@@ -1,5 +1,5 @@
 // A home store.
-ghost use Rattle.std.specs.Prelude.{◌≡◌, ◌<◌, length, get_or};
+ghost use Rattle.std.specs.Prelude.{◌≡◌, ◌<◌, get_or};
 ghost use Rattle.model.specs.Bytes.{store};
 ghost use Rattle.model.specs.Shape.{home_block};
 ghost use Rattle.model.specs.Card.{shape_of, core_of, with_core};

@@ -1,5 +1,5 @@
 // The closed copies in memory: the 64 images are followed by eight copies to a core.
-ghost use Rattle.std.specs.Prelude.{◌≡◌, ℕ, ◌+◌, ◌%◌, ◌<◌, ◌≤◌, map, length};
+ghost use Rattle.std.specs.Prelude.{◌≡◌, ℕ, ◌+◌, ◌%◌, ◌<◌, ◌≤◌, map};
 ghost use Rattle.model.specs.Lists.{below};
 ghost use Rattle.model.specs.Bytes.{block_at, store};
 ghost use Rattle.model.specs.Card.{taken};

@@ -1,5 +1,5 @@
 // What CLOSE makes of a core's cells.
-ghost use Rattle.std.specs.Prelude.{◌≡◌, ◌<◌, length};
+ghost use Rattle.std.specs.Prelude.{◌≡◌, ◌<◌};
 ghost use Rattle.model.specs.Card.{core_of, with_core};
 ghost use Rattle.model.specs.Commit.{closed_card};
 ghost use Rattle.model.specs.declared.Card.{Card};

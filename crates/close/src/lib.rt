@@ -4,7 +4,7 @@
 mod copies; // the closed copies in memory
 mod frozen_core; // what it makes of a core's cells
 
-ghost use Rattle.std.specs.Prelude.{◌≡◌, length};
+ghost use Rattle.std.specs.Prelude.{◌≡◌};
 ghost use Rattle.model.specs.Command.{refusal};
 ghost use Rattle.model.specs.Refusal.{answer_of};
 ghost use Rattle.model.specs.Commit.{close_conditions, close};

@@ -1,5 +1,5 @@
 -- The count of stores after a command, and what a counted command leaves.
-use Prim.Native.Nat.{ℕ, ◌+◌, ◌-◌, ◌≤◌, ◌<◌}
+use Prim.Native.Nat.{ℕ, ◌+◌, ◌-◌, ◌≤◌, ◌<◌, min}
 use native.Mathlib.Omega.{arith}
 use mathlib.Core.Path.{◌≡◌, refl, sym, ap, ◌∙◌, subst}
 use mathlib.Core.List.{List}
@@ -25,9 +25,9 @@ use Rattle.model.specs.declared.Refusal.{Refusal}
 use Rattle.model.proofs.RefusalNumbers.{number_not_0}
 
 -- ---- the count
-pub counted_most : (n k : ℕ) → 18446744073709551615 - n < k → n < 18446744073709551616 → 18446744073709551615 ≡ counted n k
+pub counted_at : (n k a r : ℕ) → n < 18446744073709551616 → a ≡ k → r ≡ min (n + a) 18446744073709551615 → r ≡ counted n k
 unfolding counted
-counted_most n k h l = omega arith
+counted_at n k a r l h e = omega (arith, h, e)
 
 pub counted_sum : (n k : ℕ) → k ≤ 18446744073709551615 - n → n < 18446744073709551616 → n + k ≡ counted n k
 unfolding counted

@@ -1,7 +1,7 @@
 // One command at an offset of a tape: the refusals 1, 2 and 3, what each command does, and its stores counted.
 #![tactic(auto)]
 
-ghost use Rattle.std.specs.Prelude.{◌≡◌, length};
+ghost use Rattle.std.specs.Prelude.{◌≡◌};
 ghost use Rattle.model.specs.Refusal.{answer_of};
 ghost use Rattle.model.specs.Tape.{block_limit, command_byte, next_offset};
 ghost use Rattle.model.specs.Step.{step, step_at};
@@ -104,11 +104,7 @@ fn obey(
 fn counted(n: u64, k: u8) -> u64
     ensures { result ≡ counted n k }
 {
-    let more = k as u64;
-    if u64::MAX - n < more {
-        return u64::MAX;
-    }
-    n + more
+    n.saturating_add(u64::from(k))
 }
 
 // The count of stores after a command, before it n; a refusal puts nothing.

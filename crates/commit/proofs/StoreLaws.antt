@@ -2,8 +2,7 @@
 -- stands at the position after what the journal holds. Refused, or carried out, STORE meets its contract.
 use Rattle.model.proofs.Base.{ℕ, ◌+◌, ◌-◌, ◌*◌, ◌≤◌, ◌<◌, min, arith, ◌≡◌, sym, ap, ◌∙◌, Bool, true, false, not, List, [], ◌∷◌}
 use Rattle.model.proofs.Base.{◌++◌, map, length, take, drop, get_or, length-take, ne_eqb, le-leb, lt-leb, not-true, not-false}
-use Rattle.model.proofs.Base.{below, append-nil, Bytes}
-use lib.Seq.{drop-length}
+use Rattle.model.proofs.Base.{below, Bytes}
 use Rattle.model.specs.Bytes.{block_at}
 use Rattle.model.specs.Shape.{clamped, journal_block}
 use Rattle.model.specs.Card.{taken, highest_of, shape_of, tail_of, core_of, with_core}
@@ -28,10 +27,6 @@ use Rattle.std.specs.Prelude.{Result, Ok, Err}
 use Rattle.model.specs.Refusal.{number_of, answer_of}
 use Rattle.model.specs.declared.Refusal.{Refusal}
 use Rattle.close.proofs.CloseLaws.{taken_at, copy_flag}
-
--- a part as long as a block, written as a whole
-pub whole_lent : (p b n : Bytes) → length p ≡ 128 → b ≡ n → b ++ drop 128 p ≡ n
-whole_lent p b n h e = ap (λ (k : ℕ). b ++ drop k p) (sym h) ∙ (ap (λ (l : Bytes). b ++ l) (drop-length p) ∙ (append-nil b ∙ e))
 
 -- ---- refusals
 -- what STORE asks of the core
@@ -106,9 +101,6 @@ copy_written m k image e b q = q ∙ ap escaped e
 
 -- the number of the closed transaction
 module _ (v : List ℕ) (c : ℕ) (h : c < 8) (a : ℕ) (e : a ≡ core_place c) (n : ℕ) (q : n ≡ number_in v a) where
-  pub number_none : n ≡ 0 → 0 ≡ closed_number (core_of (card_in v) c)
-  number_none z = omega (arith, next_there v c h a e n q)
-
   pub number_one : n - 1 ≡ closed_number (core_of (card_in v) c)
   number_one = ap (λ (k : ℕ). k - 1) (next_there v c h a e n q)
 

@@ -1,5 +1,5 @@
 // What is stored next of a closed transaction, and where: the descriptor, the copies, the commit.
-ghost use Rattle.std.specs.Prelude.{◌≡◌, ◌+◌, ◌<◌, ◌≤◌, length};
+ghost use Rattle.std.specs.Prelude.{◌≡◌, ◌+◌, ◌<◌, ◌≤◌};
 ghost use Rattle.model.specs.Bytes.{block_at};
 ghost use Rattle.model.specs.Card.{taken, highest_of, core_of};
 ghost use Rattle.model.specs.Layout.{descriptor_block, commit_block, escaped};
@@ -20,11 +20,7 @@ fn closed_number(w: &State, c: u8) -> u32
     requires { c < 8 }
     ensures { result ≡ closed_number (core_of (card_in w.now) c) }
 {
-    let next = number_in(w, core_place(c));
-    if next == 0 {
-        return 0;
-    }
-    next - 1
+    number_in(w, core_place(c)).saturating_sub(1)
 }
 
 // The blocks of the transaction at a place, as a value.

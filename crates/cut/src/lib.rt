@@ -1,7 +1,7 @@
 // CUT: memory is lost and the card is down. What was stored stands on the disk.
 #![tactic(auto)]
 
-ghost use Rattle.std.specs.Prelude.{◌≡◌, length};
+ghost use Rattle.std.specs.Prelude.{◌≡◌};
 ghost use Rattle.model.specs.Command.{refusal};
 ghost use Rattle.model.specs.Refusal.{answer_of};
 ghost use Rattle.model.specs.Recovery.{cut_conditions, cut};

@@ -1,6 +1,7 @@
 // The entries, which crate firmware_c exports to foreign callers under these names and with these clauses. A caller lends the cells,
 // the tape and both slices; no entry asks for anything. No part of a slice crosses the boundary, so reading without copying answers
 // where the part stands.
+// stays: each entry has an export of its name, which C calls and Rattle cannot.
 ghost use Rattle.std.specs.Prelude.{◌≡◌, length};
 ghost use Rattle.model.specs.Card.{blank_card, down_card};
 ghost use Rattle.model.specs.Reading.{read_number};

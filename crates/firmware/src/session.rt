@@ -10,6 +10,7 @@ ghost use Rattle.firmware.specs.Plans.{PlansCard};
 use model::{Shape, answer_number};
 
 // What came of one command: the offset of the next one, the number answered (0 if done) and the command's byte.
+// stays: the C interface has numbers here.
 #[repr(C)]
 #[derive(Clone, Copy)]
 pub struct Reply {
@@ -19,6 +20,7 @@ pub struct Reply {
 }
 
 // Where a tape stopped: the offset of its last command, the number answered and the command's byte; 0 of each for an empty tape.
+// stays: the C interface has numbers here.
 #[repr(C)]
 #[derive(Clone, Copy)]
 pub struct Stop {
@@ -29,6 +31,7 @@ pub struct Stop {
 
 // Where the bytes of a block stand: in no slice (0), the disk (1) or memory (2), from where, and how many. A refused reading has
 // its number and 0 of each.
+// stays: the C interface has numbers here.
 #[repr(C)]
 #[derive(Clone, Copy)]
 pub struct Part {

@@ -1,6 +1,6 @@
 -- The lowest block from a place on that a set holds: no lower one is held, and it is the bound or held itself. It is lowered with each block of each
 -- record, and in the end it is the first of those held.
-use Rattle.model.proofs.Base.{ℕ, zero, suc, ◌+◌, ◌≤◌, ◌<◌, min, arith, dec_lt, ◌≡◌, refl, sym, ap, ◌∙◌, Bool, true, false}
+use Rattle.model.proofs.Base.{ℕ, zero, suc, ◌+◌, ◌≤◌, ◌<◌, min, arith, dec_lt, ◌≡◌, refl, sym, ap, ap₂, ◌∙◌, Bool, true, false}
 use Rattle.std.specs.Prelude.{Some, None}
 use Rattle.model.proofs.Base.{true≢false, List, [], ◌∷◌, ◌++◌, append_assoc, Memᴰ, mem_head, mem_tail, eqb}
 use Rattle.model.proofs.Base.{leb, lt-ltb, le-ltb, le-leb, lt-leb, leb-true, eq-eqb, ne_eqb, get_or, flat_map, below, any, select, Bytes}
@@ -15,7 +15,7 @@ use Rattle.layout.specs.Loops.{some}
 use Rattle.layout.specs.Narrow.{BlocksBelow}
 use Rattle.layout.proofs.Loops.{some_none, some_step}
 use Rattle.journal.specs.declared.extents.Extent.{Extent}
-use Rattle.journal.specs.Records.{extent_at, record_in, records_in, ExtentTested, descriptor_blocks}
+use Rattle.journal.specs.Records.{SamePlaces, extent_at, record_in, records_in, ExtentTested, descriptor_blocks}
 use Rattle.journal.proofs.Tested.{blocks_bytes}
 use Rattle.images.specs.Newest.{stepped, first_of, held_from, lower_of, lower_at, lower_by, lower_in, asked_in}
 use Rattle.images.proofs.Steps.{any_flat_map, blocks_some, asked_core, asked_all}
@@ -162,11 +162,29 @@ module _ (s : Shape) (d : Bytes) (a : ℕ) (xs : List Extent) where
         (λ x. asked_all (took s d x) xs (λ c k i. refl) s ks start count ∙ sym (any_flat_map (eqb x) (blocks_of s d) (records_in s xs ks start count)))
         (lowest_steps a (λ (c x : ℕ). asked_core (took s d x) xs start count c) lower_core (λ c y. lowest_core c y) z s.cores)
 
-    module _ (r : ℕ) (h : r ≡ stepped lower_core s.blocks s.cores) (ks : List ℕ) where
-      pub held_some : r < s.blocks → Some r ≡ held_from s d (records_in s xs ks start count) a
-      unfolding held_from blocks_held
-      held_some l = lowest_some a s.blocks _ r (rw (← h) at (lowest_all ks s.blocks)) l
+-- ---- extents that differ in their stamps alone
+stepped_same : (f g : ℕ → ℕ → ℕ) → ((i x : ℕ) → f i x ≡ g i x) → (x n : ℕ) → stepped f x n ≡ stepped g x n
+unfolding stepped
+stepped_same f g e x zero = refl
+stepped_same f g e x (suc n) = e n (stepped f x n) ∙ ap (g n) (stepped_same f g e x n)
 
-      pub held_none : s.blocks ≤ r → None ≡ held_from s d (records_in s xs ks start count) a
-      unfolding held_from blocks_held
-      held_none l = lowest_none a s.blocks _ r (rw (← h) at (lowest_all ks s.blocks)) l
+module _ (s : Shape) (d : Bytes) (a : ℕ) (xs zs : List Extent) (w : SamePlaces xs zs) (start count : List ℕ) where
+  lower_same : (c k j z : ℕ) → lower_in s d a xs c k j z ≡ lower_in s d a zs c k j z
+  unfolding lower_by
+  lower_same c k j z =
+      ap₂ (λ (p n : ℕ). stepped (lower_at (journal_at s d c p) a) z n) (sym (w (k + j)).0) (sym (w (k + j)).1)
+
+  held_same : stepped (lower_core s d a xs start count) s.blocks s.cores ≡ stepped (lower_core s d a zs start count) s.blocks s.cores
+  held_same =
+      stepped_same _ _
+      (λ c x. stepped_same _ _ (λ j z. lower_same c (get_or start c 0) j z) x (get_or count c 0))
+      s.blocks s.cores
+
+  module _ (r : ℕ) (h : r ≡ stepped (lower_core s d a xs start count) s.blocks s.cores) (ks : List ℕ) where
+    pub held_some : r < s.blocks → Some r ≡ held_from s d (records_in s zs ks start count) a
+    unfolding held_from blocks_held
+    held_some l = lowest_some a s.blocks _ r (rw (← (h ∙ held_same)) at (lowest_all s d a zs start count ks s.blocks)) l
+
+    pub held_none : s.blocks ≤ r → None ≡ held_from s d (records_in s zs ks start count) a
+    unfolding held_from blocks_held
+    held_none l = lowest_none a s.blocks _ r (rw (← (h ∙ held_same)) at (lowest_all s d a zs start count ks s.blocks)) l

@@ -7,7 +7,8 @@ ghost use Rattle.model.specs.Checkpoint.{share};
 ghost use Rattle.model.specs.Limits.{max_taken};
 ghost use Rattle.layout.specs.Narrow.{BlocksBelow};
 ghost use Rattle.layout.specs.Loops.{some};
-ghost use Rattle.journal.specs.Records.{records_in, SizedCommitted, RangeTested, ExtentTested, descriptor_blocks};
+ghost use Rattle.journal.specs.declared.extents.Extent.{Extent};
+ghost use Rattle.journal.specs.Records.{SamePlaces, records_in, SizedCommitted, RangeTested, ExtentTested, descriptor_blocks};
 ghost use Rattle.images.specs.Newest.{stepped, image_at, found_image, later_of, later_in, lower_of, lower_at, lower_by, lower_in, held_from, shares_below, asked_in};
 
 use journal::{Disk, Extent, Records, disk_block};
@@ -18,6 +19,7 @@ use model::{Block, Committed};
 pub struct Image {
     pub stamp: u64,
     pub block: usize,
+    // stays: the flag is a word of the descriptor on disk.
     pub flag: u32,
 }
 
@@ -129,10 +131,11 @@ fn lowest_of(set: &Records, c: u8, from: u8, known: u8) -> u8
     best
 }
 
-// The lowest block at or above `from` that the set holds, if it holds one. No public entry.
+// The lowest block at or above `from` that the set holds, if it holds one; numbers and stamps take no part. No public entry.
 pub fn next_held(set: Records, from: u8) -> Option<u8>
-    ensures { (ks : List ℕ) → result ≡ held_from set.entry.disk.shape set.entry.disk.bytes.now
-        (records_in set.entry.disk.shape set.entry.extents.now ks set.entry.runs.start set.entry.runs.count) from }
+    ensures { (zs : List Extent) → SamePlaces set.entry.extents.now zs → (ks : List ℕ)
+        → result ≡ held_from set.entry.disk.shape set.entry.disk.bytes.now
+        (records_in set.entry.disk.shape zs ks set.entry.runs.start set.entry.runs.count) from }
 {
     let mut best = set.disk.shape.blocks;
     for c in 0..set.disk.shape.cores {

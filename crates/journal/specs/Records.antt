@@ -1,7 +1,7 @@
 -- The records read, as an array has them: of each its extent, with its stamp, the position of its descriptor and the blocks taken, core by
 -- core and one behind the other; of each core where its records begin among them, and how many count. A core's records are its run (paper 02, (c): 'a
 -- beginning of each core's run'); with lower counts they are a smaller set.
-use Rattle.std.specs.Prelude.{ℕ, ◌+◌, ◌≤◌, ◌<◌, cond, Option, Some, None, get_or, eqb}
+use Rattle.std.specs.Prelude.{ℕ, ◌+◌, ◌≤◌, ◌<◌, ◌≡◌, cond, Option, Some, None, get_or, eqb}
 use Rattle.std.specs.Coded.{le_prop}
 use mathlib.Core.List.{List, map, flat_map}
 use Rattle.model.specs.Lists.{below, any}
@@ -39,6 +39,10 @@ committed_in c k x = record { core = c; number = k; position = x.position; count
 -- ---- records; xs are the extents, ks the tail numbers
 abbrev pub extent_at : List Extent → ℕ → Extent
 extent_at xs i = get_or xs i no_extent
+
+-- extents that differ in their stamps alone
+abbrev pub SamePlaces : List Extent → List Extent → Type 0
+SamePlaces xs zs = (i : ℕ) → ((extent_at zs i).position ≡ (extent_at xs i).position) × ((extent_at zs i).count ≡ (extent_at xs i).count)
 
 -- the one at place i, of core c and with number k
 unfoldable pub record_in : List Extent → ℕ → ℕ → ℕ → Committed

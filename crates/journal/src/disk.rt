@@ -17,6 +17,7 @@ pub struct Disk<'a> {
 
 // The disk block at a position of core c's journal: `Shape::journal_block` where the shape is known to be within its limits, so that it
 // need not be brought there at every step.
+// stays: `Shape::journal_block` is total on every shape, as its promise for every card value asks.
 pub fn disk_block(s: Shape, c: u8, p: usize) -> usize
     requires { InRange s × (c < s.cores) }
     ensures { (result ≡ journal_block s c p) × (result < 257) }
@@ -42,7 +43,7 @@ impl<'a> Disk<'a> {
         around(p, self.shape.journal as usize) as u8
     }
 
-    // That block, lent.
+    // The block at a position of core c's journal, lent.
     pub fn block(self, c: u8, p: usize) -> &'a Block
         requires { c < self.shape.cores }
         ensures { result.now ≡ journal_at self.entry.shape self.entry.bytes.now c p }

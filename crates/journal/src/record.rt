@@ -59,6 +59,7 @@ impl<'a> Disk<'a> {
         if lacks_descriptor(number, left, block) {
             return Err(JournalEnd::NoDescriptor);
         }
+        // stays: the paper's table of forms asks for `let .. else`.
         let Some(count) = read_descriptor(self.shape, block) else {
             return Err(JournalEnd::BadDescriptor);
         };
@@ -81,6 +82,7 @@ impl<'a> Disk<'a> {
 }
 
 // The number of an answer's end, 0 for a record.
+// stays: the page prints the number of an end.
 pub fn end_number(read: Result<Committed, JournalEnd>) -> u8
     ensures { result ≡ (record_answer read).0 }
 {

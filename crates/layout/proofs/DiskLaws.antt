@@ -1,6 +1,6 @@
 -- A slice zeroed from the front is all zeros at its end: the zeroed disk, the zeroed memory. A home block that was lent and
 -- written is a store to it.
-use Rattle.model.proofs.Base.{ℕ, ◌+◌, ◌-◌, ◌*◌, ◌≤◌, ◌<◌, arith, ◌≡◌, refl, ap, ◌∙◌, List, ◌++◌, append-nil, length, take, drop}
+use Rattle.model.proofs.Base.{ℕ, ◌+◌, ◌-◌, ◌*◌, ◌≤◌, ◌<◌, arith, ◌≡◌, refl, sym, ap, ◌∙◌, List, ◌++◌, append-nil, length, take, drop}
 use Rattle.model.proofs.Base.{set, replicate, length-set, Bytes}
 use lib.Seq.{drop-length}
 use borrow.Author.Fill.{fill_none, fill_more}
@@ -45,6 +45,10 @@ unfolding zero_disk
 zero_disk_lem d h = ap (λ (n : ℕ). replicate n 0) h
 
 -- ---- a block written
+-- a part as long as a block, written as a whole
+pub whole_lent : (p b n : Bytes) → length p ≡ 128 → b ≡ n → b ++ drop 128 p ≡ n
+whole_lent p b n h e = ap (λ (k : ℕ). b ++ drop k p) (sym h) ∙ (ap (λ (l : Bytes). b ++ l) (drop-length p) ∙ (append-nil b ∙ e))
+
 -- what a writer made of a home block is a store
 pub home_lent : (d : Bytes) (b : ℕ) (image : Bytes) (k : ℕ) → k ≡ home_block b → (w : Bytes) → w ≡ image
     → take (128 * k) d ++ (w ++ drop (128 * k + 128 - 128 * k) (drop (128 * k) d)) ≡ store d (home_block b) image

@@ -125,6 +125,7 @@ fn list_fits(s: Shape, block: &Block) -> bool
 fn names_fit(y: CommitLayout, s: Shape, block: &Block) -> bool
     ensures { result ≡ (few_names y block.now && all (is_listable s) (names_in y block.now)) }
 {
+    // stays: a closure would be chosen by the same `match`.
     match y {
         CommitLayout::Lists => list_fits(s, block),
         CommitLayout::Numbers => numbers_fit(s, block),
@@ -151,6 +152,7 @@ fn names_core(y: CommitLayout, block: &Block, c: usize) -> bool
     requires { c < 8 }
     ensures { result ≡ names_core (names_in y block.now) c }
 {
+    // stays: a closure would be chosen by the same `match`.
     match y {
         CommitLayout::Lists => is_listed(block, names_listed(block), c as u32),
         CommitLayout::Numbers => 1 <= number_named(block, c),

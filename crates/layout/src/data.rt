@@ -52,7 +52,15 @@ fn escape(image: Block) -> Block
     }
 }
 
+// The home block lent becomes the image.
+pub fn write_image(block: &mut Block, image: Block)
+    ensures { block.new ≡ image }
+{
+    *block = image;
+}
+
 // The image that a block of the journal with this flag holds.
+// stays: the flag is a word of the descriptor on disk.
 pub fn unescape(flag: u32, image: Block) -> Block
     ensures { result ≡ unescaped flag image }
 {

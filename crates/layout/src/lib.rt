@@ -17,5 +17,5 @@ pub use commit_block::{
 pub use data::{block_at, flag_of, load_block, unescape, write_data};
 pub use descriptor_block::{block_byte, block_count, has_bad_field, tag_flag, write_descriptor};
 pub use disk::store_home;
-pub use words::{BlockKind, MARK, get_word, has_head, pair_word, put_word, wide};
+pub use words::{BlockKind, MARK, get_word, has_head, pair_word, put_word};
 pub use writing::write_words;

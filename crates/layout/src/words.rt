@@ -27,13 +27,6 @@ impl BlockKind {
     }
 }
 
-// A byte as a number: the bound stands here once.
-pub fn wide(x: u8) -> u32
-    ensures { (result ≡ x) × (result < 256) }
-{
-    u32::from(x)
-}
-
 // The number at a place within the block.
 pub fn get_word(b: &[u8], at: usize) -> u32
     requires { at + 4 ≤ length b.now }

@@ -16,6 +16,7 @@ ghost use Rattle.master_block.specs.Tails.{master_from, tail_or_none};
 
 use layout::{BlockKind, MARK, get_word, pair_word, write_words};
 use model::{Block, CommitLayout, Shape, Tail};
+use std::array;
 
 fn tail_word(t: Tail, k: usize) -> u32
     ensures { result ≡ pair_word t.number t.position k }
@@ -111,6 +112,7 @@ pub fn is_master(block: &Block) -> bool
 }
 
 // How the commits of the master's disk name transactions.
+// stays: one `match` on a word, that takes every number.
 pub fn read_layout(block: &Block) -> CommitLayout
     ensures { result ≡ layout_in block.now }
 {
@@ -144,12 +146,5 @@ pub fn read_tails(block: &Block) -> [Tail; 8]
     requires { is_master block.now ≡ true }
     ensures { result ≡ map (tail_or_none block.now) (below 8) }
 {
-    let mut tails = [Tail {
-        number: 0,
-        position: 0,
-    }; 8];
-    for c in 0..8 {
-        tails[c] = read_tail(block, c);
-    }
-    tails
+    array::from_fn(|c| read_tail(block, c))
 }

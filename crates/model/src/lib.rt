@@ -95,6 +95,7 @@ pub struct Name {
 // for none. Its stamp is given at CLOSE.
 #[derive(Drop)]
 pub struct Transaction {
+    // stays: an option would say nothing of the cells of a transaction that is not live, and `transaction_in` says what each of them means.
     pub live: bool,
     pub stamp: u64,
     pub count: u8,

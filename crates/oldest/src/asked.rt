@@ -1,5 +1,5 @@
 // What CHECKPOINT and RETIRE both ask: the refusals that they share, and the core's oldest transaction.
-ghost use Rattle.std.specs.Prelude.{◌≡◌, [], ◌<◌, length};
+ghost use Rattle.std.specs.Prelude.{◌≡◌, [], ◌<◌};
 ghost use Rattle.model.specs.Bytes.{Bytes};
 ghost use Rattle.model.specs.Card.{shape_of, core_of};
 ghost use Rattle.model.specs.Command.{refusal};

@@ -1,6 +1,6 @@
 // How many committed transactions each core has, and a core's oldest one. A card that is up has come from FORMAT or from a finished
 // recovery, so its commits have numbers; the master is not looked at.
-ghost use Rattle.std.specs.Prelude.{◌≡◌, ◌<◌, min, length, get_or};
+ghost use Rattle.std.specs.Prelude.{◌≡◌, ◌<◌, min, get_or};
 ghost use Rattle.cells.specs.Cells.{card_in};
 ghost use Rattle.oldest.specs.Oldest.{count_at, Counts, ReadNow, oldest_in};
 

@@ -1,5 +1,5 @@
 // Whether a core's oldest transaction may be stored home and retired.
-ghost use Rattle.std.specs.Prelude.{◌≡◌, [], length};
+ghost use Rattle.std.specs.Prelude.{◌≡◌, []};
 ghost use Rattle.model.specs.Bytes.{Bytes};
 ghost use Rattle.model.specs.Card.{shape_of};
 ghost use Rattle.model.specs.Command.{refusal};

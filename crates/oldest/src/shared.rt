@@ -1,5 +1,5 @@
 // Unretired transactions of lower stamp that share a block with the one to be stored home and retired.
-ghost use Rattle.std.specs.Prelude.{◌≡◌, ◌+◌, ◌≤◌, ◌<◌, eqb, length, get_or};
+ghost use Rattle.std.specs.Prelude.{◌≡◌, ◌+◌, ◌≤◌, ◌<◌, eqb, get_or};
 ghost use Rattle.model.specs.Lists.{any};
 ghost use Rattle.model.specs.Card.{taken};
 ghost use Rattle.model.specs.Journal.{blocks_of};

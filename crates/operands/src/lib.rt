@@ -10,6 +10,7 @@ ghost use Rattle.model.specs.Tape.{operand_length, is_unknown, is_early, read_at
 pub use decoding::{Command, Task, read_command};
 
 // The bytes of the operands of commands 1 to 9; there is no command 0.
+// stays: the paper's table of forms asks for a table of lengths by the command's byte.
 const OPERAND_LENGTHS: [u8; 10] = [0, 3, 8, 1, 1, 1, 0, 0, 1, 8];
 
 // The byte at an offset, 0 past the end.

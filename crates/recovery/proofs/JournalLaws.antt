@@ -31,11 +31,11 @@ use Rattle.recovery.specs.Recovering.{numbers_on, tail_after, Shaped, OnDisk, Em
 
 -- ---- tails
 module _ (t : Tail) (n : ℕ) where
-  pub next_below : t.number + (n + 1) < 4000000001 → new_tail (t.number + (n + 1)) 0 ≡ tail_past t n
-  next_below h = let q : min (t.number + (n + 1)) (suc max_number) ≡ t.number + (n + 1) = omega arith in rw q
-
-  pub next_last : 4000000001 ≤ t.number + (n + 1) → new_tail 4000000001 0 ≡ tail_past t n
-  next_last h = let q : min (t.number + (n + 1)) (suc max_number) ≡ 4000000001 = omega arith in rw q
+  -- a sum that stops at the largest number of 32 bits is past the limit
+  pub next_number : (k a r : ℕ) → k ≡ n → a ≡ min (t.number + (k + 1)) 4294967295 → r ≡ min a 4000000001 → new_tail r 0 ≡ tail_past t n
+  next_number k a r h e q =
+      let z : r ≡ min (t.number + (n + 1)) (suc max_number) = omega (arith, h, e, q) in
+      rw z
 
 module _ (s : Shape) (ts : List Tail) (count : List ℕ) (c : ℕ) where
   pub after_none : s.cores ≤ c → new_tail 0 0 ≡ tail_after s ts count c

@@ -29,6 +29,7 @@ pub fn home_count(w: &State, disk: &[u8]) -> u8
     ensures { (m : Bytes) → result ≡ home_count (world_in w.now disk.now m) }
 {
     let p = cells::phase_of(w);
+    // stays: each phase has its own count.
     match p {
         Phase::Blank => 0,
         Phase::Up => {

@@ -23,15 +23,9 @@ pub struct Journals {
 fn next_tail(t: Tail, count: u8) -> Tail
     ensures { result ≡ tail_past t count }
 {
-    let number = t.number as usize + (count as usize + 1);
-    if number < Shape::MAX_NUMBER as usize + 1 {
-        return Tail {
-            number: number as u32,
-            position: 0,
-        };
-    }
+    let number = t.number.saturating_add(u32::from(count) + 1);
     Tail {
-        number: Shape::MAX_NUMBER + 1,
+        number: number.min(Shape::MAX_NUMBER + 1),
         position: 0,
     }
 }

@@ -1,5 +1,5 @@
 // The cells after a transaction is retired: its core's tail and numbers, and no block held by it.
-ghost use Rattle.std.specs.Prelude.{◌≡◌, ◌-◌, ◌≤◌, ◌<◌, length};
+ghost use Rattle.std.specs.Prelude.{◌≡◌, ◌-◌, ◌≤◌, ◌<◌};
 ghost use Rattle.model.specs.Card.{shape_of, core_of, with_core};
 ghost use Rattle.model.specs.Checkpoint.{moved_tail, retired_core, retired_card};
 ghost use Rattle.model.specs.Limits.{max_number};

@@ -4,7 +4,7 @@
 
 mod room; // whether there is room
 
-ghost use Rattle.std.specs.Prelude.{◌≡◌, ℕ, ◌<◌, length};
+ghost use Rattle.std.specs.Prelude.{◌≡◌, ℕ, ◌<◌};
 ghost use Rattle.model.specs.Card.{core_of, holder_name, holder_of};
 ghost use Rattle.model.specs.Write.{writer_name, is_running_in, rule_for, takes_block, names_holder, is_named_back, loads_image};
 ghost use Rattle.cells.specs.Cells.{card_in};

@@ -2,7 +2,7 @@
 // library.
 #![tactic(auto)]
 
-ghost use Rattle.std.specs.Prelude.{◌≡◌, ◌<◌, length};
+ghost use Rattle.std.specs.Prelude.{◌≡◌, ◌<◌};
 ghost use Rattle.model.specs.Card.{with_name, with_block};
 ghost use Rattle.model.specs.declared.Transaction.{Transaction};
 ghost use Rattle.model.specs.Limits.{max_taken};

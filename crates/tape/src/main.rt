@@ -78,6 +78,7 @@ fn run_whole<W: Write>(
     offset: u64,
 ) -> Result<Option<u64>, Failure> {
     let mut at = offset;
+    // stays: a `while`, since it ends where no whole command is left.
     while !operands::ends_early(unrun.as_slice(), 0) {
         let Some(next) = step(unrun, output, card, at)? else {
             return Ok(None);

@@ -1,5 +1,5 @@
 // The cells afterwards: what the holder names, the writer, the block's holder.
-ghost use Rattle.std.specs.Prelude.{◌≡◌, false, ◌<◌, length};
+ghost use Rattle.std.specs.Prelude.{◌≡◌, false, ◌<◌};
 ghost use Rattle.model.specs.Card.{with_running, with_core, core_of};
 ghost use Rattle.model.specs.Limits.{max_taken};
 ghost use Rattle.model.specs.Write.{writer, takes_past, written_card};

@@ -5,7 +5,7 @@
 mod effect; // the cells afterwards
 mod image; // memory afterwards
 
-ghost use Rattle.std.specs.Prelude.{◌≡◌, length};
+ghost use Rattle.std.specs.Prelude.{◌≡◌};
 ghost use Rattle.model.specs.Command.{refusal};
 ghost use Rattle.model.specs.Refusal.{answer_of};
 ghost use Rattle.model.specs.Write.{write};

@@ -2,7 +2,7 @@
 use Rattle.model.proofs.Base.{ℕ, ◌+◌, ◌-◌, ◌≤◌, ◌<◌, arith, dec_lt, ◌≡◌, refl, sym, ap, ap₂, ◌∙◌, subst, Bool, true, ◌&&◌, true≢false, List, [], ◌∷◌, Memᴰ, length, get_or}
 use Rattle.model.proofs.Base.{eq-eqb, select, Bytes}
 use Rattle.model.specs.Card.{new_name, same_name}
-use Rattle.model.specs.Journal.{name_of}
+use Rattle.model.specs.Journal.{name_of, journal_at}
 use Rattle.model.specs.Shrink.{AllStay, Within, strike, shrink_in, shrink}
 use Rattle.model.specs.Valid.{in_sequence, is_in, names_met, valid_set}
 use Rattle.model.specs.declared.Shape.{Shape}
@@ -19,10 +19,10 @@ use Rattle.model.proofs.Valid.{same_name_true, same_name_refl, names_met_monoton
 use Rattle.model.proofs.Sequence.{valid_begins}
 use Rattle.layout.specs.Loops.{every}
 use Rattle.journal.specs.declared.extents.Extent.{Extent}
-use Rattle.journal.specs.Records.{numbers_of, extent_at, records_in, RunsTested}
+use Rattle.journal.specs.Records.{SamePlaces, numbers_of, extent_at, records_in, RunsTested}
 use Rattle.valid.specs.declared.shrinking.Round.{Round}
 use Rattle.valid.specs.Rounds.{counted, CountsAlone}
-use Rattle.valid.specs.Sets.{tail_number, numbered, count_met, record_met, Begins, LoweredTo, Lowered, total_count}
+use Rattle.valid.specs.Sets.{tail_number, numbered, count_met, commit_met, record_met, Begins, LoweredTo, Lowered, total_count}
 use Rattle.valid.proofs.Sets.{record_of, record_name, mem_records, records_mem, named_record, tail_number_lem, total_lower, total_equal, records_lower, records_equal}
 use Rattle.valid.proofs.Names.{record_stays, before_met}
 
@@ -141,18 +141,30 @@ by_tails : (y : CommitLayout) (s : Shape) (d : Bytes) (xs : List Extent) (ks sta
 unfolding valid_set
 by_tails y s d xs ks start start′ before after ts e f h = rw f (rw e at h)
 
+-- ---- extents that differ in their stamps alone
+begins_same : (p q : ℕ → Bool) (n m : ℕ) → ((j : ℕ) → p j ≡ q j) → Begins p n m → Begins q n m
+begins_same p q n m e b = subst (λ (r : ℕ → Bool). Begins r n m) (λ i j. e j i) b
+
+lowered_same : (y : CommitLayout) (s : Shape) (d : Bytes) (ks : List ℕ) (xs : List Extent) (start before after : List ℕ) (zs : List Extent) → SamePlaces xs zs
+    → Lowered y s d ks xs start before after → Lowered y s d ks zs start before after
+unfolding Lowered LoweredTo record_met
+lowered_same y s d ks xs start before after zs g w c h =
+    begins_same _ _ _ _ (λ j.
+    let e = g (get_or start c 0 + j) in
+    ap₂ (λ (p n : ℕ). commit_met y s ks before (journal_at s d c (p + (n + 1)))) (sym e.0) (sym e.1)) (w c h)
+
 -- ---- the recursion, from a round to one after it
 abbrev stays_in : Round → List Committed → Committed → Bool
 stays_in r = names_met in_sequence r.layout r.records.disk.shape r.records.disk.bytes.now (numbered r.oldest)
 
 module _ (a b : Round) (k : CountsAlone a b) where
   -- what is left of a's records
-  abbrev remaining : List Committed
-  remaining = records_in a.records.disk.shape a.records.extents.now a.oldest a.records.runs.start b.records.runs.count
+  abbrev remaining : List Extent → List Committed
+  remaining zs = records_in a.records.disk.shape zs a.oldest a.records.runs.start b.records.runs.count
 
-  counted_remaining : counted b ≡ remaining
-  counted_remaining =
-      records_alike a.layout b.layout _ _ a.records.disk.bytes.now b.records.disk.bytes.now _ _ _ _ _ _ _ k.shape k.extents k.oldest k.start
+  counted_remaining : (zs : List Extent) → counted zs b ≡ remaining zs
+  counted_remaining zs =
+      records_alike a.layout b.layout _ _ a.records.disk.bytes.now b.records.disk.bytes.now _ _ _ _ _ _ _ k.shape refl k.oldest k.start
 
   stays_same : stays_in b ≡ stays_in a
   stays_same =
@@ -175,12 +187,14 @@ module _ (a b : Round) (k : CountsAlone a b) where
       tested_alike a.layout b.layout _ _ _ _ _ _ a.oldest b.oldest _ a.records.runs.start _ k.shape k.bytes k.extents b.records.tested
 
   -- by the numbers of the tails that were read: the valid set
-  pub shrunk_valid : (ts : List Tail) → a.oldest ≡ numbers_of ts → counted b ≡ shrink (stays_in a) (counted a)
-      → records_in a.records.disk.shape a.records.extents.now (numbers_of ts) b.records.runs.start b.records.runs.count
+  pub shrunk_valid : (ts : List Tail) → a.oldest ≡ numbers_of ts
+      → ((zs : List Extent) → SamePlaces a.records.extents.now zs → counted zs b ≡ shrink (stays_in a) (counted zs a))
+      → (zs : List Extent) → SamePlaces a.records.extents.now zs
+      → records_in a.records.disk.shape zs (numbers_of ts) b.records.runs.start b.records.runs.count
       ≡ valid_set in_sequence a.layout a.records.disk.shape a.records.disk.bytes.now (numbered (numbers_of ts))
-      (records_in a.records.disk.shape a.records.extents.now (numbers_of ts) a.records.runs.start a.records.runs.count)
-  shrunk_valid ts e h = by_tails a.layout a.records.disk.shape a.records.disk.bytes.now a.records.extents.now a.oldest a.records.runs.start
-      b.records.runs.start a.records.runs.count b.records.runs.count ts e k.start (sym counted_remaining ∙ h)
+      (records_in a.records.disk.shape zs (numbers_of ts) a.records.runs.start a.records.runs.count)
+  shrunk_valid ts e h zs g = by_tails a.layout a.records.disk.shape a.records.disk.bytes.now zs a.oldest a.records.runs.start
+      b.records.runs.start a.records.runs.count b.records.runs.count ts e k.start (sym (counted_remaining zs) ∙ h zs g)
 
   module _ (w : Lowered a.layout a.records.disk.shape a.records.disk.bytes.now a.oldest a.records.extents.now a.records.runs.start a.records.runs.count b.records.runs.count) where
     -- m and n are how many there are after the round and before it
@@ -188,9 +202,9 @@ module _ (a b : Round) (k : CountsAlone a b) where
       total_remaining : m ≡ total_count a.records.disk.shape b.records.runs.count
       total_remaining = p ∙ ap (λ (s : Shape). total_count s b.records.runs.count) k.shape
 
-      pub shrink_settled : m ≡ n → counted b ≡ shrink (stays_in a) (counted a)
-      shrink_settled h =
-          counted_remaining ∙ round_settled _ _ _ _ _ _ _ _ a.records.disk.in_range w (sym total_remaining ∙ h ∙ q)
+      pub shrink_settled : m ≡ n → (zs : List Extent) → SamePlaces a.records.extents.now zs → counted zs b ≡ shrink (stays_in a) (counted zs a)
+      shrink_settled h zs g =
+          counted_remaining zs ∙ round_settled _ _ _ _ _ _ _ _ a.records.disk.in_range (lowered_same _ _ _ _ _ _ _ _ zs g w) (sym total_remaining ∙ h ∙ q)
 
       pub shrink_falls : (m ≡ n → ⊥) → m < n
       shrink_falls h =
@@ -204,5 +218,9 @@ module _ (a b : Round) (k : CountsAlone a b) where
                 a.records.disk.in_range w),
           )
 
-    pub shrink_again : (c : Round) → counted c ≡ shrink (stays_in b) (counted b) → counted c ≡ shrink (stays_in a) (counted a)
-    shrink_again c e = e ∙ ap₂ shrink stays_same counted_remaining ∙ round_same _ _ _ _ _ _ _ _ a.records.disk.in_range w
+    pub shrink_again : (c : Round) → ((zs : List Extent) → SamePlaces b.records.extents.now zs → counted zs c ≡ shrink (stays_in b) (counted zs b))
+        → (zs : List Extent) → SamePlaces a.records.extents.now zs → counted zs c ≡ shrink (stays_in a) (counted zs a)
+    shrink_again c e zs g =
+        e zs (subst (λ (xs : List Extent). SamePlaces xs zs) (sym k.extents) g)
+        ∙ ap₂ shrink stays_same (counted_remaining zs)
+        ∙ round_same _ _ _ _ _ _ _ _ a.records.disk.in_range (lowered_same _ _ _ _ _ _ _ _ zs g w)

@@ -1,12 +1,13 @@
 -- A round and one after it.
 use Rattle.std.specs.Prelude.{◌≡◌, List}
 use Rattle.model.specs.declared.Committed.{Committed}
+use Rattle.journal.specs.declared.extents.Extent.{Extent}
 use Rattle.journal.specs.Records.{records_in}
 use Rattle.valid.specs.declared.shrinking.Round.{Round}
 
--- the records that count before a round
-abbrev pub counted : Round → List Committed
-counted r = records_in r.records.disk.shape r.records.extents.now r.oldest r.records.runs.start r.records.runs.count
+-- the records that count before a round, with the stamps that zs has
+abbrev pub counted : List Extent → Round → List Committed
+counted zs r = records_in r.records.disk.shape zs r.oldest r.records.runs.start r.records.runs.count
 
 -- two rounds look at the same disk, with the same tail numbers and the same records read: the counts alone may differ
 pub record CountsAlone (a b : Round) : Type 0 where

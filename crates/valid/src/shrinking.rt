@@ -1,12 +1,13 @@
 // The valid set: of the records read, those whose names are all met, as is the one before on their core. It is a beginning of each core's
 // records, so a count for each core is all of it; the counts are lowered until none falls.
-ghost use Rattle.std.specs.Prelude.{◌≡◌, ◌≤◌, ◌<◌, get_or};
+ghost use Rattle.std.specs.Prelude.{◌≡◌, ◌≤◌, ◌<◌, List, get_or};
+ghost use Rattle.journal.specs.declared.extents.Extent.{Extent};
 ghost use Rattle.model.proofs.Limits.{InRange};
 ghost use Rattle.model.specs.Shrink.{shrink};
 ghost use Rattle.model.specs.Valid.{in_sequence, names_met, valid_set};
 ghost use Rattle.model.specs.Limits.{max_names};
 ghost use Rattle.layout.specs.Loops.{every};
-ghost use Rattle.journal.specs.Records.{numbers_of, records_in, RunsTested};
+ghost use Rattle.journal.specs.Records.{SamePlaces, numbers_of, records_in, RunsTested};
 ghost use Rattle.valid.specs.Rounds.{counted, CountsAlone};
 ghost use Rattle.valid.specs.Sets.{numbered, count_met, name_met, number_met, commit_met, record_met, LoweredTo, Lowered, total_count};
 
@@ -152,11 +153,12 @@ pub fn total_count(s: Shape, count: &[u8; 8]) -> usize
 
 // The largest part of the set in which all that is required is met: the counts are lowered until none falls. The count of those
 // remaining falls with each call.
+// stays: the paper's table of forms asks for a recursion.
 fn shrink_set(round: &mut Round, before: usize)
     requires { before ≡ total_count round.old.records.disk.shape round.old.records.runs.count }
-    ensures { (counted round.new
+    ensures { ((zs : List Extent) → SamePlaces round.old.records.extents.now zs → counted zs round.new
         ≡ shrink (names_met in_sequence round.old.layout round.old.records.disk.shape round.old.records.disk.bytes.now
-        (numbered round.old.oldest)) (counted round.old))
+        (numbered round.old.oldest)) (counted zs round.old))
         × CountsAlone round.old round.new }
 {
     round.strike();
@@ -174,11 +176,13 @@ fn tail_numbers(tails: [Tail; 8]) -> [u32; 8]
     tails.map(|t| t.number)
 }
 
-// The counts of the valid set of the records read; the first round is done here, and mostly none falls. No public entry.
+// The counts of the valid set of the records read; the first round is done here, and mostly none falls. The stamps take no part, so it is
+// the valid set whatever they are. No public entry.
 pub fn valid_runs(layout: CommitLayout, tails: [Tail; 8], all: Records) -> Runs
-    ensures { (records_in all.entry.disk.shape all.entry.extents.now (numbers_of tails) result.start result.count
+    ensures { ((zs : List Extent) → SamePlaces all.entry.extents.now zs
+        → records_in all.entry.disk.shape zs (numbers_of tails) result.start result.count
         ≡ valid_set in_sequence layout all.entry.disk.shape all.entry.disk.bytes.now (numbered (numbers_of tails))
-        (records_in all.entry.disk.shape all.entry.extents.now (numbers_of tails) all.entry.runs.start all.entry.runs.count))
+        (records_in all.entry.disk.shape zs (numbers_of tails) all.entry.runs.start all.entry.runs.count))
         × (result.start ≡ all.entry.runs.start)
         × RunsTested all.entry.disk.shape all.entry.disk.bytes.now all.entry.extents.now result.start result.count }
 {

@@ -1,6 +1,6 @@
 -- `commit::store_block` meets its contract: the part is as long as the block that it becomes.
 use Rattle.std.proofs.Common.{rules}
-use Rattle.commit.proofs.StoreLaws.{whole_lent}
+use Rattle.layout.proofs.DiskLaws.{whole_lent}
 use Rattle.commit.proofs.store_block.Goals as goal
 
 pub returns : goal.returns

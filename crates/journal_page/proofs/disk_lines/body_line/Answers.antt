@@ -25,5 +25,5 @@ record_line-requires c =
 pub returns : goal.returns
 returns c =
     let z : _ = c.requires in
-    let valid = all_valid _ _ z.0 _ _ _ _ _ z.1 _ _ c.valid_runs-valid.ensures.0 c.valid_runs-valid.ensures.2 in
+    let valid = all_valid _ _ z.0 _ _ _ _ _ z.1 _ _ (c.valid_runs-valid.ensures.0 _ (λ i. (refl, refl))) c.valid_runs-valid.ensures.2 in
     nth_shown _ _ z.0 _ _ _ _ _ z.1 _ _ c.in-Some.ensures _ _ valid _ refl _ c.record_line.ensures

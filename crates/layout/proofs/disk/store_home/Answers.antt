@@ -3,4 +3,4 @@ use Rattle.layout.proofs.DiskLaws.{home_lent}
 use Rattle.layout.proofs.disk.store_home.Goals as goal
 
 pub returns : goal.returns
-returns c = home_lent c.args.disk.now c.args.b c.args.image _ c.home_block-from.ensures _ c.copy_from_slice.ensures.after
+returns c = home_lent c.args.disk.now c.args.b c.args.image _ c.home_block-from.ensures _ c.store_image.ensures

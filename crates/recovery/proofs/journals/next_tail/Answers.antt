@@ -1,10 +1,6 @@
--- `recovery::journals::next_tail` meets its contract: below the limit, or the limit.
-use borrow.Author.Rules.{rules}
-use Rattle.recovery.proofs.JournalLaws.{next_below, next_last}
+-- `recovery::journals::next_tail` meets its contract: the sum, or the number after the last.
+use Rattle.recovery.proofs.JournalLaws.{next_number}
 use Rattle.recovery.proofs.journals.next_tail.Goals as goal
 
-pub returns-then-number : goal.returns-then-number
-returns-then-number c = search (rules, next_below)
-
 pub returns : goal.returns
-returns c = search (rules, next_last)
+returns c = next_number c.args.t _ _ _ _ c.from.ensures c.saturating_add-number.ensures c.min.ensures

@@ -1,4 +1,5 @@
 -- `recovery::restoring::next_store` meets its contract: the lowest block left, or with none the master.
+use mathlib.Core.Path.{refl}
 use borrow.Author.Rules.{rules}
 use Rattle.recovery.proofs.JournalLaws.{shaped_same, tested_same, valid_same}
 use Rattle.recovery.proofs.RecoverLaws.{recovered_below, recovered_home, recovered_up}
@@ -18,7 +19,7 @@ bring_up-requires c = (c.requires.0, c.requires.2)
 pub returns-in_default : goal.returns-in_default
 returns-in_default c =
     let n = c.new-whole.ensures in
-    let e = rw (n.0, n.1) at c.next_held.ensures in
+    let e = rw (n.0, n.1) at (c.next_held.ensures _ (λ i. (refl, refl))) in
     recovered_up c.args.w.now _ _ c.requires.0 _ _ _ c.requires.1 _ (search rules) _ e c.in_default.is _ _ c.bring_up.ensures
 
 pub newest_block-image-requires : goal.newest_block-image-requires
@@ -29,11 +30,11 @@ newest_block-image-requires c =
 pub restore_block-requires : goal.restore_block-requires
 restore_block-requires c =
     let n = c.new-whole.ensures in
-    let e = rw (n.0, n.1) at c.next_held.ensures in
+    let e = rw (n.0, n.1) at (c.next_held.ensures _ (λ i. (refl, refl))) in
     (c.requires.0, recovered_below c.args.w.now _ _ c.requires.0 _ _ _ c.requires.1 _ (search rules) _ e _ c.in-Some.is, rw n.1 at c.newest_block-image.ensures)
 
 pub returns : goal.returns
 returns c =
     let n = c.new-whole.ensures in
-    let e = rw (n.0, n.1) at c.next_held.ensures in
+    let e = rw (n.0, n.1) at (c.next_held.ensures _ (λ i. (refl, refl))) in
     recovered_home c.args.w.now _ _ c.requires.0 _ _ _ c.requires.1 _ (search rules) _ e _ c.in-Some.is _ _ c.restore_block.ensures

@@ -1,5 +1,6 @@
 -- `recovery::restoring::recovered` meets its contract: all journals are read, and of them the valid set.
 use Rattle.recovery.proofs.JournalLaws.{shaped_same, on_disk_same, all_valid, all_emptying}
+use mathlib.Core.Path.{refl}
 use Rattle.recovery.proofs.restoring.recovered.Goals as goal
 
 pub new-whole-requires : goal.new-whole-requires
@@ -15,6 +16,6 @@ next_store-requires c =
     let n = c.new-whole.ensures in
     let shaped = c.disk_shape-s.ensures in
     let on_disk = on_disk_same _ _ _ _ n.0 n.1 _ _ _ _ _ c.read_disk-all.ensures in
-    let valid = rw (n.0, n.1) at c.valid_runs-valid.ensures.0 in
+    let valid = rw (n.0, n.1) at (c.valid_runs-valid.ensures.0 _ (λ i. (refl, refl))) in
     let tested = rw (n.0, n.1) at c.valid_runs-valid.ensures.2 in
     (shaped, all_valid _ _ shaped _ _ _ _ _ on_disk _ _ valid tested, all_emptying _ _ shaped _ _ _ _ _ on_disk)
