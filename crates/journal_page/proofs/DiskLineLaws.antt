@@ -69,12 +69,6 @@ module _ (d : Bytes) where
     unfolding line_at
     refused_at i fs q = q ∙ ap (λ (l : List (List page.Field)). get_or l i []) (sym one_line)
 
-pub refused_first : (n i : ℕ) (fs : List page.Field) → fs ≡ refusal_fields n → i ≡ 0 → fs ≡ refused_line n i
-refused_first n i fs e h = e ∙ rw h
-
-pub refused_past : (n i : ℕ) (fs : List page.Field) → fs ≡ [] → (i ≡ 0 → ⊥) → fs ≡ refused_line n i
-refused_past n i fs e h = let l : 1 ≤ i = omega arith in e ∙ sym (get_or-eq_default (refusal_fields n ∷ []) [] l)
-
 -- ---- the core of the n-th transaction
 module _ (s : Shape) (count : List ℕ) (n : ℕ) where
   -- the cores below c have no more than n
@@ -253,9 +247,6 @@ module _ (d : Bytes) (s : Shape) (g : Shaped s d) (y : CommitLayout) (ts : List 
     module _ (c : ℕ) (w : IsNth s start count n (Some c)) where
       low : c < s.cores
       low = w.0
-
-      pub nth_from : get_or start c 0 ≤ n
-      nth_from = w.1
 
       pub nth_place : n < 96
       nth_place = omega (arith, w.2, (run_of s d xs start count r.tested c low).room)

@@ -28,9 +28,6 @@ pub shift_more : (n b i m : ℕ) → m ≡ n / b ^ i → m / b ≡ n / b ^ (i + 
 shift_more n b i m e =
     ap (λ (x : ℕ). x / b) e ∙ div-div-eq-div-mul n (b ^ i) b ∙ ap (λ (x : ℕ). n / x) (sym (pow-suc b i)) ∙ ap (λ (x : ℕ). n / b ^ x) (sym (add-one i))
 
-pub shift_all : (n b i k m : ℕ) → m ≡ n / b ^ i → i ≤ k → k ≤ i → m ≡ n / b ^ k
-shift_all n b i k m e p q = let z : i ≡ k = omega arith in e ∙ ap (λ (x : ℕ). n / b ^ x) z
-
 module _ (n place left : ℕ) (e : left ≡ n / 10 ^ place) where
   pub last_place : (r : ℕ) → r ≡ 0x30 + left % 10 → place ≡ 0 → r ≡ digit_at n place
   last_place r q h =
@@ -96,9 +93,6 @@ module _ (f : Field) where
           | no g ↦ le-ltb (k - f.first) f.width (omega arith) ∙ sym (le-ltb k (f.first + f.width) (omega arith))
         ])
 
-    pub is_covered : (r : Bool) → r ≡ covers (field_in f) k → r ≡ true → covers (field_in f) k ≡ true
-    is_covered r e h = sym e ∙ h
-
     module _ (h : covers (field_in f) k ≡ true) where
       pub covered_from : f.first ≤ k
       covered_from = leb-true _ _ (and_left (leb f.first k) (ltb k (f.first + f.width)) (sym columns ∙ h))
@@ -134,9 +128,6 @@ module _ (f : Field) where
 -- those from the i-th on show what all show
 pub record ShownFrom (fs : List (Option Field)) (k i : ℕ) : Type 0 where
   pub same : shown_at (fields_in fs) k ≡ shown_at (fields_in (drop i fs)) k
-
-pub shown_start : (fs : List (Option Field)) (k : ℕ) → ShownFrom fs k 0
-shown_start fs k = record { same = refl }
 
 module _ (fs : List (Option Field)) (size : length fs ≡ 6) (k i : ℕ) (w : ShownFrom fs k i) where
   module _ (l : i < 6) (o : Option Field) (e : get_or fs i None ≡ o) where
@@ -180,6 +171,3 @@ module _ (fs : List page.Field) where
         → (0 ≡ lay_number out) × (line ≡ laid fs out)
     unfolding line_bytes
     right_size h line i w q = let r = lay_done fs out h in (sym r.0, filled_all (λ (i : ℕ). byte_at fs (i + 1)) 65 line i w q ∙ sym r.1)
-
-pub laid_same : (fs gs : List page.Field) (out line : Bytes) → line ≡ laid fs out → fs ≡ gs → line ≡ laid gs out
-laid_same fs gs out line e q = e ∙ ap (λ (x : List page.Field). laid x out) q

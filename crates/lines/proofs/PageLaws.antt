@@ -77,9 +77,6 @@ module _ (d : Bytes) where
     unfolding below
     printed_same e = rw (add-one, select_last (is_printed d) (below b) b, e) q
 
-  pub printed_end : (l : Bytes) (n b : ℕ) → take n l ≡ select (is_printed d) (below b) → (c : ℕ) → b ≤ c → c ≤ b → take n l ≡ select (is_printed d) (below c)
-  printed_end l n b q c h k = let e : b ≡ c = omega arith in q ∙ ap (λ (i : ℕ). select (is_printed d) (below i)) e
-
   -- the lines of a card with so many home blocks
   pub printed_lines : (l : Bytes) (n c : ℕ) → take n l ≡ select (is_printed d) (below c) → (x : Card) (m : Bytes) → c ≡ home_count (world x d m)
       → map (home_line d) (take n l) ≡ home_lines (world x d m)
