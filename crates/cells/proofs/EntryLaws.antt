@@ -18,7 +18,7 @@ abbrev pub entry : ℕ → World → List (Bool × ℕ)
 entry c w = not_up w ((no_core w c, 5) ∷ [])
 
 module _ (c : ℕ) (x : Card) (d m : Bytes) where
-  stages : refusal (entry c (world x d m)) ≡ first_of (refusal (not_up (world x d m) [])) (cond (leb (shape_of x).cores c) 5 0)
+  pub stages : refusal (entry c (world x d m)) ≡ first_of (refusal (not_up (world x d m) [])) (cond (leb (shape_of x).cores c) 5 0)
   unfolding no_core
   stages = refusal_up (world x d m) ((no_core (world x d m) c, 5) ∷ []) ∙ rw refusal_one
 

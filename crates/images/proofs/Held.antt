@@ -36,11 +36,11 @@ unfolding lower_of
 lower_less a x best h = rw (lt-leb a x h)
 
 module _ (a x best : ℕ) (h : a ≤ x) where
-  lower_it : x < best → x ≡ lower_of a x best
+  pub lower_it : x < best → x ≡ lower_of a x best
   unfolding lower_of
   lower_it l = rw (le-leb a x h, lt-ltb x best l)
 
-  lower_not : best ≤ x → best ≡ lower_of a x best
+  pub lower_not : best ≤ x → best ≡ lower_of a x best
   unfolding lower_of
   lower_not l = rw (le-leb a x h, le-ltb x best l)
 

@@ -27,7 +27,7 @@ block_at f n i h = list_get_or_map (λ (x : Tag). x.block) (map (pair_at new_tag
 abbrev pub is_block : Bytes → ℕ → ℕ → Bool
 is_block f b i = eqb b (pair_at new_tag f 16 i).block
 
-position_place : (f : Bytes) (b : ℕ) (xs : List ℕ) → position_or_len (is_block f b) xs ≡ place_of b (map (λ (h : Tag). h.block) (map (pair_at new_tag f 16) xs))
+pub position_place : (f : Bytes) (b : ℕ) (xs : List ℕ) → position_or_len (is_block f b) xs ≡ place_of b (map (λ (h : Tag). h.block) (map (pair_at new_tag f 16) xs))
 unfolding place_of
 position_place f b [] = refl
 position_place f b (x ∷ xs) = cases (eqb b (pair_at new_tag f 16 x).block) (λ h. rw h) (λ h. rw h (omega (arith, position_place f b xs)))

@@ -8,17 +8,26 @@ use Rattle.model.specs.declared.Shape.{Shape}
 use Rattle.model.specs.declared.Tail.{Tail}
 use Rattle.model.specs.declared.CommitLayout.{CommitLayout}
 use Rattle.model.specs.declared.Committed.{Committed}
-use Rattle.std.specs.Prelude.{Result, Ok, Err}
+use Rattle.std.specs.Prelude.{None, Result, Ok, Err}
 use Rattle.model.specs.declared.JournalEnd.{JournalEnd}
 use Rattle.model.proofs.JournalEnds.{found_by, found_as, read_whole, end_here, end_on}
 use Rattle.journal.specs.declared.walk.Walk.{Walk}
 use Rattle.journal.specs.Walk.{past, walk_from}
+
+-- an answer that is no record finds nothing
+pub end_found : (x : JournalEnd) → found_by (Err x) ≡ None
+unfolding found_by
+end_found x = refl
 
 -- past i records from where the walk stands the same end is found as from the tail
 unfoldable pub SameEnd : CommitLayout → Shape → Bytes → ℕ → Tail → ℕ → Walk → Type 0
 SameEnd y s d c t i w = end_from (s.journal - i) y s d c w.number w.at w.left ≡ journal_end y s d c t
 
 module _ (y : CommitLayout) (s : Shape) (d : Bytes) (c : ℕ) (t : Tail) (w : Walk) where
+  pub from_tail : w ≡ walk_from s t → end_from s.journal y s d c w.number w.at w.left ≡ journal_end y s d c t
+  unfolding journal_end
+  from_tail o = rw o refl
+
   pub same_first : w ≡ walk_from s t → SameEnd y s d c t 0 w
   unfolding SameEnd journal_end
   same_first o = let z : s.journal - 0 ≡ s.journal = omega arith in rw (o, z) refl

@@ -39,7 +39,7 @@ pub row_low : (s : Shape) (c : ℕ) → InRange s → c < s.cores → c * s.jour
 row_low s c l h = mul-le-mul {n₁ = c} {n₂ = 7} (omega (arith, l.few_cores)) l.short
 
 -- of the blocks that a disk is cut into, the one with a number
-chunk_at : (n k i : ℕ) (d : Bytes) → i < k → get_or (first_chunks n k d) i [] ≡ take n (drop (n * i) d)
+pub chunk_at : (n k i : ℕ) (d : Bytes) → i < k → get_or (first_chunks n k d) i [] ≡ take n (drop (n * i) d)
 chunk_at n zero i d h = absurd (omega arith)
 chunk_at n (suc k) zero d h = let z : 0 ≡ n * 0 = omega arith in ap (λ (j : ℕ). take n (drop j d)) z
 chunk_at n (suc k) (suc i) d h = chunk_at n k i (drop n d) (omega arith) ∙ ap (take n) (drop-drop (n * i) n d ∙ ap (λ (j : ℕ). drop j d) (omega (arith, mul-suc n i)))

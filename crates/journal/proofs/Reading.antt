@@ -87,7 +87,7 @@ module _ (y : CommitLayout) (s : Shape) (d : Bytes) (c : ℕ) (t : Tail) (most a
   -- ---- one record more
   module _ (l : InRange s) (ys : List Extent) (w : Walk) (n : ℕ) (b : ReadTo ys w n) (r : Result Committed JournalEnd)
       (e : r ≡ read_record y s d c w.number w.at w.left) (x : Committed) (z : r ≡ Ok x) where
-    read_few : n < 12
+    pub read_few : n < 12
     read_few = omega (arith, l.short, b.left, hit_fits y s d c w.number w.at w.left r e x z)
 
     pub read_place : a ≤ 84 → a + n < 96

@@ -17,7 +17,7 @@ fn lacks_descriptor(number: u32, left: u8, block: &Block) -> bool
     if Shape::MAX_NUMBER < number {
         return true;
     }
-    !layout::has_head(block, BlockKind::Descriptor, number)
+    !layout::has_head(block, BlockKind::Descriptor.number(), number)
 }
 
 // The fields of a descriptor, where each is in range: how many blocks its transaction took.

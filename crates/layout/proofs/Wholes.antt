@@ -1,6 +1,6 @@
 -- A slice of an array's length lent as that array: what it holds.
 use mathlib.Core.Path.{◌≡◌, subst}
-use Rattle.std.proofs.Common.{ℕ, List, length}
+use Rattle.std.proofs.Common.{ℕ, List}
 use Rattle.std.specs.Prelude.{Option, Some}
 use Rattle.std.specs.Option.{MatchOption}
 use Rattle.std.specs.Array.{IsWholeChunk}

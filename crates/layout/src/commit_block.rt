@@ -136,7 +136,9 @@ fn names_fit(y: CommitLayout, s: Shape, block: &Block) -> bool
 pub fn is_commit(y: CommitLayout, s: Shape, number: u32, block: &Block) -> bool
     ensures { result ≡ is_commit y s number block.now }
 {
-    has_head(block, BlockKind::Commit, number) && 1 <= stamp_in(block) && names_fit(y, s, block)
+    has_head(block, BlockKind::Commit.number(), number)
+        && 1 <= stamp_in(block)
+        && names_fit(y, s, block)
 }
 
 // Core c is that of one of the first n names.

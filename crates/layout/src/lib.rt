@@ -14,7 +14,7 @@ pub use commit_block::{
     cores_named, is_commit, name_core, name_number, names_listed, number_named, stamp_in,
     write_commit,
 };
-pub use data::{block_at, flag_of, load_block, unescape, write_data};
+pub use data::{block_at, flag_of, load_block, unescape, write_data, write_image};
 pub use descriptor_block::{block_byte, block_count, has_bad_field, tag_flag, write_descriptor};
 pub use disk::store_home;
 pub use words::{BlockKind, MARK, get_word, has_head, pair_word, put_word};

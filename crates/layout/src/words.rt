@@ -44,10 +44,10 @@ pub fn put_word(b: &mut [u8], at: usize, w: u32)
 }
 
 // The head of a record block, its mark, kind and number, is the one given.
-pub fn has_head(b: &Block, kind: BlockKind, number: u32) -> bool
-    ensures { result ≡ has_head (kind_number kind) number b.now }
+pub fn has_head(b: &Block, kind: u32, number: u32) -> bool
+    ensures { result ≡ has_head kind number b.now }
 {
-    get_word(b, 0) == MARK && get_word(b, 4) == kind.number() && get_word(b, 8) == number
+    get_word(b, 0) == MARK && get_word(b, 4) == kind && get_word(b, 8) == number
 }
 
 // Of two numbers that stand one after the other, as pairs do in a block, the one at word k.

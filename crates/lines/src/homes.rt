@@ -1,5 +1,5 @@
 // The home blocks that have a line: those that are not all zero.
-ghost use Rattle.std.specs.Prelude.{◌≤◌, ◌≡◌, map, length, take};
+ghost use Rattle.std.specs.Prelude.{◌≤◌, ◌≡◌, map, take};
 ghost use Rattle.model.specs.Lists.{below, select};
 ghost use Rattle.model.specs.Bytes.{Bytes, block_at};
 ghost use Rattle.model.specs.Shape.{home_block};
@@ -33,18 +33,14 @@ fn printed_below(count: u8, disk: &[u8; Shape::DISK_SIZE], numbers: &mut [u8; 25
     n
 }
 
-// The numbers of the home blocks that have a line, in the lent buffer.
-pub fn home_blocks<'a>(
-    w: &[u64; 423],
-    disk: &[u8; Shape::DISK_SIZE],
-    numbers: &'a mut [u8; 256],
-) -> &'a [u8]
-    ensures { ((m : Bytes) → map (home_line disk.now) result.now ≡ home_lines (world_in w.now disk.now m))
-        × (length result.now ≤ 255) }
+// The numbers of the home blocks that have a line, put at the start of the buffer: how many there are.
+// stays: what may not change: the clause says what the lent buffer itself holds then.
+pub fn home_blocks(w: &[u64; 423], disk: &[u8; Shape::DISK_SIZE], numbers: &mut [u8; 256]) -> usize
+    ensures { ((m : Bytes) → map (home_line disk.now) (take result numbers.new) ≡ home_lines (world_in w.now disk.now m))
+        × (result ≤ 255) }
 {
     let count = recovery::home_count(w, disk);
-    let n = printed_below(count, disk, numbers);
-    &numbers[..n]
+    printed_below(count, disk, numbers)
 }
 
 // The first eight bytes of home block b.

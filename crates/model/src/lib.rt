@@ -125,7 +125,8 @@ pub enum Rule {
 }
 
 // The card's state, as the definitions speak of it; the code has it in lent cells (crate `cells`). `closes` counts the closes since
-// the card came up; recovery has passed the home blocks below `recovered`; a block's holder is the transaction that holds it, if one does. What is committed stands on the disk alone.
+// the card came up; recovery has passed the home blocks below `recovered`; a block's holder is the transaction that holds it, if one does.
+// What is committed stands on the disk alone.
 #[derive(Drop)]
 pub struct Card {
     pub phase: Phase,

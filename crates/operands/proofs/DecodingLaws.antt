@@ -15,13 +15,13 @@ use Rattle.operands.specs.declared.decoding.Command as code
 
 -- ---- the operands of WRITE
 module _ (a : Bytes) (h : length a ≡ 8) where
-  block_operand : get_or a 1 0 * 256 + get_or a 2 0 ≡ number 0 (part 1 2 a)
+  pub block_operand : get_or a 1 0 * 256 + get_or a 2 0 ≡ number 0 (part 1 2 a)
   unfolding number part
   block_operand =
       let e : get_or a 1 0 * 256 + get_or a 2 0 ≡ (0 * 256 + get_or a 1 0) * 256 + get_or a 2 0 = omega arith in
       rw (drop-cons a 1 0 (omega arith), drop-cons a 2 0 (omega arith)) e
 
-  bytes_operand : get_or a 4 0 ∷ get_or a 5 0 ∷ get_or a 6 0 ∷ get_or a 7 0 ∷ [] ≡ part 4 4 a
+  pub bytes_operand : get_or a 4 0 ∷ get_or a 5 0 ∷ get_or a 6 0 ∷ get_or a 7 0 ∷ [] ≡ part 4 4 a
   unfolding part
   bytes_operand = rw (drop-cons a 4 0 (omega arith), drop-cons a 5 0 (omega arith), drop-cons a 6 0 (omega arith), drop-cons a 7 0 (omega arith))
 

@@ -29,7 +29,8 @@ fn read_on<'a, R: Read>(input: &mut R, bytes: &'a mut [u8]) -> Result<&'a [u8], 
 fn print_page<W: Write>(output: &mut W, disk: &[u8]) -> Result<(), Failure> {
     // room for the longest page
     let mut text = [0u8; MAX_LINES * LINE_SIZE];
-    streams::write(output, lay_page(disk, &mut text))
+    let size = lay_page(disk, &mut text);
+    streams::write(output, &text[..size])
 }
 
 fn run(rt: &HostRuntime) -> Result<(), Failure> {

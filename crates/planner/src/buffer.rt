@@ -30,10 +30,7 @@ pub fn lay_plan(w: &State, disk: &[u8], memory: &[u8], out: &mut [u64; 116])
     ensures { out.new ≡ plan_cells (plan (world_in w.now disk.now memory.now)) }
 {
     match plan(w, disk, memory) {
-        Ok(p) => {
-            let order = p.order;
-            lay_cells(out, 0, p.commands, p.stores, p.count, &order);
-        }
+        Ok(p) => lay_cells(out, 0, p.commands, p.stores, p.count, &p.order),
         Err(e) => lay_cells(out, u8::from(e), 0, 0, 0, &[0; 112]),
     }
 }

@@ -1,11 +1,12 @@
 -- A command of the bytes read takes one of them at least. Bytes passed over are those that lie in front.
-use Rattle.std.proofs.Common.{ℕ, ◌+◌, ◌-◌, ◌<◌, ◌≤◌, ◌≡◌, [], ◌∷◌, false, length, take, drop, sym, ap, ◌∙◌, arith, length-drop, length-take}
+use Rattle.std.proofs.Common.{ℕ, ◌+◌, ◌-◌, ◌<◌, ◌≤◌, ◌≡◌, [], ◌∷◌, false, length, take, drop, refl, sym, ap, ◌∙◌, arith, length-drop, length-take}
 use Rattle.std.proofs.Math.Seq.{drop-drop}
 use Rattle.std.proofs.lemmas.List.{drop-take}
 use mathlib.Core.Bool.{false≢true}
 use Rattle.model.specs.Bytes.{Bytes}
 use Rattle.model.specs.Tape.{is_early, read_at, next_offset}
 use Rattle.model.proofs.Tape.{next_past}
+use Rattle.tape.specs.Left.{IsEnd}
 
 some_left : (s : Bytes) → false ≡ is_early (read_at s 0) → 0 < length s
 unfolding read_at
@@ -20,3 +21,14 @@ passed_over b s from n to e h l =
     let m : n ≤ to - from = omega (arith, simp length-take at (ap length e)) in
     let k : to - from ≡ n + (to - (from + n)) = omega arith in
     sym (ap (drop n) (sym e ∙ ap (λ (i : ℕ). take i (drop from b)) k) ∙ drop-take n (to - (from + n)) (drop from b) ∙ ap (take (to - (from + n))) (drop-drop n from b))
+
+-- ---- what is left
+pub end_all : (s : Bytes) → IsEnd s s
+end_all s = (0, refl)
+
+module _ (s t u : Bytes) (e : IsEnd t s) where
+  pub end_passed : u ≡ drop (next_offset t 0) t → IsEnd u s
+  end_passed h = let k = next_offset t 0 in (e.0 + k, h ∙ ap (drop k) e.1 ∙ drop-drop k e.0 s)
+
+  pub end_kept : u ≡ t → IsEnd u s
+  end_kept h = (e.0, h ∙ e.1)

@@ -1,2 +1,3 @@
 -- What the contracts of the tape program say.
+pub mod Left
 pub mod Printed

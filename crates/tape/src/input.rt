@@ -1,5 +1,5 @@
 // What was read of the tape and is not run yet. A read hands over what is there, so the program waits only where nothing is.
-ghost use Rattle.std.specs.Prelude.{◌-◌, ◌≤◌, ◌≡◌, List, [], ℕ, drop, length, take};
+ghost use Rattle.std.specs.Prelude.{◌+◌, ◌-◌, ◌≤◌, ◌≡◌, List, [], ℕ, drop, length, take, IfOk};
 
 use std::io::Read;
 use std::marker::Model;
@@ -46,8 +46,18 @@ impl Unrun {
         self.from += n;
     }
 
+    // None is left.
+    pub fn clear(&mut self)
+        ensures { self.new ≡ [] }
+    {
+        self.from = self.to;
+    }
+
     // What is there read behind the others, which come to the front: how many bytes, 0 at the end of the input.
-    pub fn read<R: Read>(&mut self, input: &mut R) -> Result<usize, Failure> {
+    pub fn read<R: Read>(&mut self, input: &mut R) -> Result<usize, Failure>
+        ensures front { take (length self.old) self.new ≡ self.old }
+        ensures behind { IfOk result (λ n. length self.new ≡ length self.old + n) }
+    {
         self.bytes.copy_within(self.from..self.to, 0);
         self.to -= self.from;
         self.from = 0;

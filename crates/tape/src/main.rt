@@ -4,8 +4,9 @@
 // fails, the program stops and says so on standard error.
 #![tactic(auto)]
 
-ghost use Rattle.std.specs.Prelude.{◌≤◌, ◌≡◌, drop, length, OnOk};
+ghost use Rattle.std.specs.Prelude.{◌≤◌, ◌≡◌, [], drop, length, OnErr, OnOk};
 ghost use Rattle.model.specs.Tape.{next_offset};
+ghost use Rattle.tape.specs.Left.{IsEnd};
 
 use lines::homes::{first_bytes, home_blocks};
 use lines::turn::{Turn, run_command};
@@ -61,7 +62,8 @@ fn step<W: Write>(
     card: &mut Card,
     offset: u64,
 ) -> Result<Option<u64>, Failure>
-    ensures { OnOk result (unrun.new ≡ drop (next_offset unrun.old 0) unrun.old) }
+    ensures passed { OnOk result (unrun.new ≡ drop (next_offset unrun.old 0) unrun.old) }
+    ensures kept { OnErr result (unrun.new ≡ unrun.old) }
 {
     output.make_room()?;
     let t = card.run(offset, unrun.as_slice());
@@ -76,7 +78,9 @@ fn run_whole<W: Write>(
     output: &mut Output<W>,
     card: &mut Card,
     offset: u64,
-) -> Result<Option<u64>, Failure> {
+) -> Result<Option<u64>, Failure>
+    ensures { IsEnd unrun.new unrun.old }
+{
     let mut at = offset;
     // stays: a `while`, since it ends where no whole command is left.
     while !operands::ends_early(unrun.as_slice(), 0) {
@@ -88,17 +92,21 @@ fn run_whole<W: Write>(
     Ok(Some(at))
 }
 
-// The end of the input: bytes that are left are a command whose operands end early.
+// The end of the input: bytes that are left are a command whose operands end early. None is left behind it.
 fn run_last<W: Write>(
     unrun: &mut Unrun,
     output: &mut Output<W>,
     card: &mut Card,
     offset: u64,
-) -> Result<(), Failure> {
+) -> Result<(), Failure>
+    ensures { unrun.new ≡ [] }
+{
+    let mut done = Ok(None);
     if !unrun.as_slice().is_empty() {
-        step(unrun, output, card, offset)?;
+        done = step(unrun, output, card, offset);
     }
-    Ok(())
+    unrun.clear();
+    done.map(|_| ())
 }
 
 // The whole tape. The budget only shows that the loop ends: no input reaches it.
@@ -127,7 +135,8 @@ fn run_tape<R: Read, W: Write>(
 fn print_homes<W: Write>(output: &mut Output<W>, card: &Card) -> Result<(), Failure> {
     output.flush()?;
     let mut numbers = [0u8; 256];
-    for b in home_blocks(&card.state, &card.disk, &mut numbers) {
+    let n = home_blocks(&card.state, &card.disk, &mut numbers);
+    for b in &numbers[..n] {
         output.text.put_home(*b, first_bytes(*b, &card.disk));
     }
     output.flush()

@@ -91,6 +91,17 @@ impl Text {
         self.put(&[HEX[(x / 16) as usize], HEX[(x % 16) as usize]]);
     }
 
+    // Eight bytes in hex, and the end of the line.
+    fn put_first(&mut self, bytes: &[u8; 8])
+        requires { length self.old + 17 ≤ 65536 }
+        ensures { length self.new ≡ length self.old + 17 }
+    {
+        for x in bytes {
+            self.put_hex(*x);
+        }
+        self.put(b"\n");
+    }
+
     // The line of a home block: its number, and its first bytes in hex.
     pub fn put_home(&mut self, b: u8, bytes: &[u8; 8])
         requires { length self.old + 44 ≤ 65536 }
@@ -98,9 +109,6 @@ impl Text {
     {
         self.put(b"block ");
         self.put_number(b as u64, b' ');
-        for x in bytes {
-            self.put_hex(*x);
-        }
-        self.put(b"\n");
+        self.put_first(bytes);
     }
 }

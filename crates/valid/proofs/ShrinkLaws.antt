@@ -153,6 +153,11 @@ lowered_same y s d ks xs start before after zs g w c h =
     let e = g (get_or start c 0 + j) in
     ap₂ (λ (p n : ℕ). commit_met y s ks before (journal_at s d c (p + (n + 1)))) (sym e.0) (sym e.1)) (w c h)
 
+-- ---- the recursion; m and n are how many there are after a round and before it
+module _ (y : CommitLayout) (s : Shape) (d : Bytes) (xs : List Extent) (ks start before after : List ℕ) (w : Lowered y s d ks xs start before after) where
+  pub shrink_falls : (m n : ℕ) → m ≡ total_count s after → n ≡ total_count s before → (m ≡ n → ⊥) → InRange s → total_count s after < total_count s before
+  shrink_falls m n p q h l = omega (arith, h, total_lower s before after (low y s d xs ks start before after l w))
+
 -- ---- the recursion, from a round to one after it
 abbrev stays_in : Round → List Committed → Committed → Bool
 stays_in r = names_met in_sequence r.layout r.records.disk.shape r.records.disk.bytes.now (numbered r.oldest)
@@ -206,8 +211,8 @@ module _ (a b : Round) (k : CountsAlone a b) where
       shrink_settled h zs g =
           counted_remaining zs ∙ round_settled _ _ _ _ _ _ _ _ a.records.disk.in_range (lowered_same _ _ _ _ _ _ _ _ zs g w) (sym total_remaining ∙ h ∙ q)
 
-      pub shrink_falls : (m ≡ n → ⊥) → m < n
-      shrink_falls h =
+      pub round_falls : (m ≡ n → ⊥) → m < n
+      round_falls h =
           omega (
             arith,
             h,
