@@ -49,12 +49,16 @@ module _ (t : Bytes) (at : ℕ) (v : List ℕ) (d m : Bytes) (g : Bool) (e : (x 
       subst (λ (o : Outcome World). Meets o v v d m (Err n)) (sym (tape_unless in_sequence t at w))
       (meets_refused (tape_conditions t at w) v d m _ l n q)
 
+  pub refused_length : g ≡ true → 1 ≡ refusal (tape_conditions t at w)
+  unfolding refusal
+  refused_length q = rw (← e (card_in v), q)
+
   pub at_length : length v ≡ 423 → g ≡ true → Meets (step_at t at w) v v d m (Err WrongLength)
   unfolding refusal
   at_length l q = refused_at l WrongLength (rw (← e (card_in v), q))
 
   module _ (q : g ≡ false) where
-    read_stage : tape_answer (read_at t at) ≡ refusal (tape_conditions t at w)
+    pub read_stage : tape_answer (read_at t at) ≡ refusal (tape_conditions t at w)
     unfolding refusal
     read_stage = rw (← e (card_in v), q) (read_refusal (read_at t at))
 

@@ -1,12 +1,12 @@
 -- A command of the bytes read takes one of them at least. Bytes passed over are those that lie in front.
-use Rattle.std.proofs.Common.{ℕ, ◌+◌, ◌-◌, ◌<◌, ◌≤◌, ◌≡◌, [], ◌∷◌, false, length, take, drop, refl, sym, ap, ◌∙◌, arith, length-drop, length-take}
+use Rattle.std.proofs.Common.{ℕ, zero, suc, ◌+◌, ◌-◌, ◌<◌, ◌≤◌, ◌≡◌, [], ◌∷◌, false, length, take, drop, refl, sym, ap, subst, ◌∙◌, arith, length-drop, length-take}
 use Rattle.std.proofs.Math.Seq.{drop-drop}
 use Rattle.std.proofs.lemmas.List.{drop-take}
 use mathlib.Core.Bool.{false≢true}
 use Rattle.model.specs.Bytes.{Bytes}
 use Rattle.model.specs.Tape.{is_early, read_at, next_offset}
 use Rattle.model.proofs.Tape.{next_past}
-use Rattle.tape.specs.Left.{IsEnd}
+use Rattle.tape.specs.Left.{LiesBehind, IsLeft}
 
 some_left : (s : Bytes) → false ≡ is_early (read_at s 0) → 0 < length s
 unfolding read_at
@@ -23,12 +23,16 @@ passed_over b s from n to e h l =
     sym (ap (drop n) (sym e ∙ ap (λ (i : ℕ). take i (drop from b)) k) ∙ drop-take n (to - (from + n)) (drop from b) ∙ ap (take (to - (from + n))) (drop-drop n from b))
 
 -- ---- what is left
-pub end_all : (s : Bytes) → IsEnd s s
-end_all s = (0, refl)
+behind_more : (n : ℕ) (s t : Bytes) → LiesBehind n s t → is_early (read_at t 0) ≡ false → LiesBehind (suc n) s (drop (next_offset t 0) t)
+behind_more zero s t e h = (ap (λ (b : Bytes). is_early (read_at b 0)) (sym e) ∙ h, ap (λ (b : Bytes). drop (next_offset b 0) b) e)
+behind_more (suc n) s t e h = (e.0, behind_more n (drop (next_offset s 0) s) t e.1 h)
 
-module _ (s t u : Bytes) (e : IsEnd t s) where
-  pub end_passed : u ≡ drop (next_offset t 0) t → IsEnd u s
-  end_passed h = let k = next_offset t 0 in (e.0 + k, h ∙ ap (drop k) e.1 ∙ drop-drop k e.0 s)
+pub left_all : (s : Bytes) → IsLeft s s
+left_all s = (0, refl)
 
-  pub end_kept : u ≡ t → IsEnd u s
-  end_kept h = (e.0, h ∙ e.1)
+module _ (s t u : Bytes) (e : IsLeft t s) where
+  pub left_passed : u ≡ drop (next_offset t 0) t → false ≡ is_early (read_at t 0) → IsLeft u s
+  left_passed h q = (suc e.0, subst (λ (b : Bytes). LiesBehind (suc e.0) s b) (sym h) (behind_more e.0 s t e.1 (sym q)))
+
+  pub left_kept : u ≡ t → IsLeft u s
+  left_kept h = (e.0, subst (λ (b : Bytes). LiesBehind e.0 s b) (sym h) e.1)

@@ -6,7 +6,7 @@
 
 ghost use Rattle.std.specs.Prelude.{◌≤◌, ◌≡◌, [], drop, length, OnErr, OnOk};
 ghost use Rattle.model.specs.Tape.{next_offset};
-ghost use Rattle.tape.specs.Left.{IsEnd};
+ghost use Rattle.tape.specs.Left.{IsLeft};
 
 use lines::homes::{first_bytes, home_blocks};
 use lines::turn::{Turn, run_command};
@@ -79,7 +79,7 @@ fn run_whole<W: Write>(
     card: &mut Card,
     offset: u64,
 ) -> Result<Option<u64>, Failure>
-    ensures { IsEnd unrun.new unrun.old }
+    ensures { IsLeft unrun.new unrun.old }
 {
     let mut at = offset;
     // stays: a `while`, since it ends where no whole command is left.

@@ -145,7 +145,7 @@ by_tails y s d xs ks start start′ before after ts e f h = rw f (rw e at h)
 begins_same : (p q : ℕ → Bool) (n m : ℕ) → ((j : ℕ) → p j ≡ q j) → Begins p n m → Begins q n m
 begins_same p q n m e b = subst (λ (r : ℕ → Bool). Begins r n m) (λ i j. e j i) b
 
-lowered_same : (y : CommitLayout) (s : Shape) (d : Bytes) (ks : List ℕ) (xs : List Extent) (start before after : List ℕ) (zs : List Extent) → SamePlaces xs zs
+pub lowered_same : (y : CommitLayout) (s : Shape) (d : Bytes) (ks : List ℕ) (xs : List Extent) (start before after : List ℕ) (zs : List Extent) → SamePlaces xs zs
     → Lowered y s d ks xs start before after → Lowered y s d ks zs start before after
 unfolding Lowered LoweredTo record_met
 lowered_same y s d ks xs start before after zs g w c h =
